@@ -1,0 +1,52 @@
+-- The files of a desk in memory, and what its calls do to it.
+use Rattle.std.specs.Prelude.{◌≡◌, take, option_map, slice_get, ◌+◌, ◌-◌, ◌^◌, min, ℕ, Bool, true, false, List, [], ◌∷◌, Some, None, Result, Ok, Err, if◌then◌else◌, Vec}
+use Rattle.std.specs.Str.{bytes_eq}
+use Rattle.std.specs.declared.alloc.Global.{Global}
+use Rattle.desk.specs.Files.{Files, Keeps}
+use Rattle.desk.specs.declared.desk.DeskFault.{DeskFault}
+use Rattle.desk.specs.declared.desk.DeskFault.TheVariants.{Failed, Memory}
+
+-- the bytes of the first file with this name
+abbrev pub file_at : List (List ℕ × Vec ℕ Global) → Files
+file_at [] name = None
+file_at (file ∷ files) name = if bytes_eq file.0 name then Some file.1.items else file_at files name
+
+-- the first file with this name stands there
+pub record IsPlaceOf (files : List (List ℕ × Vec ℕ Global)) (name : List ℕ) (i : ℕ) : Type 0 where
+  pub before : file_at (take i files) name ≡ None
+  pub here : option_map (λ file. file.0) (slice_get files i) ≡ Some name
+
+-- its files, the numbers of the calls that are to fail, how many calls there were, and how many faults of each kind
+pub record MemoryState : Type 0 where
+  pub files : Files
+  pub failing : List ℕ
+  pub calls : ℕ
+  pub read_faults : ℕ
+  pub write_faults : ℕ
+
+-- a count after one more: it stays at the end of its type
+abbrev pub next : ℕ → ℕ
+next count = min (count + 1) (2 ^ 64 - 1)
+
+-- one call more
+abbrev pub called : MemoryState → MemoryState
+called s = record s { calls = next s.calls }
+
+-- one fault of reading more
+abbrev pub with_read_fault : MemoryState → MemoryState
+with_read_fault s = record s { read_faults = next s.read_faults }
+
+-- one fault of writing more
+abbrev pub with_write_fault : MemoryState → MemoryState
+with_write_fault s = record s { write_faults = next s.write_faults }
+
+-- what a keep leaves, by its answer
+abbrev pub LeavesState : {T : Type 0} → Result T DeskFault → MemoryState → MemoryState → List ℕ → List ℕ → Type 0
+LeavesState (Ok done) old new name bytes = (new ≡ record (called old) { files = new.files }) × Keeps old.files new.files name bytes
+LeavesState (Err Failed) old new name bytes = new ≡ with_write_fault (called old)
+LeavesState (Err (Memory none)) old new name bytes = new ≡ called old
+
+-- there is nothing in the list
+abbrev pub is_empty : List ℕ → Bool
+is_empty [] = true
+is_empty (x ∷ xs) = false

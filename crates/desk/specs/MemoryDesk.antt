@@ -1,0 +1,12 @@
+-- What a desk in memory shows.
+use Rattle.desk.specs.Memory.{MemoryState, file_at}
+use Rattle.desk.specs.declared.memory.MemoryDesk.{MemoryDesk}
+
+abbrev pub state_of : MemoryDesk → MemoryState
+state_of desk = record {
+  files = file_at desk.files.items;
+  failing = desk.failing.items;
+  calls = desk.calls;
+  read_faults = desk.read_faults;
+  write_faults = desk.write_faults;
+}

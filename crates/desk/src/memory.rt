@@ -1,0 +1,234 @@
+// A desk in memory, which fails the calls that it is told to fail.
+ghost use Rattle.std.specs.Prelude.{◌≡◌, ◌-◌, ◌<◌, ◌≤◌, ◌⊎◌, ◌↔◌, refl, true, min, length, take, drop, option_map, Contains, None, IsTrue, IfOk, IfSome, IfNone, OnOk, OnErr, IsErr, IsErrOf, IsSomeAnd};
+ghost use Rattle.desk.specs.Files.{Keeps};
+ghost use Rattle.desk.specs.Memory.{file_at, IsPlaceOf, called, with_read_fault, LeavesState, is_empty};
+
+use crate::{Desk, DeskFault, Failed};
+use dec_text::Name;
+use exact_frac::OutOfMemory;
+use std::alloc::Global;
+
+/// Files in memory. The calls are numbered from 0. Each looks through the files in their order.
+#[derive(Drop)]
+pub struct MemoryDesk {
+    alloc: Global,
+    files: Vec<(Name, Vec<u8>)>,
+    failing: Vec<u64>,
+    calls: u64,
+    read_faults: u64,
+    write_faults: u64,
+}
+
+// The place of the first file with this name.
+fn place_of(files: &[(Name, Vec<u8>)], name: &str) -> Option<usize>
+    ensures found { IfSome result (IsPlaceOf files.now name.now) }
+    ensures missing { IfNone result (file_at files.now name.now ≡ None) }
+{
+    for (i, file) in files.iter().enumerate() {
+        if file.0.as_str() == name {
+            return Some(i);
+        }
+    }
+    None
+}
+
+// The bytes from a place on.
+fn rest(bytes: &[u8], at: u64) -> &[u8]
+    ensures { result.now ≡ drop at bytes.now }
+{
+    if at < bytes.len() as u64 {
+        &bytes[at as usize..]
+    } else {
+        &[]
+    }
+}
+
+// Copies bytes from a place on to the front of `into`, as many as there are and as fit.
+fn copy_from(bytes: &[u8], at: u64, into: &mut [u8]) -> usize
+    ensures count { result ≡ min (length into.old) (length bytes.now - at) }
+    ensures front { take result into.new ≡ take result (drop at bytes.now) }
+{
+    let rest = rest(bytes, at);
+    let n = into.len().min(rest.len());
+    into[..n].copy_from_slice(&rest[..n]);
+    n
+}
+
+// Puts bytes under a name, over what it held.
+fn put(
+    alloc: Global,
+    files: &mut Vec<(Name, Vec<u8>)>,
+    name: &str,
+    bytes: &[u8],
+) -> Result<(), OutOfMemory>
+    ensures ok { OnOk result (Keeps (file_at files.old.items) (file_at files.new.items) name.now bytes.now) }
+    ensures err { OnErr result (files.new.items ≡ files.old.items) }
+{
+    let bytes = Vec::from_slice(alloc, bytes)?;
+    match place_of(files, name) {
+        Some(i) => files[i].1 = bytes,
+        None => files.push((Name::new(alloc, name)?, bytes))?,
+    }
+    Ok(())
+}
+
+impl MemoryDesk {
+    ghost use Rattle.desk.specs.MemoryDesk.{state_of};
+
+    /// A desk with these files that fails the calls with these numbers. Of files of one name the first counts.
+    pub fn new(alloc: Global, files: Vec<(Name, Vec<u8>)>, fail: Vec<u64>) -> MemoryDesk
+        ensures { state_of result ≡ record {
+          files = file_at files.items;
+          failing = fail.items;
+          calls = 0;
+          read_faults = 0;
+          write_faults = 0;
+        } }
+    {
+        MemoryDesk {
+            alloc,
+            files,
+            failing: fail,
+            calls: 0,
+            read_faults: 0,
+            write_faults: 0,
+        }
+    }
+
+    /// The bytes of a file.
+    pub fn file(&self, name: &str) -> Option<&[u8]>
+        ensures { option_map (λ bytes. bytes.now) result ≡ (state_of self.now).files name.now }
+    {
+        match place_of(&self.files, name) {
+            Some(i) => Some(self.files[i].1.as_slice()),
+            None => None,
+        }
+    }
+
+    // Counts a call, and tells whether it is to fail.
+    fn count_call(&mut self) -> bool
+        ensures fails { IsTrue result ↔ Contains (state_of self.old).failing (state_of self.old).calls }
+        ensures counted { state_of self.new ≡ called (state_of self.old) }
+    {
+        let call = self.calls;
+        self.calls = call.saturating_add(1);
+        self.failing.contains(&call)
+    }
+
+    fn count_read_fault(&mut self) -> Failed
+        ensures counted { state_of self.new ≡ with_read_fault (state_of self.old) }
+        ensures never_falls { (state_of self.old).read_faults ≤ (state_of self.new).read_faults }
+    {
+        self.read_faults = self.read_faults.saturating_add(1);
+        Failed
+    }
+}
+
+impl Desk for MemoryDesk {
+    ghost use Rattle.desk.specs.MemoryDesk.{state_of};
+
+    ghost tells = { λ desk. true };
+
+    ghost files = { λ desk. (state_of desk).files };
+
+    ghost read_faults = { λ desk. (state_of desk).read_faults };
+
+    ghost write_faults = { λ desk. (state_of desk).write_faults };
+
+    ghost steady = { λ desk. is_empty (state_of desk).failing };
+
+    ghost steady_tells = { λ desk h. refl };
+
+    /// Takes as many bytes as `into` holds or the file still has.
+    fn fetch(&mut self, name: &str, at: u64, into: &mut [u8]) -> Result<usize, Failed>
+        requires { 0 < length into.old }
+        ensures fails { let s = state_of self.old in
+            IsErr result ↔ (Contains s.failing s.calls ⊎ (s.files name.now ≡ None)) }
+        ensures taken { IfOk result (λ n. IsSomeAnd ((state_of self.old).files name.now) (λ bytes.
+            (n ≡ min (length into.old) (length bytes - at)) × (take n into.new ≡ take n (drop at bytes)))) }
+        ensures ok { OnOk result (state_of self.new ≡ called (state_of self.old)) }
+        ensures err { OnErr result (state_of self.new ≡ with_read_fault (called (state_of self.old))) }
+
+        // Above the range of its type the equation alone would let the count fall.
+        ensures never_falls { (state_of self.old).read_faults ≤ (state_of self.new).read_faults }
+    {
+        if self.count_call() {
+            return Err(self.count_read_fault());
+        }
+        match self.file(name) {
+            Some(bytes) => Ok(copy_from(bytes, at, into)),
+            None => Err(self.count_read_fault()),
+        }
+    }
+
+    /// Fails exactly where it is told to. Want of memory changes no file.
+    fn keep(&mut self, name: &str, bytes: &[u8]) -> Result<(), DeskFault>
+        ensures fails { let s = state_of self.old in
+            IsErrOf result DeskFault.Failed ↔ Contains s.failing s.calls }
+        ensures leaves { LeavesState result (state_of self.old) (state_of self.new) name.now bytes.now }
+
+        // Above the range of its type the equation alone would let the count fall.
+        ensures never_falls { (state_of self.old).write_faults ≤ (state_of self.new).write_faults }
+    {
+        if self.count_call() {
+            self.write_faults = self.write_faults.saturating_add(1);
+            return Err(DeskFault::Failed);
+        }
+        match put(self.alloc, &mut self.files, name, bytes) {
+            Ok(()) => Ok(()),
+            Err(none) => Err(DeskFault::Memory(none)),
+        }
+    }
+}
+
+#[cfg(test)]
+mod tests {
+    use super::*;
+    use std::test::Fail;
+
+    fn desk_of(alloc: Global, fail: &[u64]) -> Result<MemoryDesk, Fail> {
+        let mut files = Vec::new(alloc);
+        files.push((Name::new(alloc, "a")?, b"first".to_vec(alloc)?))?;
+        files.push((Name::new(alloc, "b")?, b"second".to_vec(alloc)?))?;
+        Ok(MemoryDesk::new(alloc, files, fail.to_vec(alloc)?))
+    }
+
+    #[test]
+    fn a_fetch_gives_what_fits_or_is_left(rt: HostRuntime) -> Result<(), Fail> {
+        let mut desk = desk_of(rt.alloc(), &[])?;
+        for (name, at, want) in [
+            ("a", 0, Ok(b"fir".as_slice())),
+            ("a", 3, Ok(b"st".as_slice())),
+            ("a", 5, Ok(b"".as_slice())),
+            ("b", u64::MAX, Ok(b"".as_slice())),
+            ("c", 0, Err(Failed)),
+            ("b", 2, Ok(b"con".as_slice())),
+        ] {
+            let mut into = [0u8; 3];
+            let got = desk.fetch(name, at, &mut into).map(|n| &into[..n.min(3)]);
+            assert_eq!(rt; got, want, "{name} at {at}");
+        }
+        Ok(())
+    }
+
+    #[test]
+    fn listed_calls_fail_and_change_no_file(rt: HostRuntime) -> Result<(), Fail> {
+        let mut desk = desk_of(rt.alloc(), &[1, 3])?;
+        let mut into = [0u8; 3];
+        assert_eq!(rt; desk.keep("a", b"kept"), Ok(()));
+        assert_eq!(rt; desk.keep("a", b"lost"), Err(DeskFault::Failed));
+        assert_eq!(rt; desk.keep("c", b"new"), Ok(()));
+        assert_eq!(rt; desk.fetch("a", 0, &mut into), Err(Failed));
+        assert_eq!(rt; desk.fetch("a", 1, &mut into), Ok(3));
+        assert_eq!(rt; into, *b"ept");
+        for (name, want) in [
+            ("a", Some(b"kept".as_slice())),
+            ("b", Some(b"second".as_slice())),
+            ("c", Some(b"new".as_slice())),
+            ("d", None),
+        ] {
+            assert_eq!(rt; desk.file(name), want, "{name}");
+        }
+        Ok(())
+    }
+}

@@ -1,0 +1,4 @@
+pub mod Faces
+pub mod Parts
+pub mod Views
+pub mod Pieces

@@ -1,0 +1,57 @@
+-- Floors: `floor_of` is the floor, there is no other, and floors keep the order of fractions.
+use Rattle.std.proofs.Common.{◌≡◌, [], ◌∷◌, refl, sym, subst, arith}
+use Rattle.std.specs.Prelude.{ℤ, pos, negsuc, ◌+ℤ◌, ◌-ℤ◌, ◌*ℤ◌, ◌≤ℤ◌, ◌<ℤ◌}
+use Rattle.std.proofs.lemmas.Int.{ints, by_lt_z}
+use Rattle.integers.specs.Floors.{IsFloor, floor_of}
+use Rattle.integers.proofs.Ring.{var, con, ◌⊕◌, ◌⊖◌, ◌⊗◌, ring}
+use Rattle.integers.proofs.Signs.{mul_nonneg, mul_pos}
+
+pub floor_of-is : (n d : ℤ) → pos 0 <ℤ d → IsFloor (floor_of n d) n d
+floor_of-is (pos a) (pos b) h = omega (arith, ints)
+floor_of-is (negsuc a) (pos b) h = omega (arith, ints)
+floor_of-is n (negsuc b) h = absurd (omega (arith, ints))
+
+-- the quotient whose remainder is not negative
+pub floor_of_quotient : (q n d : ℤ) → pos 0 <ℤ d → q ≡ floor_of n d → IsFloor q n d
+floor_of_quotient q n d h e = let P : ℤ → Type 0 = λ z. IsFloor z n d in subst P (sym e) (floor_of-is n d h)
+
+-- a floor above that of a fraction that is at least as great: three products of signs that can't be
+crossed : (q n d p m e : ℤ) → pos 0 <ℤ d → pos 0 <ℤ e → IsFloor q n d → IsFloor p m e → (n *ℤ e) ≤ℤ (m *ℤ d) → p <ℤ q → ⊥
+crossed q n d p m e hd he f g h less =
+    let de = mul_pos d e hd he in
+    let first = mul_nonneg ((q -ℤ p) -ℤ pos 1) (d *ℤ e) (omega (arith, ints, less)) (omega (arith, ints, de)) in
+    let second = mul_pos ((p *ℤ e +ℤ e) -ℤ m) d (positive m (p *ℤ e +ℤ e) g.rest_below) hd in
+    let third = mul_nonneg (n -ℤ (q *ℤ d)) e (not_negative (q *ℤ d) n f.at_most) (omega (arith, ints, he)) in
+    no_sum _ _ _ _ first second third (not_negative (n *ℤ e) (m *ℤ d) h)
+    (ring (q ∷ n ∷ d ∷ p ∷ m ∷ e ∷ [])
+    ((((((var 0 ⊖ var 3) ⊖ con (pos 1)) ⊗ (var 2 ⊗ var 5)) ⊕ ((((var 3 ⊗ var 5) ⊕ var 5) ⊖ var 4) ⊗ var 2)) ⊕ ((var 1 ⊖ (var 0 ⊗ var 2)) ⊗ var 5)) ⊕ ((var 4 ⊗ var 2) ⊖ (var 1 ⊗ var 5)))
+    (con (pos 0)) refl)
+  where
+    positive : (a b : ℤ) → a <ℤ b → pos 0 <ℤ (b -ℤ a)
+    positive a b h = omega (arith, ints)
+
+    not_negative : (a b : ℤ) → a ≤ℤ b → pos 0 ≤ℤ (b -ℤ a)
+    not_negative a b h = omega (arith, ints)
+
+    no_sum : (a b c z : ℤ) → pos 0 ≤ℤ a → pos 0 <ℤ b → pos 0 ≤ℤ c → pos 0 ≤ℤ z → ((a +ℤ b) +ℤ c) +ℤ z ≡ pos 0 → ⊥
+    no_sum a b c z ha hb hc hz e = omega (arith, ints)
+
+-- n / d is at most m / e
+pub IsFloor-ordered : (q n d p m e : ℤ) → pos 0 <ℤ d → pos 0 <ℤ e → IsFloor q n d → IsFloor p m e → (n *ℤ e) ≤ℤ (m *ℤ d) → q ≤ℤ p
+IsFloor-ordered q n d p m e hd he f g h = by_lt_z p q (λ less. absurd (crossed q n d p m e hd he f g h less)) (λ at_most. at_most)
+
+pub IsFloor-unique : (q p n d : ℤ) → pos 0 <ℤ d → IsFloor q n d → IsFloor p n d → q ≡ p
+IsFloor-unique q p n d hd f g =
+    same q p (IsFloor-ordered q n d p n d hd hd f g (itself (n *ℤ d))) (IsFloor-ordered p n d q n d hd hd g f (itself (n *ℤ d)))
+  where
+    itself : (a : ℤ) → a ≤ℤ a
+    itself a = omega (arith, ints)
+
+    same : (a b : ℤ) → a ≤ℤ b → b ≤ℤ a → a ≡ b
+    same a b h k = omega (arith, ints)
+
+pub floor_of-unique : (q n d : ℤ) → pos 0 <ℤ d → IsFloor q n d → q ≡ floor_of n d
+floor_of-unique q n d hd f = IsFloor-unique q (floor_of n d) n d hd f (floor_of-is n d hd)
+
+pub floor_of-ordered : (n d m e : ℤ) → pos 0 <ℤ d → pos 0 <ℤ e → (n *ℤ e) ≤ℤ (m *ℤ d) → floor_of n d ≤ℤ floor_of m e
+floor_of-ordered n d m e hd he h = IsFloor-ordered (floor_of n d) n d (floor_of m e) m e hd he (floor_of-is n d hd) (floor_of-is m e he) h

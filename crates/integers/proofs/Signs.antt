@@ -1,0 +1,51 @@
+-- Signs of products of whole numbers.
+use Rattle.std.proofs.Common.{◌≡◌, zero, suc, ◌<◌, unsigned_abs, arith}
+use Rattle.std.specs.Prelude.{ℤ, pos, negsuc, ◌*ℤ◌, ◌≤ℤ◌, ◌<ℤ◌}
+use Rattle.std.proofs.lemmas.Int.{ints, by_lt_z}
+
+pub mul_nonneg : (a b : ℤ) → pos 0 ≤ℤ a → pos 0 ≤ℤ b → pos 0 ≤ℤ (a *ℤ b)
+mul_nonneg (pos a) (pos b) p q = omega (arith, ints)
+mul_nonneg (pos a) (negsuc b) p q = absurd (omega (arith, ints))
+mul_nonneg (negsuc a) b p q = absurd (omega (arith, ints))
+
+pub mul_pos : (a b : ℤ) → pos 0 <ℤ a → pos 0 <ℤ b → pos 0 <ℤ (a *ℤ b)
+mul_pos (pos zero) b p q = absurd (omega (arith, ints))
+mul_pos (pos (suc a)) (pos zero) p q = absurd (omega (arith, ints))
+mul_pos (pos (suc a)) (pos (suc b)) p q = omega (arith, ints)
+mul_pos (pos (suc a)) (negsuc b) p q = absurd (omega (arith, ints))
+mul_pos (negsuc a) b p q = absurd (omega (arith, ints))
+
+pub mul_neg : (a b : ℤ) → pos 0 <ℤ a → b <ℤ pos 0 → (a *ℤ b) <ℤ pos 0
+mul_neg (pos zero) b p q = absurd (omega (arith, ints))
+mul_neg (pos (suc a)) (pos b) p q = absurd (omega (arith, ints))
+mul_neg (pos (suc a)) (negsuc b) p q = omega (arith, ints)
+mul_neg (negsuc a) b p q = absurd (omega (arith, ints))
+
+-- from the sign of a product with a positive factor
+pub nonneg_of_mul : (k a : ℤ) → pos 0 <ℤ k → pos 0 ≤ℤ (k *ℤ a) → pos 0 ≤ℤ a
+nonneg_of_mul k a p h = by_lt_z a (pos 0) (λ n. absurd (let m = mul_neg k a p n in omega (arith, ints))) (λ q. q)
+
+pub mul_nonpos : (a b : ℤ) → pos 0 <ℤ a → b ≤ℤ pos 0 → (a *ℤ b) ≤ℤ pos 0
+mul_nonpos (pos zero) b p q = absurd (omega (arith, ints))
+mul_nonpos (pos (suc a)) (pos zero) p q = omega (arith, ints)
+mul_nonpos (pos (suc a)) (pos (suc b)) p q = absurd (omega (arith, ints))
+mul_nonpos (pos (suc a)) (negsuc b) p q = omega (arith, ints)
+mul_nonpos (negsuc a) b p q = absurd (omega (arith, ints))
+
+pub pos_of_mul : (k a : ℤ) → pos 0 <ℤ k → pos 0 <ℤ (k *ℤ a) → pos 0 <ℤ a
+pos_of_mul k a p h = by_lt_z (pos 0) a (λ q. q) (λ n. absurd (let m = mul_nonpos k a p n in omega (arith, ints)))
+
+pub zero_of_mul : (k a : ℤ) → pos 0 <ℤ k → k *ℤ a ≡ pos 0 → a ≡ pos 0
+zero_of_mul k a p h =
+    by_lt_z a (pos 0) (λ n. absurd (let m = mul_neg k a p n in omega (arith, ints)))
+    (λ q. by_lt_z (pos 0) a (λ n. absurd (let m = mul_pos k a p n in omega (arith, ints))) (λ r. omega (arith, ints)))
+
+-- squares
+pub square_nonneg : (a : ℤ) → pos 0 ≤ℤ (a *ℤ a)
+square_nonneg (pos a) = omega (arith, ints)
+square_nonneg (negsuc a) = omega (arith, ints)
+
+pub square_pos : (a : ℤ) → 0 < unsigned_abs a → pos 0 <ℤ (a *ℤ a)
+square_pos (pos zero) h = absurd (omega arith)
+square_pos (pos (suc a)) h = omega (arith, ints)
+square_pos (negsuc a) h = omega (arith, ints)

@@ -1,0 +1,3 @@
+pub mod SightLines
+pub mod VectorSizes
+pub mod Vectors

@@ -1,0 +1,4 @@
+pub mod Faults
+pub mod Points
+pub mod Triangles
+pub mod Triple
