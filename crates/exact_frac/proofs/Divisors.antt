@@ -1,5 +1,5 @@
 -- Division by the greatest common divisor.
-use Rattle.std.proofs.Common.{◌≡◌, [], ◌∷◌, refl, ℕ, ◌<◌, ◌*◌, ◌≤◌, ◌^◌, zero, suc, arith, ℤ, pos, negsuc, neg_ℤ, ◌*ℤ◌, ◌<ℤ◌, unsigned_abs, int_div, int_rem, FitsSigned, to_z, sym, ap, ◌∙◌, one-mul, div-le_self}
+use Rattle.std.proofs.Common.{◌≡◌, [], ◌∷◌, refl, ℕ, ◌<◌, ◌*◌, ◌^◌, zero, suc, arith, ℤ, pos, negsuc, neg_ℤ, ◌*ℤ◌, ◌<ℤ◌, unsigned_abs, int_div, int_rem, FitsSigned, to_z, sym, ap, ◌∙◌, one-mul}
 use Rattle.std.specs.Int.{IsGcd, ◌∣◌, w128}
 use Rattle.std.proofs.Math.Nat.{mul-dvd-mul_right, dvd_of_mul-dvd-mul_right, one-dvd, pos_of_dvd_of_pos}
 use Rattle.std.proofs.lemmas.Nat.Gcd.{mod-eq-zero_of_dvd}
@@ -32,13 +32,6 @@ exact_first a b (negsuc k) d = absurd (omega (arith, ints, d.not_negative))
 pub exact_second : (a b g : ℤ) → IsGreatestDivisor a b g → int_div b g *ℤ g ≡ b
 exact_second a b (pos k) d = exact b k d.greatest.1
 exact_second a b (negsuc k) d = absurd (omega (arith, ints, d.not_negative))
-
--- a quotient is no longer than what is divided
-pub shorter : (z g : ℤ) → unsigned_abs (int_div z g) ≤ unsigned_abs z
-shorter (pos a) (pos b) = div-le_self a b
-shorter (pos a) (negsuc b) = omega (arith, ints, div-le_self a (suc b))
-shorter (negsuc a) (pos b) = omega (arith, ints, div-le_self (suc a) b)
-shorter (negsuc a) (negsuc b) = div-le_self (suc a) (suc b)
 
 -- a product is positive only where its first factor is, if the second is
 pub positive_factor : (x g z : ℤ) → x *ℤ g ≡ z → pos 0 <ℤ g → pos 0 <ℤ z → pos 0 <ℤ x

@@ -32,6 +32,7 @@ impl<T: Drop> From<AllocFailed<T>> for OutOfMemory {
 }
 
 /// The fraction `num / den`. `den` is positive, and `num` isn't the least `i128`; it needn't be in lowest terms.
+/// `==` and the order compare values, so 1/2 equals 2/4.
 #[derive(Clone, Copy, Debug)]
 pub struct Frac {
     pub num: i128,

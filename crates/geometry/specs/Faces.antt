@@ -1,7 +1,7 @@
 -- The points of faces and of edges, by whole weights, and what hides a point.
 use Rattle.std.specs.Prelude.{◌≡◌, ℕ, ◌+◌, ◌<◌, ℤ, pos, ◌+ℤ◌, ◌*ℤ◌}
 use Rattle.lattice.specs.declared.points.Corner.{Corner}
-use Rattle.lattice.specs.Triple.{Triple, dot, cross}
+use Rattle.lattice.specs.Triple.{Triple, dot, cross, IsZero}
 use Rattle.lattice.specs.Points.{Point, OnOneSight, IsNearer}
 pub use Rattle.lattice.specs.Points.{difference}
 
@@ -10,14 +10,12 @@ abbrev pub normal : Corner → Corner → Corner → Triple
 normal a b c = cross (difference a b) (difference a c)
 
 -- the three corners are in one line
-pub record IsFlat (a b c : Corner) : Type 0 where
-  pub x : (normal a b c).x ≡ pos 0
-  pub y : (normal a b c).y ≡ pos 0
-  pub z : (normal a b c).z ≡ pos 0
+abbrev pub IsFlat : Corner → Corner → Corner → Type 0
+IsFlat a b c = IsZero (normal a b c)
 
 -- the normal's product with the direction, whose sign is the face's
 abbrev pub facing_of : Triple → Corner → Corner → Corner → ℤ
-facing_of d a b c = dot (normal a b c) d
+facing_of d a b c = dot d (normal a b c)
 
 -- the sum of three corners with whole weights
 abbrev pub face_sum : Corner → Corner → Corner → ℕ → ℕ → ℕ → Point

@@ -11,8 +11,11 @@ pub record Part : Type 0 where
   pub corners : List Corner
   pub triangles : List Tri
 
+abbrev pub part_with : List Corner → List Tri → Part
+part_with corners triangles = record { corners = corners; triangles = triangles }
+
 abbrev pub part_of : Soup → Part
-part_of s = record { corners = s.corners.items; triangles = s.triangles.items }
+part_of s = part_with s.corners.items s.triangles.items
 
 -- ---- halves: the directed sides, in the order of the triangles
 -- where side 0, 1 or 2 of a triangle begins, and where it ends

@@ -125,7 +125,7 @@ fn read_triangles(
     Ok(Some((triangles, rest)))
 }
 
-/// The part that the text describes, in units of 0.001, or `None` where the text hasn't the form.
+/// The part that the text describes, in units of 0.001 mm, or `None` where the text hasn't the form.
 ///
 /// An `Err` says that memory ran out. Time and memory grow with the text alone, whatever its counts
 /// say: nothing is reserved for corners or triangles that the text doesn't have.

@@ -1,3 +1,4 @@
+// Texts that have the form, and texts a little off it.
 use crate::read_form;
 use lattice::Soup;
 use std::alloc::Global;

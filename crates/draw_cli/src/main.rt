@@ -1,0 +1,58 @@
+//! Draws one part: `draw PART` writes `drawing.svg`.
+#![tactic(auto)]
+
+mod disk;
+
+use desk::Desk;
+use disk::DiskDesk;
+use draw_core::draw;
+use std::alloc::Global;
+use std::process::ExitCode;
+use std::rt::Env;
+use std::{env, io};
+
+// The words after the program's name.
+fn words_of<R: Env + AllocGlobal>(rt: &R) -> io::Result<Vec<String>> {
+    Ok(env::args(rt)?.skip(1).collect(rt.alloc())?)
+}
+
+// The status of a run. Words that can't be had, as those that aren't UTF-8, are a faulty command line.
+fn status_of<D: Desk>(alloc: Global, words: io::Result<Vec<String>>, desk: &mut D) -> u8 {
+    match words {
+        Ok(words) => draw(alloc, &words, desk).status,
+        Err(fault) if fault.kind() == io::ErrorKind::OutOfMemory => 9,
+        Err(_) => 2,
+    }
+}
+
+fn main(rt: HostRuntime) -> ExitCode {
+    let alloc = rt.alloc();
+    let words = words_of(&rt);
+    let mut desk = DiskDesk::new(alloc, rt);
+    ExitCode::from(status_of(alloc, words, &mut desk))
+}
+
+#[cfg(test)]
+mod tests {
+    use super::*;
+    use desk::MemoryDesk;
+    use std::test::Fail;
+
+    #[test]
+    fn the_run_gives_its_status(rt: HostRuntime) -> Result<(), Fail> {
+        let alloc = rt.alloc();
+        let mut desk = MemoryDesk::new(alloc, Vec::new(alloc), Vec::new(alloc));
+        let mut words = Vec::new(alloc);
+        assert_eq!(rt; status_of(alloc, Ok(Vec::new(alloc)), &mut desk), 2);
+        words.push(String::from_str(alloc, "missing")?)?;
+        assert_eq!(rt; status_of(alloc, Ok(words), &mut desk), 7);
+        for (kind, status) in [
+            (io::ErrorKind::OutOfMemory, 9),
+            (io::ErrorKind::InvalidData, 2),
+        ] {
+            let words = Err(io::Error::from(kind));
+            assert_eq!(rt; status_of(alloc, words, &mut desk), status);
+        }
+        Ok(())
+    }
+}

@@ -1,0 +1,8 @@
+pub mod Blocks
+pub mod Creases
+pub mod DrawnLemmas
+pub mod Extremes
+pub mod Front
+pub mod Lengths
+pub mod Numbered
+pub mod WholeEdges

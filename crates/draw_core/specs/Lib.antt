@@ -1,0 +1,8 @@
+pub mod Drawing
+pub mod Edges
+pub mod Fetch
+pub mod Run
+pub mod Sheet
+pub mod Svg
+pub mod Whole
+pub mod Words

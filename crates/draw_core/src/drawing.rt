@@ -1,0 +1,28 @@
+// What a run makes.
+use crate::fault::Fault;
+use lattice::{Piece, ViewSpec};
+use solid_mesh::Solid;
+
+/// One view and its pieces, in their order.
+#[derive(Drop)]
+pub struct ViewDrawing {
+    pub spec: ViewSpec,
+    pub pieces: Vec<Piece>,
+}
+
+/// A part and its views.
+#[derive(Drop)]
+pub struct Drawing {
+    pub solid: Solid,
+    pub views: Vec<ViewDrawing>,
+}
+
+/// How a run ended.
+#[derive(Drop)]
+pub struct Outcome {
+    /// The program's status: 0 with no fault.
+    pub status: u8,
+    pub fault: Option<Fault>,
+    /// Some with status 0 and 8, and with status 9 where the desk found no memory for the file.
+    pub drawing: Option<Drawing>,
+}

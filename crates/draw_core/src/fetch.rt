@@ -1,0 +1,119 @@
+// Fetches a file from a desk, a block at a time.
+ghost use Rattle.std.specs.Prelude.{◌≡◌, ◌<◌, ◌≤◌, ◌+◌, true, length, None, Some, vec_len, IfOk, IsErrOf, IsSomeAnd};
+ghost use Rattle.desk.specs.Files.{Rose};
+ghost use Rattle.draw_core.specs.Fetch.{IsFetchedOnto};
+ghost use Rattle.draw_core.specs.declared.fetch.FetchFault.TheVariants.{Memory};
+
+use desk::{Desk, Failed};
+use std::alloc::{AllocError, Global};
+
+// How many bytes a fetch asks for.
+const BLOCK: usize = 65_536;
+
+// Why a file wasn't fetched.
+#[derive(Clone, Copy, Debug, PartialEq, Eq)]
+pub(crate) enum FetchFault {
+    // A fetch failed.
+    Failed,
+    // More bytes than the limit were taken.
+    TooLong,
+    // Memory ran out.
+    Memory,
+}
+
+impl From<AllocError> for FetchFault {
+    ghost from_gives = { λ _ fault. fault ≡ Memory };
+
+    fn from(_: AllocError) -> Self {
+        FetchFault::Memory
+    }
+}
+
+// Takes the next block of a file to the end of out.
+fn fetch_block<D: Desk>(desk: &mut D, name: &str, out: &mut Vec<u8>) -> Result<usize, FetchFault>
+    ensures took { D.tells desk.old ≡ true →
+        IfOk result (λ n. IsFetchedOnto (D.files desk.old name.now) out.old.items n out.new.items) }
+    ensures count { IfOk result (λ n. (vec_len out.new ≡ vec_len out.old + n) × (n ≤ BLOCK)) }
+    ensures not_long { IsErrOf result FetchFault.TooLong → ⊥ }
+    ensures tells { D.tells desk.new ≡ D.tells desk.old }
+    ensures files { D.tells desk.old ≡ true → D.files desk.new ≡ D.files desk.old }
+    ensures steady { D.steady desk.new ≡ D.steady desk.old }
+    ensures cause { IsErrOf result FetchFault.Failed →
+        Rose (D.read_faults desk.old) (D.read_faults desk.new) }
+    ensures no_cause { (IsErrOf result FetchFault.Failed → ⊥) →
+        D.read_faults desk.new ≡ D.read_faults desk.old }
+    ensures write_faults { D.write_faults desk.new ≡ D.write_faults desk.old }
+    ensures missing { D.steady desk.old ≡ true → IsErrOf result FetchFault.Failed →
+        D.files desk.old name.now ≡ None }
+{
+    let mut block = [0u8; BLOCK];
+    let at = out.len() as u64;
+    match desk.fetch(name, at, &mut block) {
+        Err(Failed) => Err(FetchFault::Failed),
+        Ok(n) => {
+            out.extend_from_slice(&block[..n])?;
+            Ok(n)
+        }
+    }
+}
+
+/// Fetches a file of at most `limit` bytes. It ends at the end of the file, at a fault, or once the limit is passed.
+pub(crate) fn fetch_all<D: Desk>(
+    alloc: Global,
+    desk: &mut D,
+    name: &str,
+    limit: usize,
+) -> Result<Vec<u8>, FetchFault>
+    ensures took { D.tells desk.old ≡ true →
+        IfOk result (λ bytes. D.files desk.old name.now ≡ Some bytes.items) }
+    ensures within { IfOk result (λ bytes. vec_len bytes ≤ limit) }
+    ensures too_long { D.tells desk.old ≡ true → IsErrOf result FetchFault.TooLong →
+        IsSomeAnd (D.files desk.old name.now) (λ bytes. limit < length bytes) }
+    ensures tells { D.tells desk.new ≡ D.tells desk.old }
+    ensures files { D.tells desk.old ≡ true → D.files desk.new ≡ D.files desk.old }
+    ensures steady { D.steady desk.new ≡ D.steady desk.old }
+    ensures cause { IsErrOf result FetchFault.Failed →
+        Rose (D.read_faults desk.old) (D.read_faults desk.new) }
+    ensures no_cause { (IsErrOf result FetchFault.Failed → ⊥) →
+        D.read_faults desk.new ≡ D.read_faults desk.old }
+    ensures write_faults { D.write_faults desk.new ≡ D.write_faults desk.old }
+    ensures missing { D.steady desk.old ≡ true → IsErrOf result FetchFault.Failed →
+        D.files desk.old name.now ≡ None }
+{
+    let mut out = Vec::new(alloc);
+    while out.len() <= limit {
+        if fetch_block(desk, name, &mut out)? == 0 {
+            return Ok(out);
+        }
+    }
+    Err(FetchFault::TooLong)
+}
+
+#[cfg(test)]
+mod tests {
+    use super::*;
+    use dec_text::Name;
+    use desk::MemoryDesk;
+    use std::test::Fail;
+
+    #[test]
+    fn a_file_is_fetched_up_to_the_limit(rt: HostRuntime) -> Result<(), Fail> {
+        let alloc = rt.alloc();
+        for (name, limit, fail, want) in [
+            ("p", 70_000, 9, Ok(70_000)),
+            ("p", 69_999, 9, Err(FetchFault::TooLong)),
+            ("p", 70_000, 0, Err(FetchFault::Failed)),
+            ("p", 70_000, 1, Err(FetchFault::Failed)),
+            ("p", 70_000, 2, Err(FetchFault::Failed)),
+            ("p", 70_000, 3, Ok(70_000)),
+            ("q", 70_000, 9, Err(FetchFault::Failed)),
+        ] {
+            let mut files = Vec::new(alloc);
+            files.push((Name::new(alloc, "p")?, vec![in alloc; 1u8; 70_000]?))?;
+            let mut desk = MemoryDesk::new(alloc, files, vec![in alloc; fail]?);
+            let got = fetch_all(alloc, &mut desk, name, limit).map(|bytes| bytes.len());
+            assert_eq!(rt; got, want, "{name} up to {limit}, call {fail} fails");
+        }
+        Ok(())
+    }
+}

@@ -1,0 +1,19 @@
+//! The top call: from the words and a desk to a drawing.
+#![tactic(auto)]
+
+mod drawing;
+mod ends;
+mod fault;
+mod fetch;
+mod pick;
+mod run;
+mod sheet;
+mod svg;
+#[cfg(test)]
+mod tests;
+mod whole;
+mod words;
+
+pub use drawing::{Drawing, Outcome, ViewDrawing};
+pub use fault::{Fault, Input, NotYet, Target};
+pub use run::{OUT, draw};

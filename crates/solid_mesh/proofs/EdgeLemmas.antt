@@ -1,0 +1,115 @@
+-- From halves to edges with their two faces.
+use Rattle.std.proofs.Common.{◌≡◌, ℕ, zero, suc, ◌/◌, ◌%◌, ◌<◌, ◌≤◌, ◌⊎◌, inl, inr, List, All, length, get_or, slice_get, Some, None, refl, sym, subst, ap, ◌∙◌, arith}
+use Rattle.std.proofs.lemmas.Option.{slice_get_cases, slice_get_within, get_or_from_slice_get}
+use Rattle.std.proofs.lemmas.List.Elements.{All-contains}
+use Rattle.lattice.specs.declared.soup.Tri.{Tri}
+use Rattle.lattice.specs.Triangles.{IsBelow}
+use Rattle.geometry.specs.Parts as parts
+use Rattle.geometry.specs.Parts.{Part, Face, IsHalf, IsNumbered, HasNoSideTwice, start_of, end_of}
+use Rattle.solid_mesh.specs.declared.solid.Edge.{Edge}
+use Rattle.solid_mesh.specs.Halves.{start_at, end_at}
+use Rattle.solid_mesh.specs.Solids.{IsEdgeAt, IsWithinPart}
+use Rattle.solid_mesh.proofs.HalfLemmas.{start_of_half, end_of_half}
+
+-- a list has an element at each place below its length
+pub found : {X : Type 0} (xs : List X) (i : ℕ) → i < length xs → (x : X) × (slice_get xs i ≡ Some x)
+found {X} xs i h = by (slice_get_cases xs i).1
+  where
+    by : ((x : X) × (i < length xs) × (slice_get xs i ≡ Some x) × (get_or xs i x ≡ x)) ⊎ ((length xs ≤ i) × (slice_get xs i ≡ None)) → (x : X) × (slice_get xs i ≡ Some x)
+    by (inl (x, within, at, is)) = (x, at)
+    by (inr (past, none)) = absurd (omega arith)
+
+-- and one element
+pub same_element : {X : Type 0} (xs : List X) (i j : ℕ) (x y : X) → i ≡ j → slice_get xs i ≡ Some x → slice_get xs j ≡ Some y → x ≡ y
+same_element xs i j x y e p q = sym (get_or_from_slice_get xs i x x p) ∙ ap (λ k. get_or xs k x) e ∙ get_or_from_slice_get xs j y x q
+
+start_below : (n : ℕ) (t : Tri) (side : ℕ) → IsBelow n t → start_of t side < n
+start_below n t zero h = h.a
+start_below n t (suc zero) h = h.b
+start_below n t (suc (suc side)) h = h.c
+
+end_below : (n : ℕ) (t : Tri) (side : ℕ) → IsBelow n t → end_of t side < n
+end_below n t zero h = h.b
+end_below n t (suc zero) h = h.c
+end_below n t (suc (suc side)) h = h.a
+
+module _ (s : Part) (in_range : All (IsBelow (length s.corners)) s.triangles) where
+  module _ (t : Tri) (i : ℕ) (at : slice_get s.triangles i ≡ Some t) where
+    pub triangle_below : IsBelow (length s.corners) t
+    triangle_below = All-contains (IsBelow (length s.corners)) s.triangles t in_range (i, slice_get_within s.triangles i t at, get_or_from_slice_get s.triangles i t t at)
+
+    -- the triangle with its corners
+    abbrev pub face_at : Face s
+    face_at =
+        let a = found s.corners t.a triangle_below.a in
+        let b = found s.corners t.b triangle_below.b in
+        let c = found s.corners t.c triangle_below.c in
+        record { number = i; tri = t; a = a.0; b = b.0; c = c.0; listed = at; at_a = a.1; at_b = b.1; at_c = c.1 }
+
+  -- the edge along a half and back along another
+  pub edge_along : (halves : List ℕ) (i half other m n : ℕ) → slice_get halves i ≡ Some half → IsHalf s half m n → IsHalf s other n m
+      → IsEdgeAt s halves i (record { a = m; b = n; left = half / 3; right = other / 3 })
+  edge_along halves i half other m n at goes returns = record {
+    edge = edge;
+    numbered = at;
+    a = refl;
+    b = refl;
+    left = refl;
+    right = refl;
+  }
+    where
+      first : m < length s.corners
+      first = let P : ℕ → Type 0 = λ k. k < length s.corners in subst P goes.start (start_below (length s.corners) goes.tri (half % 3) (triangle_below goes.tri (half / 3) goes.at))
+
+      second : n < length s.corners
+      second = let P : ℕ → Type 0 = λ k. k < length s.corners in subst P goes.end (end_below (length s.corners) goes.tri (half % 3) (triangle_below goes.tri (half / 3) goes.at))
+
+      edge : parts.Edge s
+      edge = record {
+        half = half;
+        other = other;
+        m = m;
+        n = n;
+        a = (found s.corners m first).0;
+        b = (found s.corners n second).0;
+        left = face_at goes.tri (half / 3) goes.at;
+        right = face_at returns.tri (other / 3) returns.at;
+        goes = goes;
+        returns = returns;
+        on_left = refl;
+        on_right = refl;
+        at_m = (found s.corners m first).1;
+        at_n = (found s.corners n second).1;
+      }
+
+-- an edge's numbers are in range
+pub edge_within : (s : Part) (halves : List ℕ) (i : ℕ) (e : Edge) → IsEdgeAt s halves i e → IsWithinPart s e
+edge_within s halves i e h =
+    let Corners : ℕ → Type 0 = λ k. k < length s.corners in
+    let Triangles : ℕ → Type 0 = λ k. k < length s.triangles in
+    record {
+      a = subst Corners h.a (slice_get_within s.corners h.edge.m h.edge.a h.edge.at_m);
+      b = subst Corners h.b (slice_get_within s.corners h.edge.n h.edge.b h.edge.at_n);
+      left = subst Triangles h.left (slice_get_within s.triangles h.edge.left.number h.edge.left.tri h.edge.left.listed);
+      right = subst Triangles h.right (slice_get_within s.triangles h.edge.right.number h.edge.right.tri h.edge.right.listed);
+    }
+
+-- an edge's number determines its two ends
+pub same_ends : (s : Part) (halves : List ℕ) (i : ℕ) (e : parts.Edge s) → IsNumbered halves i e → (given : Edge) → IsEdgeAt s halves i given → (e.m ≡ given.a) × (e.n ≡ given.b)
+same_ends s halves i e numbered given h =
+    let half : e.half ≡ h.edge.half = same_element halves i i _ _ refl numbered h.numbered in (
+      sym (start_of_half s e.half e.goes) ∙ ap (start_at s.triangles) half ∙ start_of_half s h.edge.half h.edge.goes ∙ h.a,
+      sym (end_of_half s e.half e.goes) ∙ ap (end_at s.triangles) half ∙ end_of_half s h.edge.half h.edge.goes ∙ h.b,
+    )
+
+-- and, of a closed part, its two faces
+pub same_faces : (s : Part) → HasNoSideTwice s → (halves : List ℕ) (i : ℕ) (e : parts.Edge s) → IsNumbered halves i e → (given : Edge) → IsEdgeAt s halves i given → (e.left.number ≡ given.left) × (e.right.number ≡ given.right)
+same_faces s once halves i e numbered given h =
+    let half : e.half ≡ h.edge.half = same_element halves i i _ _ refl numbered h.numbered in
+    let ends = same_ends s halves i e numbered given h in
+    let start : e.m ≡ h.edge.m = ends.0 ∙ sym h.a in
+    let end : e.n ≡ h.edge.n = ends.1 ∙ sym h.b in
+    let back : IsHalf s e.other h.edge.n h.edge.m = subst (λ (k : ℕ). IsHalf s e.other h.edge.n k) start (subst (λ (k : ℕ). IsHalf s e.other k e.m) end e.returns) in
+    let other : e.other ≡ h.edge.other = once e.other h.edge.other h.edge.n h.edge.m back h.edge.returns in
+    let third : ℕ → ℕ = λ k. k / 3 in
+    (e.on_left ∙ ap third half ∙ sym h.edge.on_left ∙ h.left, e.on_right ∙ ap third other ∙ sym h.edge.on_right ∙ h.right)

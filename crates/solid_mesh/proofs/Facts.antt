@@ -1,0 +1,40 @@
+-- What each solid keeps, for the crates above.
+use Rattle.std.proofs.Common.{ℕ, ◌*◌, ◌<◌, ◌≤◌, List, All, length, sym, subst, ap, arith}
+use Rattle.lattice.specs.Triangles.{IsBelow}
+use Rattle.geometry.specs.Parts.{IsClosed, AreEdges}
+use Rattle.integers.proofs.Passing as passing
+use Rattle.solid_mesh.specs.Halves.{is_lower}
+use Rattle.solid_mesh.specs.Solids.{solid_part, edge_halves}
+use Rattle.solid_mesh.specs.declared.solid.Solid.{Solid}
+use Rattle.solid_mesh.proofs.HalfLemmas.{table_closed, table_edges}
+
+module _ (s : Solid) where
+  pub some_triangle : 0 < length (solid_part s).triangles
+  some_triangle = s.some_triangle
+
+  pub few_corners : length (solid_part s).corners ≤ 60000
+  few_corners = s.few_corners
+
+  pub few_triangles : length (solid_part s).triangles ≤ 20000
+  few_triangles = s.few_triangles
+
+  -- the numbers of each triangle's corners are in range
+  pub in_range : All (IsBelow (length (solid_part s).corners)) (solid_part s).triangles
+  in_range = s.in_range
+
+  pub closed : IsClosed (solid_part s)
+  closed = table_closed (solid_part s) s.twins.items s.paired s.none_flat s.once
+
+  -- the edges' halves are halves, of which there are three a triangle
+  pub halves_within : All (λ half. half < 3 * length (solid_part s).triangles) (edge_halves s)
+  halves_within k d h =
+      let P : List ℕ → Type 0 = λ xs. All (λ half. half < length s.twins.items) xs in
+      let below : All (λ half. half < length s.twins.items) s.lower_halves.items = subst P (sym s.lower) (passing.below (is_lower s.twins.items) (length s.twins.items)) in
+      omega (arith, s.paired.for_each, below k d h)
+
+  -- there are at most 60,000 edges
+  pub few_edges : length (edge_halves s) ≤ 60000
+  few_edges = omega (arith, s.few_triangles, s.paired.for_each, ap length s.lower, passing.few (is_lower s.twins.items) (length s.twins.items))
+
+  pub edges_are : AreEdges (solid_part s) (edge_halves s)
+  edges_are = subst (AreEdges (solid_part s)) (sym s.lower) (table_edges (solid_part s) s.twins.items s.paired s.once)

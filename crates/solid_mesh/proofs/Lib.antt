@@ -1,0 +1,5 @@
+pub mod EdgeLemmas
+pub mod Facts
+pub mod FlatLemmas
+pub mod HalfLemmas
+pub mod SideLemmas

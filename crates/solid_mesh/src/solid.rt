@@ -1,0 +1,161 @@
+// A closed part and its readers.
+ghost use Rattle.std.specs.Prelude.{◌≡◌, ◌+◌, ◌*◌, ◌<◌, ◌≤◌, ◌^◌, ℤ, pos, ◌+ℤ◌, ◌*ℤ◌, ◌<ℤ◌, ◌≤ℤ◌, unsigned_abs, length, slice_get, Some, OnOk, IfOk, IfErr};
+ghost use Rattle.std.specs.List.{All};
+ghost use Rattle.lattice.specs.Triangles.{IsBelow};
+ghost use Rattle.geometry.specs.Parts.{Face, IsHalf, IsTwin, HasNoFlatTriangle, HasNoSideTwice, IsClosed, AreEdges, IsNumbered, part_with, part_of};
+ghost use Rattle.solid_mesh.specs.Halves.{AreTwins, lower_halves_of};
+
+use crate::faults::{MeshError, MeshFault};
+use crate::places::{share, turned};
+use crate::sides::{ends, find_lower, find_twins, has_flat, index_sides};
+use exact_frac::Frac;
+use lattice::{Corner, Dir, Soup, Spot, Tri};
+use std::alloc::Global;
+
+/// The numbers of an edge's two corners, and of the triangles to its left and to its right as one goes from `a` to `b`
+/// on the side that the normals point to.
+#[derive(Clone, Copy, PartialEq, Eq, Debug)]
+pub struct Edge {
+    pub a: u32,
+    pub b: u32,
+    pub left: u32,
+    pub right: u32,
+}
+
+/// A closed part. Half `3t + s` is the directed side `s` of triangle `t`.
+#[derive(Debug, Drop)]
+pub struct Solid {
+    corners: Vec<Corner>,
+    triangles: Vec<Tri>,
+    twins: Vec<u32>,
+    lower_halves: Vec<u32>,
+    ghost some_triangle: { 0 < length triangles.items },
+    ghost few_corners: { length corners.items ≤ 60000 },
+    ghost few_triangles: { length triangles.items ≤ 20000 },
+    ghost in_range: { All (IsBelow (length corners.items)) triangles.items },
+    ghost none_flat: { HasNoFlatTriangle (part_with corners.items triangles.items) },
+    ghost once: { HasNoSideTwice (part_with corners.items triangles.items) },
+    ghost paired: { AreTwins triangles.items twins.items },
+    ghost lower: { lower_halves.items ≡ lower_halves_of twins.items },
+}
+
+impl Solid {
+    ghost use Rattle.lattice.specs.Points.{of_dir, of_spot};
+    ghost use Rattle.geometry.specs.Parts as parts;
+    ghost use Rattle.geometry.specs.Views.{face_sign};
+    ghost use Rattle.solid_mesh.specs.Solids.{solid_part, edge_halves, IsEdgeAt, IsWithinPart, IsRefusedFor, share_point};
+
+    /// The solid with these corners and triangles, at most 60,000 and 20,000: `NotClosed` where a triangle is flat, or a
+    /// directed side occurs twice, or its reverse is missing. Takes time about linear in the number of triangles: each
+    /// directed side is hashed once, and looked up once by its reverse. Each reader takes constant time.
+    pub fn check(alloc: Global, soup: Soup) -> Result<Solid, MeshError>
+        requires some_triangle { 0 < length (part_of soup).triangles }
+        requires few_corners { length (part_of soup).corners ≤ 60000 }
+        requires few_triangles { length (part_of soup).triangles ≤ 20000 }
+        ensures part { IfOk result (λ s. solid_part s ≡ part_of soup) }
+        ensures closed { OnOk result (IsClosed (part_of soup)) }
+        ensures refused { IfErr result (IsRefusedFor (part_of soup)) }
+    {
+        if has_flat(&soup) {
+            return Err(MeshError::Mesh(MeshFault::NotClosed));
+        }
+        let sides = index_sides(alloc, &soup)?;
+        let twins = find_twins(alloc, &soup, &sides)?;
+        let lower_halves = find_lower(alloc, &twins)?;
+        let Soup { corners, triangles } = soup;
+        Ok(Solid {
+            corners,
+            triangles,
+            twins,
+            lower_halves,
+        })
+    }
+
+    /// The number of corners.
+    pub fn corners(&self) -> u32
+        ensures { result ≡ length (solid_part self.now).corners }
+    {
+        self.corners.len() as u32
+    }
+
+    /// The number of triangles, which are closed.
+    pub fn triangles(&self) -> u32
+        ensures count { result ≡ length (solid_part self.now).triangles }
+        ensures closed { IsClosed (solid_part self.now) }
+    {
+        self.triangles.len() as u32
+    }
+
+    /// The number of edges, which go along the lower halves in their order.
+    pub fn edges(&self) -> u32
+        ensures count { result ≡ length (edge_halves self.now) }
+        ensures numbered { AreEdges (solid_part self.now) (edge_halves self.now) }
+    {
+        self.lower_halves.len() as u32
+    }
+
+    /// The corner with this number, in units.
+    pub fn corner(&self, i: u32) -> Corner
+        requires { i < length (solid_part self.now).corners }
+        ensures { slice_get (solid_part self.now).corners i ≡ Some result }
+    {
+        self.corners[i as usize]
+    }
+
+    /// The triangle with this number.
+    pub fn triangle(&self, i: u32) -> Tri
+        requires { i < length (solid_part self.now).triangles }
+        ensures listed { slice_get (solid_part self.now).triangles i ≡ Some result }
+        ensures within { IsBelow (length (solid_part self.now).corners) result }
+    {
+        self.triangles[i as usize]
+    }
+
+    /// The half between the same two corners that goes back.
+    pub fn twin(&self, half: u32) -> u32
+        requires { half < 3 * length (solid_part self.now).triangles }
+        ensures twin { IsTwin (solid_part self.now) half result }
+        ensures within { result < 3 * length (solid_part self.now).triangles }
+    {
+        self.twins[half as usize]
+    }
+
+    /// The edge with this number, along the lower of its two halves.
+    pub fn edge(&self, i: u32) -> Edge
+        requires { i < length (edge_halves self.now) }
+        ensures edge { IsEdgeAt (solid_part self.now) (edge_halves self.now) i result }
+        ensures within { IsWithinPart (solid_part self.now) result }
+    {
+        let half = self.lower_halves[i as usize];
+        let other = self.twins[half as usize];
+        let (left, right) = (half / 3, other / 3);
+        let (a, b) = ends(&self.triangles[left as usize], half % 3);
+        Edge { a, b, left, right }
+    }
+
+    /// 1 if the triangle is turned to the viewer, -1 if it is turned away, 0 if it is seen edge-on.
+    pub fn sign(&self, d: &Dir, tri: u32) -> i8
+        requires { tri < length (solid_part self.now).triangles }
+        ensures { (f : Face (solid_part self.now)) → f.number ≡ tri → result ≡ face_sign (of_dir d.now) f }
+    {
+        let Tri { a, b, c } = self.triangle(tri);
+        turned(d, &self.corner(a), &self.corner(b), &self.corner(c))
+    }
+
+    /// The spot at the share `t` of the way along an edge, from 0 at its corner `a` to 1 at its corner `b`.
+    pub fn spot(&self, edge: u32, t: &Frac) -> Spot
+        requires edge { edge < length (edge_halves self.now) }
+        requires from_start { pos 0 ≤ℤ t.now.num }
+        requires to_end { t.now.num ≤ℤ t.now.den }
+        requires small { unsigned_abs t.now.den < 2 ^ 69 }
+        ensures { (e : parts.Edge (solid_part self.now)) → IsNumbered (edge_halves self.now) edge e → of_spot result ≡ share_point e.a e.b t.now }
+    {
+        let Edge {
+            a,
+            b,
+            left: _,
+            right: _,
+        } = self.edge(edge);
+        share(&self.corner(a), &self.corner(b), t)
+    }
+}
