@@ -3,6 +3,5 @@ pub mod Creases
 pub mod DrawnLemmas
 pub mod Extremes
 pub mod Front
-pub mod Lengths
 pub mod Numbered
 pub mod WholeEdges

@@ -1,38 +1,20 @@
--- What a solid's readers give for an edge's number holds of each edge with that number.
-use Rattle.std.proofs.Common.{◌≡◌, ℕ, List, Some, slice_get, refl, sym, ap, ◌∙◌}
+-- What was looked up for an edge's numbers, or for a triangle's, is what the edge and the face have.
+use Rattle.std.proofs.Common.{◌≡◌, ℕ, Some, slice_get, sym, ap, ◌∙◌}
 use Rattle.lattice.specs.declared.points.Corner.{Corner}
 use Rattle.lattice.specs.declared.soup.Tri.{Tri}
 use Rattle.lattice.specs.Points.{Point, point_of}
 use Rattle.geometry.specs.Parts as parts
-use Rattle.geometry.specs.Parts.{Part, Face, IsClosed, IsNumbered}
+use Rattle.geometry.specs.Parts.{Part, Face}
 use Rattle.solid_mesh.specs.declared.solid.Edge.{Edge}
-use Rattle.solid_mesh.specs.Solids.{IsEdgeAt}
-use Rattle.solid_mesh.proofs.EdgeLemmas.{same_element, same_ends, same_faces}
-
--- the edge has these corners, between these triangles
-pub record HasNumbers (s : Part) (given : Edge) (e : parts.Edge s) : Type 0 where
-  pub a : slice_get s.corners given.a ≡ Some e.a
-  pub b : slice_get s.corners given.b ≡ Some e.b
-  pub left : e.left.number ≡ given.left
-  pub right : e.right.number ≡ given.right
-
-pub numbers_of : (s : Part) → IsClosed s → (halves : List ℕ) (i : ℕ) (given : Edge) → IsEdgeAt s halves i given → (e : parts.Edge s) → IsNumbered halves i e → HasNumbers s given e
-numbers_of s closed halves i given h e n =
-    let ends = same_ends s halves i e n given h in
-    let faces = same_faces s closed.once halves i e n given h in
-    record {
-      a = ap (slice_get s.corners) (sym ends.0) ∙ e.at_m;
-      b = ap (slice_get s.corners) (sym ends.1) ∙ e.at_n;
-      left = faces.0;
-      right = faces.1;
-    }
+use Rattle.solid_mesh.specs.Solids.{HasNumbers}
+use Rattle.solid_mesh.proofs.EdgeLemmas.{same_element}
 
 -- the spots of the two corners that were looked up are the edge's ends
-pub ends_of : (s : Part) (given : Edge) (e : parts.Edge s) → HasNumbers s given e → (x y : Corner) (p q : Point)
+pub ends_of : (s : Part) (given : Edge) (e : parts.Edge s) → HasNumbers e given → (x y : Corner) (p q : Point)
     → slice_get s.corners given.a ≡ Some x → slice_get s.corners given.b ≡ Some y → p ≡ point_of x → q ≡ point_of y → (p ≡ point_of e.a) × (q ≡ point_of e.b)
 ends_of s given e h x y p q at_a at_b is_p is_q = (
-  is_p ∙ ap point_of (same_element s.corners given.a given.a x e.a refl at_a h.a),
-  is_q ∙ ap point_of (same_element s.corners given.b given.b y e.b refl at_b h.b),
+  is_p ∙ ap point_of (same_element s.corners given.a e.m x e.a (sym h.a) at_a e.at_m),
+  is_q ∙ ap point_of (same_element s.corners given.b e.n y e.b (sym h.b) at_b e.at_n),
 )
 
 -- the corners that were looked up for a triangle are those of the face

@@ -1,5 +1,5 @@
 -- The points of faces and of edges, by whole weights, and what hides a point.
-use Rattle.std.specs.Prelude.{◌≡◌, ℕ, ◌+◌, ◌<◌, ℤ, pos, ◌+ℤ◌, ◌*ℤ◌}
+use Rattle.std.specs.Prelude.{◌≡◌, ℕ, ◌+◌, ◌<◌, ℤ, pos, ◌+ℤ◌, ◌-ℤ◌, ◌*ℤ◌}
 use Rattle.lattice.specs.declared.points.Corner.{Corner}
 use Rattle.lattice.specs.Triple.{Triple, dot, cross, IsZero}
 use Rattle.lattice.specs.Points.{Point, OnOneSight, IsNearer}
@@ -33,6 +33,15 @@ edge_sum a b i j = record {
   y = (pos i *ℤ a.y) +ℤ (pos j *ℤ b.y);
   z = (pos i *ℤ a.z) +ℤ (pos j *ℤ b.z);
   w = pos (i + j);
+}
+
+-- the point at the share n / m of the way from a to b
+abbrev pub share_point : Corner → Corner → ℤ → ℤ → Point
+share_point a b n m = record {
+  x = ((m -ℤ n) *ℤ a.x) +ℤ (n *ℤ b.x);
+  y = ((m -ℤ n) *ℤ a.y) +ℤ (n *ℤ b.y);
+  z = ((m -ℤ n) *ℤ a.z) +ℤ (n *ℤ b.z);
+  w = m;
 }
 
 -- a point of a closed face: a sum of its corners with whole weights that are not all 0

@@ -1,11 +1,12 @@
 -- How large products of vectors are.
-use Rattle.std.proofs.Common.{ℕ, ◌+◌, ◌*◌, ◌≤◌, ◌^◌, ℤ, ◌+ℤ◌, ◌*ℤ◌, unsigned_abs, to_z, of_z}
+use Rattle.std.proofs.Common.{ℕ, ◌+◌, ◌*◌, ◌≤◌, ◌^◌, arith, ℤ, ◌+ℤ◌, ◌*ℤ◌, unsigned_abs, to_z, of_z}
 use Rattle.std.proofs.Math.Dec.{T, ltb}
 use Rattle.std.specs.Int.{w64, w128}
 use Rattle.integers.proofs.Worth.{Reads, known, pass, plus, minus, times}
 use Rattle.lattice.specs.Triple.{Triple, dot, cross, det, IsWithin}
 use Rattle.lattice.specs.declared.points.Vector.{Vector}
-use Rattle.lattice.specs.Points.{of_vector}
+use Rattle.lattice.specs.declared.points.Spot.{Spot}
+use Rattle.lattice.specs.Points.{of_vector, of_spot, scaled}
 
 pub dot_reads : (k m : ℕ) (s t : Triple) → IsWithin k s → IsWithin m t → Reads (dot s t) (dot s t) (k * m + k * m + k * m)
 dot_reads k m s t a b =
@@ -37,3 +38,13 @@ module _ (m : ℕ) (a b c : ℤ) (f : unsigned_abs a ≤ m) (g : unsigned_abs b 
 
   pub machine_sum : T (ltb (m + m + m) (2 ^ 127)) → Reads (to_z w128 (of_z w128 (to_z w128 (of_z w128 (to_z w128 (of_z w128 a) +ℤ to_z w128 (of_z w128 b))) +ℤ to_z w128 (of_z w128 c)))) ((a +ℤ b) +ℤ c) (m + m + m)
   machine_sum three = pass w128 sum_of_three three
+
+-- the product of an axis with a spot is not far out, since no spot is
+pub dot_near : (s : Triple) (p : Spot) → IsWithin 162 s → unsigned_abs (dot s (scaled (of_spot p))) ≤ 2 ^ 30 * unsigned_abs p.w
+dot_near s p h =
+    let m = 2 ^ 21 * unsigned_abs p.w in
+    let xyz = dot_reads 162 m s (scaled (of_spot p)) h (record { x = p.x_near; y = p.y_near; z = p.z_near }) in
+    omega (arith, xyz.size)
+
+pub wider : (t : Triple) → IsWithin 9 t → IsWithin 162 t
+wider t h = record { x = omega (arith, h.x); y = omega (arith, h.y); z = omega (arith, h.z) }

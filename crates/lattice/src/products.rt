@@ -1,6 +1,6 @@
 // Exact products of vectors and directions, and what a spot is worth along the axes of a view.
-ghost use Rattle.std.specs.Prelude.{◌≡◌, ◌<◌, ◌≤◌, ◌^◌, ◌-ℤ◌, ◌*ℤ◌, ◌↔◌, unsigned_abs, IsTrue};
-ghost use Rattle.lattice.specs.Triple.{dot, cross, det};
+ghost use Rattle.std.specs.Prelude.{◌≡◌, ◌*◌, ◌<◌, ◌≤◌, ◌^◌, ◌-ℤ◌, ◌*ℤ◌, ◌↔◌, unsigned_abs, IsTrue};
+ghost use Rattle.lattice.specs.Triple.{IsWithin, dot, cross, det};
 ghost use Rattle.lattice.specs.Points.{of_dir, of_vector, of_normal, of_spot, scaled, across_of, upward_of, height_of, IsRatio, OnOneSight, DifferAlong};
 
 use crate::normals::Normal;
@@ -74,7 +74,9 @@ pub fn view_cross(d: &Dir, s: &Vector, t: &Vector) -> i128
 
 /// The scalar product of a vector with a spot.
 fn along(axis: &Vector, p: &Spot) -> Frac
-    ensures { IsRatio result (dot (of_vector axis.now) (scaled (of_spot p.now))) p.now.w }
+    requires { IsWithin 162 (of_vector axis.now) }
+    ensures ratio { IsRatio result (dot (of_vector axis.now) (scaled (of_spot p.now))) p.now.w }
+    ensures near { unsigned_abs result.num ≤ 2 ^ 30 * unsigned_abs p.now.w }
 {
     Frac {
         num: weighted(axis, p.x, p.y, p.z),
@@ -84,21 +86,24 @@ fn along(axis: &Vector, p: &Spot) -> Frac
 
 /// The height of the spot: its scalar product with the direction, with the spot's `w` as the divisor. Greater is nearer the viewer.
 pub fn height(d: &Dir, p: &Spot) -> Frac
-    ensures { IsRatio result (height_of (of_dir d.now) (of_spot p.now)) p.now.w }
+    ensures ratio { IsRatio result (height_of (of_dir d.now) (of_spot p.now)) p.now.w }
+    ensures near { unsigned_abs result.num ≤ 2 ^ 30 * unsigned_abs p.now.w }
 {
     along(&d.vector(), p)
 }
 
 /// U of the spot: its scalar product with the right axis, with the spot's `w` as the divisor.
 pub fn across(d: &Dir, p: &Spot) -> Frac
-    ensures { IsRatio result (across_of (of_dir d.now) (of_spot p.now)) p.now.w }
+    ensures ratio { IsRatio result (across_of (of_dir d.now) (of_spot p.now)) p.now.w }
+    ensures near { unsigned_abs result.num ≤ 2 ^ 30 * unsigned_abs p.now.w }
 {
     along(&d.right(), p)
 }
 
 /// V of the spot: its scalar product with the up axis, with the spot's `w` as the divisor.
 pub fn upward(d: &Dir, p: &Spot) -> Frac
-    ensures { IsRatio result (upward_of (of_dir d.now) (of_spot p.now)) p.now.w }
+    ensures ratio { IsRatio result (upward_of (of_dir d.now) (of_spot p.now)) p.now.w }
+    ensures near { unsigned_abs result.num ≤ 2 ^ 30 * unsigned_abs p.now.w }
 {
     along(&d.up(), p)
 }

@@ -8,7 +8,7 @@ use Rattle.geometry.specs.Parts as parts
 use Rattle.geometry.specs.Parts.{Part, Face, IsHalf, IsNumbered, HasNoSideTwice, start_of, end_of}
 use Rattle.solid_mesh.specs.declared.solid.Edge.{Edge}
 use Rattle.solid_mesh.specs.Halves.{start_at, end_at}
-use Rattle.solid_mesh.specs.Solids.{IsEdgeAt, IsWithinPart}
+use Rattle.solid_mesh.specs.Solids.{HasNumbers, IsEdgeAt, IsWithinPart}
 use Rattle.solid_mesh.proofs.HalfLemmas.{start_of_half, end_of_half}
 
 -- a list has an element at each place below its length
@@ -52,10 +52,7 @@ module _ (s : Part) (in_range : All (IsBelow (length s.corners)) s.triangles) wh
   edge_along halves i half other m n at goes returns = record {
     edge = edge;
     numbered = at;
-    a = refl;
-    b = refl;
-    left = refl;
-    right = refl;
+    numbers = record { a = refl; b = refl; left = refl; right = refl };
   }
     where
       first : m < length s.corners
@@ -88,28 +85,24 @@ edge_within s halves i e h =
     let Corners : ℕ → Type 0 = λ k. k < length s.corners in
     let Triangles : ℕ → Type 0 = λ k. k < length s.triangles in
     record {
-      a = subst Corners h.a (slice_get_within s.corners h.edge.m h.edge.a h.edge.at_m);
-      b = subst Corners h.b (slice_get_within s.corners h.edge.n h.edge.b h.edge.at_n);
-      left = subst Triangles h.left (slice_get_within s.triangles h.edge.left.number h.edge.left.tri h.edge.left.listed);
-      right = subst Triangles h.right (slice_get_within s.triangles h.edge.right.number h.edge.right.tri h.edge.right.listed);
+      a = subst Corners h.numbers.a (slice_get_within s.corners h.edge.m h.edge.a h.edge.at_m);
+      b = subst Corners h.numbers.b (slice_get_within s.corners h.edge.n h.edge.b h.edge.at_n);
+      left = subst Triangles h.numbers.left (slice_get_within s.triangles h.edge.left.number h.edge.left.tri h.edge.left.listed);
+      right = subst Triangles h.numbers.right (slice_get_within s.triangles h.edge.right.number h.edge.right.tri h.edge.right.listed);
     }
 
--- an edge's number determines its two ends
-pub same_ends : (s : Part) (halves : List ℕ) (i : ℕ) (e : parts.Edge s) → IsNumbered halves i e → (given : Edge) → IsEdgeAt s halves i given → (e.m ≡ given.a) × (e.n ≡ given.b)
-same_ends s halves i e numbered given h =
-    let half : e.half ≡ h.edge.half = same_element halves i i _ _ refl numbered h.numbered in (
-      sym (start_of_half s e.half e.goes) ∙ ap (start_at s.triangles) half ∙ start_of_half s h.edge.half h.edge.goes ∙ h.a,
-      sym (end_of_half s e.half e.goes) ∙ ap (end_at s.triangles) half ∙ end_of_half s h.edge.half h.edge.goes ∙ h.b,
-    )
-
--- and, of a closed part, its two faces
-pub same_faces : (s : Part) → HasNoSideTwice s → (halves : List ℕ) (i : ℕ) (e : parts.Edge s) → IsNumbered halves i e → (given : Edge) → IsEdgeAt s halves i given → (e.left.number ≡ given.left) × (e.right.number ≡ given.right)
-same_faces s once halves i e numbered given h =
+-- an edge's number determines its two ends and, where no side occurs twice, its two faces
+pub same_numbers : (s : Part) → HasNoSideTwice s → (halves : List ℕ) (i : ℕ) (given : Edge) → IsEdgeAt s halves i given → (e : parts.Edge s) → IsNumbered halves i e → HasNumbers e given
+same_numbers s once halves i given h e numbered =
     let half : e.half ≡ h.edge.half = same_element halves i i _ _ refl numbered h.numbered in
-    let ends = same_ends s halves i e numbered given h in
-    let start : e.m ≡ h.edge.m = ends.0 ∙ sym h.a in
-    let end : e.n ≡ h.edge.n = ends.1 ∙ sym h.b in
+    let start : e.m ≡ h.edge.m = sym (start_of_half s e.half e.goes) ∙ ap (start_at s.triangles) half ∙ start_of_half s h.edge.half h.edge.goes in
+    let end : e.n ≡ h.edge.n = sym (end_of_half s e.half e.goes) ∙ ap (end_at s.triangles) half ∙ end_of_half s h.edge.half h.edge.goes in
     let back : IsHalf s e.other h.edge.n h.edge.m = subst (λ (k : ℕ). IsHalf s e.other h.edge.n k) start (subst (λ (k : ℕ). IsHalf s e.other k e.m) end e.returns) in
     let other : e.other ≡ h.edge.other = once e.other h.edge.other h.edge.n h.edge.m back h.edge.returns in
     let third : ℕ → ℕ = λ k. k / 3 in
-    (e.on_left ∙ ap third half ∙ sym h.edge.on_left ∙ h.left, e.on_right ∙ ap third other ∙ sym h.edge.on_right ∙ h.right)
+    record {
+      a = start ∙ h.numbers.a;
+      b = end ∙ h.numbers.b;
+      left = e.on_left ∙ ap third half ∙ sym h.edge.on_left ∙ h.numbers.left;
+      right = e.on_right ∙ ap third other ∙ sym h.edge.on_right ∙ h.numbers.right;
+    }

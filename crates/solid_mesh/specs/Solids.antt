@@ -1,8 +1,5 @@
 -- What a solid and its edges stand for, and when a part is refused.
-use Rattle.std.specs.Prelude.{◌≡◌, ℕ, ◌<◌, ◌+ℤ◌, ◌-ℤ◌, ◌*ℤ◌, List, length}
-use Rattle.exact_frac.specs.declared.Frac.{Frac}
-use Rattle.lattice.specs.declared.points.Corner.{Corner}
-use Rattle.lattice.specs.Points.{Point}
+use Rattle.std.specs.Prelude.{◌≡◌, ℕ, ◌<◌, List, length}
 use Rattle.geometry.specs.Parts as parts
 use Rattle.geometry.specs.Parts.{Part, part_with, IsNumbered, IsOpen}
 use Rattle.solid_mesh.specs.declared.faults.MeshError.{MeshError}
@@ -19,14 +16,18 @@ solid_part s = part_with s.corners.items s.triangles.items
 abbrev pub edge_halves : Solid → List ℕ
 edge_halves s = s.lower_halves.items
 
--- these are the numbers of the part's edge i: it goes from corner a to corner b along a half of the left triangle, and back along one of the right triangle
-pub record IsEdgeAt (s : Part) (halves : List ℕ) (i : ℕ) (given : Edge) : Type 0 where
-  pub edge : parts.Edge s
-  pub numbered : IsNumbered halves i edge
+-- these are the numbers of the edge's two corners and of its two faces
+pub record HasNumbers {s : Part} (edge : parts.Edge s) (given : Edge) : Type 0 where
   pub a : edge.m ≡ given.a
   pub b : edge.n ≡ given.b
   pub left : edge.left.number ≡ given.left
   pub right : edge.right.number ≡ given.right
+
+-- these are the numbers of an edge of the part, whose number is i
+pub record IsEdgeAt (s : Part) (halves : List ℕ) (i : ℕ) (given : Edge) : Type 0 where
+  pub edge : parts.Edge s
+  pub numbered : IsNumbered halves i edge
+  pub numbers : HasNumbers edge given
 
 -- the edge's numbers are in range
 pub record IsWithinPart (s : Part) (given : Edge) : Type 0 where
@@ -34,15 +35,6 @@ pub record IsWithinPart (s : Part) (given : Edge) : Type 0 where
   pub b : given.b < length s.corners
   pub left : given.left < length s.triangles
   pub right : given.right < length s.triangles
-
--- the point that divides an edge at the share t of the way from a to b
-abbrev pub share_point : Corner → Corner → Frac → Point
-share_point a b t = record {
-  x = ((t.den -ℤ t.num) *ℤ a.x) +ℤ (t.num *ℤ b.x);
-  y = ((t.den -ℤ t.num) *ℤ a.y) +ℤ (t.num *ℤ b.y);
-  z = ((t.den -ℤ t.num) *ℤ a.z) +ℤ (t.num *ℤ b.z);
-  w = t.den;
-}
 
 -- the part is refused for a cause: want of memory, or it isn't closed
 abbrev pub IsRefusedFor : Part → MeshError → Type 0

@@ -1,9 +1,8 @@
 // How a triangle is turned, and the spots of an edge.
 ghost use Rattle.std.specs.Prelude.{◌≡◌, ◌+◌, ◌*◌, ◌<◌, ◌≤◌, ◌^◌, pos, ◌+ℤ◌, ◌-ℤ◌, ◌*ℤ◌, ◌<ℤ◌, ◌≤ℤ◌, unsigned_abs};
 ghost use Rattle.lattice.specs.Points.{of_dir, of_spot};
-ghost use Rattle.geometry.specs.Faces.{facing_of};
+ghost use Rattle.geometry.specs.Faces.{facing_of, share_point};
 ghost use Rattle.geometry.specs.Views.{sign_of};
-ghost use Rattle.solid_mesh.specs.Solids.{share_point};
 
 use exact_frac::Frac;
 use lattice::{Corner, Dir, Spot, Vector, view_cross};
@@ -33,7 +32,7 @@ pub(crate) fn share(a: &Corner, b: &Corner, t: &Frac) -> Spot
     requires from_start { pos 0 ≤ℤ t.now.num }
     requires to_end { t.now.num ≤ℤ t.now.den }
     requires small { unsigned_abs t.now.den < 2 ^ 69 }
-    ensures { of_spot result ≡ share_point a.now b.now t.now }
+    ensures { of_spot result ≡ share_point a.now b.now t.now.num t.now.den }
 {
     Spot {
         x: mixed(t, a.x, b.x),

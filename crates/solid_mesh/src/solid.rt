@@ -41,9 +41,10 @@ pub struct Solid {
 
 impl Solid {
     ghost use Rattle.lattice.specs.Points.{of_dir, of_spot};
+    ghost use Rattle.geometry.specs.Faces.{IsPointOfEdge, share_point};
     ghost use Rattle.geometry.specs.Parts as parts;
     ghost use Rattle.geometry.specs.Views.{face_sign};
-    ghost use Rattle.solid_mesh.specs.Solids.{solid_part, edge_halves, IsEdgeAt, IsWithinPart, IsRefusedFor, share_point};
+    ghost use Rattle.solid_mesh.specs.Solids.{solid_part, edge_halves, IsEdgeAt, IsWithinPart, HasNumbers, IsRefusedFor};
 
     /// The solid with these corners and triangles, at most 60,000 and 20,000: `NotClosed` where a triangle is flat, or a
     /// directed side occurs twice, or its reverse is missing. Takes time about linear in the number of triangles: each
@@ -124,6 +125,7 @@ impl Solid {
     pub fn edge(&self, i: u32) -> Edge
         requires { i < length (edge_halves self.now) }
         ensures edge { IsEdgeAt (solid_part self.now) (edge_halves self.now) i result }
+        ensures each { (e : parts.Edge (solid_part self.now)) → IsNumbered (edge_halves self.now) i e → HasNumbers e result }
         ensures within { IsWithinPart (solid_part self.now) result }
     {
         let half = self.lower_halves[i as usize];
@@ -148,7 +150,10 @@ impl Solid {
         requires from_start { pos 0 ≤ℤ t.now.num }
         requires to_end { t.now.num ≤ℤ t.now.den }
         requires small { unsigned_abs t.now.den < 2 ^ 69 }
-        ensures { (e : parts.Edge (solid_part self.now)) → IsNumbered (edge_halves self.now) edge e → of_spot result ≡ share_point e.a e.b t.now }
+        ensures at { (e : parts.Edge (solid_part self.now)) → IsNumbered (edge_halves self.now) edge e →
+            of_spot result ≡ share_point e.a e.b t.now.num t.now.den }
+        ensures on_edge { (e : parts.Edge (solid_part self.now)) → IsNumbered (edge_halves self.now) edge e →
+            IsPointOfEdge e.a e.b (of_spot result) }
     {
         let Edge {
             a,

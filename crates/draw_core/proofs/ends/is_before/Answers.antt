@@ -27,5 +27,5 @@ by_second a b u v r e f = go (int_cmp u v) (int_ranks u v) f
 pub returns-in-Equal : goal.returns-in-Equal
 returns-in-Equal c =
     by_second _ _ _ _ c.lt.result
-    (c.in-Equal.ensures ∙ (λ i. int_cmp (c.across.ensures.num i *ℤ c.across-2.ensures.den i) (c.across-2.ensures.num i *ℤ c.across.ensures.den i)))
-    (c.lt.ensures ∙ (λ i. is_lt (int_cmp (c.upward.ensures.num i *ℤ c.upward-in-Equal.ensures.den i) (c.upward-in-Equal.ensures.num i *ℤ c.upward.ensures.den i))))
+    (c.in-Equal.ensures ∙ (λ i. int_cmp (c.across.ensures.ratio.num i *ℤ c.across-2.ensures.ratio.den i) (c.across-2.ensures.ratio.num i *ℤ c.across.ensures.ratio.den i)))
+    (c.lt.ensures ∙ (λ i. is_lt (int_cmp (c.upward.ensures.ratio.num i *ℤ c.upward-in-Equal.ensures.ratio.den i) (c.upward-in-Equal.ensures.ratio.num i *ℤ c.upward.ensures.ratio.den i))))

@@ -1,7 +1,6 @@
 use Rattle.std.proofs.Common.{◌+◌, ℕ, List, sym, ap, subst, refl, ◌∙◌, arith}
 use Rattle.lattice.specs.Points.{of_dir}
 use Rattle.solid_mesh.specs.Solids.{solid_part, edge_halves}
-use Rattle.solid_mesh.proofs.Facts.{edges_are}
 use Rattle.draw_core.proofs.DrawnLemmas.{AreDrawnBelow, none_below, drawn_next, undrawn_next, all_drawn}
 use Rattle.draw_core.proofs.pick.drawn_edges.Goals as goal
 use Rattle.draw_core.proofs.pick.drawn_edges.Goals.{then-is_drawn+in_ok-push, else-is_drawn}
@@ -12,7 +11,7 @@ loop-edge-init c =
     subst (λ (xs : List ℕ). AreDrawnBelow (of_dir c.args.d.now) (solid_part s) (edge_halves s) xs 0) (sym c.new-numbers.ensures.items) (none_below _ _ _)
 
 pub returns : goal.returns
-returns c = all_drawn _ _ _ (edges_are c.args.solid.now) c.loop-edge.numbers.items c.loop-edge.edge (omega (arith, c.loop-edge-test.false, c.loop-edge.auto.edge-end, c.edges-edge-end.ensures)) c.loop-edge.invariant
+returns c = all_drawn _ _ _ c.edges-edge-end.ensures.numbered c.loop-edge.numbers.items c.loop-edge.edge (omega (arith, c.loop-edge-test.false, c.loop-edge.auto.edge-end, c.edges-edge-end.ensures.count)) c.loop-edge.invariant
 
 pub loop-edge-preserved : goal.loop-edge-preserved
 loop-edge-preserved c =

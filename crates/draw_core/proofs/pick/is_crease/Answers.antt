@@ -3,15 +3,12 @@ use Rattle.std.specs.Int.{w128}
 use Rattle.std.proofs.lemmas.Int.{to_z-of_z}
 use Rattle.lattice.specs.Triple.{dot}
 use Rattle.geometry.specs.Faces.{normal}
-use Rattle.solid_mesh.specs.Solids.{solid_part, edge_halves}
-use Rattle.solid_mesh.proofs.Facts.{closed}
 use Rattle.draw_core.proofs.Creases.{crease_test}
-use Rattle.draw_core.proofs.Numbered.{numbers_of}
 use Rattle.draw_core.proofs.pick.is_crease.Goals as goal
 
 pub returns : goal.returns
 returns c e n =
-    let h = numbers_of (solid_part c.args.solid.now) (closed c.args.solid.now) (edge_halves c.args.solid.now) c.args.edge c.edge-numbers.result c.edge-numbers.ensures.edge e n in
+    let h = c.edge-numbers.ensures.each e n in
     let left = c.triangle_normal-left.ensures e.left h.left in
     let right = c.triangle_normal-right.ensures e.right h.right in
     let l = normal e.left.a e.left.b e.left.c in

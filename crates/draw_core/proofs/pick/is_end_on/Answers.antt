@@ -1,14 +1,13 @@
 use Rattle.std.proofs.Common.{◌↔◌, IsTrue, subst}
 use Rattle.lattice.specs.Points.{Point, of_dir, of_spot, point_of, OnOneSight}
-use Rattle.solid_mesh.specs.Solids.{solid_part, edge_halves}
-use Rattle.solid_mesh.proofs.Facts.{closed}
-use Rattle.draw_core.proofs.Numbered.{numbers_of, ends_of}
+use Rattle.solid_mesh.specs.Solids.{solid_part}
+use Rattle.draw_core.proofs.Numbered.{ends_of}
 use Rattle.draw_core.proofs.pick.is_end_on.Goals as goal
 
 pub returns : goal.returns
 returns c e n =
     let s = solid_part c.args.solid.now in
-    let h = numbers_of s (closed c.args.solid.now) (edge_halves c.args.solid.now) c.args.edge c.edge-numbers.result c.edge-numbers.ensures.edge e n in
+    let h = c.edge-numbers.ensures.each e n in
     let ends = ends_of s c.edge-numbers.result e h _ _ _ _ c.corner.ensures c.corner-2.ensures c.corner_spot-a.ensures c.corner_spot-b.ensures in
     let d = of_dir c.args.d.now in
     subst (λ (p : Point). IsTrue c.same_sight.result ↔ OnOneSight d p (point_of e.b)) ends.0

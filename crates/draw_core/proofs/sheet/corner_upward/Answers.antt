@@ -2,12 +2,11 @@ use Rattle.std.proofs.Common.{◌≡◌, rules, arith, ap, pos, unsigned_abs, Fi
 use Rattle.std.specs.Int.{w128}
 use Rattle.std.proofs.lemmas.Int.{ints, to_z-of_z}
 use Rattle.lattice.specs.Points.{Point}
-use Rattle.draw_core.proofs.Lengths.{upward_near}
 use Rattle.draw_core.proofs.sheet.corner_upward.Goals as goal
 
 pub returns-clause-size : goal.returns-clause-size
 returns-clause-size c =
     let fits : FitsSigned w128 c.upward.result.num = search rules in
-    let near = upward_near c.args.d.now c.corner_spot.result in
+    let near = c.upward.ensures.near in
     let one : c.corner_spot.result.w ≡ pos 1 = ap (λ (p : Point). p.w) c.corner_spot.ensures in
-    simp to_z-of_z (rw c.upward.ensures.num (omega (arith, ints, near, ap unsigned_abs one)))
+    simp to_z-of_z (omega (arith, ints, near, ap unsigned_abs one))

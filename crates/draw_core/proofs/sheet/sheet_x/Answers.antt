@@ -2,11 +2,10 @@ use Rattle.std.proofs.Common.{rules, arith, ◌+ℤ◌, ap, ◌∙◌, FitsSigne
 use Rattle.std.specs.Int.{w64}
 use Rattle.std.proofs.lemmas.Int.{ints, to_z-of_z}
 use Rattle.draw_core.specs.Sheet.{sheet_length}
-use Rattle.draw_core.proofs.Lengths.{across_near}
 use Rattle.draw_core.proofs.sheet.sheet_x.Goals as goal
 
 pub sheet_length-requires-clause-length_fits : goal.sheet_length-requires-clause-length_fits
-sheet_length-requires-clause-length_fits c = rw (c.across.ensures.num, c.across.ensures.den) (across_near c.args.d.now c.args.p.now)
+sheet_length-requires-clause-length_fits c = rw c.across.ensures.ratio.den c.across.ensures.near
 
 pub returns : goal.returns
 returns c =
@@ -15,4 +14,4 @@ returns c =
     let x_in_range = c.args.place.now.x_in_range in
     let y_in_range = c.args.place.now.y_in_range in
     let sum_fits : FitsSigned w64 (c.args.place.now.x0 +ℤ c.sheet_length.result) = omega (arith, ints) in
-    simp to_z-of_z (ap (λ (z : ℤ). c.args.place.now.x0 +ℤ z) (c.sheet_length.ensures.value ∙ (λ i. sheet_length (c.across.ensures.num i) (c.across.ensures.den i))))
+    simp to_z-of_z (ap (λ (z : ℤ). c.args.place.now.x0 +ℤ z) (c.sheet_length.ensures.value ∙ (λ i. sheet_length (c.across.ensures.ratio.num i) (c.across.ensures.ratio.den i))))

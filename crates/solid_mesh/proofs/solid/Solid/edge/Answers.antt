@@ -3,7 +3,7 @@ use Rattle.std.proofs.lemmas.Option.{slice_get_read}
 use Rattle.geometry.specs.Parts.{IsHalf}
 use Rattle.solid_mesh.specs.Solids.{solid_part, edge_halves}
 use Rattle.solid_mesh.specs.declared.solid.Solid.{Solid}
-use Rattle.solid_mesh.proofs.EdgeLemmas.{edge_along, edge_within}
+use Rattle.solid_mesh.proofs.EdgeLemmas.{edge_along, edge_within, same_numbers}
 use Rattle.solid_mesh.proofs.Facts.{halves_within}
 use Rattle.solid_mesh.proofs.HalfLemmas.{read_number, table_returns}
 use Rattle.solid_mesh.proofs.solid.Solid.edge.Goals as goal
@@ -44,3 +44,8 @@ returns-clause-edge c =
 
 pub returns-clause-within : goal.returns-clause-within
 returns-clause-within c = edge_within (solid_part c.args.self.now) (edge_halves c.args.self.now) c.args.i _ (returns-clause-edge c)
+
+pub returns-clause-each : goal.returns-clause-each
+returns-clause-each c e numbered =
+    let s = c.args.self.now in
+    same_numbers (solid_part s) s.once (edge_halves s) c.args.i _ (returns-clause-edge c) e numbered
