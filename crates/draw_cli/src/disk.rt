@@ -1,8 +1,10 @@
 // The desk of real files. It tells nothing of what they hold.
-ghost use Rattle.std.specs.Prelude.{◌≡◌, ◌≤◌, false, None, length, IfOk};
+ghost use Rattle.std.specs.Prelude.{◌≡◌, ◌≤◌, false, None, length, IfOk, IsErrOf};
+ghost use Rattle.desk.specs.Files.{Rose};
 
 use dec_text::Name;
 use desk::{Desk, DeskFault, Failed};
+use exact_frac::OutOfMemory;
 use std::alloc::Global;
 use std::io::{Read, Seek, SeekFrom};
 use std::rt::Files;
@@ -101,7 +103,14 @@ impl<R: Files + Drop> Desk for DiskDesk<R> {
         }
     }
 
-    fn keep(&mut self, name: &str, bytes: &[u8]) -> Result<(), DeskFault> {
+    /// Never answers want of memory.
+    fn keep(&mut self, name: &str, bytes: &[u8]) -> Result<(), DeskFault>
+        ensures never_memory { (none : OutOfMemory) → IsErrOf result (DeskFault.Memory none) → ⊥ }
+        ensures cause { IsErrOf result DeskFault.Failed → Rose self.old.write_faults self.new.write_faults }
+        ensures no_cause { (IsErrOf result DeskFault.Failed → ⊥) → self.new.write_faults ≡ self.old.write_faults }
+        ensures never_falls { self.old.write_faults ≤ self.new.write_faults }
+        ensures read_faults { self.new.read_faults ≡ self.old.read_faults }
+    {
         match fs::write(&self.rt, name, bytes) {
             Ok(()) => Ok(()),
             Err(_) => {
