@@ -1,5 +1,5 @@
 -- Signs of products of whole numbers.
-use Rattle.std.proofs.Common.{◌≡◌, zero, suc, ◌<◌, unsigned_abs, arith}
+use Rattle.std.proofs.Common.{◌≡◌, zero, suc, ◌<◌, unsigned_abs, refl, arith}
 use Rattle.std.specs.Prelude.{ℤ, pos, negsuc, ◌*ℤ◌, ◌≤ℤ◌, ◌<ℤ◌}
 use Rattle.std.proofs.lemmas.Int.{ints, by_lt_z}
 
@@ -49,3 +49,8 @@ pub square_pos : (a : ℤ) → 0 < unsigned_abs a → pos 0 <ℤ (a *ℤ a)
 square_pos (pos zero) h = absurd (omega arith)
 square_pos (pos (suc a)) h = omega (arith, ints)
 square_pos (negsuc a) h = omega (arith, ints)
+
+pub square_zero : (a : ℤ) → (a *ℤ a) ≤ℤ pos 0 → a ≡ pos 0
+square_zero (pos zero) h = refl
+square_zero (pos (suc a)) h = absurd (omega (arith, ints))
+square_zero (negsuc a) h = absurd (omega (arith, ints))

@@ -1,3 +1,4 @@
+pub mod SightAxes
 pub mod SightLines
 pub mod VectorSizes
 pub mod Vectors

@@ -45,7 +45,7 @@ module _ (r e d : Triple) (square : pos 0 <ℤ dot r r) (level : dot r d ≡ pos
   }
 
 -- ---- the difference of two points, times both divisors
-abbrev offset : Point → Point → Triple
+abbrev pub offset : Point → Point → Triple
 offset p q = record { x = p.x *ℤ q.w -ℤ q.x *ℤ p.w; y = p.y *ℤ q.w -ℤ q.y *ℤ p.w; z = p.z *ℤ q.w -ℤ q.z *ℤ p.w }
 
 abbrev pair : Triple → Point → Point → List ℤ
@@ -62,13 +62,13 @@ offsets = record {
 dot_offset : (r : Triple) (p q : Point) → dot r (offset p q) ≡ dot r (scaled p) *ℤ q.w -ℤ dot r (scaled q) *ℤ p.w
 dot_offset r p q = ring (pair r p q) (dots R offsets) ((dots R (letters 3) ⊗ var 10) ⊖ (dots R (letters 7) ⊗ var 6)) refl
 
-nothing_along : (r : Triple) (p q : Point) → dot r (scaled p) *ℤ q.w ≡ dot r (scaled q) *ℤ p.w → dot r (offset p q) ≡ pos 0
+pub nothing_along : (r : Triple) (p q : Point) → dot r (scaled p) *ℤ q.w ≡ dot r (scaled q) *ℤ p.w → dot r (offset p q) ≡ pos 0
 nothing_along r p q h = zero_from _ _ _ (dot_offset r p q) h
   where
     zero_from : (x a b : ℤ) → x ≡ a -ℤ b → a ≡ b → x ≡ pos 0
     zero_from x a b e h = omega (arith, ints)
 
-agree_along : (r : Triple) (p q : Point) → dot r (offset p q) ≡ pos 0 → dot r (scaled p) *ℤ q.w ≡ dot r (scaled q) *ℤ p.w
+pub agree_along : (r : Triple) (p q : Point) → dot r (offset p q) ≡ pos 0 → dot r (scaled p) *ℤ q.w ≡ dot r (scaled q) *ℤ p.w
 agree_along r p q h = equal_from _ _ _ (dot_offset r p q) h
   where
     equal_from : (x a b : ℤ) → x ≡ a -ℤ b → x ≡ pos 0 → a ≡ b
@@ -79,7 +79,7 @@ pub record IsRightAxis (d r : Triple) : Type 0 where
   pub square : pos 0 <ℤ dot r r
   pub level : dot r d ≡ pos 0
 
-right_axis-is : (d : Triple) → IsRightAxis d (right_axis d)
+pub right_axis-is : (d : Triple) → IsRightAxis d (right_axis d)
 right_axis-is d = go (int_eq d.x (pos 0)) (int_eq d.y (pos 0)) (signed_Decides d.x (pos 0)) (signed_Decides d.y (pos 0))
   where
     negated : (b : ℤ) → neg_ℤ b ≡ pos 0 -ℤ b
@@ -109,26 +109,26 @@ right_axis-is d = go (int_eq d.x (pos 0)) (int_eq d.y (pos 0)) (signed_Decides d
     go false t f g = record { square = dot_itself (record { x = neg_ℤ d.y; y = d.x; z = pos 0 }) (x_counts d.x d.y (λ e. cc (f.1 e))); level = turned d.x d.y d.z }
 
 -- the up axis is square to the direction
-up_axis-level : (d r : Triple) → dot (cross d r) d ≡ pos 0
+pub up_axis-level : (d r : Triple) → dot (cross d r) d ≡ pos 0
 up_axis-level d r = ring (values r d d) (dots (crosses E R) E) (con (pos 0)) refl
 
 -- ---- multiples of a direction
 -- d . d times e is d . e times d, where e cross d is 0: their difference is d x (e x d)
 module _ (d e : Triple) (f : IsZero (cross e d)) where
-  multiple_x : dot d d *ℤ e.x ≡ dot d e *ℤ d.x
+  pub multiple_x : dot d d *ℤ e.x ≡ dot d e *ℤ d.x
   multiple_x = by_two (dot d d *ℤ e.x) (dot d e *ℤ d.x) (cross e d).z (pos 0) d.y (cross e d).y (pos 0) (pos 0 -ℤ d.z)
       (ring (values d e d) ((dots D D ⊗ E.x) ⊖ (dots D E ⊗ D.x)) ((((crosses E D).z ⊖ con (pos 0)) ⊗ D.y) ⊕ (((crosses E D).y ⊖ con (pos 0)) ⊗ (con (pos 0) ⊖ D.z))) refl) f.z f.y
 
-  multiple_y : dot d d *ℤ e.y ≡ dot d e *ℤ d.y
+  pub multiple_y : dot d d *ℤ e.y ≡ dot d e *ℤ d.y
   multiple_y = by_two (dot d d *ℤ e.y) (dot d e *ℤ d.y) (cross e d).x (pos 0) d.z (cross e d).z (pos 0) (pos 0 -ℤ d.x)
       (ring (values d e d) ((dots D D ⊗ E.y) ⊖ (dots D E ⊗ D.y)) ((((crosses E D).x ⊖ con (pos 0)) ⊗ D.z) ⊕ (((crosses E D).z ⊖ con (pos 0)) ⊗ (con (pos 0) ⊖ D.x))) refl) f.x f.z
 
-  multiple_z : dot d d *ℤ e.z ≡ dot d e *ℤ d.z
+  pub multiple_z : dot d d *ℤ e.z ≡ dot d e *ℤ d.z
   multiple_z = by_two (dot d d *ℤ e.z) (dot d e *ℤ d.z) (cross e d).y (pos 0) d.x (cross e d).x (pos 0) (pos 0 -ℤ d.y)
       (ring (values d e d) ((dots D D ⊗ E.z) ⊖ (dots D E ⊗ D.z)) ((((crosses E D).y ⊖ con (pos 0)) ⊗ D.x) ⊕ (((crosses E D).x ⊖ con (pos 0)) ⊗ (con (pos 0) ⊖ D.y))) refl) f.y f.x
 
 -- a multiple of d has no part along r where d has none
-no_part : (r e d : Triple) (n m : ℤ) → pos 0 <ℤ m → m *ℤ e.x ≡ n *ℤ d.x → m *ℤ e.y ≡ n *ℤ d.y → m *ℤ e.z ≡ n *ℤ d.z → dot r d ≡ pos 0 → dot r e ≡ pos 0
+pub no_part : (r e d : Triple) (n m : ℤ) → pos 0 <ℤ m → m *ℤ e.x ≡ n *ℤ d.x → m *ℤ e.y ≡ n *ℤ d.y → m *ℤ e.z ≡ n *ℤ d.z → dot r d ≡ pos 0 → dot r e ≡ pos 0
 no_part r e d n m positive x y z level =
     zero_of_mul m (dot r e) positive
     (by_three (m *ℤ dot r e) (n *ℤ dot r d) (m *ℤ e.x) (n *ℤ d.x) r.x (m *ℤ e.y) (n *ℤ d.y) r.y (m *ℤ e.z) (n *ℤ d.z) r.z
@@ -142,7 +142,7 @@ no_part r e d n m positive x y z level =
 
 -- ---- both ways
 module _ (d : Triple) (p q : Point) where
-  along_of_sight : pos 0 <ℤ dot d d → OnOneSight d p q → DifferAlong d p q
+  pub along_of_sight : pos 0 <ℤ dot d d → OnOneSight d p q → DifferAlong d p q
   along_of_sight h s =
       let axis = right_axis-is d in
       let zero = alike (right_axis d) (offset p q) d axis.square axis.level (nothing_along (right_axis d) p q s.across) (nothing_along (up_axis d) p q s.upward) in
@@ -155,7 +155,7 @@ module _ (d : Triple) (p q : Point) where
         z = multiple_z d (offset p q) zero;
       }
 
-  sight_of_along : DifferAlong d p q → OnOneSight d p q
+  pub sight_of_along : DifferAlong d p q → OnOneSight d p q
   sight_of_along a = record {
     across = agree_along (right_axis d) p q (no_part (right_axis d) (offset p q) d a.n a.m a.positive a.x a.y a.z (right_axis-is d).level);
     upward = agree_along (up_axis d) p q (no_part (up_axis d) (offset p q) d a.n a.m a.positive a.x a.y a.z (up_axis-level d (right_axis d)));

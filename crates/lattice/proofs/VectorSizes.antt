@@ -1,5 +1,7 @@
 -- How large products of vectors are.
-use Rattle.std.proofs.Common.{ℕ, ◌+◌, ◌*◌, ◌≤◌, ◌^◌, arith, ℤ, ◌+ℤ◌, ◌*ℤ◌, unsigned_abs, to_z, of_z}
+use Rattle.std.proofs.Common.{◌≡◌, ℕ, ◌+◌, ◌*◌, ◌≤◌, ◌^◌, arith, ℤ, pos, ◌+ℤ◌, ◌-ℤ◌, ◌*ℤ◌, unsigned_abs, to_z, of_z, ◌∙◌}
+use Rattle.std.specs.Prelude.{neg_ℤ}
+use Rattle.std.proofs.lemmas.Int.{ints}
 use Rattle.std.proofs.Math.Dec.{T, ltb}
 use Rattle.std.specs.Int.{w64, w128}
 use Rattle.integers.proofs.Worth.{Reads, known, pass, plus, minus, times}
@@ -48,3 +50,10 @@ dot_near s p h =
 
 pub wider : (t : Triple) → IsWithin 9 t → IsWithin 162 t
 wider t h = record { x = omega (arith, h.x); y = omega (arith, h.y); z = omega (arith, h.z) }
+
+-- a machine's negated component
+pub reversed_component : (a : ℤ) → unsigned_abs a ≤ 2 ^ 21 → to_z w64 (of_z w64 (pos 0 -ℤ to_z w64 (of_z w64 a))) ≡ neg_ℤ a
+reversed_component a h = (pass w64 (minus (known (pos 0) 0 (omega arith)) (pass w64 (known a (2 ^ 21) h) tt)) tt).is ∙ turn a
+  where
+    turn : (a : ℤ) → pos 0 -ℤ a ≡ neg_ℤ a
+    turn a = omega (arith, ints)

@@ -1,10 +1,10 @@
 -- Expressions of vectors for `ring`, and squares of vectors.
-use Rattle.std.proofs.Common.{ℕ, zero, suc, ◌<◌, ◌+◌, arith, unsigned_abs}
-use Rattle.std.specs.Prelude.{ℤ, pos, ◌+ℤ◌, ◌<ℤ◌, ◌≤ℤ◌}
+use Rattle.std.proofs.Common.{◌≡◌, ℕ, zero, suc, ◌<◌, ◌+◌, refl, arith, unsigned_abs}
+use Rattle.std.specs.Prelude.{ℤ, pos, negsuc, ◌+ℤ◌, ◌<ℤ◌, ◌≤ℤ◌}
 use Rattle.std.proofs.lemmas.Int.{ints}
 use Rattle.integers.proofs.Ring.{Expr, var, ◌⊕◌, ◌⊖◌, ◌⊗◌}
 use Rattle.integers.proofs.Signs.{square_nonneg, square_pos}
-use Rattle.lattice.specs.Triple.{Triple, dot}
+use Rattle.lattice.specs.Triple.{Triple, dot, IsZero}
 
 -- a vector of expressions
 pub record Letters : Type 0 where
@@ -36,3 +36,15 @@ dot_itself s h =
     sum (suc a) b c x y z h hx hy hz px py pz = let p = px (omega arith) in omega (arith, ints)
     sum zero (suc b) c x y z h hx hy hz px py pz = let p = py (omega arith) in omega (arith, ints)
     sum zero zero (suc c) x y z h hx hy hz px py pz = let p = pz (omega arith) in omega (arith, ints)
+
+pub dot_somewhere : (s : Triple) → ¬ IsZero s → pos 0 <ℤ dot s s
+dot_somewhere s somewhere = dot_itself s (counts s.x s.y s.z (λ x y z. somewhere (record { x = x; y = y; z = z })))
+  where
+    counts : (x y z : ℤ) → (x ≡ pos 0 → y ≡ pos 0 → z ≡ pos 0 → ⊥) → 0 < unsigned_abs x + unsigned_abs y + unsigned_abs z
+    counts (pos zero) (pos zero) (pos zero) h = absurd (h refl refl refl)
+    counts (pos zero) (pos zero) (pos (suc z)) h = omega arith
+    counts (pos zero) (pos zero) (negsuc z) h = omega arith
+    counts (pos zero) (pos (suc y)) z h = omega arith
+    counts (pos zero) (negsuc y) z h = omega arith
+    counts (pos (suc x)) y z h = omega arith
+    counts (negsuc x) y z h = omega arith

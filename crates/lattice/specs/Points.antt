@@ -55,6 +55,12 @@ upward_of d p = dot (up_axis d) (scaled p)
 abbrev pub height_of : Triple → Point → ℤ
 height_of d p = dot d (scaled p)
 
+-- two points stand for one point
+pub record AreOnePoint (p q : Point) : Type 0 where
+  pub x : p.x *ℤ q.w ≡ q.x *ℤ p.w
+  pub y : p.y *ℤ q.w ≡ q.y *ℤ p.w
+  pub z : p.z *ℤ q.w ≡ q.z *ℤ p.w
+
 -- two points are on one line of sight: their U and their V agree
 pub record OnOneSight (d : Triple) (p q : Point) : Type 0 where
   pub across : across_of d p *ℤ q.w ≡ across_of d q *ℤ p.w

@@ -19,6 +19,10 @@ cross s t = record {
   z = s.x *ℤ t.y -ℤ s.y *ℤ t.x;
 }
 
+-- the vector that goes back
+abbrev pub negated : Triple → Triple
+negated s = record { x = neg_ℤ s.x; y = neg_ℤ s.y; z = neg_ℤ s.z }
+
 -- the determinant of three vectors
 abbrev pub det : Triple → Triple → Triple → ℤ
 det r s t = dot r (cross s t)

@@ -1,10 +1,10 @@
 // Points, vectors and directions.
-ghost use Rattle.std.specs.Prelude.{◌≡◌, ◌+◌, ◌*◌, ◌<◌, ◌≤◌, ◌^◌, ◌↔◌, pos, ◌-ℤ◌, ◌<ℤ◌, unsigned_abs, IfOk, IsNone};
-ghost use Rattle.lattice.specs.Triple.{IsWithin, right_axis, up_axis};
+ghost use Rattle.std.specs.Prelude.{◌≡◌, ℕ, ◌+◌, ◌*◌, ◌<◌, ◌≤◌, ◌^◌, ◌↔◌, pos, ◌-ℤ◌, ◌<ℤ◌, unsigned_abs, IfOk, IsNone};
+ghost use Rattle.lattice.specs.Triple.{IsWithin, dot, negated, right_axis, up_axis};
 ghost use Rattle.lattice.specs.declared.points.Axis.{Axis};
 ghost use Rattle.lattice.specs.Faults.{IsFirstOutside};
 
-use crate::products::minor;
+use crate::products::{minor, weighted};
 
 /// An axis of the part's coordinates.
 #[derive(Clone, Copy, PartialEq, Eq, Debug)]
@@ -47,6 +47,26 @@ impl Vector {
             x: step(a.x, b.x),
             y: step(a.y, b.y),
             z: step(a.z, b.z),
+        }
+    }
+
+    /// The scalar product of two vectors.
+    pub fn dot(&self, other: &Vector) -> i128
+        ensures value { result ≡ dot (of_vector self.now) (of_vector other.now) }
+        ensures small { IsWithin 162 (of_vector self.now) → unsigned_abs result < 2 ^ 30 }
+    {
+        weighted(self, other.x.into(), other.y.into(), other.z.into())
+    }
+
+    /// The vector that goes back.
+    pub fn reversed(&self) -> Vector
+        ensures value { of_vector result ≡ negated (of_vector self.now) }
+        ensures small { (m : ℕ) → IsWithin m (of_vector self.now) → IsWithin m (of_vector result) }
+    {
+        Vector {
+            x: -self.x,
+            y: -self.y,
+            z: -self.z,
         }
     }
 }

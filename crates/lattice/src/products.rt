@@ -32,7 +32,7 @@ fn summand(a: i64, b: i128) -> i128
 }
 
 /// The scalar product of a vector with three numbers.
-fn weighted(r: &Vector, x: i128, y: i128, z: i128) -> i128
+pub(crate) fn weighted(r: &Vector, x: i128, y: i128, z: i128) -> i128
     requires first { unsigned_abs x < 2 ^ 92 }
     requires second { unsigned_abs y < 2 ^ 92 }
     requires third { unsigned_abs z < 2 ^ 92 }

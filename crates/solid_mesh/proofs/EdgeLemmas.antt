@@ -1,27 +1,15 @@
 -- From halves to edges with their two faces.
-use Rattle.std.proofs.Common.{◌≡◌, ℕ, zero, suc, ◌/◌, ◌%◌, ◌<◌, ◌≤◌, ◌⊎◌, inl, inr, List, All, length, get_or, slice_get, Some, None, refl, sym, subst, ap, ◌∙◌, arith}
-use Rattle.std.proofs.lemmas.Option.{slice_get_cases, slice_get_within, get_or_from_slice_get}
-use Rattle.std.proofs.lemmas.List.Elements.{All-contains}
+use Rattle.std.proofs.Common.{◌≡◌, ℕ, zero, suc, ◌/◌, ◌%◌, ◌<◌, List, All, length, slice_get, Some, refl, sym, subst, ap, ◌∙◌}
+use Rattle.std.proofs.lemmas.Option.{slice_get_within}
 use Rattle.lattice.specs.declared.soup.Tri.{Tri}
 use Rattle.lattice.specs.Triangles.{IsBelow}
 use Rattle.geometry.specs.Parts as parts
-use Rattle.geometry.specs.Parts.{Part, Face, IsHalf, IsNumbered, HasNoSideTwice, start_of, end_of}
+use Rattle.geometry.specs.Parts.{Part, IsHalf, IsNumbered, HasNoSideTwice, start_of, end_of}
+pub use Rattle.geometry.proofs.Listed.{found, same_element, triangle_below, face_at}
 use Rattle.solid_mesh.specs.declared.solid.Edge.{Edge}
 use Rattle.solid_mesh.specs.Halves.{start_at, end_at}
 use Rattle.solid_mesh.specs.Solids.{HasNumbers, IsEdgeAt, IsWithinPart}
 use Rattle.solid_mesh.proofs.HalfLemmas.{start_of_half, end_of_half}
-
--- a list has an element at each place below its length
-pub found : {X : Type 0} (xs : List X) (i : ℕ) → i < length xs → (x : X) × (slice_get xs i ≡ Some x)
-found {X} xs i h = by (slice_get_cases xs i).1
-  where
-    by : ((x : X) × (i < length xs) × (slice_get xs i ≡ Some x) × (get_or xs i x ≡ x)) ⊎ ((length xs ≤ i) × (slice_get xs i ≡ None)) → (x : X) × (slice_get xs i ≡ Some x)
-    by (inl (x, within, at, is)) = (x, at)
-    by (inr (past, none)) = absurd (omega arith)
-
--- and one element
-pub same_element : {X : Type 0} (xs : List X) (i j : ℕ) (x y : X) → i ≡ j → slice_get xs i ≡ Some x → slice_get xs j ≡ Some y → x ≡ y
-same_element xs i j x y e p q = sym (get_or_from_slice_get xs i x x p) ∙ ap (λ k. get_or xs k x) e ∙ get_or_from_slice_get xs j y x q
 
 start_below : (n : ℕ) (t : Tri) (side : ℕ) → IsBelow n t → start_of t side < n
 start_below n t zero h = h.a
@@ -34,18 +22,6 @@ end_below n t (suc zero) h = h.c
 end_below n t (suc (suc side)) h = h.a
 
 module _ (s : Part) (in_range : All (IsBelow (length s.corners)) s.triangles) where
-  module _ (t : Tri) (i : ℕ) (at : slice_get s.triangles i ≡ Some t) where
-    pub triangle_below : IsBelow (length s.corners) t
-    triangle_below = All-contains (IsBelow (length s.corners)) s.triangles t in_range (i, slice_get_within s.triangles i t at, get_or_from_slice_get s.triangles i t t at)
-
-    -- the triangle with its corners
-    abbrev pub face_at : Face s
-    face_at =
-        let a = found s.corners t.a triangle_below.a in
-        let b = found s.corners t.b triangle_below.b in
-        let c = found s.corners t.c triangle_below.c in
-        record { number = i; tri = t; a = a.0; b = b.0; c = c.0; listed = at; at_a = a.1; at_b = b.1; at_c = c.1 }
-
   -- the edge along a half and back along another
   pub edge_along : (halves : List ℕ) (i half other m n : ℕ) → slice_get halves i ≡ Some half → IsHalf s half m n → IsHalf s other n m
       → IsEdgeAt s halves i (record { a = m; b = n; left = half / 3; right = other / 3 })
@@ -56,10 +32,10 @@ module _ (s : Part) (in_range : All (IsBelow (length s.corners)) s.triangles) wh
   }
     where
       first : m < length s.corners
-      first = let P : ℕ → Type 0 = λ k. k < length s.corners in subst P goes.start (start_below (length s.corners) goes.tri (half % 3) (triangle_below goes.tri (half / 3) goes.at))
+      first = let P : ℕ → Type 0 = λ k. k < length s.corners in subst P goes.start (start_below (length s.corners) goes.tri (half % 3) (triangle_below s in_range goes.tri (half / 3) goes.at))
 
       second : n < length s.corners
-      second = let P : ℕ → Type 0 = λ k. k < length s.corners in subst P goes.end (end_below (length s.corners) goes.tri (half % 3) (triangle_below goes.tri (half / 3) goes.at))
+      second = let P : ℕ → Type 0 = λ k. k < length s.corners in subst P goes.end (end_below (length s.corners) goes.tri (half % 3) (triangle_below s in_range goes.tri (half / 3) goes.at))
 
       edge : parts.Edge s
       edge = record {
@@ -69,8 +45,8 @@ module _ (s : Part) (in_range : All (IsBelow (length s.corners)) s.triangles) wh
         n = n;
         a = (found s.corners m first).0;
         b = (found s.corners n second).0;
-        left = face_at goes.tri (half / 3) goes.at;
-        right = face_at returns.tri (other / 3) returns.at;
+        left = face_at s in_range goes.tri (half / 3) goes.at;
+        right = face_at s in_range returns.tri (other / 3) returns.at;
         goes = goes;
         returns = returns;
         on_left = refl;

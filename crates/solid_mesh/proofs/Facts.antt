@@ -1,11 +1,14 @@
 -- What each solid keeps, for the crates above.
-use Rattle.std.proofs.Common.{ℕ, ◌*◌, ◌<◌, ◌≤◌, List, All, length, sym, subst, ap, arith}
+use Rattle.std.proofs.Common.{ℕ, ◌*◌, ◌<◌, ◌≤◌, List, All, length, get_or, sym, subst, ap, arith}
+use Rattle.std.proofs.lemmas.Option.{slice_get-get_or}
+use Rattle.std.proofs.lemmas.List.Elements.{Contains-get_or}
 use Rattle.lattice.specs.Triangles.{IsBelow}
-use Rattle.geometry.specs.Parts.{IsClosed, AreEdges}
+use Rattle.geometry.specs.Parts.{Edge, IsClosed, AreEdges, IsNumbered}
 use Rattle.integers.proofs.Passing as passing
 use Rattle.solid_mesh.specs.Halves.{is_lower}
 use Rattle.solid_mesh.specs.Solids.{solid_part, edge_halves}
 use Rattle.solid_mesh.specs.declared.solid.Solid.{Solid}
+use Rattle.solid_mesh.proofs.EdgeLemmas.{edge_along}
 use Rattle.solid_mesh.proofs.HalfLemmas.{table_closed, table_edges}
 
 module _ (s : Solid) where
@@ -38,3 +41,11 @@ module _ (s : Solid) where
 
   pub edges_are : AreEdges (solid_part s) (edge_halves s)
   edges_are = subst (AreEdges (solid_part s)) (sym s.lower) (table_edges (solid_part s) s.twins.items s.paired s.once)
+
+  -- each number is that of an edge
+  pub edge_there : (i : ℕ) → i < length (edge_halves s) → (e : Edge (solid_part s)) × IsNumbered (edge_halves s) i e
+  edge_there i h =
+      let half = get_or (edge_halves s) i 0 in
+      let (other, twin, less) = (edges_are.exactly half).0 (Contains-get_or (edge_halves s) i 0 h) in
+      let found = edge_along (solid_part s) s.in_range (edge_halves s) i half other twin.m twin.n (slice_get-get_or (edge_halves s) i 0 h) twin.goes twin.returns in
+      (found.edge, found.numbered)

@@ -6,7 +6,7 @@ use Rattle.lattice.specs.Points.{of_dir}
 use Rattle.geometry.specs.Faces.{facing_of}
 use Rattle.geometry.specs.Views.{sign_of, face_sign}
 use Rattle.solid_mesh.specs.Solids.{solid_part}
-use Rattle.solid_mesh.proofs.EdgeLemmas.{same_element}
+use Rattle.geometry.proofs.Listed.{same_element}
 use Rattle.solid_mesh.proofs.FlatLemmas.{at_corners}
 use Rattle.solid_mesh.proofs.solid.Solid.sign.Goals as goal
 

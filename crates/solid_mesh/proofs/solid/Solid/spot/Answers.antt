@@ -1,7 +1,7 @@
 use Rattle.std.proofs.Common.{◌≡◌, sym, subst, ◌∙◌}
 use Rattle.geometry.specs.Faces.{share_point, IsPointOfEdge}
 use Rattle.solid_mesh.specs.Solids.{solid_part}
-use Rattle.solid_mesh.proofs.EdgeLemmas.{same_element}
+use Rattle.geometry.proofs.Listed.{same_element}
 use Rattle.solid_mesh.proofs.PlaceLemmas.{share_on_edge}
 use Rattle.solid_mesh.proofs.solid.Solid.spot.Goals as goal
 

@@ -1,0 +1,4 @@
+pub mod Listed
+pub mod Sights
+pub mod Shares
+pub mod EachEdge
