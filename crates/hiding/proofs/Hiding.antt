@@ -1,0 +1,287 @@
+-- When a face hides a point, and that this is decided.
+use Rattle.std.proofs.Common.{◌≡◌, ◌⊎◌, ℕ, ◌+◌, ◌<◌, zero, suc, [], ◌∷◌, length, slice_get, Some, inl, inr, refl, sym, ap, subst, ◌∙◌, arith}
+use Rattle.std.specs.Prelude.{ℤ, pos, ◌+ℤ◌, ◌-ℤ◌, ◌*ℤ◌, ◌<ℤ◌, ◌≤ℤ◌, ◌↔◌}
+use Rattle.std.proofs.lemmas.Int.{ints, by_lt_z}
+use Rattle.std.proofs.lemmas.Option.{slice_get_within}
+use Rattle.integers.proofs.Ring.{var, con, ◌⊕◌, ◌⊗◌, ring}
+use Rattle.integers.proofs.Signs.{mul_nonneg, mul_pos, nonneg_of_mul, pos_of_mul}
+use Rattle.lattice.specs.declared.points.Corner.{Corner}
+use Rattle.lattice.specs.declared.soup.Tri.{Tri}
+use Rattle.lattice.specs.Triple.{Triple, dot, right_axis, IsZero}
+use Rattle.lattice.specs.Points.{Point, IsPoint, point_of, OnOneSight}
+use Rattle.lattice.proofs.Vectors.{dot_somewhere}
+use Rattle.lattice.proofs.SightLines.{right_axis-is}
+use Rattle.geometry.specs.Faces.{normal, face_sum, edge_sum, IsPointOfEdge, IsPointOfFace, FaceHides, IsFlat, facing_of}
+use Rattle.geometry.specs.Parts.{Part, Face, HasNoFlatTriangle}
+use Rattle.geometry.specs.Views.{IsHidden}
+use Rattle.hiding.specs.Values.{side_of, depth_of, IsBehind, SideHides, WideSideHides}
+use Rattle.hiding.specs.Screens.{Screen, area_of, turn_of, AreApart, length_of, along_of, rest_of, side_lead_of}
+use Rattle.geometry.proofs.Listed.{same_element}
+use Rattle.hiding.proofs.Decisions.{same_or, less_or, at_most_or, four_or, either_or, alike_or, element_or, below_next}
+use Rattle.hiding.proofs.Values.{facing-turned}
+use Rattle.hiding.proofs.ScreenFaces.{covers_from, covers_to}
+use Rattle.hiding.proofs.ScreenScale.{area_scale, turn_scale, lead_scale}
+use Rattle.hiding.proofs.ScreenSides.{pos_at, nonneg_at, at_least, side_from, side_to, length_least, length_zero, length_none}
+use Rattle.hiding.proofs.EdgeOn.{edge_on}
+use Rattle.hiding.proofs.OnScreens.{seen, covers_of_hides, hides_of_covers, side_hides_of_covers, side_covers_of_hides}
+use Rattle.hiding.proofs.Flatness.{together_flat}
+
+-- the order of the corners does not count
+pub hides-turned : (d : Triple) (a b c : Corner) (p : Point) → FaceHides d a b c p → FaceHides d a c b p
+hides-turned d a b c p h =
+    let f = h.on_face in
+    let same = turned f.0 f.1 f.2 in
+    record {
+      point = h.point;
+      on_face = (f.0, f.2, f.1, some f.0 f.1 f.2 f.3, f.4 ∙ same);
+      same_sight = h.same_sight;
+      nearer = h.nearer;
+    }
+  where
+    some : (i j k : ℕ) → 0 < i + j + k → 0 < i + k + j
+    some i j k h = omega arith
+
+    exchanged : (i j k : ℕ) (x y z : ℤ) → ((pos i *ℤ x) +ℤ (pos j *ℤ y)) +ℤ (pos k *ℤ z) ≡ ((pos i *ℤ x) +ℤ (pos k *ℤ z)) +ℤ (pos j *ℤ y)
+    exchanged i j k x y z = ring (pos i ∷ pos j ∷ pos k ∷ x ∷ y ∷ z ∷ []) (((var 0 ⊗ var 3) ⊕ (var 1 ⊗ var 4)) ⊕ (var 2 ⊗ var 5)) (((var 0 ⊗ var 3) ⊕ (var 2 ⊗ var 5)) ⊕ (var 1 ⊗ var 4)) refl
+
+    sums : (i j k : ℕ) → i + j + k ≡ i + k + j
+    sums i j k = omega arith
+
+    turned : (i j k : ℕ) → face_sum a b c i j k ≡ face_sum a c b i k j
+    turned i j k = λ t. record { x = exchanged i j k a.x b.x c.x t; y = exchanged i j k a.y b.y c.y t; z = exchanged i j k a.z b.z c.z t; w = pos (sums i j k t) }
+
+less_none : (x : ℤ) → x ≡ pos 0 → pos 0 <ℤ x → ⊥
+less_none x e h = omega (arith, ints)
+
+-- ---- a face that is turned to the viewer
+-- the direction is not 0, since the face has a sign
+front_somewhere : (d : Triple) (a b c : Corner) → pos 0 <ℤ facing_of d a b c → ¬ IsZero d
+front_somewhere d a b c front none = less_none _ ((λ t. (none.x t *ℤ (normal a b c).x) +ℤ (none.y t *ℤ (normal a b c).y) +ℤ (none.z t *ℤ (normal a b c).z)) ∙ no_sum (normal a b c).x (normal a b c).y (normal a b c).z) front
+  where
+    no_sum : (x y z : ℤ) → ((pos 0 *ℤ x) +ℤ (pos 0 *ℤ y)) +ℤ (pos 0 *ℤ z) ≡ pos 0
+    no_sum x y z = omega (arith, ints)
+
+module _ (d : Triple) (a b c : Corner) (p : Point) (point : IsPoint p) (front : pos 0 <ℤ facing_of d a b c) where
+  abbrev at : Corner → Screen
+  at a = seen d (point_of a)
+
+  level : dot (right_axis d) d ≡ pos 0
+  level = (right_axis-is d).level
+
+  factor : pos 0 <ℤ dot (right_axis d) (right_axis d)
+  factor = (right_axis-is d).square
+
+  square : pos 0 <ℤ dot d d
+  square = dot_somewhere d (front_somewhere d a b c front)
+
+  seen_front : pos 0 <ℤ area_of (at a) (at b) (at c)
+  seen_front = pos_at _ _ (area_scale d (right_axis d) level a b c) (mul_pos _ _ factor front)
+
+  turn_to : (k l : Corner) → pos 0 ≤ℤ turn_of (seen d p) (at k) (at l) → pos 0 ≤ℤ side_of d k l p
+  turn_to k l h = nonneg_of_mul _ _ factor (nonneg_at _ _ (sym (turn_scale d (right_axis d) level k l p)) h)
+
+  turn_from : (k l : Corner) → pos 0 ≤ℤ side_of d k l p → pos 0 ≤ℤ turn_of (seen d p) (at k) (at l)
+  turn_from k l h = nonneg_at _ _ (turn_scale d (right_axis d) level k l p) (mul_nonneg _ _ (at_least _ factor) h)
+
+  behind_of : FaceHides d a b c p → IsBehind d a b c p
+  behind_of h =
+      let t = covers_to (at a) (at b) (at c) (seen d p) (covers_of_hides d a b c p h) point seen_front in
+      record {
+        ab = turn_to a b t.2;
+        bc = turn_to b c t.0;
+        ca = turn_to c a t.1;
+        depth = pos_of_mul _ _ square (pos_of_mul _ _ factor (pos_at _ _ (sym (lead_scale d (right_axis d) level a b c p)) t.3));
+      }
+
+  hides_of : IsBehind d a b c p → FaceHides d a b c p
+  hides_of h = hides_of_covers d a b c p (covers_from (at a) (at b) (at c) (seen d p) point seen_front (turn_from b c h.bc) (turn_from c a h.ca) (turn_from a b h.ab)
+      (pos_at _ _ (lead_scale d (right_axis d) level a b c p) (mul_pos _ _ factor (mul_pos _ _ square h.depth))))
+
+pub hides-front : (d : Triple) (a b c : Corner) (p : Point) → IsPoint p → pos 0 <ℤ facing_of d a b c → FaceHides d a b c p ↔ IsBehind d a b c p
+hides-front d a b c p point front = (behind_of d a b c p point front, hides_of d a b c p point front)
+
+-- ---- an edge-on face
+-- corners that are seen apart are not on one line of sight
+wide : (d : Triple) (k l : Corner) → AreApart (seen d (point_of k)) (seen d (point_of l)) → ¬ OnOneSight d (point_of k) (point_of l)
+wide d k l apart same = apart (once _ _ same.across, once _ _ same.upward)
+  where
+    once : (x y : ℤ) → x *ℤ pos 1 ≡ y *ℤ pos 1 → x ≡ y
+    once x y e = omega (arith, ints)
+
+-- what an edge-on face hides, one of its sides hides, and what a side hides, the face hides
+pub wide-side-hides : (d : Triple) (a b c : Corner) (p : Point) → IsPoint p → ¬ IsZero d → ¬ IsFlat a b c → facing_of d a b c ≡ pos 0 → FaceHides d a b c p
+    → WideSideHides d a b p ⊎ WideSideHides d b c p ⊎ WideSideHides d c a p
+wide-side-hides d a b c p point somewhere solid flat h =
+    let at = λ (a : Corner). seen d (point_of a) in
+    let none = area_scale d (right_axis d) (right_axis-is d).level a b c ∙ ap (λ v. dot (right_axis d) (right_axis d) *ℤ v) flat ∙ times_zero (dot (right_axis d) (right_axis d)) in
+    elim (edge_on (at a) (at b) (at c) (seen d p) (covers_of_hides d a b c p h) point none (λ e. solid (together_flat d a b c (dot_somewhere d somewhere) flat e))) [
+      | inl q ↦ inr (inl (wide d b c q.0, side_hides_of_covers d b c p q.1))
+      | inr more ↦ elim more [
+        | inl q ↦ inr (inr (wide d c a q.0, side_hides_of_covers d c a p q.1))
+        | inr q ↦ inl (wide d a b q.0, side_hides_of_covers d a b p q.1)
+      ]
+    ]
+  where
+    times_zero : (x : ℤ) → x *ℤ pos 0 ≡ pos 0
+    times_zero x = omega (arith, ints)
+
+-- a point of the side is a point of the face
+side_point : (a b c : Corner) (q : Point) → IsPointOfEdge a b q → IsPointOfFace a b c q
+side_point a b c q f = (f.0, f.1, 0, some f.0 f.1 f.2, f.3 ∙ last_left f.0 f.1)
+  where
+    some : (i j : ℕ) → 0 < i + j → 0 < i + j + 0
+    some i j h = omega arith
+
+    left_out : (i j : ℕ) (x y z : ℤ) → (pos i *ℤ x) +ℤ (pos j *ℤ y) ≡ ((pos i *ℤ x) +ℤ (pos j *ℤ y)) +ℤ (pos 0 *ℤ z)
+    left_out i j x y z = ring (pos i ∷ pos j ∷ x ∷ y ∷ z ∷ []) ((var 0 ⊗ var 2) ⊕ (var 1 ⊗ var 3)) (((var 0 ⊗ var 2) ⊕ (var 1 ⊗ var 3)) ⊕ (con (pos 0) ⊗ var 4)) refl
+
+    sums : (i j : ℕ) → i + j ≡ i + j + 0
+    sums i j = omega arith
+
+    last_left : (i j : ℕ) → edge_sum a b i j ≡ face_sum a b c i j 0
+    last_left i j = λ t. record { x = left_out i j a.x b.x c.x t; y = left_out i j a.y b.y c.y t; z = left_out i j a.z b.z c.z t; w = pos (sums i j t) }
+
+first_side : (d : Triple) (a b c : Corner) (p : Point) → SideHides d a b p → FaceHides d a b c p
+first_side d a b c p h = record { point = h.point; on_face = side_point a b c h.point h.on_side; same_sight = h.same_sight; nearer = h.nearer }
+
+-- the corners in turn
+hides_around : (d : Triple) (a b c : Corner) (p : Point) → FaceHides d a b c p → FaceHides d b c a p
+hides_around d a b c p h =
+    let f = h.on_face in
+    record {
+      point = h.point;
+      on_face = (f.1, f.2, f.0, some f.0 f.1 f.2 f.3, f.4 ∙ around f.0 f.1 f.2);
+      same_sight = h.same_sight;
+      nearer = h.nearer;
+    }
+  where
+    some : (i j k : ℕ) → 0 < i + j + k → 0 < j + k + i
+    some i j k h = omega arith
+
+    moved : (i j k : ℕ) (x y z : ℤ) → ((pos i *ℤ x) +ℤ (pos j *ℤ y)) +ℤ (pos k *ℤ z) ≡ ((pos j *ℤ y) +ℤ (pos k *ℤ z)) +ℤ (pos i *ℤ x)
+    moved i j k x y z = ring (pos i ∷ pos j ∷ pos k ∷ x ∷ y ∷ z ∷ []) (((var 0 ⊗ var 3) ⊕ (var 1 ⊗ var 4)) ⊕ (var 2 ⊗ var 5)) (((var 1 ⊗ var 4) ⊕ (var 2 ⊗ var 5)) ⊕ (var 0 ⊗ var 3)) refl
+
+    sums : (i j k : ℕ) → i + j + k ≡ j + k + i
+    sums i j k = omega arith
+
+    around : (i j k : ℕ) → face_sum a b c i j k ≡ face_sum b c a j k i
+    around i j k = λ t. record { x = moved i j k a.x b.x c.x t; y = moved i j k a.y b.y c.y t; z = moved i j k a.z b.z c.z t; w = pos (sums i j k t) }
+
+pub face-hides : (d : Triple) (a b c : Corner) (p : Point) → SideHides d a b p ⊎ SideHides d b c p ⊎ SideHides d c a p → FaceHides d a b c p
+face-hides d a b c p h = elim h [
+  | inl q ↦ first_side d a b c p q
+  | inr more ↦ elim more [
+    | inl q ↦ hides_around d c a b p (hides_around d b c a p (first_side d b c a p q))
+    | inr q ↦ hides_around d c a b p (first_side d c a b p q)
+  ]
+]
+
+-- ---- whether a part hides a point is decided
+module _ (d : Triple) (p : Point) (point : IsPoint p) where
+  -- whether a side that is not seen end-on hides it
+  wide_or : (k l : Corner) → WideSideHides d k l p ⊎ ¬ WideSideHides d k l p
+  wide_or k l = by_lt_z (pos 0) (length_of K L) long (λ h. inr (λ q. q.0 (one_sight (length_zero K L (none _ h (length_least K L))))))
+    where
+      K : Screen
+      K = seen d (point_of k)
+
+      L : Screen
+      L = seen d (point_of l)
+
+      none : (x : ℤ) → x ≤ℤ pos 0 → pos 0 ≤ℤ x → x ≡ pos 0
+      none x h g = omega (arith, ints)
+
+      one_sight : (K.u ≡ L.u) × (K.v ≡ L.v) → OnOneSight d (point_of k) (point_of l)
+      one_sight e = record { across = ap (λ v. v *ℤ pos 1) e.0; upward = ap (λ v. v *ℤ pos 1) e.1 }
+
+      Four : Type 0
+      Four = (turn_of (seen d p) K L ≡ pos 0) × (pos 0 ≤ℤ along_of K L (seen d p)) × (pos 0 ≤ℤ rest_of K L (seen d p)) × (pos 0 <ℤ side_lead_of K L (seen d p))
+
+      long : pos 0 <ℤ length_of K L → WideSideHides d k l p ⊎ ¬ WideSideHides d k l p
+      long h = alike_or Four (WideSideHides d k l p)
+          (λ f. (wide d k l (λ e. less_none _ (length_none K L e) h), side_hides_of_covers d k l p (side_from K L (seen d p) point h f.0 f.1 f.2 f.3)))
+          (λ q. side_to K L (seen d p) (side_covers_of_hides d k l p q.1) point h)
+          (four_or (turn_of (seen d p) K L ≡ pos 0) (pos 0 ≤ℤ along_of K L (seen d p)) (pos 0 ≤ℤ rest_of K L (seen d p)) (pos 0 <ℤ side_lead_of K L (seen d p)) (same_or _ _) (at_most_or _ _) (at_most_or _ _) (less_or _ _))
+
+  -- whether a face that is turned to the viewer hides it
+  front_or : (a b c : Corner) → pos 0 <ℤ facing_of d a b c → FaceHides d a b c p ⊎ ¬ FaceHides d a b c p
+  front_or a b c front =
+      let exact = hides-front d a b c p point front in
+      alike_or ((pos 0 ≤ℤ side_of d a b p) × (pos 0 ≤ℤ side_of d b c p) × (pos 0 ≤ℤ side_of d c a p) × (pos 0 <ℤ depth_of a b c p)) (FaceHides d a b c p)
+      (λ f. exact.1 (record { ab = f.0; bc = f.1; ca = f.2; depth = f.3 }))
+      (λ h. let e = exact.0 h in (e.ab, e.bc, e.ca, e.depth))
+      (four_or (pos 0 ≤ℤ side_of d a b p) (pos 0 ≤ℤ side_of d b c p) (pos 0 ≤ℤ side_of d c a p) (pos 0 <ℤ depth_of a b c p) (at_most_or _ _) (at_most_or _ _) (at_most_or _ _) (less_or _ _))
+
+  edge_on_or : (a b c : Corner) → ¬ IsZero d → ¬ IsFlat a b c → facing_of d a b c ≡ pos 0 → FaceHides d a b c p ⊎ ¬ FaceHides d a b c p
+  edge_on_or a b c somewhere solid flat =
+      alike_or (WideSideHides d a b p ⊎ WideSideHides d b c p ⊎ WideSideHides d c a p) (FaceHides d a b c p)
+      (λ w. face-hides d a b c p (elim w [ inl q ↦ inl q.1 | inr more ↦ elim more [ inl q ↦ inr (inl q.1) | inr q ↦ inr (inr q.1) ] ]))
+      (wide-side-hides d a b c p point somewhere solid flat)
+      (either_or _ _ (wide_or a b) (either_or _ _ (wide_or b c) (wide_or c a)))
+
+  face_or : (a b c : Corner) → ¬ IsZero d → ¬ IsFlat a b c → FaceHides d a b c p ⊎ ¬ FaceHides d a b c p
+  face_or a b c somewhere solid =
+      by_lt_z (pos 0) (facing_of d a b c) (front_or a b c)
+      (λ h. by_lt_z (facing_of d a b c) (pos 0)
+      (λ back. alike_or (FaceHides d a c b p) (FaceHides d a b c p) (hides-turned d a c b p) (hides-turned d a b c p) (front_or a c b (pos_at _ _ (facing-turned d a b c) (turned_round _ back))))
+      (λ g. edge_on_or a b c somewhere solid (none _ h g)))
+    where
+      turned_round : (x : ℤ) → x <ℤ pos 0 → pos 0 <ℤ (pos 0 -ℤ x)
+      turned_round x h = omega (arith, ints)
+
+      none : (x : ℤ) → x ≤ℤ pos 0 → pos 0 ≤ℤ x → x ≡ pos 0
+      none x h g = omega (arith, ints)
+
+module _ (d : Triple) (somewhere : ¬ IsZero d) (s : Part) (solid : HasNoFlatTriangle s) (p : Point) (point : IsPoint p) where
+  -- a face with this number hides it
+  abbrev HidesAt : ℕ → Type 0
+  HidesAt n = (f : Face s) × (f.number ≡ n) × FaceHides d f.a f.b f.c p
+
+  -- the corners are those of the triangle's numbers
+  face_at_or : (f : Face s) → HidesAt f.number ⊎ ¬ HidesAt f.number
+  face_at_or f = alike_or (FaceHides d f.a f.b f.c p) (HidesAt f.number) (λ h. (f, refl, h)) back (face_or d p point f.a f.b f.c somewhere (solid f))
+    where
+      back : HidesAt f.number → FaceHides d f.a f.b f.c p
+      back (g, same, h) =
+          let t : g.tri ≡ f.tri = same_element s.triangles g.number f.number g.tri f.tri same g.listed f.listed in
+          let a : g.a ≡ f.a = same_element s.corners g.tri.a f.tri.a g.a f.a (ap (λ (t : Tri). t.a) t) g.at_a f.at_a in
+          let b : g.b ≡ f.b = same_element s.corners g.tri.b f.tri.b g.b f.b (ap (λ (t : Tri). t.b) t) g.at_b f.at_b in
+          let c : g.c ≡ f.c = same_element s.corners g.tri.c f.tri.c g.c f.c (ap (λ (t : Tri). t.c) t) g.at_c f.at_c in
+          subst (λ (x : Corner). FaceHides d x f.b f.c p) a (subst (λ (x : Corner). FaceHides d g.a x f.c p) b (subst (λ (x : Corner). FaceHides d g.a g.b x p) c h))
+
+  -- a triangle with a number that is no corner's has no face
+  at_or : (n : ℕ) → HidesAt n ⊎ ¬ HidesAt n
+  at_or n = elim (element_or s.triangles n) [
+    | inr past ↦ inr (λ g. omega (arith, slice_get_within s.triangles g.0.number g.0.tri g.0.listed, g.1))
+    | inl t ↦ with_triangle t.0 t.1
+  ]
+    where
+      with_triangle : (t : Tri) → slice_get s.triangles n ≡ Some t → HidesAt n ⊎ ¬ HidesAt n
+      with_triangle t listed = elim (element_or s.corners t.a) [
+        | inr past ↦ inr (λ g. omega (arith, past, slice_get_within s.corners g.0.tri.a g.0.a g.0.at_a, ap (λ (t : Tri). t.a) (tri_of g)))
+        | inl a ↦ elim (element_or s.corners t.b) [
+          | inr past ↦ inr (λ g. omega (arith, past, slice_get_within s.corners g.0.tri.b g.0.b g.0.at_b, ap (λ (t : Tri). t.b) (tri_of g)))
+          | inl b ↦ elim (element_or s.corners t.c) [
+            | inr past ↦ inr (λ g. omega (arith, past, slice_get_within s.corners g.0.tri.c g.0.c g.0.at_c, ap (λ (t : Tri). t.c) (tri_of g)))
+            | inl c ↦ face_at_or (record { number = n; tri = t; a = a.0; b = b.0; c = c.0; listed = listed; at_a = a.1; at_b = b.1; at_c = c.1 })
+          ]
+        ]
+      ]
+        where
+          tri_of : (g : HidesAt n) → g.0.tri ≡ t
+          tri_of g = same_element s.triangles g.0.number n g.0.tri t g.1 g.0.listed listed
+
+  abbrev HidesBelow : ℕ → Type 0
+  HidesBelow n = (f : Face s) × (f.number < n) × FaceHides d f.a f.b f.c p
+
+  below_or : (n : ℕ) → HidesBelow n ⊎ ¬ HidesBelow n
+  below_or zero = inr (λ g. omega (arith, g.1))
+  below_or (suc n) = alike_or (HidesBelow n ⊎ HidesAt n) (HidesBelow (suc n)) (λ h. elim h [ inl g ↦ (g.0, omega (arith, g.1), g.2) | inr g ↦ (g.0, omega (arith, g.1), g.2) ]) split (either_or _ _ (below_or n) (at_or n))
+    where
+      split : HidesBelow (suc n) → HidesBelow n ⊎ HidesAt n
+      split g = elim (below_next g.0.number n g.1) [ inl h ↦ inl (g.0, h, g.2) | inr e ↦ inr (g.0, e, g.2) ]
+
+pub decided : (d : Triple) → ¬ IsZero d → (s : Part) → HasNoFlatTriangle s → (p : Point) → IsPoint p → IsHidden d s p ⊎ ¬ IsHidden d s p
+decided d somewhere s solid p point =
+    alike_or (HidesBelow d somewhere s solid p point (length s.triangles)) (IsHidden d s p) (λ g. (g.0, g.2)) (λ g. (g.0, slice_get_within s.triangles g.0.number g.0.tri g.0.listed, g.1))
+    (below_or d somewhere s solid p point (length s.triangles))

@@ -1,0 +1,17 @@
+pub mod Names
+pub mod Values
+pub mod Decisions
+pub mod ScreenLetters
+pub mod ScreenFaces
+pub mod ScreenSides
+pub mod EdgeOn
+pub mod OnScreens
+pub mod ScreenScale
+pub mod Flatness
+pub mod Hiding
+pub mod Weights
+pub mod Regular
+pub mod FrontEnds
+pub mod Readings
+pub mod SidePoints
+pub mod SideEnds

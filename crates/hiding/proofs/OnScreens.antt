@@ -1,0 +1,161 @@
+-- A face hides a point where it covers it as they are seen.
+use Rattle.std.proofs.Common.{◌≡◌, ℕ, ◌+◌, ◌<◌, [], ◌∷◌, refl, sym, ap, subst, ◌∙◌, arith}
+use Rattle.std.specs.Prelude.{ℤ, pos, negsuc, ◌+ℤ◌, ◌*ℤ◌, ◌≤ℤ◌, ◌<ℤ◌}
+use Rattle.std.proofs.lemmas.Int.{ints}
+use Rattle.integers.proofs.Ring.{Expr, var, ◌⊕◌, ◌⊗◌, ring}
+use Rattle.lattice.specs.declared.points.Corner.{Corner}
+use Rattle.lattice.specs.Triple.{Triple, dot, right_axis, up_axis}
+use Rattle.lattice.specs.Points.{Point, point_of, scaled, across_of, upward_of, height_of, OnOneSight, IsNearer}
+use Rattle.lattice.proofs.Vectors.{letters, dots}
+use Rattle.geometry.specs.Faces.{face_sum, edge_sum, FaceHides}
+use Rattle.hiding.specs.Values.{SideHides}
+use Rattle.hiding.specs.Screens.{Screen, screen_of, Covers, SideCovers}
+
+-- the point as it is seen along d
+abbrev pub seen : Triple → Point → Screen
+seen d p = screen_of d (right_axis d) p
+
+-- weights of at least 0 are natural numbers
+pub unpack : (P : ℤ → ℤ → ℤ → Type 0) (i j k : ℤ) → pos 0 ≤ℤ i → pos 0 ≤ℤ j → pos 0 ≤ℤ k → P i j k → (l : ℕ) × (m : ℕ) × (n : ℕ) × P (pos l) (pos m) (pos n)
+unpack P (pos i) (pos j) (pos k) p q r h = (i, j, k, h)
+unpack P (negsuc i) j k p q r h = absurd (omega (arith, ints))
+unpack P (pos i) (negsuc j) k p q r h = absurd (omega (arith, ints))
+unpack P (pos i) (pos j) (negsuc k) p q r h = absurd (omega (arith, ints))
+
+-- a product with an axis is a sum with the same weights
+dot_sum : (s : Triple) (a b c : Corner) (i j k : ℕ)
+    → dot s (scaled (face_sum a b c i j k)) ≡ ((pos i *ℤ dot s (scaled (point_of a))) +ℤ (pos j *ℤ dot s (scaled (point_of b)))) +ℤ (pos k *ℤ dot s (scaled (point_of c)))
+dot_sum s a b c i j k =
+    let sum = λ (x y z : Expr). ((var 0 ⊗ x) ⊕ (var 1 ⊗ y)) ⊕ (var 2 ⊗ z) in
+    let on = dots (letters 3) in
+    ring (pos i ∷ pos j ∷ pos k ∷ s.x ∷ s.y ∷ s.z ∷ a.x ∷ a.y ∷ a.z ∷ b.x ∷ b.y ∷ b.z ∷ c.x ∷ c.y ∷ c.z ∷ [])
+    (on (record { x = sum (var 6) (var 9) (var 12); y = sum (var 7) (var 10) (var 13); z = sum (var 8) (var 11) (var 14) }))
+    (sum (on (letters 6)) (on (letters 9)) (on (letters 12))) refl
+
+dot_edge_sum : (s : Triple) (a b : Corner) (i j : ℕ)
+    → dot s (scaled (edge_sum a b i j)) ≡ (pos i *ℤ dot s (scaled (point_of a))) +ℤ (pos j *ℤ dot s (scaled (point_of b)))
+dot_edge_sum s a b i j =
+    let sum = λ (x y : Expr). (var 0 ⊗ x) ⊕ (var 1 ⊗ y) in
+    let on = dots (letters 2) in
+    ring (pos i ∷ pos j ∷ s.x ∷ s.y ∷ s.z ∷ a.x ∷ a.y ∷ a.z ∷ b.x ∷ b.y ∷ b.z ∷ [])
+    (on (record { x = sum (var 5) (var 8); y = sum (var 6) (var 9); z = sum (var 7) (var 10) }))
+    (sum (on (letters 5)) (on (letters 8))) refl
+
+natural : (i : ℕ) → pos 0 ≤ℤ pos i
+natural i = omega (arith, ints)
+
+module _ (d : Triple) (a b c : Corner) (p : Point) where
+  abbrev A : Screen
+  A = seen d (point_of a)
+
+  abbrev B : Screen
+  B = seen d (point_of b)
+
+  abbrev C : Screen
+  C = seen d (point_of c)
+
+  covers_of : (i j k : ℕ) → 0 < i + j + k → OnOneSight d (face_sum a b c i j k) p → IsNearer d (face_sum a b c i j k) p → Covers A B C (seen d p)
+  covers_of i j k some same near = record {
+    i = pos i;
+    j = pos j;
+    k = pos k;
+    i_least = natural i;
+    j_least = natural j;
+    k_least = natural k;
+    some = is_some i j k some;
+    same_u = ap (λ v. v *ℤ p.w) (sym (dot_sum (right_axis d) a b c i j k)) ∙ same.across;
+    same_v = ap (λ v. v *ℤ p.w) (sym (dot_sum (up_axis d) a b c i j k)) ∙ same.upward;
+    nearer = subst (λ v. (height_of d p *ℤ pos (i + j + k)) <ℤ (v *ℤ p.w)) (dot_sum d a b c i j k) near;
+  }
+    where
+      is_some : (i j k : ℕ) → 0 < i + j + k → pos 0 <ℤ ((pos i +ℤ pos j) +ℤ pos k)
+      is_some i j k h = omega (arith, ints)
+
+  pub covers_of_hides : FaceHides d a b c p → Covers A B C (seen d p)
+  covers_of_hides q =
+      let f = q.on_face in
+      covers_of f.0 f.1 f.2 f.3 (subst (λ s. OnOneSight d s p) f.4 q.same_sight) (subst (λ s. IsNearer d s p) f.4 q.nearer)
+
+  hides_of : (i j k : ℕ) → 0 < i + j + k
+      → (((pos i *ℤ A.u) +ℤ (pos j *ℤ B.u)) +ℤ (pos k *ℤ C.u)) *ℤ p.w ≡ across_of d p *ℤ pos (i + j + k)
+      → (((pos i *ℤ A.v) +ℤ (pos j *ℤ B.v)) +ℤ (pos k *ℤ C.v)) *ℤ p.w ≡ upward_of d p *ℤ pos (i + j + k)
+      → (height_of d p *ℤ pos (i + j + k)) <ℤ ((((pos i *ℤ A.h) +ℤ (pos j *ℤ B.h)) +ℤ (pos k *ℤ C.h)) *ℤ p.w)
+      → FaceHides d a b c p
+  hides_of i j k some same_u same_v near = record {
+    point = face_sum a b c i j k;
+    on_face = (i, j, k, some, refl);
+    same_sight = record {
+      across = ap (λ v. v *ℤ p.w) (dot_sum (right_axis d) a b c i j k) ∙ same_u;
+      upward = ap (λ v. v *ℤ p.w) (dot_sum (up_axis d) a b c i j k) ∙ same_v;
+    };
+    nearer = subst (λ v. (height_of d p *ℤ pos (i + j + k)) <ℤ (v *ℤ p.w)) (sym (dot_sum d a b c i j k)) near;
+  }
+
+  pub hides_of_covers : Covers A B C (seen d p) → FaceHides d a b c p
+  hides_of_covers q =
+      let e = unpack
+      (λ i j k. (pos 0 <ℤ ((i +ℤ j) +ℤ k))
+      × ((((i *ℤ A.u) +ℤ (j *ℤ B.u)) +ℤ (k *ℤ C.u)) *ℤ p.w ≡ across_of d p *ℤ ((i +ℤ j) +ℤ k))
+      × ((((i *ℤ A.v) +ℤ (j *ℤ B.v)) +ℤ (k *ℤ C.v)) *ℤ p.w ≡ upward_of d p *ℤ ((i +ℤ j) +ℤ k))
+      × ((height_of d p *ℤ ((i +ℤ j) +ℤ k)) <ℤ ((((i *ℤ A.h) +ℤ (j *ℤ B.h)) +ℤ (k *ℤ C.h)) *ℤ p.w)))
+      q.i q.j q.k q.i_least q.j_least q.k_least (q.some, q.same_u, q.same_v, q.nearer) in
+      hides_of e.0 e.1 e.2 (some_of e.0 e.1 e.2 e.3.0) e.3.1 e.3.2 e.3.3
+    where
+      some_of : (i j k : ℕ) → pos 0 <ℤ pos (i + j + k) → 0 < i + j + k
+      some_of i j k h = omega (arith, ints)
+
+-- the same with a side
+module _ (d : Triple) (a b : Corner) (p : Point) where
+  abbrev K : Screen
+  K = seen d (point_of a)
+
+  abbrev L : Screen
+  L = seen d (point_of b)
+
+  side_covers_of : (i j : ℕ) → 0 < i + j → OnOneSight d (edge_sum a b i j) p → IsNearer d (edge_sum a b i j) p → SideCovers K L (seen d p)
+  side_covers_of i j some same near = record {
+    i = pos i;
+    j = pos j;
+    i_least = natural i;
+    j_least = natural j;
+    some = is_some i j some;
+    same_u = ap (λ v. v *ℤ p.w) (sym (dot_edge_sum (right_axis d) a b i j)) ∙ same.across;
+    same_v = ap (λ v. v *ℤ p.w) (sym (dot_edge_sum (up_axis d) a b i j)) ∙ same.upward;
+    nearer = subst (λ v. (height_of d p *ℤ pos (i + j)) <ℤ (v *ℤ p.w)) (dot_edge_sum d a b i j) near;
+  }
+    where
+      is_some : (i j : ℕ) → 0 < i + j → pos 0 <ℤ (pos i +ℤ pos j)
+      is_some i j h = omega (arith, ints)
+
+  pub side_covers_of_hides : SideHides d a b p → SideCovers K L (seen d p)
+  side_covers_of_hides q =
+      let f = q.on_side in
+      side_covers_of f.0 f.1 f.2 (subst (λ s. OnOneSight d s p) f.3 q.same_sight) (subst (λ s. IsNearer d s p) f.3 q.nearer)
+
+  side_hides_of : (i j : ℕ) → 0 < i + j
+      → ((pos i *ℤ K.u) +ℤ (pos j *ℤ L.u)) *ℤ p.w ≡ across_of d p *ℤ pos (i + j)
+      → ((pos i *ℤ K.v) +ℤ (pos j *ℤ L.v)) *ℤ p.w ≡ upward_of d p *ℤ pos (i + j)
+      → (height_of d p *ℤ pos (i + j)) <ℤ (((pos i *ℤ K.h) +ℤ (pos j *ℤ L.h)) *ℤ p.w)
+      → SideHides d a b p
+  side_hides_of i j some same_u same_v near = record {
+    point = edge_sum a b i j;
+    on_side = (i, j, some, refl);
+    same_sight = record {
+      across = ap (λ v. v *ℤ p.w) (dot_edge_sum (right_axis d) a b i j) ∙ same_u;
+      upward = ap (λ v. v *ℤ p.w) (dot_edge_sum (up_axis d) a b i j) ∙ same_v;
+    };
+    nearer = subst (λ v. (height_of d p *ℤ pos (i + j)) <ℤ (v *ℤ p.w)) (sym (dot_edge_sum d a b i j)) near;
+  }
+
+  pub side_hides_of_covers : SideCovers K L (seen d p) → SideHides d a b p
+  side_hides_of_covers q =
+      let e = unpack
+      (λ i j k. (pos 0 <ℤ (i +ℤ j))
+      × (((i *ℤ K.u) +ℤ (j *ℤ L.u)) *ℤ p.w ≡ across_of d p *ℤ (i +ℤ j))
+      × (((i *ℤ K.v) +ℤ (j *ℤ L.v)) *ℤ p.w ≡ upward_of d p *ℤ (i +ℤ j))
+      × ((height_of d p *ℤ (i +ℤ j)) <ℤ (((i *ℤ K.h) +ℤ (j *ℤ L.h)) *ℤ p.w)))
+      q.i q.j (pos 0) q.i_least q.j_least (natural 0) (q.some, q.same_u, q.same_v, q.nearer) in
+      side_hides_of e.0 e.1 (some_of e.0 e.1 e.3.0) e.3.1 e.3.2 e.3.3
+    where
+      some_of : (i j : ℕ) → pos 0 <ℤ pos (i + j) → 0 < i + j
+      some_of i j h = omega (arith, ints)
