@@ -1,0 +1,166 @@
+-- Where along an edge something is so: lists of intervals put together, and the interval where linear values are at least 0.
+use Rattle.std.proofs.Common.{◌≡◌, ◌⊎◌, inl, inr, zero, suc, List, [], ◌∷◌, ◌++◌, All, Contains, refl, sym, subst, ap, ◌∙◌, arith, Option, Some, None}
+use Rattle.std.specs.Prelude.{ℤ, pos, ◌<ℤ◌, ◌≤ℤ◌, ◌↔◌, ◌≢◌, IfSome, IfNone, option_to_list}
+use Rattle.std.proofs.lemmas.List.Elements.{All-append, Contains-append_left, Contains-append_right, Contains-append_cases}
+use Rattle.exact_frac.specs.declared.Frac.{Frac}
+use Rattle.lattice.specs.declared.points.Corner.{Corner}
+use Rattle.lattice.specs.Triple.{Triple}
+use Rattle.lattice.specs.Points.{Point, point_of}
+use Rattle.geometry.specs.Faces.{share_point}
+use Rattle.geometry.specs.Parts.{Part, Edge}
+use Rattle.geometry.specs.Views.{IsRegular}
+use Rattle.hiding.specs.Values.{value_at}
+use Rattle.span_slow.specs.declared.interval.Interval.{Interval}
+use Rattle.span_slow.specs.declared.interval.Linear.{Linear}
+use Rattle.span_slow.specs.Places.{IsPlace, IsEarlier, IsValue, IsBetween, IsFromTo}
+use Rattle.span_slow.specs.Spans.{HasNoRegularEnd}
+use Rattle.span_slow.specs.Hidden.{AreNonnegative, HasRoot, IsRootOrEnd, IsWhereNonnegative, IsWithinAny, AreWhere}
+use Rattle.span_slow.proofs.LinearValues.{same_root}
+use Rattle.span_slow.proofs.Fractions.{weaker, no_less, strict, positive_of, value_at_start, value_at_finish, earlier_between}
+
+-- ---- within lists of intervals
+within_none : (n m : ℤ) → ¬ IsWithinAny [] n m
+within_none n m (x, (k, h, is), between) = omega arith
+
+all_one : (P : Interval → Type 0) (x : Interval) → P x → All P (x ∷ [])
+all_one P x h zero y within = h
+all_one P x h (suc k) y within = absurd (omega arith)
+
+within_one : (x : Interval) (n m : ℤ) → IsBetween x.from x.to n m ↔ IsWithinAny (x ∷ []) n m
+within_one x n m = (
+  (λ h. (x, (0, omega arith, refl), h)),
+  (λ (y, listed, h). only y listed h),
+)
+  where
+    only : (y : Interval) → Contains (x ∷ []) y → IsBetween y.from y.to n m → IsBetween x.from x.to n m
+    only y (zero, h, is) between = subst (λ (z : Interval). IsBetween z.from z.to n m) (sym is) between
+    only y (suc k, h, is) between = absurd (omega arith)
+
+within_either : (xs ys : List Interval) (n m : ℤ) → IsWithinAny (xs ++ ys) n m ↔ (IsWithinAny xs n m ⊎ IsWithinAny ys n m)
+within_either xs ys n m = (
+  (λ (x, listed, h). parts x h (Contains-append_cases xs ys x listed)),
+  whole,
+)
+  where
+    parts : (x : Interval) → IsBetween x.from x.to n m → Contains xs x ⊎ Contains ys x → IsWithinAny xs n m ⊎ IsWithinAny ys n m
+    parts x h (inl listed) = inl (x, listed, h)
+    parts x h (inr listed) = inr (x, listed, h)
+
+    whole : IsWithinAny xs n m ⊎ IsWithinAny ys n m → IsWithinAny (xs ++ ys) n m
+    whole (inl (x, listed, h)) = (x, Contains-append_left xs ys x listed, h)
+    whole (inr (x, listed, h)) = (x, Contains-append_right xs ys x listed, h)
+
+-- ---- where one thing is so, or another
+module _ (d : Triple) {s : Part} (e : Edge s) where
+  pub where_alike : (P Q : Point → Type 0) (xs : List Interval)
+      → ((n m : ℤ) → pos 0 <ℤ n → n <ℤ m → IsRegular d s (share_point e.a e.b n m) → P (share_point e.a e.b n m) ↔ Q (share_point e.a e.b n m))
+      → AreWhere d e P xs → AreWhere d e Q xs
+  where_alike P Q xs alike h = record {
+    ordered = h.ordered;
+    ends = h.ends;
+    exactly = λ n m least most regular.
+        let both = alike n m least most regular in
+        let known = h.exactly n m least most regular in
+        ((λ q. known.0 (both.1 q)), (λ within. both.0 (known.1 within)));
+  }
+
+  pub where_none : (P : Point → Type 0)
+      → ((n m : ℤ) → pos 0 <ℤ n → n <ℤ m → IsRegular d s (share_point e.a e.b n m) → ¬ P (share_point e.a e.b n m))
+      → AreWhere d e P []
+  where_none P never = record {
+    ordered = λ k x h. absurd (omega arith);
+    ends = λ k x h. absurd (omega arith);
+    exactly = λ n m least most regular. ((λ p. absurd (never n m least most regular p)), (λ within. absurd (within_none n m within)));
+  }
+
+  pub where_either : (P Q : Point → Type 0) (xs ys : List Interval) → AreWhere d e P xs → AreWhere d e Q ys → AreWhere d e (λ p. P p ⊎ Q p) (xs ++ ys)
+  where_either P Q xs ys h k = record {
+    ordered = All-append (λ x. IsEarlier x.from x.to) xs ys h.ordered k.ordered;
+    ends = All-append (λ x. HasNoRegularEnd d e x.from x.to) xs ys h.ends k.ends;
+    exactly = λ n m least most regular. either n m (h.exactly n m least most regular) (k.exactly n m least most regular);
+  }
+    where
+      either : (n m : ℤ) → P (share_point e.a e.b n m) ↔ IsWithinAny xs n m → Q (share_point e.a e.b n m) ↔ IsWithinAny ys n m
+          → (P (share_point e.a e.b n m) ⊎ Q (share_point e.a e.b n m)) ↔ IsWithinAny (xs ++ ys) n m
+      either n m f g = ((λ h. (within_either xs ys n m).1 (there h)), (λ h. back ((within_either xs ys n m).0 h)))
+        where
+          there : P (share_point e.a e.b n m) ⊎ Q (share_point e.a e.b n m) → IsWithinAny xs n m ⊎ IsWithinAny ys n m
+          there (inl p) = inl (f.0 p)
+          there (inr q) = inr (g.0 q)
+
+          back : IsWithinAny xs n m ⊎ IsWithinAny ys n m → P (share_point e.a e.b n m) ⊎ Q (share_point e.a e.b n m)
+          back (inl h) = inl (f.1 h)
+          back (inr h) = inr (g.1 h)
+
+-- ---- values that are linear along the edge
+-- the linear is what F is worth along the edge
+abbrev pub Tells : {s : Part} → Edge s → Linear → (Point → ℤ) → Type 0
+Tells e v F = (v.start ≡ F (point_of e.a)) × (v.end ≡ F (point_of e.b))
+
+pub told : {s : Part} (e : Edge s) (v : Linear) (F : Point → ℤ) (n m : ℤ) → Tells e v F → F (share_point e.a e.b n m) ≡ value_at (F (point_of e.a)) (F (point_of e.b)) n m
+    → value_at v.start v.end n m ≡ F (share_point e.a e.b n m)
+told e v F n m (start, end) share = (λ i. value_at (start i) (end i) n m) ∙ sym share
+
+-- the edge's corners are those of the linear
+pub tells : {s : Part} (e : Edge s) (v : Linear) (F : Point → ℤ) (a b : Corner) → e.a ≡ a → e.b ≡ b → v.start ≡ F (point_of a) → v.end ≡ F (point_of b) → Tells e v F
+tells e v F a b at_a at_b start end = (start ∙ ap (λ (c : Corner). F (point_of c)) (sym at_a), end ∙ ap (λ (c : Corner). F (point_of c)) (sym at_b))
+
+-- one of them changes and is 0 at n / m
+abbrev pub HasRootAt : List Linear → ℤ → ℤ → Type 0
+HasRootAt [] n m = ⊥
+HasRootAt (v ∷ vs) n m = ((v.start ≢ v.end) × (value_at v.start v.end n m ≡ pos 0)) ⊎ HasRootAt vs n m
+
+abbrev pub IsRootOrEndAt : List Linear → ℤ → ℤ → Type 0
+IsRootOrEndAt linears n m = (n ≡ pos 0) ⊎ (n ≡ m) ⊎ HasRootAt linears n m
+
+root_at : (linears : List Linear) (r : Frac) (n m : ℤ) → IsValue r n m → HasRoot linears r → HasRootAt linears n m
+root_at [] r n m same h = elim h [ ]
+root_at (v ∷ vs) r n m same (inl (changes, root)) = inl (changes, same_root v.start v.end n m r.num r.den r.positive same root)
+root_at (v ∷ vs) r n m same (inr h) = inr (root_at vs r n m same h)
+
+cut_at : (linears : List Linear) (r : Frac) (n m : ℤ) → IsValue r n m → IsRootOrEnd linears r → IsRootOrEndAt linears n m
+cut_at linears r n m same (inl h) = inl (value_at_start r.num r.den n m r.positive same h)
+cut_at linears r n m same (inr (inl h)) = inr (inl (value_at_finish r.num r.den n m r.positive same h))
+cut_at linears r n m same (inr (inr h)) = inr (inr (root_at linears r n m same h))
+
+-- P holds at regular points exactly where all the values are at least 0, and where one of them begins or ceases to be so there is none
+module _ (d : Triple) {s : Part} (e : Edge s) (P : Point → Type 0) (linears : List Linear)
+    (inside : (n m : ℤ) → pos 0 <ℤ n → n <ℤ m → IsRegular d s (share_point e.a e.b n m) → P (share_point e.a e.b n m) ↔ AreNonnegative linears n m)
+    (apart : (n m : ℤ) → pos 0 <ℤ m → pos 0 ≤ℤ n → n ≤ℤ m → AreNonnegative linears n m → IsRootOrEndAt linears n m → ¬ IsRegular d s (share_point e.a e.b n m))
+    (x : Interval) (least : IsWhereNonnegative linears x) where
+  -- so a regular point where P holds is not at an end
+  is_between : (n m : ℤ) → pos 0 <ℤ n → n <ℤ m → IsRegular d s (share_point e.a e.b n m) → P (share_point e.a e.b n m) → IsBetween x.from x.to n m
+  is_between n m hn hm regular p =
+      let positive = positive_of n m hn hm in
+      let all = (inside n m hn hm regular).0 p in
+      let closed = (least.exactly n m positive (weaker hn) (weaker hm)).1 all in
+      let cut : IsRootOrEndAt linears n m → ⊥ = λ c. apart n m positive (weaker hn) (weaker hm) all c regular in (
+        strict closed.0 (λ h. cut (cut_at linears x.from n m (sym h) least.from_end)),
+        strict closed.1 (λ h. cut (cut_at linears x.to n m h least.to_end)),
+      )
+
+  holds_between : (n m : ℤ) → pos 0 <ℤ n → n <ℤ m → IsRegular d s (share_point e.a e.b n m) → IsBetween x.from x.to n m → P (share_point e.a e.b n m)
+  holds_between n m hn hm regular between =
+      (inside n m hn hm regular).1 ((least.exactly n m (positive_of n m hn hm) (weaker hn) (weaker hm)).0 (weaker between.0, weaker between.1))
+
+  at_end : (r : Frac) → IsPlace r → IsRootOrEnd linears r → IsFromTo x.from x.to r.num r.den → ¬ IsRegular d s (share_point e.a e.b r.num r.den)
+  at_end r place cut within =
+      apart r.num r.den r.positive place.least place.most ((least.exactly r.num r.den r.positive place.least place.most).0 within) (cut_at linears r r.num r.den refl cut)
+
+  where_one : IsEarlier x.from x.to → AreWhere d e P (x ∷ [])
+  where_one earlier = record {
+    ordered = all_one (λ x. IsEarlier x.from x.to) x earlier;
+    ends = all_one (λ x. HasNoRegularEnd d e x.from x.to) x (at_end x.from x.from_place least.from_end (no_less refl, weaker earlier), at_end x.to x.to_place least.to_end (weaker earlier, no_less refl));
+    exactly = λ n m hn hm regular.
+        ((λ p. (within_one x n m).0 (is_between n m hn hm regular p)), (λ within. holds_between n m hn hm regular ((within_one x n m).1 within)));
+  }
+
+  where_no_inside : ¬ IsEarlier x.from x.to → AreWhere d e P []
+  where_no_inside later = where_none d e P (λ n m hn hm regular p.
+      let between = is_between n m hn hm regular p in
+      later (earlier_between x.from.num x.from.den x.to.num x.to.den n m x.from.positive x.to.positive (positive_of n m hn hm) between.0 between.1))
+
+  -- kept if it has an inside
+  pub where_proper : (o : Option Interval) → IfSome o (λ y. (y ≡ x) × IsEarlier x.from x.to) → IfNone o (¬ IsEarlier x.from x.to) → AreWhere d e P (option_to_list o)
+  where_proper (Some y) (same, earlier) dropped = subst (λ (z : Interval). AreWhere d e P (z ∷ [])) (sym same) (where_one earlier)
+  where_proper None kept later = where_no_inside later

@@ -1,0 +1,4 @@
+pub mod Places
+pub mod Spans
+pub mod Hidden
+pub mod Steps

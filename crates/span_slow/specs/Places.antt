@@ -1,0 +1,35 @@
+-- Places of an edge: fractions from 0 to 1.
+use Rattle.std.specs.Prelude.{◌≡◌, ◌<◌, ◌^◌, ℤ, pos, ◌*ℤ◌, ◌<ℤ◌, ◌≤ℤ◌, unsigned_abs}
+use Rattle.exact_frac.specs.declared.Frac.{Frac}
+use Rattle.lattice.specs.Points.{Point}
+use Rattle.geometry.specs.Faces.{share_point}
+use Rattle.geometry.specs.Parts.{Part, Edge}
+
+-- a share of an edge, from 0 to 1, as small as a spot allows
+pub record IsPlace (r : Frac) : Type 0 where
+  pub least : pos 0 ≤ℤ r.num
+  pub most : r.num ≤ℤ r.den
+  pub small : unsigned_abs r.den < 2 ^ 69
+
+-- the point of the edge at this place
+abbrev pub point_at : {s : Part} → Edge s → Frac → Point
+point_at e r = share_point e.a e.b r.num r.den
+
+abbrev pub IsEarlier : Frac → Frac → Type 0
+IsEarlier x y = (x.num *ℤ y.den) <ℤ (y.num *ℤ x.den)
+
+-- the very same numbers
+abbrev pub IsSame : Frac → Frac → Type 0
+IsSame x y = (x.num ≡ y.num) × (x.den ≡ y.den)
+
+-- the value is n / m
+abbrev pub IsValue : Frac → ℤ → ℤ → Type 0
+IsValue r n m = n *ℤ r.den ≡ r.num *ℤ m
+
+-- n / m is strictly between the two
+abbrev pub IsBetween : Frac → Frac → ℤ → ℤ → Type 0
+IsBetween from to n m = ((from.num *ℤ m) <ℤ (n *ℤ from.den)) × ((n *ℤ to.den) <ℤ (to.num *ℤ m))
+
+-- or at one of them
+abbrev pub IsFromTo : Frac → Frac → ℤ → ℤ → Type 0
+IsFromTo from to n m = ((from.num *ℤ m) ≤ℤ (n *ℤ from.den)) × ((n *ℤ to.den) ≤ℤ (to.num *ℤ m))

@@ -1,0 +1,38 @@
+-- When spans of an edge are right: where the edge is hidden and where it is not.
+use Rattle.std.specs.Prelude.{◌≡◌, ◌≢◌, ◌↔◌, ℤ, pos, ◌<ℤ◌, IsTrue, List, [], ◌∷◌, All}
+use Rattle.exact_frac.specs.declared.Frac.{Frac}
+use Rattle.lattice.specs.Triple.{Triple}
+use Rattle.geometry.specs.Faces.{share_point}
+use Rattle.geometry.specs.Parts.{Part, Edge}
+use Rattle.geometry.specs.Views.{IsHidden, IsRegular}
+use Rattle.span_slow.specs.declared.span.Span.{Span}
+use Rattle.span_slow.specs.Places.{point_at, IsEarlier, IsSame, IsBetween}
+
+-- the spans follow one another from a place to a place
+abbrev pub Follow : Frac → List Span → Frac → Type 0
+Follow from [] to = IsSame from to
+Follow from (x ∷ xs) to = IsSame x.from from × IsEarlier x.from x.to × Follow x.to xs to
+
+-- from 0 to 1
+abbrev pub CoverEdge : List Span → Type 0
+CoverEdge spans = (from : Frac) × (to : Frac) × (from.num ≡ pos 0) × (to.num ≡ to.den) × Follow from spans to
+
+-- of two neighbours one is hidden and one is not
+abbrev pub Alternate : List Span → Type 0
+Alternate [] = Unit {0}
+Alternate (x ∷ []) = Unit {0}
+Alternate (x ∷ y ∷ xs) = (x.hidden ≢ y.hidden) × Alternate (y ∷ xs)
+
+-- neither end is at a regular point
+abbrev pub HasNoRegularEnd : Triple → {s : Part} → Edge s → Frac → Frac → Type 0
+HasNoRegularEnd d {s = s} e from to = (¬ IsRegular d s (point_at e from)) × ¬ IsRegular d s (point_at e to)
+
+-- at each regular point strictly within the span, what it tells is so
+abbrev pub IsAnswer : Triple → {s : Part} → Edge s → Span → Type 0
+IsAnswer d {s = s} e x = (n m : ℤ) → pos 0 <ℤ m → IsBetween x.from x.to n m → IsRegular d s (share_point e.a e.b n m) → IsTrue x.hidden ↔ IsHidden d s (share_point e.a e.b n m)
+
+pub record AreSpans (d : Triple) {s : Part} (e : Edge s) (spans : List Span) : Type 0 where
+  pub covers : CoverEdge spans
+  pub ends : All (λ x. HasNoRegularEnd d e x.from x.to) spans
+  pub answers : All (IsAnswer d e) spans
+  pub alternate : Alternate spans
