@@ -1,7 +1,11 @@
 pub mod Blocks
 pub mod Creases
 pub mod DrawnLemmas
+pub mod EndOrder
 pub mod Extremes
 pub mod Front
 pub mod Numbered
-pub mod WholeEdges
+pub mod Shown
+pub mod SpanPlaces
+pub mod SpanSums
+pub mod VisibleRight

@@ -7,7 +7,7 @@ use Rattle.geometry.specs.Parts as parts
 use Rattle.geometry.specs.Parts.{Part, Face}
 use Rattle.solid_mesh.specs.declared.solid.Edge.{Edge}
 use Rattle.solid_mesh.specs.Solids.{HasNumbers}
-use Rattle.solid_mesh.proofs.EdgeLemmas.{same_element}
+use Rattle.geometry.proofs.Listed.{same_element}
 
 -- the spots of the two corners that were looked up are the edge's ends
 pub ends_of : (s : Part) (given : Edge) (e : parts.Edge s) → HasNumbers e given → (x y : Corner) (p q : Point)

@@ -5,6 +5,7 @@ use Rattle.lattice.specs.Points.{of_dir}
 use Rattle.lattice.specs.declared.pieces.ViewSpec.{ViewSpec}
 use Rattle.lattice.specs.declared.pieces.ViewSpec.TheVariants.{Plain}
 use Rattle.geometry.specs.Views.{AreDrawnEdges}
+use Rattle.geometry.specs.Pieces.{ShowVisibleOffMeetings}
 use Rattle.solid_mesh.specs.declared.solid.Solid.{Solid}
 use Rattle.solid_mesh.specs.Solids.{solid_part, edge_halves}
 use Rattle.desk.specs.Files.{Files}
@@ -12,7 +13,7 @@ use Rattle.draw_core.specs.Run.{LeavesAfter}
 use Rattle.draw_core.specs.declared.fault.Fault.{Fault}
 use Rattle.draw_core.specs.Sheet.{IsPlaced}
 use Rattle.draw_core.specs.Svg.{svg_of}
-use Rattle.draw_core.specs.Whole.{AreWhole}
+use Rattle.draw_core.specs.Visible.{ShowEdges}
 use Rattle.draw_core.specs.declared.drawing.Drawing.{Drawing}
 use Rattle.draw_core.specs.declared.drawing.ViewDrawing.{ViewDrawing}
 
@@ -23,12 +24,13 @@ front = record { x = pos 0; y = negsuc 0; z = pos 0 }
 abbrev pub IsPlainFrom : Triple → ViewSpec → Type 0
 IsPlainFrom d (Plain toward) = of_dir toward ≡ d
 
--- the view shows, from this direction, the drawn edges of the solid in their order, each as one whole piece
-pub record ShowsWholeEdges (d : Triple) (s : Solid) (view : ViewDrawing) : Type 0 where
+-- the view shows, from this direction, what is visible of the drawn edges of the solid, edge by edge in their order
+pub record ShowsVisible (d : Triple) (s : Solid) (view : ViewDrawing) : Type 0 where
   pub from : IsPlainFrom d view.spec
+  pub right : ShowVisibleOffMeetings d 0 (solid_part s) view.pieces.items
   pub numbers : List ℕ
   pub drawn : AreDrawnEdges d 0 (solid_part s) (edge_halves s) numbers
-  pub whole : AreWhole d (solid_part s) (edge_halves s) numbers view.pieces.items
+  pub edges : ShowEdges d (solid_part s) (edge_halves s) numbers view.pieces.items
 
 -- there is one view, of which this holds
 abbrev pub HasOneView : (ViewDrawing → Type 0) → List ViewDrawing → Type 0
@@ -38,7 +40,7 @@ HasOneView P (view ∷ other ∷ views) = ⊥
 
 -- a drawing of its solid: one front view
 abbrev pub IsFrontDrawing : Drawing → Type 0
-IsFrontDrawing d = HasOneView (ShowsWholeEdges front d.solid) d.views.items
+IsFrontDrawing d = HasOneView (ShowsVisible front d.solid) d.views.items
 
 -- the text of the drawing: its pieces, placed so that the part stands at the upper left
 abbrev pub IsTextOf : Drawing → List ℕ → Type 0

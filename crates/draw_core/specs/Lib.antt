@@ -4,5 +4,5 @@ pub mod Fetch
 pub mod Run
 pub mod Sheet
 pub mod Svg
-pub mod Whole
+pub mod Visible
 pub mod Words

@@ -1,7 +1,7 @@
 // Corners as spots, and which end of a piece comes first.
 ghost use Rattle.std.specs.Prelude.{◌≡◌, ◌≤◌, ◌^◌, ◌↔◌, unsigned_abs, IsTrue};
 ghost use Rattle.lattice.specs.Points.{of_dir, of_spot, point_of};
-ghost use Rattle.draw_core.specs.Whole.{IsBefore};
+ghost use Rattle.draw_core.specs.Visible.{IsBefore};
 
 use lattice::{Corner, Dir, Spot, across, upward};
 use std::cmp::Ordering;

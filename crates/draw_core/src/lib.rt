@@ -11,7 +11,7 @@ mod sheet;
 mod svg;
 #[cfg(test)]
 mod tests;
-mod whole;
+mod visible;
 mod words;
 
 pub use drawing::{Drawing, Outcome, ViewDrawing};

@@ -12,7 +12,7 @@ use crate::fetch::{FetchFault, fetch_all};
 use crate::pick::drawn_edges;
 use crate::sheet::place_of;
 use crate::svg::svg;
-use crate::whole::whole_pieces;
+use crate::visible::visible_pieces;
 use crate::words::part_word;
 use desk::{Desk, DeskFault};
 use exact_frac::OutOfMemory;
@@ -108,7 +108,7 @@ fn front_drawing(alloc: Global, solid: Solid) -> Result<(Drawing, String), OutOf
 {
     let front = Dir::new(0, -1, 0).unwrap();
     let numbers = drawn_edges(alloc, &solid, &front)?;
-    let pieces = whole_pieces(alloc, &solid, &front, &numbers)?;
+    let pieces = visible_pieces(alloc, &solid, &front, &numbers)?;
     let place = place_of(&solid, &front);
     let text = svg(alloc, &front, &place, &pieces)?;
     let view = ViewDrawing {
@@ -190,7 +190,8 @@ fn write_drawing<D: Desk>(alloc: Global, solid: Solid, desk: &mut D) -> Outcome
 /// Reads the part that the words name, draws its front view and writes it under `drawing.svg`.
 ///
 /// The faults are looked for in this order: the words, the part's bytes, its text, its surface, the drawing's file.
-/// Want of memory may be answered at any place; then no file has changed. Time is about linear in the bytes of the part.
+/// Want of memory may be answered at any place; then no file has changed. Time is about linear in the bytes of the part,
+/// and for the spans in the product of the numbers of drawn edges and of triangles.
 pub fn draw<D: Desk>(alloc: Global, words: &[String], desk: &mut D) -> Outcome
     // The answer is that of the run's steps, in their order.
     ensures status { result.status ≡ status_of result.fault }

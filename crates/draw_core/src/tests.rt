@@ -13,22 +13,48 @@ const CUBE: &str =
 const OPEN_CUBE: &str =
     "OFF\n8 11 18\n0 0 0\n10 0 0\n10 10 0\n0 10 0\n0 0 10\n10 0 10\n10 10 10\n0 10 10\n3 0 3 2\n3 0 2 1\n3 4 5 6\n3 4 6 7\n3 0 1 5\n3 0 5 4\n3 1 2 6\n3 1 6 5\n3 2 3 7\n3 2 7 6\n3 3 0 4\n";
 
-// Its front view: each side of the square is a front edge and a back edge.
-const CUBE_DRAWING: &str = "<?xml version=\"1.0\" encoding=\"UTF-8\"?>
+// The cube, and a second one behind it, moved to the right and up.
+const TWO_CUBES: &str =
+    "OFF\n16 24 0\n0 0 0\n10 0 0\n10 10 0\n0 10 0\n0 0 10\n10 0 10\n10 10 10\n0 10 10\n5 20 5\n15 20 5\n15 30 5\n5 30 5\n5 20 15\n15 20 15\n15 30 15\n5 30 15\n3 0 3 2\n3 0 2 1\n3 4 5 6\n3 4 6 7\n3 0 1 5\n3 0 5 4\n3 1 2 6\n3 1 6 5\n3 2 3 7\n3 2 7 6\n3 3 0 4\n3 3 4 7\n3 8 11 10\n3 8 10 9\n3 12 13 14\n3 12 14 15\n3 8 9 13\n3 8 13 12\n3 9 10 14\n3 9 14 13\n3 10 11 15\n3 10 15 14\n3 11 8 12\n3 11 12 15\n";
+
+// The cube, and a wedge behind it: its slanting edge passes below two corners of the cube.
+const WEDGE: &str =
+    "OFF\n14 20 0\n0 0 0\n10 0 0\n10 10 0\n0 10 0\n0 0 10\n10 0 10\n10 10 10\n0 10 10\n-5 20 -5\n15 20 -5\n15 20 15\n-5 30 -5\n15 30 -5\n15 30 15\n3 0 3 2\n3 0 2 1\n3 4 5 6\n3 4 6 7\n3 0 1 5\n3 0 5 4\n3 1 2 6\n3 1 6 5\n3 2 3 7\n3 2 7 6\n3 3 0 4\n3 3 4 7\n3 8 9 10\n3 11 13 12\n3 9 8 11\n3 9 11 12\n3 10 9 12\n3 10 12 13\n3 8 10 13\n3 8 13 11\n";
+
+// The cube, and a spike that sticks out of its front face.
+const SPIKE: &str =
+    "OFF\n12 16 0\n0 0 0\n10 0 0\n10 10 0\n0 10 0\n0 0 10\n10 0 10\n10 10 10\n0 10 10\n5 -5 5\n4 5 4\n6 5 4\n5 5 6\n3 0 3 2\n3 0 2 1\n3 4 5 6\n3 4 6 7\n3 0 1 5\n3 0 5 4\n3 1 2 6\n3 1 6 5\n3 2 3 7\n3 2 7 6\n3 3 0 4\n3 3 4 7\n3 8 9 11\n3 8 11 10\n3 8 10 9\n3 9 10 11\n";
+
+// A drawing up to its first line, and from behind its last one on.
+const HEAD: &str = "<?xml version=\"1.0\" encoding=\"UTF-8\"?>
 <svg xmlns=\"http://www.w3.org/2000/svg\" width=\"420mm\" height=\"297mm\" viewBox=\"0 0 42000 29700\">
 <rect x=\"1000\" y=\"1000\" width=\"40000\" height=\"27700\" fill=\"none\" stroke=\"black\" stroke-width=\"70\"/>
 <g stroke=\"black\" fill=\"none\">
-<line x1=\"2000\" y1=\"3000\" x2=\"3000\" y2=\"3000\" stroke-width=\"50\"/>
-<line x1=\"2000\" y1=\"3000\" x2=\"3000\" y2=\"3000\" stroke-width=\"50\"/>
-<line x1=\"2000\" y1=\"2000\" x2=\"3000\" y2=\"2000\" stroke-width=\"50\"/>
-<line x1=\"2000\" y1=\"2000\" x2=\"3000\" y2=\"2000\" stroke-width=\"50\"/>
-<line x1=\"3000\" y1=\"3000\" x2=\"3000\" y2=\"2000\" stroke-width=\"50\"/>
-<line x1=\"2000\" y1=\"3000\" x2=\"2000\" y2=\"2000\" stroke-width=\"50\"/>
-<line x1=\"3000\" y1=\"3000\" x2=\"3000\" y2=\"2000\" stroke-width=\"50\"/>
-<line x1=\"2000\" y1=\"3000\" x2=\"2000\" y2=\"2000\" stroke-width=\"50\"/>
-</g>
-</svg>
 ";
+
+const TAIL: &str = "</g>\n</svg>\n";
+
+// A line's ends: x and y of the first, and of the second.
+type Line = [u32; 4];
+
+// The front view of the cube: the square of the front face, which hides that of the back face.
+const SQUARE: [Line; 4] = [
+    [2000, 3000, 3000, 3000],
+    [2000, 2000, 3000, 2000],
+    [3000, 3000, 3000, 2000],
+    [2000, 3000, 2000, 2000],
+];
+
+fn text_of(alloc: Global, lines: &[Line]) -> Result<String, AllocError> {
+    let mut text = String::from_str(alloc, HEAD)?;
+    for [x1, y1, x2, y2] in lines {
+        text.push_str(&format!(in alloc;
+            "<line x1=\"{x1}\" y1=\"{y1}\" x2=\"{x2}\" y2=\"{y2}\" stroke-width=\"50\"/>\n"
+        )?)?;
+    }
+    text.push_str(TAIL)?;
+    Ok(text)
+}
 
 fn words_of(alloc: Global, text: &str) -> Result<Vec<String>, AllocError> {
     let mut words = Vec::new(alloc);
@@ -55,14 +81,50 @@ fn pieces_of(drawing: &Drawing) -> usize {
 }
 
 #[test]
-fn a_cube_is_eight_lines(rt: HostRuntime) -> Result<(), Fail> {
+fn scenes_show_what_is_visible(rt: HostRuntime) -> Result<(), Fail> {
     let alloc = rt.alloc();
-    let mut desk = desk_of(alloc, CUBE, 9)?;
-    let outcome = draw(alloc, &words_of(alloc, "p")?, &mut desk);
-    assert_eq!(rt; (outcome.status, outcome.fault), (0, None));
-    assert_eq!(rt; outcome.drawing.as_ref().map(pieces_of), Some(8));
-    let text = desk.file(OUT).ok_or("no drawing")?;
-    assert_eq!(rt; text, CUBE_DRAWING.as_bytes());
+    let two_cubes = [
+        [2000, 3500, 3000, 3500],
+        [2000, 2500, 3000, 2500],
+        [3000, 3500, 3000, 2500],
+        [2000, 3500, 2000, 2500],
+        [3000, 3000, 3500, 3000],
+        [2500, 2000, 3500, 2000],
+        [3500, 3000, 3500, 2000],
+        [2500, 2500, 2500, 2000],
+    ];
+    let wedge = [
+        [2500, 3500, 3500, 3500],
+        [2500, 2500, 3500, 2500],
+        [3500, 3500, 3500, 2500],
+        [2500, 3500, 2500, 2500],
+        [2000, 4000, 4000, 4000],
+        [4000, 4000, 4000, 2000],
+        [3500, 2500, 4000, 2000],
+        [2000, 4000, 2500, 3500],
+    ];
+    let spike = [
+        SQUARE[0],
+        SQUARE[1],
+        SQUARE[2],
+        SQUARE[3],
+        [2450, 2550, 2500, 2500],
+        [2500, 2500, 2500, 2450],
+        [2500, 2500, 2550, 2550],
+    ];
+    for (part, lines) in [
+        (CUBE, &SQUARE[..]),
+        (TWO_CUBES, &two_cubes[..]),
+        (WEDGE, &wedge[..]),
+        (SPIKE, &spike[..]),
+    ] {
+        let mut desk = desk_of(alloc, part, 9)?;
+        let outcome = draw(alloc, &words_of(alloc, "p")?, &mut desk);
+        assert_eq!(rt; (outcome.status, outcome.fault), (0, None));
+        assert_eq!(rt; outcome.drawing.as_ref().map(pieces_of), Some(lines.len()));
+        let text = desk.file(OUT).ok_or("no drawing")?;
+        assert_eq!(rt; text, text_of(alloc, lines)?.as_bytes());
+    }
     Ok(())
 }
 

@@ -1,13 +1,11 @@
--- Two ends put in order, and one more piece.
-use Rattle.std.proofs.Common.{◌≡◌, inl, inr, sym, arith, List, [], ◌∷◌, ◌++◌}
-use Rattle.std.specs.List.{AllZip}
+-- Of two points that are not on one line of sight, one stands before the other.
+use Rattle.std.proofs.Common.{◌≡◌, inl, inr, sym, arith}
 use Rattle.std.specs.Prelude.{ℤ, ◌*ℤ◌, ◌≤ℤ◌}
 use Rattle.std.proofs.lemmas.Int.{ints, by_lt_z}
 use Rattle.lattice.specs.Triple.{Triple}
 use Rattle.lattice.specs.Points.{Point, OnOneSight, across_of, upward_of}
-use Rattle.draw_core.specs.Whole.{IsBefore}
+use Rattle.draw_core.specs.Visible.{IsBefore}
 
--- of two points that are not on one line of sight, one stands before the other
 pub turned : (d : Triple) (p q : Point) → ¬ IsBefore d p q → ¬ OnOneSight d p q → IsBefore d q p
 turned d p q not_before apart =
     by_lt_z (across_of d q *ℤ p.w) (across_of d p *ℤ q.w) (λ l. inl l)
@@ -19,9 +17,3 @@ turned d p q not_before apart =
   where
     between : (a b : ℤ) → b ≤ℤ a → a ≤ℤ b → a ≡ b
     between a b h k = omega (arith, ints)
-
-pub AllZip-push : {A B : Type 0} (R : A → B → Type 0) (xs : List A) (ys : List B) (x : A) (y : B) → AllZip R xs ys → R x y → AllZip R (xs ++ x ∷ []) (ys ++ y ∷ [])
-AllZip-push R [] [] x y h r = (r, tt)
-AllZip-push R [] (b ∷ bs) x y h r = absurd h
-AllZip-push R (a ∷ as') [] x y h r = absurd h
-AllZip-push R (a ∷ as') (b ∷ bs) x y h r = (h.0, AllZip-push R as' bs x y h.1 r)

@@ -1,0 +1,92 @@
+-- A regular point of an edge is strictly within one of its spans.
+use Rattle.std.proofs.Common.{◌≡◌, zero, suc, List, [], ◌∷◌, Contains, refl, sym, subst, ◌∙◌, arith}
+use Rattle.std.specs.Prelude.{ℤ, pos, ◌-ℤ◌, ◌*ℤ◌, ◌<ℤ◌, ◌≤ℤ◌}
+use Rattle.std.proofs.lemmas.Int.{ints, by_lt_z}
+use Rattle.std.proofs.lemmas.List.Elements.{All-contains}
+use Rattle.integers.proofs.Ring.{var, ◌⊖◌, ◌⊗◌, ring}
+use Rattle.integers.proofs.Signs.{mul_nonneg}
+use Rattle.exact_frac.specs.declared.Frac.{Frac}
+use Rattle.lattice.specs.Triple.{Triple}
+use Rattle.geometry.specs.Faces.{share_point}
+use Rattle.geometry.specs.Parts.{Part, Edge}
+use Rattle.geometry.specs.Views.{IsRegular}
+use Rattle.span_slow.specs.declared.span.Span.{Span}
+use Rattle.span_slow.specs.Places.{point_at, IsEarlier, IsBetween}
+use Rattle.span_slow.specs.Spans.{Follow, CoverEdge, HasNoRegularEnd, AreSpans}
+use Rattle.geometry.proofs.Sights.{regular_along}
+use Rattle.geometry.proofs.Shares.{one_place}
+use Rattle.draw_core.proofs.Shown.{in_rest, in_first}
+
+-- ---- orders
+equal_of : (a b : ℤ) → b ≤ℤ a → a ≤ℤ b → a ≡ b
+equal_of a b h k = omega (arith, ints)
+
+not_less : (a b : ℤ) → a <ℤ b → b ≤ℤ a → ⊥
+not_less a b h k = omega (arith, ints)
+
+pub at_most_by : (x y z : ℤ) → y -ℤ x ≡ z → pos 0 ≤ℤ z → x ≤ℤ y
+at_most_by x y z e h = omega (arith, ints)
+
+pub weak : (x y : ℤ) → x <ℤ y → x ≤ℤ y
+weak x y h = omega (arith, ints)
+
+-- each span of a chain begins before it ends
+pub earlier_in : (from to : Frac) (spans : List Span) → Follow from spans to → (x : Span) → Contains spans x → IsEarlier x.from x.to
+earlier_in from to [] h x (k, within, is) = absurd (omega arith)
+earlier_in from to (y ∷ ys) (same, earlier, later) x (zero, within, is) = subst (λ (z : Span). IsEarlier z.from z.to) is earlier
+earlier_in from to (y ∷ ys) (same, earlier, later) x (suc k, within, is) = earlier_in y.to to ys later x (k, omega arith, is)
+
+-- ---- from a place to its span
+module _ (d : Triple) {s : Part} (e : Edge s) (n m : ℤ) (positive : pos 0 <ℤ m) (regular : IsRegular d s (share_point e.a e.b n m)) where
+  -- a regular point is at no end
+  pub not_at : (r : Frac) → ¬ IsRegular d s (point_at e r) → r.num *ℤ m ≡ n *ℤ r.den → ⊥
+  not_at r irregular same = irregular (regular_along d s (share_point e.a e.b n m) (point_at e r) r.positive (one_place d e.a e.b r.num r.den n m same) regular)
+
+  find : (from to : Frac) (spans : List Span) → Follow from spans to → ((x : Span) → Contains spans x → HasNoRegularEnd d e x.from x.to)
+      → (from.num *ℤ m) <ℤ (n *ℤ from.den) → (n *ℤ to.den) ≤ℤ (to.num *ℤ m) → (x : Span) × Contains spans x × IsBetween x.from x.to n m
+  find from to [] same apart after before =
+      absurd (not_less (from.num *ℤ m) (n *ℤ from.den) after
+      (subst (λ (k : ℤ). (n *ℤ from.den) ≤ℤ (k *ℤ m)) (sym same.0) (subst (λ (k : ℤ). (n *ℤ k) ≤ℤ (to.num *ℤ m)) (sym same.1) before)))
+  find from to (x ∷ xs) (same, earlier, later) apart after before =
+      by_lt_z (n *ℤ x.to.den) (x.to.num *ℤ m)
+      (λ within. (
+        x,
+        in_first x xs x refl,
+        (subst (λ (k : ℤ). (k *ℤ m) <ℤ (n *ℤ x.from.den)) (sym same.0) (subst (λ (k : ℤ). (from.num *ℤ m) <ℤ (n *ℤ k)) (sym same.1) after), within),
+      ))
+      (λ past. by_lt_z (x.to.num *ℤ m) (n *ℤ x.to.den)
+      (λ beyond. let (y, c, between) = find x.to to xs later (λ y c. apart y (in_rest x xs y c)) beyond before in (y, in_rest x xs y c, between))
+      (λ not_past. absurd (not_at x.to (apart x (in_first x xs x refl)).1 (equal_of (x.to.num *ℤ m) (n *ℤ x.to.den) not_past past))))
+
+  -- the share is at most 1
+  before_end : (t : ℤ) → pos 0 <ℤ t → n ≤ℤ m → (n *ℤ t) ≤ℤ (t *ℤ m)
+  before_end t h most =
+      at_most_by (n *ℤ t) (t *ℤ m) ((m -ℤ n) *ℤ t) (ring (n ∷ m ∷ t ∷ []) ((var 2 ⊗ var 1) ⊖ (var 0 ⊗ var 2)) ((var 1 ⊖ var 0) ⊗ var 2) refl)
+      (mul_nonneg (m -ℤ n) t (left n m most) (weak (pos 0) t h))
+    where
+      left : (n m : ℤ) → n ≤ℤ m → pos 0 ≤ℤ (m -ℤ n)
+      left n m h = omega (arith, ints)
+
+  -- a share of at least 0 that isn't past 0 is 0
+  at_start : (f g : ℤ) → f ≡ pos 0 → pos 0 <ℤ g → pos 0 ≤ℤ n → (n *ℤ g) ≤ℤ (f *ℤ m) → f *ℤ m ≡ n *ℤ g
+  at_start f g zero_is h least k = equal_of (f *ℤ m) (n *ℤ g) k (subst (λ (z : ℤ). z ≤ℤ (n *ℤ g)) (sym none) (mul_nonneg n g least (weak (pos 0) g h)))
+    where
+      times_zero : (m : ℤ) → pos 0 *ℤ m ≡ pos 0
+      times_zero m = omega (arith, ints)
+
+      none : f *ℤ m ≡ pos 0
+      none = (λ i. zero_is i *ℤ m) ∙ times_zero m
+
+  pub span_of_place : pos 0 ≤ℤ n → n ≤ℤ m → (spans : List Span) → AreSpans d e spans → (x : Span) × Contains spans x × IsBetween x.from x.to n m
+  span_of_place least most spans right = go spans right.covers (λ x c. All-contains (λ x. HasNoRegularEnd d e x.from x.to) spans x right.ends c)
+    where
+      no_length : (k : ℤ) → pos 0 <ℤ k → k ≡ pos 0 → ⊥
+      no_length k h e = omega (arith, ints)
+
+      go : (spans : List Span) → CoverEdge spans → ((x : Span) → Contains spans x → HasNoRegularEnd d e x.from x.to) → (x : Span) × Contains spans x × IsBetween x.from x.to n m
+      go [] (from, to, zero_is, one_is, same) apart = absurd (no_length to.den to.positive (sym one_is ∙ sym same.0 ∙ zero_is))
+      go (x ∷ xs) (from, to, zero_is, one_is, follow) apart =
+          by_lt_z (from.num *ℤ m) (n *ℤ from.den)
+          (λ after. find from to (x ∷ xs) follow apart after (subst (λ (k : ℤ). (n *ℤ to.den) ≤ℤ (k *ℤ m)) (sym one_is) (before_end to.den to.positive most)))
+          (λ not_after. absurd (not_at x.from (apart x (in_first x xs x refl)).0
+          ((λ i. follow.0.0 i *ℤ m) ∙ at_start from.num from.den zero_is from.positive least not_after ∙ (λ i. n *ℤ sym follow.0.1 i))))
