@@ -1,6 +1,10 @@
-//! Texts of their own, which contracts see as their bytes.
+//! Texts: names, and numbers as they are read and written.
 #![tactic(auto)]
 
 mod name;
+mod number;
+mod text;
 
 pub use name::Name;
+pub use number::{NumberFault, fixed};
+pub use text::{push_frac, push_int};

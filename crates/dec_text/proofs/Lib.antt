@@ -1,0 +1,5 @@
+pub mod Digits
+pub mod Rounding
+pub mod States
+pub mod Parts
+pub mod Units
