@@ -1,4 +1,5 @@
 pub mod Blocks
+pub mod Chains
 pub mod Creases
 pub mod DrawnLemmas
 pub mod EndOrder

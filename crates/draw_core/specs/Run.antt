@@ -1,14 +1,15 @@
 -- What a run answers, from its words and the files at entry: steps in order, each with what it gives and what it refuses.
-use Rattle.std.specs.Prelude.{◌≡◌, ◌⊎◌, ◌<◌, ◌≤◌, ℕ, List, length, map, Option, Some, None, IsSome, IsSomeAnd, Result, Ok, Err, Bool, false, IsTrue, codes}
+use Rattle.std.specs.Prelude.{◌≡◌, ◌⊎◌, ◌<◌, ◌≤◌, ℕ, List, [], length, map, Option, Some, None, IsSome, IsSomeAnd, Result, Ok, Err, Bool, false, IsTrue, codes}
 use Rattle.desk.specs.Files.{Files, Keeps, MayKeepFront}
 use Rattle.geometry.specs.Parts.{Part, IsClosed, IsOpen}
-use Rattle.off_reader.specs.Form.{Reading, reading_of}
+use Rattle.off_reader.specs.Off.{Raw, ReadsOff}
 use Rattle.lattice.specs.Points.{of_corner}
+use Rattle.weld.specs.declared.fault.PartFault.{PartFault}
 use Rattle.solid_mesh.specs.declared.faults.MeshFault.TheVariants.{NotClosed}
 use Rattle.draw_core.specs.Words.{part_name}
 use Rattle.draw_core.specs.declared.fault.Input.TheVariants.{Part as ThePart}
 use Rattle.draw_core.specs.declared.fault.Fault.{Fault}
-use Rattle.draw_core.specs.declared.fault.Fault.TheVariants.{Usage, ReadFault, PartTooLong, Part as PartUnread, Mesh, WriteFault, Memory}
+use Rattle.draw_core.specs.declared.fault.Fault.TheVariants.{Usage, ReadFault, PartTooLong, Part as PartUnread, Nothing, Mesh, WriteFault, Memory}
 
 -- the most bytes that a part may have
 abbrev pub part_limit : ℕ
@@ -36,14 +37,19 @@ TakesPart files name (Ok bytes) = (files name ≡ Some bytes) × (length bytes �
 TakesPart files name (Err e) =
     ((e ≡ ReadFault ThePart) × (files name ≡ None)) ⊎ ((e ≡ PartTooLong) × IsSomeAnd (files name) (λ bytes. part_limit < length bytes))
 
--- the coordinates of its corners, and its triangles
-abbrev pub seen_part : Part → Reading
-seen_part part = record { corners = map of_corner part.corners; triangles = part.triangles }
+-- what its text says, in thousandths
+abbrev pub ReadsText : (bytes : List ℕ) → Result Raw Fault → Type 0
+ReadsText bytes (Ok raw) = ReadsOff 3 bytes (Ok raw)
+ReadsText bytes (Err e) = (cause : PartFault) × (e ≡ PartUnread cause) × ReadsOff 3 bytes (Err cause)
 
--- its text has the form that is read
+-- a reading with a triangle is the part with these corners and triangles
+abbrev pub MakesPart : Raw → Result Part Fault → Type 0
+MakesPart raw (Ok part) = (map of_corner part.corners ≡ raw.vertices) × (part.triangles ≡ raw.triangles) × (0 < length raw.triangles)
+MakesPart raw (Err e) = (e ≡ Nothing) × (raw.triangles ≡ [])
+
+-- its text is read, and says a part
 abbrev pub ReadsPart : List ℕ → Result Part Fault → Type 0
-ReadsPart bytes (Ok part) = reading_of bytes ≡ Some (seen_part part)
-ReadsPart bytes (Err e) = (e ≡ PartUnread record {}) × (reading_of bytes ≡ None)
+ReadsPart bytes = ReadsText bytes and_then MakesPart
 
 -- its surface is closed
 abbrev pub ChecksPart : Part → Result Part Fault → Type 0
@@ -63,6 +69,7 @@ Refuses steps (WriteFault target) = Unit {0}
 Refuses steps Usage = steps (Err Usage)
 Refuses steps PartTooLong = steps (Err PartTooLong)
 Refuses steps (PartUnread cause) = steps (Err (PartUnread cause))
+Refuses steps Nothing = steps (Err Nothing)
 Refuses steps (Mesh fault) = steps (Err (Mesh fault))
 
 -- a step's result, seen by view
@@ -81,6 +88,7 @@ status_of None = 0
 status_of (Some Usage) = 2
 status_of (Some PartTooLong) = 4
 status_of (Some (PartUnread cause)) = 4
+status_of (Some Nothing) = 4
 status_of (Some (Mesh fault)) = 5
 status_of (Some (ReadFault input)) = 7
 status_of (Some (WriteFault target)) = 8

@@ -2,10 +2,7 @@
 ghost use Rattle.std.specs.Prelude.{◌≡◌};
 
 use solid_mesh::MeshFault;
-
-/// The text of the part has a form that isn't read yet.
-#[derive(Clone, Copy, Debug, PartialEq, Eq)]
-pub struct NotYet;
+use weld::PartFault;
 
 /// What a run reads.
 #[derive(Clone, Copy, Debug, PartialEq, Eq)]
@@ -25,7 +22,9 @@ pub enum Fault {
     Usage,
     ReadFault(Input),
     PartTooLong,
-    Part(NotYet),
+    Part(PartFault),
+    /// The part has no triangle.
+    Nothing,
     Mesh(MeshFault),
     WriteFault(Target),
     Memory,
@@ -43,6 +42,7 @@ impl Fault {
             Fault::Usage => 2,
             Fault::PartTooLong => 4,
             Fault::Part(_) => 4,
+            Fault::Nothing => 4,
             Fault::Mesh(_) => 5,
             Fault::ReadFault(_) => 7,
             Fault::WriteFault(_) => 8,

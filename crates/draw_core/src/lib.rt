@@ -15,5 +15,5 @@ mod visible;
 mod words;
 
 pub use drawing::{Drawing, Outcome, ViewDrawing};
-pub use fault::{Fault, Input, NotYet, Target};
+pub use fault::{Fault, Input, Target};
 pub use run::{OUT, draw};

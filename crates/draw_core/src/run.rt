@@ -7,7 +7,7 @@ ghost use Rattle.draw_core.specs.Run.{◌and_then◌, NamesPart, TakesPart, Read
 ghost use Rattle.draw_core.specs.Drawing.{IsFrontDrawing, IsTextOf, Writes};
 
 use crate::drawing::{Drawing, Outcome, ViewDrawing};
-use crate::fault::{Fault, Input, NotYet, Target};
+use crate::fault::{Fault, Input, Target};
 use crate::fetch::{FetchFault, fetch_all};
 use crate::pick::drawn_edges;
 use crate::sheet::place_of;
@@ -16,13 +16,17 @@ use crate::visible::visible_pieces;
 use crate::words::part_word;
 use desk::{Desk, DeskFault};
 use exact_frac::OutOfMemory;
-use lattice::{Dir, ViewSpec};
-use off_reader::read_form;
+use lattice::{Dir, Soup, ViewSpec};
+use off_reader::read_off;
 use solid_mesh::{MeshError, Solid};
 use std::alloc::Global;
+use weld::{PartError, RawPart};
 
 /// The most bytes that a part may have.
 const PART_LIMIT: usize = 16_777_216;
+
+/// How many decimals a millimetre has: a unit of the part is a thousandth of one.
+const DECIMALS: u8 = 3;
 
 /// The name that the drawing is written under.
 pub const OUT: &str = "drawing.svg";
@@ -31,6 +35,7 @@ pub const OUT: &str = "drawing.svg";
 fn take_part<D: Desk>(alloc: Global, words: &[String], desk: &mut D) -> Result<Vec<u8>, Fault>
     ensures answer { D.tells desk.old ≡ true →
         Gives (λ v. v.items) (NamesPart (texts words.now) and_then TakesPart (D.files desk.old)) result }
+    ensures short { IfOk result (λ v. vec_len v ≤ PART_LIMIT) }
     ensures words_ok { OnOk result (IsSome (part_name (texts words.now))) }
     ensures words { IfErr result (λ fault. AnswersWords (part_name (texts words.now)) (Some fault)) }
     ensures no_write { IsErrOf result (Fault.WriteFault Target.Out) → ⊥ }
@@ -59,17 +64,21 @@ fn take_part<D: Desk>(alloc: Global, words: &[String], desk: &mut D) -> Result<V
 
 /// The closed solid of a part's text.
 fn solid_of(alloc: Global, bytes: &[u8]) -> Result<Solid, Fault>
+    requires short { length bytes.now ≤ PART_LIMIT }
     ensures answer { Gives solid_part (ReadsPart bytes.now and_then ChecksPart) result }
     ensures no_read { IsErrOf result (Fault.ReadFault Input.Part) → ⊥ }
     ensures no_usage { IsErrOf result Fault.Usage → ⊥ }
     ensures no_write { IsErrOf result (Fault.WriteFault Target.Out) → ⊥ }
 {
-    let soup = match read_form(alloc, bytes) {
-        Ok(Some(soup)) => soup,
-        Ok(None) => return Err(Fault::Part(NotYet)),
-        Err(OutOfMemory) => return Err(Fault::Memory),
+    let RawPart { corners, triangles } = match read_off(alloc, bytes, DECIMALS) {
+        Ok(raw) => raw,
+        Err(PartError::Part(fault)) => return Err(Fault::Part(fault)),
+        Err(PartError::Memory(_)) => return Err(Fault::Memory),
     };
-    match Solid::check(alloc, soup) {
+    if triangles.is_empty() {
+        return Err(Fault::Nothing);
+    }
+    match Solid::check(alloc, Soup { corners, triangles }) {
         Ok(solid) => Ok(solid),
         Err(MeshError::Mesh(fault)) => Err(Fault::Mesh(fault)),
         Err(MeshError::Memory(_)) => Err(Fault::Memory),
@@ -189,9 +198,9 @@ fn write_drawing<D: Desk>(alloc: Global, solid: Solid, desk: &mut D) -> Outcome
 
 /// Reads the part that the words name, draws its front view and writes it under `drawing.svg`.
 ///
-/// The faults are looked for in this order: the words, the part's bytes, its text, its surface, the drawing's file.
-/// Want of memory may be answered at any place; then no file has changed. Time is about linear in the bytes of the part,
-/// and for the spans in the product of the numbers of drawn edges and of triangles.
+/// The faults are looked for in this order: the words, the part's bytes, its text, whether it has a triangle, its
+/// surface, the drawing's file. Want of memory may be answered at any place; then no file has changed. Time is about
+/// linear in the bytes of the part, and for the spans in the product of the numbers of drawn edges and of triangles.
 pub fn draw<D: Desk>(alloc: Global, words: &[String], desk: &mut D) -> Outcome
     // The answer is that of the run's steps, in their order.
     ensures status { result.status ≡ status_of result.fault }

@@ -1,9 +1,10 @@
 // Runs of the top call over files in memory.
-use crate::{Drawing, OUT, draw};
+use crate::{Drawing, Fault, OUT, draw};
 use dec_text::Name;
 use desk::MemoryDesk;
 use std::alloc::{AllocError, Global};
 use std::test::Fail;
+use weld::{PartFault, PartKind, Want};
 
 // A cube of 10 mm.
 const CUBE: &str =
@@ -12,6 +13,17 @@ const CUBE: &str =
 // The same with one face fewer.
 const OPEN_CUBE: &str =
     "OFF\n8 11 18\n0 0 0\n10 0 0\n10 10 0\n0 10 0\n0 0 10\n10 0 10\n10 10 10\n0 10 10\n3 0 3 2\n3 0 2 1\n3 4 5 6\n3 4 6 7\n3 0 1 5\n3 0 5 4\n3 1 2 6\n3 1 6 5\n3 2 3 7\n3 2 7 6\n3 3 0 4\n";
+
+// The cube by its faces of four corners, up to the last one.
+const FIVE_FACES: &str =
+    "OFF\n8 6 12\n0 0 0\n10 0 0\n10 10 0\n0 10 0\n0 0 10\n10 0 10\n10 10 10\n0 10 10\n4 0 3 2 1\n4 4 5 6 7\n4 0 1 5 4\n4 1 2 6 5\n4 2 3 7 6\n";
+
+// Three vertices, and a face that is still to come.
+const NO_FACE: &str = "OFF\n3 1 0\n0 0 0 1 0 0 0 1 0\n";
+
+// A face like a U, no corner of which sees all of it.
+const USHAPE: &str =
+    "OFF\n8 1 8\n0 0 0\n30 0 0\n30 0 20\n20 0 20\n20 0 10\n10 0 10\n10 0 20\n0 0 20\n8 0 1 2 3 4 5 6 7\n";
 
 // The cube, and a second one behind it, moved to the right and up.
 const TWO_CUBES: &str =
@@ -156,6 +168,95 @@ fn each_refusal_has_its_status(rt: HostRuntime) -> Result<(), Fail> {
             status == 0,
             "{words}, call {fail} fails"
         );
+    }
+    Ok(())
+}
+
+// How a text is refused on a line.
+fn on_line(line: u32, kind: PartKind) -> Option<Fault> {
+    Some(Fault::Part(PartFault { line, kind }))
+}
+
+#[test]
+fn each_text_is_read_or_refused_on_its_line(rt: HostRuntime) -> Result<(), Fail> {
+    let alloc = rt.alloc();
+    for (part, more, fault) in [
+        ("", "", on_line(1, PartKind::Missing(Want::Count))),
+        ("# a\n# b\n", "", on_line(3, PartKind::Missing(Want::Count))),
+        ("OFF", "", on_line(1, PartKind::Missing(Want::Count))),
+        (
+            "OFF\n8 6 12\n0 0",
+            "",
+            on_line(3, PartKind::Missing(Want::Coordinate)),
+        ),
+        ("OFF\n\0", "", on_line(2, PartKind::Binary)),
+        ("OFF BINARY", "", on_line(1, PartKind::Binary)),
+        ("COFF", "", on_line(1, PartKind::Prefixed)),
+        ("OFF 60001 0 0", "", on_line(1, PartKind::TooMany)),
+        ("OFF 4 20001 0", "", on_line(1, PartKind::TooMany)),
+        ("OFF 0 0 0", "", Some(Fault::Nothing)),
+        (FIVE_FACES, "4 3 0 4 7\n", None),
+        (FIVE_FACES, "4 3 0 4 7 0.5 0.5 0.5 red\n", None),
+        (FIVE_FACES, "3 0 1 8\n", on_line(16, PartKind::BadIndex(8))),
+        (FIVE_FACES, "2 0 1\n", on_line(16, PartKind::FaceSize(2))),
+        (
+            FIVE_FACES,
+            "4 3 0 4 7\n7\n",
+            on_line(17, PartKind::Trailing),
+        ),
+        (USHAPE, "", on_line(11, PartKind::FaceUnseen(0))),
+        ("OFF\n3 x 0", "", on_line(2, PartKind::BadNumber)),
+        ("OFF\n1 0 0\n0 1e9 0", "", on_line(3, PartKind::TooLarge)),
+        (NO_FACE, "-3 0 1 2", on_line(4, PartKind::BadNumber)),
+        (NO_FACE, "", on_line(4, PartKind::Missing(Want::FaceSize))),
+        (
+            NO_FACE,
+            "3 0\n1",
+            on_line(5, PartKind::Missing(Want::Index)),
+        ),
+        (
+            NO_FACE,
+            "3 0 1 99999999999999999999",
+            on_line(4, PartKind::BadIndex(u64::MAX)),
+        ),
+        (
+            NO_FACE,
+            "99999999999999999999 0",
+            on_line(4, PartKind::FaceSize(u64::MAX)),
+        ),
+    ] {
+        let mut text = String::from_str(alloc, part)?;
+        text.push_str(more)?;
+        let mut desk = desk_of(alloc, text.as_str(), 9)?;
+        let outcome = draw(alloc, &words_of(alloc, "p")?, &mut desk);
+        assert_eq!(rt; outcome.fault, fault, "{text}");
+        let drawn = if fault.is_none() {
+            Some(text_of(alloc, &SQUARE)?)
+        } else {
+            None
+        };
+        assert_eq!(rt;
+            desk.file(OUT),
+            drawn.as_ref().map(|drawn| drawn.as_bytes()),
+            "{text}"
+        );
+    }
+    Ok(())
+}
+
+// A text that is cut off is no part, but where its last line feed alone is missing.
+#[test]
+fn two_beginnings_of_a_cube_are_a_cube(rt: HostRuntime) -> Result<(), Fail> {
+    let alloc = rt.alloc();
+    let text = format!(in alloc; "{FIVE_FACES}4 3 0 4 7\n")?;
+    for end in 0..=text.len() {
+        let Some(part) = text.as_str().get(..end) else {
+            return Err("no text".into());
+        };
+        let mut desk = desk_of(alloc, part, 9)?;
+        let outcome = draw(alloc, &words_of(alloc, "p")?, &mut desk);
+        let whole = text.len() - end <= 1;
+        assert_eq!(rt; outcome.status == 0, whole, "{end} bytes");
     }
     Ok(())
 }

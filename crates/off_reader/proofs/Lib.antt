@@ -1,3 +1,11 @@
-pub mod Points
+pub mod Areas
+pub mod Around
+pub mod FanNumbers
+pub mod Seen
+pub mod Readings
+pub mod Repeats
+pub mod Units
+pub mod Again
 pub mod Rows
-pub mod Runs
+pub mod Whole
+pub mod OneReading

@@ -1,3 +1,6 @@
-pub mod Form
-pub mod Numbers
-pub mod Tokens
+pub mod Steps
+pub mod Words
+pub mod Fans
+pub mod Off
+pub mod Made
+pub mod Rows

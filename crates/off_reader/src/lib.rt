@@ -1,15 +1,17 @@
-//! Reads a triangulated part from a text in a first form of OFF, in time that grows with the text.
+//! The text of a part, in the plain form of Geomview's OFF.
 //!
-//! Tokens stand between blanks and line feeds. In order they are `OFF`, a vertex count of at most
-//! 60,000, a face count from 1 to 20,000, one token of any kind, three numbers for each vertex, and
-//! for each face the token `3` and three indices below the vertex count. Nothing else is read.
+//! Reading goes a fixed number of times over the text, and its time grows with the text and with what it says: nothing is
+//! reserved for vertices or faces that the text doesn't have.
 #![tactic(auto)]
 
-mod form;
-mod numbers;
-mod tokens;
-
-pub use form::read_form;
-
+mod counts;
+mod faces;
+mod fan;
+mod header;
+mod off;
 #[cfg(test)]
 mod tests;
+mod tokens;
+mod vertices;
+
+pub use off::read_off;

@@ -1,36 +1,53 @@
-// The tokens of a text, one after the other.
-ghost use Rattle.std.specs.Prelude.{◌≡◌, ◌<◌, not, [], ◌∷◌, length, IfSome, MatchOption, position};
-ghost use Rattle.off_reader.specs.Tokens.{is_gap, tokens_of};
+// Tokens one by one, and their bytes.
+ghost use Rattle.std.specs.Prelude.{◌≡◌, ◌<◌, ◌≤◌, length, IfOk};
+ghost use Rattle.std.specs.Str.{str_eq_ignore_ascii_case};
+ghost use Rattle.lex_lines.specs.Places.{line_at};
+ghost use Rattle.off_reader.specs.Words.{text_of, NextToken, is_word, ends_with};
+ghost use Rattle.off_reader.specs.Made.{made};
 
-/// The byte separates tokens: it is a blank or a line feed.
-fn is_gap(byte: u8) -> bool
-    ensures { result ≡ is_gap byte }
+use lex_lines::{Token, Tokens};
+use weld::{PartFault, PartKind, Want};
+
+/// A fault on this line.
+pub(crate) fn fault(line: u32, kind: PartKind) -> PartFault
+    ensures { result ≡ record { line = line; kind = kind } }
 {
-    matches!(byte, 9..=13 | 32)
+    PartFault { line, kind }
 }
 
-/// Where the first token begins.
-fn token_start(bytes: &[u8]) -> Option<usize>
-    ensures place { result ≡ position (λ byte. not (is_gap byte)) bytes.now }
-    ensures within { IfSome result (λ start. start < length bytes.now) }
+/// The next token, or the lack of what is wanted.
+pub(crate) fn next_token(tokens: &mut Tokens<'_>, want: Want) -> Result<Token, PartFault>
+    ensures step { NextToken (line_at tokens.old.text (length tokens.old.text)) want tokens.old.left (made (λ t. t) result tokens.new.left) }
+    ensures within { IfOk result (λ t. (t.from < t.to) × (t.to ≤ length tokens.old.text)) }
+    ensures text { tokens.new.text ≡ tokens.old.text }
+    ensures comments { tokens.new.comments ≡ tokens.old.comments }
+    ensures line { IfOk result (λ t. tokens.new.line ≡ t.line) }
 {
-    bytes.iter().position(|byte| !is_gap(*byte))
+    match tokens.next() {
+        Some(token) => Ok(token),
+        None => Err(fault(tokens.end_line(), PartKind::Missing(want))),
+    }
 }
 
-/// Where the first gap is.
-fn gap_start(bytes: &[u8]) -> Option<usize>
-    ensures place { result ≡ position is_gap bytes.now }
-    ensures within { IfSome result (λ start. start < length bytes.now) }
+/// The bytes of a token.
+pub(crate) fn bytes_of<'t>(bytes: &'t [u8], token: Token) -> &'t [u8]
+    requires some { token.from < token.to }
+    requires within { token.to ≤ length bytes.now }
+    ensures { result.now ≡ text_of bytes.now token }
 {
-    bytes.iter().position(|byte| is_gap(*byte))
+    &bytes[token.from as usize..token.to as usize]
 }
 
-/// The first token, and the bytes behind it.
-pub(crate) fn next_token(bytes: &[u8]) -> Option<(&[u8], &[u8])>
-    ensures { MatchOption result (tokens_of bytes.now ≡ []) (λ x. tokens_of bytes.now ≡ x.0.now ∷ tokens_of x.1.now) }
+/// The text is this word, in any case of its letters.
+pub(crate) fn is_word(text: &[u8], word: &[u8]) -> bool
+    ensures { result ≡ is_word word.now text.now }
 {
-    let start = token_start(bytes)?;
-    let (_, text) = bytes.split_at(start);
-    let end = gap_start(text).unwrap_or(text.len());
-    Some(text.split_at(end))
+    text.eq_ignore_ascii_case(word)
+}
+
+/// The text ends with this word, in any case of its letters.
+pub(crate) fn ends_with(text: &[u8], word: &[u8]) -> bool
+    ensures { result ≡ ends_with word.now text.now }
+{
+    is_word(&text[text.len().saturating_sub(word.len())..], word)
 }

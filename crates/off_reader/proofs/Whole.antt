@@ -1,0 +1,57 @@
+-- The whole reading, by the step at which it ends.
+use Rattle.std.proofs.Common.{◌≡◌, ℕ, true, ◌==◌, List, Option, Some, None, option_map, position, refl, sym, subst, ◌∙◌, Ok, Err}
+use Rattle.lattice.specs.declared.soup.Tri.{Tri}
+use Rattle.lattice.specs.Triple.{Triple}
+use Rattle.lex_lines.specs.declared.token.Token.{Token}
+use Rattle.lex_lines.specs.Places.{AreTokens, line_at}
+use Rattle.weld.specs.declared.fault.PartError.{PartError}
+use Rattle.weld.specs.declared.fault.PartError.TheVariants.{Part, Memory}
+use Rattle.weld.specs.declared.fault.PartFault.{PartFault}
+use Rattle.weld.specs.declared.fault.PartKind.TheVariants.{Binary}
+use Rattle.off_reader.specs.Steps.{Reading, fault_at, Times, read_value}
+use Rattle.off_reader.specs.Off.{Header, Vertex, Faces, Raw, at_end, Whole, ReadsFrom, ReadsOff, AnswersOff}
+use Rattle.off_reader.specs.Made.{IsMade}
+use Rattle.off_reader.proofs.Again.{AreOne}
+
+abbrev pub zero_place : List ℕ → Option ℕ
+zero_place bytes = position (λ byte. byte == 0) bytes
+
+-- a zero byte
+pub zero_read : (decimals : ℕ) (bytes : List ℕ) (place : ℕ) → zero_place bytes ≡ Some place → ReadsOff decimals bytes (Err (fault_at (line_at bytes place) Binary))
+zero_read decimals bytes place e = subst (λ found. ReadsFrom decimals bytes found (Err (fault_at (line_at bytes place) Binary))) (sym e) refl
+
+-- none
+pub text_read : (decimals : ℕ) (bytes : List ℕ) (start : List Token) (r : Reading Raw) → zero_place bytes ≡ None → AreTokens true bytes start → Whole decimals bytes start r → ReadsOff decimals bytes (read_value r)
+text_read decimals bytes start r e tokens h = subst (λ found. ReadsFrom decimals bytes found (read_value r)) (sym e) (start, tokens, r, h, refl)
+
+pub header_fails : (decimals : ℕ) (bytes : List ℕ) (start : List Token) (fault : PartFault) → Header bytes start (Err fault) → Whole decimals bytes start (Err fault)
+header_fails decimals bytes start fault h = (Err fault, h, refl)
+
+pub vertices_fail : (decimals : ℕ) (bytes : List ℕ) (vertices faces : ℕ) (start first : List Token) (fault : PartFault) → Header bytes start (Ok ((vertices, faces), first)) → Times vertices (Vertex decimals bytes) first (Err fault) → Whole decimals bytes start (Err fault)
+vertices_fail decimals bytes vertices faces start first fault header h = (Ok ((vertices, faces), first), header, (Err fault, h, refl))
+
+pub faces_fail : (decimals : ℕ) (bytes : List ℕ) (vertices faces : ℕ) (start first second : List Token) (corners : List Triple) (fault : PartFault) → Header bytes start (Ok ((vertices, faces), first)) → Times vertices (Vertex decimals bytes) first (Ok (corners, second)) → Faces bytes corners faces 0 0 second (Err fault) → Whole decimals bytes start (Err fault)
+faces_fail decimals bytes vertices faces start first second corners fault header rows h =
+    (Ok ((vertices, faces), first), header, (Ok (corners, second), rows, (Err fault, h, refl)))
+
+pub ends : (decimals : ℕ) (bytes : List ℕ) (vertices faces : ℕ) (start first second third : List Token) (corners : List Triple) (triangles : List Tri) (r : Reading Raw) → Header bytes start (Ok ((vertices, faces), first)) → Times vertices (Vertex decimals bytes) first (Ok (corners, second)) → Faces bytes corners faces 0 0 second (Ok (triangles, third)) → AreOne r (at_end (record { vertices = corners; triangles = triangles }) third) → Whole decimals bytes start r
+ends decimals bytes vertices faces start first second third corners triangles r header rows others h =
+    (Ok ((vertices, faces), first), header, (Ok (corners, second), rows, (Ok (triangles, third), others, h)))
+
+-- ---- answers
+pub no_zero : (bytes : List ℕ) (line : Option ℕ) → line ≡ option_map (line_at bytes) (zero_place bytes) → line ≡ None → zero_place bytes ≡ None
+no_zero bytes line e none = unmapped (line_at bytes) (zero_place bytes) (sym e ∙ none)
+  where
+    unmapped : (f : ℕ → ℕ) (o : Option ℕ) → option_map f o ≡ None → o ≡ None
+    unmapped f None e = refl
+    unmapped f (Some place) e = absurd (let no : ⊥ = cc in no)
+
+-- an error of a step is the answer of the whole
+pub error_answer : {A X : Type 0} (decimals : ℕ) (bytes : List ℕ) (P : Reading X → Type 0) (view : A → X) (error : PartError) (start left : List Token) → zero_place bytes ≡ None → AreTokens true bytes start → ((fault : PartFault) → P (Err fault) → Whole decimals bytes start (Err fault)) → IsMade view P (Err error) left → AnswersOff decimals bytes (Err error)
+error_answer decimals bytes P view (Part fault) start left none tokens h p = text_read decimals bytes start (Err fault) none tokens (h fault p)
+error_answer decimals bytes P view (Memory e) start left none tokens h p = tt
+
+-- and so is what stands behind the last face
+pub end_answer : (decimals : ℕ) (bytes : List ℕ) (vertices faces : ℕ) (start first second third : List Token) (corners : List Triple) (triangles : List Tri) (r : Reading Raw) → zero_place bytes ≡ None → AreTokens true bytes start → Header bytes start (Ok ((vertices, faces), first)) → Times vertices (Vertex decimals bytes) first (Ok (corners, second)) → Faces bytes corners faces 0 0 second (Ok (triangles, third)) → AreOne r (at_end (record { vertices = corners; triangles = triangles }) third) → ReadsOff decimals bytes (read_value r)
+end_answer decimals bytes vertices faces start first second third corners triangles r none tokens header rows others h =
+    text_read decimals bytes start r none tokens (ends decimals bytes vertices faces start first second third corners triangles r header rows others h)
