@@ -48,7 +48,7 @@ flat_ca a b = record {
 }
 
 -- a side that ends where it starts makes its triangle flat
-flat_face : (s : Part) (f : Face s) (side : ℕ) → start_of f.tri side ≡ end_of f.tri side → IsFlat f.a f.b f.c
+pub flat_face : (s : Part) (f : Face s) (side : ℕ) → start_of f.tri side ≡ end_of f.tri side → IsFlat f.a f.b f.c
 flat_face s f zero h = subst (λ (x : Corner). IsFlat f.a x f.c) (same_element s.corners f.tri.a f.tri.b f.a f.b h f.at_a f.at_b) (flat_ab f.a f.c)
 flat_face s f (suc zero) h = subst (λ (x : Corner). IsFlat f.a f.b x) (same_element s.corners f.tri.b f.tri.c f.b f.c h f.at_b f.at_c) (flat_bc f.a f.b)
 flat_face s f (suc (suc side)) h = subst (λ (x : Corner). IsFlat f.a f.b x) (sym (same_element s.corners f.tri.c f.tri.a f.c f.a h f.at_c f.at_a)) (flat_ca f.a f.b)

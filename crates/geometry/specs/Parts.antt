@@ -1,5 +1,5 @@
--- A part: corners and the triangles between them, its sides and edges, and when it is closed.
-use Rattle.std.specs.Prelude.{◌≡◌, ◌≢◌, ◌⊎◌, ◌↔◌, ℕ, ◌<◌, ◌/◌, ◌%◌, List, Contains, Some, slice_get}
+-- A part: corners and the triangles between them, its sides and edges, when it is closed, and when triangles have the same corners.
+use Rattle.std.specs.Prelude.{◌≡◌, ◌⊎◌, ◌↔◌, ℕ, ◌<◌, ◌/◌, ◌%◌, List, Contains, Some, slice_get}
 use Rattle.std.specs.List.Sorted.{IsStrictlyIncreasing}
 use Rattle.std.proofs.Common.{zero, suc}
 use Rattle.lattice.specs.declared.points.Corner.{Corner}
@@ -95,15 +95,18 @@ pub record IsClosed (s : Part) : Type 0 where
   pub once : HasNoSideTwice s
   pub returns : (half m n : ℕ) → IsHalf s half m n → (other : ℕ) × IsHalf s other n m
 
-abbrev pub HasFlatTriangle : Part → Type 0
-HasFlatTriangle s = (f : Face s) × IsFlat f.a f.b f.c
+-- ---- triangles on the same corners
+-- one of the triangle's three corner numbers
+abbrev pub IsCornerOf : Tri → ℕ → Type 0
+IsCornerOf t n = (t.a ≡ n) ⊎ (t.b ≡ n) ⊎ (t.c ≡ n)
 
-abbrev pub HasSideTwice : Part → Type 0
-HasSideTwice s = (half : ℕ) × (other : ℕ) × (m : ℕ) × (n : ℕ) × (half ≢ other) × IsHalf s half m n × IsHalf s other m n
+-- the triangles with these numbers have the same three corner numbers
+pub record AreDouble (s : Part) (i j : ℕ) : Type 0 where
+  pub first : Tri
+  pub second : Tri
+  pub at_first : slice_get s.triangles i ≡ Some first
+  pub at_second : slice_get s.triangles j ≡ Some second
+  pub same : (n : ℕ) → IsCornerOf first n ↔ IsCornerOf second n
 
-abbrev pub HasLoneSide : Part → Type 0
-HasLoneSide s = (half : ℕ) × (m : ℕ) × (n : ℕ) × IsHalf s half m n × ((other : ℕ) → ¬ IsHalf s other n m)
-
--- why a part is not closed
-abbrev pub IsOpen : Part → Type 0
-IsOpen s = HasFlatTriangle s ⊎ HasSideTwice s ⊎ HasLoneSide s
+abbrev pub HasNoDouble : Part → Type 0
+HasNoDouble s = (i j : ℕ) → AreDouble s i j → i ≡ j

@@ -3,7 +3,7 @@ use Rattle.std.proofs.Common.{ℕ, ◌*◌, ◌<◌, ◌≤◌, List, All, lengt
 use Rattle.std.proofs.lemmas.Option.{slice_get-get_or}
 use Rattle.std.proofs.lemmas.List.Elements.{Contains-get_or}
 use Rattle.lattice.specs.Triangles.{IsBelow}
-use Rattle.geometry.specs.Parts.{Edge, IsClosed, AreEdges, IsNumbered}
+use Rattle.geometry.specs.Parts.{Edge, IsClosed, HasNoDouble, AreEdges, IsNumbered}
 use Rattle.integers.proofs.Passing as passing
 use Rattle.solid_mesh.specs.Halves.{is_lower}
 use Rattle.solid_mesh.specs.Solids.{solid_part, edge_halves}
@@ -27,6 +27,9 @@ module _ (s : Solid) where
 
   pub closed : IsClosed (solid_part s)
   closed = table_closed (solid_part s) s.twins.items s.paired s.none_flat s.once
+
+  pub no_double : HasNoDouble (solid_part s)
+  no_double = s.no_double
 
   -- the edges' halves are halves, of which there are three a triangle
   pub halves_within : All (λ half. half < 3 * length (solid_part s).triangles) (edge_halves s)

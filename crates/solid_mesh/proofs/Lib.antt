@@ -1,6 +1,10 @@
+pub mod DoubleLemmas
 pub mod EdgeLemmas
 pub mod Facts
+pub mod FirstFound
 pub mod FlatLemmas
 pub mod HalfLemmas
 pub mod PlaceLemmas
+pub mod Sharing
 pub mod SideLemmas
+pub mod StarLemmas

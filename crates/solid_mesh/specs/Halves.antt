@@ -19,9 +19,13 @@ end_at triangles half = end_of (triangle_at triangles half) (half % 3)
 abbrev pub side_at : List Tri → ℕ → Side
 side_at triangles half = record { from = start_at triangles half; to = end_at triangles half }
 
+-- the sides along the first halves, in order
+abbrev pub first_sides : List Tri → ℕ → List Side
+first_sides triangles count = map (side_at triangles) (range_with_len 0 count)
+
 -- the sides along all halves, in order
 abbrev pub sides_of : List Tri → List Side
-sides_of triangles = map (side_at triangles) (range_with_len 0 (3 * length triangles))
+sides_of triangles = first_sides triangles (3 * length triangles)
 
 -- the other number is that of a half which goes back
 pub record GoesBack (triangles : List Tri) (half other : ℕ) : Type 0 where

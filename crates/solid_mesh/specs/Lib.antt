@@ -1,2 +1,4 @@
+pub mod Faults
 pub mod Halves
 pub mod Solids
+pub mod Stars

@@ -1,10 +1,12 @@
 -- What a solid and its edges stand for, and when a part is refused.
-use Rattle.std.specs.Prelude.{◌≡◌, ℕ, ◌<◌, List, length}
+use Rattle.std.specs.Prelude.{◌≡◌, ◌↔◌, ℕ, ◌<◌, List, Contains, Some, length, slice_get}
+use Rattle.std.specs.List.Sorted.{IsStrictlyIncreasing}
+use Rattle.lattice.specs.declared.soup.Tri.{Tri}
 use Rattle.geometry.specs.Parts as parts
-use Rattle.geometry.specs.Parts.{Part, part_with, IsNumbered, IsOpen}
+use Rattle.geometry.specs.Parts.{Part, part_with, IsNumbered, IsCornerOf}
 use Rattle.solid_mesh.specs.declared.faults.MeshError.{MeshError}
 use Rattle.solid_mesh.specs.declared.faults.MeshError.TheVariants.{Mesh, Memory}
-use Rattle.solid_mesh.specs.declared.faults.MeshFault.TheVariants.{NotClosed}
+use Rattle.solid_mesh.specs.Faults.{HasFault}
 use Rattle.solid_mesh.specs.declared.solid.Edge.{Edge}
 use Rattle.solid_mesh.specs.declared.solid.Solid.{Solid}
 
@@ -36,7 +38,12 @@ pub record IsWithinPart (s : Part) (given : Edge) : Type 0 where
   pub left : given.left < length s.triangles
   pub right : given.right < length s.triangles
 
--- the part is refused for a cause: want of memory, or it isn't closed
+-- the numbers of the triangles that have this corner, in order
+pub record AreTrianglesAt (s : Part) (corner : ℕ) (triangles : List ℕ) : Type 0 where
+  pub ascending : IsStrictlyIncreasing triangles
+  pub exactly : (i : ℕ) → Contains triangles i ↔ ((t : Tri) × (slice_get s.triangles i ≡ Some t) × IsCornerOf t corner)
+
+-- the part is refused for a cause: its first fault, or want of memory
 abbrev pub IsRefusedFor : Part → MeshError → Type 0
-IsRefusedFor s (Mesh NotClosed) = IsOpen s
+IsRefusedFor s (Mesh fault) = HasFault s fault
 IsRefusedFor s (Memory e) = Unit {0}

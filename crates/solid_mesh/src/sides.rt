@@ -1,13 +1,13 @@
-// What `Solid::check` looks for: flat triangles, directed sides that occur twice, and sides with no reverse.
-ghost use Rattle.std.specs.Prelude.{◌≡◌, ℕ, ◌+◌, ◌*◌, ◌/◌, ◌%◌, ◌<◌, ◌≤◌, ◌↔◌, length, slice_get, IsTrue, MatchBool, OnOk, IfOk, IfErr};
-ghost use Rattle.geometry.specs.Faces.{IsFlat};
-ghost use Rattle.geometry.specs.Parts.{part_of, start_of, end_of, HasFlatTriangle, HasNoFlatTriangle, HasNoSideTwice};
-ghost use Rattle.solid_mesh.specs.Halves.{AreTwins, lower_halves_of, side_at, sides_of};
+// Directed sides: which occur twice, and which goes back on which.
+ghost use Rattle.std.specs.Prelude.{◌≡◌, ℕ, ◌+◌, ◌*◌, ◌/◌, ◌%◌, ◌<◌, ◌≤◌, ◌↔◌, length, slice_get, OnOk, IfOk, IfErr};
+ghost use Rattle.geometry.specs.Parts.{part_of, start_of, end_of, HasNoFlatTriangle, HasNoSideTwice, IsClosed};
+ghost use Rattle.solid_mesh.specs.Faults.{ShareSide, SharesEarlier};
+ghost use Rattle.solid_mesh.specs.Halves.{AreTwins, lower_halves_of, side_at, sides_of, first_sides};
 ghost use Rattle.solid_mesh.specs.Solids.{IsRefusedFor};
 
 use crate::faults::{MeshError, MeshFault};
 use indexmap::IndexSet;
-use lattice::{Corner, Soup, Tri, Vector, cross};
+use lattice::{Soup, Tri};
 use std::alloc::{AllocError, Global};
 
 /// A directed side, by the numbers of the corner that it begins at and of the one that it ends at.
@@ -17,33 +17,10 @@ pub(crate) struct Side {
     pub to: u32,
 }
 
-/// Some triangle is flat.
-pub(crate) fn has_flat(soup: &Soup) -> bool
-    ensures { MatchBool result (HasFlatTriangle (part_of soup.now)) (HasNoFlatTriangle (part_of soup.now)) }
-{
-    for triangle in &soup.triangles {
-        let (a, b, c) = (
-            triangle.a as usize,
-            triangle.b as usize,
-            triangle.c as usize,
-        );
-        if is_flat(&soup.corners[a], &soup.corners[b], &soup.corners[c]) {
-            return true;
-        }
-    }
-    false
-}
-
-/// The three corners are in one line.
-fn is_flat(a: &Corner, b: &Corner, c: &Corner) -> bool
-    ensures { IsTrue result ↔ IsFlat a.now b.now c.now }
-{
-    cross(&Vector::between(a, b), &Vector::between(a, c)).is_zero()
-}
-
 /// The directed sides in the order of the halves, so that each stands at the number of its half.
 pub(crate) fn index_sides(alloc: Global, soup: &Soup) -> Result<IndexSet<Side>, MeshError>
-    requires { length (part_of soup.now).triangles ≤ 20000 }
+    requires few { length (part_of soup.now).triangles ≤ 20000 }
+    requires none_flat { HasNoFlatTriangle (part_of soup.now) }
     ensures sides { IfOk result (λ sides. sides.keys ≡ sides_of (part_of soup.now).triangles) }
     ensures once { OnOk result (HasNoSideTwice (part_of soup.now)) }
     ensures refused { IfErr result (IsRefusedFor (part_of soup.now)) }
@@ -51,10 +28,46 @@ pub(crate) fn index_sides(alloc: Global, soup: &Soup) -> Result<IndexSet<Side>, 
     let mut sides = IndexSet::new(alloc);
     for half in 0..3 * soup.triangles.len() as u32 {
         if !sides.insert(side_at(soup, half))? {
-            return Err(MeshError::Mesh(MeshFault::NotClosed));
+            let second = half / 3;
+            let first = first_sharing(soup, &sides, second);
+            return Err(MeshError::Mesh(MeshFault::SameWay(first, second)));
         }
     }
     Ok(sides)
+}
+
+/// The first triangle with a directed side of `second`, or `second` if no earlier one has any.
+fn first_sharing(soup: &Soup, sides: &IndexSet<Side>, second: u32) -> u32
+    requires within { second < length (part_of soup.now).triangles }
+    requires few { length (part_of soup.now).triangles ≤ 20000 }
+    requires sides { sides.now.keys ≡ first_sides (part_of soup.now).triangles (length sides.now.keys) }
+    requires earlier { 3 * second ≤ length sides.now.keys }
+    requires halves { length sides.now.keys ≤ 3 * length (part_of soup.now).triangles }
+    ensures least { (i : ℕ) → SharesEarlier (part_of soup.now) second i → result ≤ i }
+    ensures shares { result < second → ShareSide (part_of soup.now) result second }
+{
+    let mut first = second;
+    for side in 0..3 {
+        first = earlier(soup, sides, 3 * second + side, first);
+    }
+    first
+}
+
+/// The first triangle with the side of this half, or `first` if that is less.
+fn earlier(soup: &Soup, sides: &IndexSet<Side>, half: u32, first: u32) -> u32
+    requires within { half < 3 * length (part_of soup.now).triangles }
+    requires few { length (part_of soup.now).triangles ≤ 20000 }
+    requires sides { sides.now.keys ≡ first_sides (part_of soup.now).triangles (length sides.now.keys) }
+    requires halves { length sides.now.keys ≤ 3 * length (part_of soup.now).triangles }
+    ensures low { result ≤ first }
+    ensures least { (other : ℕ) → other < length sides.now.keys
+        → side_at (part_of soup.now).triangles other ≡ side_at (part_of soup.now).triangles half → result ≤ other / 3 }
+    ensures shares { result < first → ShareSide (part_of soup.now) result (half / 3) }
+{
+    match sides.get_index_of(&side_at(soup, half)) {
+        Some(place) => first.min(place as u32 / 3),
+        None => first,
+    }
 }
 
 /// For each half, the half that goes back.
@@ -64,8 +77,11 @@ pub(crate) fn find_twins(
     sides: &IndexSet<Side>,
 ) -> Result<Vec<u32>, MeshError>
     requires few { length (part_of soup.now).triangles ≤ 20000 }
+    requires none_flat { HasNoFlatTriangle (part_of soup.now) }
+    requires once { HasNoSideTwice (part_of soup.now) }
     requires sides { sides.now.keys ≡ sides_of (part_of soup.now).triangles }
     ensures twins { IfOk result (λ twins. AreTwins (part_of soup.now).triangles twins.items) }
+    ensures closed { OnOk result (IsClosed (part_of soup.now)) }
     ensures refused { IfErr result (IsRefusedFor (part_of soup.now)) }
 {
     let mut twins = Vec::new(alloc);
@@ -73,7 +89,7 @@ pub(crate) fn find_twins(
         let Side { from, to } = side_at(soup, half);
         match sides.get_index_of(&Side { from: to, to: from }) {
             Some(other) => twins.push(other as u32)?,
-            None => return Err(MeshError::Mesh(MeshFault::NotClosed)),
+            None => return Err(MeshError::Mesh(MeshFault::Unpaired(half / 3, half % 3))),
         }
     }
     Ok(twins)

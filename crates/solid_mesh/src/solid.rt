@@ -2,12 +2,16 @@
 ghost use Rattle.std.specs.Prelude.{◌≡◌, ◌+◌, ◌*◌, ◌<◌, ◌≤◌, ◌^◌, ℤ, pos, ◌+ℤ◌, ◌*ℤ◌, ◌<ℤ◌, ◌≤ℤ◌, unsigned_abs, length, slice_get, Some, OnOk, IfOk, IfErr};
 ghost use Rattle.std.specs.List.{All};
 ghost use Rattle.lattice.specs.Triangles.{IsBelow};
-ghost use Rattle.geometry.specs.Parts.{Face, IsHalf, IsTwin, HasNoFlatTriangle, HasNoSideTwice, IsClosed, AreEdges, IsNumbered, part_with, part_of};
+ghost use Rattle.geometry.specs.Parts.{Face, IsHalf, IsTwin, HasNoFlatTriangle, HasNoSideTwice, IsClosed, HasNoDouble, AreEdges, IsNumbered, part_with, part_of};
 ghost use Rattle.solid_mesh.specs.Halves.{AreTwins, lower_halves_of};
+ghost use Rattle.solid_mesh.specs.Stars.{AreStars, lists_of};
 
+use crate::doubles::find_double;
 use crate::faults::{MeshError, MeshFault};
+use crate::flats::find_flat;
 use crate::places::{share, turned};
-use crate::sides::{ends, find_lower, find_twins, has_flat, index_sides};
+use crate::sides::{ends, find_lower, find_twins, index_sides};
+use crate::stars::find_stars;
 use exact_frac::Frac;
 use lattice::{Corner, Dir, Soup, Spot, Tri};
 use std::alloc::Global;
@@ -22,13 +26,14 @@ pub struct Edge {
     pub right: u32,
 }
 
-/// A closed part. Half `3t + s` is the directed side `s` of triangle `t`.
+/// A closed part, no two triangles of which have the same three corners. Half `3t + s` is the directed side `s` of triangle `t`.
 #[derive(Debug, Drop)]
 pub struct Solid {
     corners: Vec<Corner>,
     triangles: Vec<Tri>,
     twins: Vec<u32>,
     lower_halves: Vec<u32>,
+    stars: Vec<Vec<u32>>,
     ghost some_triangle: { 0 < length triangles.items },
     ghost few_corners: { length corners.items ≤ 60000 },
     ghost few_triangles: { length triangles.items ≤ 20000 },
@@ -37,6 +42,8 @@ pub struct Solid {
     ghost once: { HasNoSideTwice (part_with corners.items triangles.items) },
     ghost paired: { AreTwins triangles.items twins.items },
     ghost lower: { lower_halves.items ≡ lower_halves_of twins.items },
+    ghost no_double: { HasNoDouble (part_with corners.items triangles.items) },
+    ghost around: { AreStars (length corners.items) triangles.items (length triangles.items) (lists_of stars.items) },
 }
 
 impl Solid {
@@ -44,31 +51,38 @@ impl Solid {
     ghost use Rattle.geometry.specs.Faces.{IsPointOfEdge, share_point};
     ghost use Rattle.geometry.specs.Parts as parts;
     ghost use Rattle.geometry.specs.Views.{face_sign};
-    ghost use Rattle.solid_mesh.specs.Solids.{solid_part, edge_halves, IsEdgeAt, IsWithinPart, HasNumbers, IsRefusedFor};
+    ghost use Rattle.solid_mesh.specs.Solids.{solid_part, edge_halves, IsEdgeAt, IsWithinPart, HasNumbers, AreTrianglesAt, IsRefusedFor};
 
-    /// The solid with these corners and triangles, at most 60,000 and 20,000: `NotClosed` where a triangle is flat, or a
-    /// directed side occurs twice, or its reverse is missing. Takes time about linear in the number of triangles: each
-    /// directed side is hashed once, and looked up once by its reverse. Each reader takes constant time.
+    /// The solid with these corners and triangles, at most 60,000 and 20,000, or the first fault: a flat triangle, a directed
+    /// side that occurs twice, one whose reverse is missing, or two triangles on the same three corners, looked for in this
+    /// order and told with the least numbers. Takes time about linear in the numbers of corners and triangles: each directed
+    /// side is hashed once, and looked up once by its reverse. Each reader takes constant time and no memory.
     pub fn check(alloc: Global, soup: Soup) -> Result<Solid, MeshError>
         requires some_triangle { 0 < length (part_of soup).triangles }
         requires few_corners { length (part_of soup).corners ≤ 60000 }
         requires few_triangles { length (part_of soup).triangles ≤ 20000 }
         ensures part { IfOk result (λ s. solid_part s ≡ part_of soup) }
         ensures closed { OnOk result (IsClosed (part_of soup)) }
+        ensures no_double { OnOk result (HasNoDouble (part_of soup)) }
         ensures refused { IfErr result (IsRefusedFor (part_of soup)) }
     {
-        if has_flat(&soup) {
-            return Err(MeshError::Mesh(MeshFault::NotClosed));
+        if let Some(tri) = find_flat(&soup) {
+            return Err(MeshError::Mesh(MeshFault::Flat(tri)));
         }
         let sides = index_sides(alloc, &soup)?;
         let twins = find_twins(alloc, &soup, &sides)?;
+        if let Some((first, second)) = find_double(&soup, &twins) {
+            return Err(MeshError::Mesh(MeshFault::Double(first, second)));
+        }
         let lower_halves = find_lower(alloc, &twins)?;
+        let stars = find_stars(alloc, &soup)?;
         let Soup { corners, triangles } = soup;
         Ok(Solid {
             corners,
             triangles,
             twins,
             lower_halves,
+            stars,
         })
     }
 
@@ -79,10 +93,11 @@ impl Solid {
         self.corners.len() as u32
     }
 
-    /// The number of triangles, which are closed.
+    /// The number of triangles, which are closed and no two of which have the same three corners.
     pub fn triangles(&self) -> u32
         ensures count { result ≡ length (solid_part self.now).triangles }
         ensures closed { IsClosed (solid_part self.now) }
+        ensures no_double { HasNoDouble (solid_part self.now) }
     {
         self.triangles.len() as u32
     }
@@ -110,6 +125,15 @@ impl Solid {
         ensures within { IsBelow (length (solid_part self.now).corners) result }
     {
         self.triangles[i as usize]
+    }
+
+    /// The triangles that have this corner, in ascending order.
+    pub fn star(&self, corner: u32) -> &[u32]
+        requires { corner < length (solid_part self.now).corners }
+        ensures at { AreTrianglesAt (solid_part self.now) corner result.now }
+        ensures within { All (λ i. i < length (solid_part self.now).triangles) result.now }
+    {
+        &self.stars[corner as usize]
     }
 
     /// The half between the same two corners that goes back.

@@ -1,4 +1,4 @@
-// The cube with an edge of 10 units, and what is made of it.
+// The cube with an edge of 10 units, what is made of it, and parts that make no solid.
 ghost use Rattle.std.specs.Prelude.{◌≡◌, length, IfOk};
 ghost use Rattle.std.specs.List.{All};
 ghost use Rattle.lattice.specs.Triangles.{IsBelow};
@@ -25,18 +25,25 @@ const CUBE: [[u32; 3]; 12] = [
     [3, 4, 7],
 ];
 
-/// Corner 0 to 7 of the cube: around the bottom, and around the top.
+// A tetrahedron on the cube's corners 0, 3, 1 and 4.
+const TETRA: [[u32; 3]; 4] = [[0, 3, 1], [0, 1, 4], [0, 4, 3], [1, 3, 4]];
+
+/// Corner 0 to 7 of the cube, around the bottom and around the top, and corner 8 in one line with 0 and 1.
 fn corner(i: u32) -> Corner {
     Corner {
-        x: if matches!(i, 1 | 2 | 5 | 6) { 10 } else { 0 },
+        x: match i {
+            1 | 2 | 5 | 6 => 10,
+            8 => 20,
+            _ => 0,
+        },
         y: if matches!(i, 2 | 3 | 6 | 7) { 10 } else { 0 },
-        z: if i < 4 { 0 } else { 10 },
+        z: if matches!(i, 4 | 5 | 6 | 7) { 10 } else { 0 },
     }
 }
 
-/// The cube's corners with these triangles.
+/// The nine corners with these triangles.
 fn soup(alloc: Global, numbers: &[[u32; 3]]) -> Result<Soup, AllocError>
-    ensures corners { IfOk result (λ s. length (part_of s).corners ≡ 8) }
+    ensures corners { IfOk result (λ s. length (part_of s).corners ≡ 9) }
     ensures triangles { IfOk result (λ s. length (part_of s).triangles ≡ length numbers.now) }
 {
     let corners = corners(alloc)?;
@@ -45,10 +52,10 @@ fn soup(alloc: Global, numbers: &[[u32; 3]]) -> Result<Soup, AllocError>
 }
 
 fn corners(alloc: Global) -> Result<Vec<Corner>, AllocError>
-    ensures { IfOk result (λ v. length v.items ≡ 8) }
+    ensures { IfOk result (λ v. length v.items ≡ 9) }
 {
     let mut corners = Vec::new(alloc);
-    for i in 0..8 {
+    for i in 0..9 {
         corners.push(corner(i))?;
     }
     Ok(corners)
@@ -56,48 +63,69 @@ fn corners(alloc: Global) -> Result<Vec<Corner>, AllocError>
 
 fn triangles(alloc: Global, numbers: &[[u32; 3]]) -> Result<Vec<Tri>, AllocError>
     ensures long { IfOk result (λ v. length v.items ≡ length numbers.now) }
-    ensures in_range { IfOk result (λ v. All (IsBelow 8) v.items) }
+    ensures in_range { IfOk result (λ v. All (IsBelow 9) v.items) }
 {
     let mut triangles = Vec::new(alloc);
     for n in numbers {
         triangles.push(Tri {
-            a: n[0] % 8,
-            b: n[1] % 8,
-            c: n[2] % 8,
+            a: n[0] % 9,
+            b: n[1] % 9,
+            c: n[2] % 9,
         })?;
     }
     Ok(triangles)
 }
 
 #[test]
-fn accepts_closed_parts_alone(rt: HostRuntime) -> Result<(), Fail> {
-    let open = Err(MeshError::Mesh(MeshFault::NotClosed));
-    let mut flat = CUBE;
-    flat[11] = [3, 4, 3];
-    let mut twice = CUBE;
-    twice[11] = CUBE[0];
-    for (numbers, edges) in [
-        (&CUBE[..], Ok(18)),
-        (&CUBE[..11], open),
-        (&flat[..], open),
-        (&twice[..], open),
+fn tells_the_first_fault(rt: HostRuntime) -> Result<(), Fail> {
+    let mut twice = [[0; 3]; 24];
+    for tri in 0..24 {
+        twice[tri] = CUBE[tri % 12];
+    }
+    let [bottom, side, ..] = TETRA;
+    for (numbers, fault) in [
+        (&[bottom, [8, 1, 0], [1, 8, 0]][..], MeshFault::Flat(1)),
+        (&twice, MeshFault::SameWay(0, 12)),
+        (&[bottom, [0, 4, 1], side], MeshFault::SameWay(0, 1)),
+        // the first side of the last triangle is the second's, and its second side is the first's
+        (&[[0, 1, 2], [3, 4, 0], [4, 0, 1]], MeshFault::SameWay(0, 2)),
+        (&TETRA[..3], MeshFault::Unpaired(0, 1)),
+        (&CUBE[..11], MeshFault::Unpaired(3, 2)),
+        (&[bottom], MeshFault::Unpaired(0, 0)),
+        (&[bottom, [1, 3, 0]], MeshFault::Double(0, 1)),
+        (
+            &[[0, 1, 2], [4, 5, 6], [5, 4, 6], [1, 0, 2]],
+            MeshFault::Double(1, 2),
+        ),
     ] {
         let soup = soup(rt.alloc(), numbers)?;
         assert!(rt;
-            soup.corners.len() == 8 && soup.triangles.len() > 0 && soup.triangles.len() < 13
+            soup.corners.len() == 9 && soup.triangles.len() > 0 && soup.triangles.len() < 25
         );
-        let found = Solid::check(rt.alloc(), soup).map(|s| s.edges());
-        assert_eq!(rt; found, edges);
+        let found = Solid::check(rt.alloc(), soup).err();
+        assert_eq!(rt; found, Some(MeshError::Mesh(fault)));
     }
+    Ok(())
+}
+
+#[test]
+fn a_fault_tells_its_numbers(rt: HostRuntime) -> Result<(), Fail> {
+    let text = format!(in rt.alloc(); "{}", MeshError::Mesh(MeshFault::Double(1, 2)))?;
+    assert_eq!(rt;
+        text.as_str(),
+        "triangles 1 and 2 have the same three corners"
+    );
     Ok(())
 }
 
 #[test]
 fn reads_the_cube(rt: HostRuntime) -> Result<(), Fail> {
     let s = Solid::check(rt.alloc(), soup(rt.alloc(), &CUBE)?)?;
-    assert_eq!(rt; (s.corners(), s.triangles(), s.edges()), (8, 12, 18));
+    assert_eq!(rt; (s.corners(), s.triangles(), s.edges()), (9, 12, 18));
     assert_eq!(rt; (s.corner(6).x, s.corner(6).y, s.corner(6).z), (10, 10, 10));
     assert_eq!(rt; s.triangle(8), Tri { a: 2, b: 3, c: 7 });
+    assert_eq!(rt; s.star(6), [2, 3, 6, 7, 9].as_slice());
+    assert!(rt; s.star(8).is_empty());
     assert_eq!(rt; (s.twin(0), s.twin(30)), (30, 0));
     assert_eq!(rt;
         s.edge(0),
@@ -123,7 +151,7 @@ fn reads_the_cube(rt: HostRuntime) -> Result<(), Fail> {
 #[test]
 fn sees_the_cube_from_the_front(rt: HostRuntime) -> Result<(), Fail> {
     let s = Solid::check(rt.alloc(), soup(rt.alloc(), &CUBE)?)?;
-    assert_eq!(rt; (s.triangles(), s.edges()), (12, 18));
+    assert_eq!(rt; (s.corners(), s.triangles(), s.edges()), (9, 12, 18));
     let spot = s.spot(1, &Frac { num: 1, den: 4 });
     assert_eq!(rt; (spot.x, spot.y, spot.z, spot.w), (10, 40, 0, 4));
     let front = Dir::new(0, -1, 0)?;

@@ -34,7 +34,7 @@ pub(crate) fn hidden_intervals(
     Ok(hidden)
 }
 
-/// Adds the intervals in which the triangle hides the edge: at most one, and three where it is edge-on.
+/// Adds the intervals in which the triangle hides the edge: at most three.
 fn add_face(
     hidden: &mut Vec<Interval>,
     solid: &Solid,
