@@ -2,10 +2,7 @@ pub mod Areas
 pub mod Around
 pub mod FanNumbers
 pub mod Seen
-pub mod Readings
-pub mod Repeats
-pub mod Units
-pub mod Again
+pub mod Counted
 pub mod Rows
 pub mod Whole
 pub mod OneReading

@@ -1,59 +1,25 @@
 -- A text of OFF has one reading.
-use Rattle.std.proofs.Common.{◌≡◌, inl, inr, ℕ, zero, suc, ◌+◌, ◌-◌, ◌<◌, ◌≤◌, ◌==◌, ◌&&◌, true, ℤ, List, [], ◌∷◌, ◌++◌, length, map, Option, Some, None, position, refl, sym, ap, subst, ◌∙◌, arith, Result, Ok, Err}
+use Rattle.std.proofs.Common.{◌≡◌, inl, inr, ℕ, zero, suc, ◌+◌, ◌-◌, ◌<◌, ◌==◌, ◌&&◌, true, List, [], ◌∷◌, ◌++◌, length, map, Option, Some, None, position, refl, sym, ap, subst, ◌∙◌, Result}
 use Rattle.std.specs.Prelude.{nat_le, nat_lt}
 use Rattle.std.proofs.lemmas.Bool.{cases_order}
-use Rattle.dec_text.specs.Numbers.{magnitude_of}
-use Rattle.dec_text.proofs.Parts.{one_value, one_units}
 use Rattle.lattice.specs.declared.soup.Tri.{Tri}
 use Rattle.lattice.specs.Triple.{Triple}
 use Rattle.lex_lines.specs.declared.token.Token.{Token}
 use Rattle.lex_lines.proofs.Only.{only_tokens}
 use Rattle.weld.specs.declared.fault.PartFault.{PartFault}
-use Rattle.weld.specs.declared.fault.PartKind.{PartKind}
 use Rattle.weld.specs.declared.fault.PartKind.TheVariants.{BadNumber, TooMany, BadIndex, FaceSize}
 use Rattle.weld.specs.declared.fault.Want.{Want}
 use Rattle.weld.specs.declared.fault.Want.TheVariants as want
-use Rattle.off_reader.specs.Steps.{Reading, Step, Gives, Fails, After, ◌then◌, Times, Computes, checked, read_value}
-use Rattle.off_reader.specs.Words.{text_of, NextToken, count_of, CountOf, Count, Units}
+use Rattle.part_text.specs.Steps.{Reading, Step, checked, read_value}
+use Rattle.part_text.specs.Words.{text_of}
+use Rattle.part_text.specs.Vertices.{end, Vertex}
+use Rattle.part_text.proofs.Single.{IsSingle, one_computed, one_given, one_failed, one_then, one_times, one_next, one_vertex, one_skip}
+use Rattle.off_reader.specs.Counts.{count_of, CountOf, Count}
 use Rattle.off_reader.specs.Fans.{turned, fan_of, SeesWhole, corners_at, IsFan}
-use Rattle.off_reader.specs.Off.{end, keyword, Limited, Header, Coordinate, Vertex, Size, Index, SkipLine, last_line, fan_read, Triangles, Face, Faces, Raw, at_end, Whole, ReadsFrom, ReadsOff}
+use Rattle.weld.specs.Raw.{Raw}
+use Rattle.off_reader.specs.Off.{keyword, Limited, Header, Size, Index, last_line, fan_read, Triangles, Face, Faces, at_end, Whole, ReadsFrom, ReadsOff}
 
--- ---- steps
--- the step makes one thing of the tokens
-pub record IsSingle {X : Type 0} (step : Step X) : Type 0 where
-  pub one : (tokens : List Token) (r s : Reading X) → step tokens r → step tokens s → r ≡ s
-
-one_computed : {X : Type 0} (f : List Token → Reading X) → IsSingle (Computes f)
-one_computed f = record { one = λ tokens r s e h. e ∙ sym h }
-
-one_given : {X : Type 0} (x : X) → IsSingle (Gives x)
-one_given x = record { one = λ tokens r s e h. e ∙ sym h }
-
-one_failed : {X : Type 0} (line : ℕ) (kind : PartKind) → IsSingle (Fails {X = X} line kind)
-one_failed line kind = record { one = λ tokens r s e h. e ∙ sym h }
-
-one_after : {X Y : Type 0} (next : X → Step Y) → ((x : X) → IsSingle (next x)) → (made : Reading X) (r s : Reading Y) → After next made r → After next made s → r ≡ s
-one_after next n (Ok (x, tokens)) r s p q = (n x).one tokens r s p q
-one_after next n (Err fault) r s p q = p ∙ sym q
-
-one_then_at : {X Y : Type 0} (first : Step X) (next : X → Step Y) → IsSingle first → ((x : X) → IsSingle (next x)) → (tokens : List Token) (r s : Reading Y) → (first then next) tokens r → (first then next) tokens s → r ≡ s
-one_then_at first next f n tokens r s (made, a, p) (other, b, q) = one_after next n made r s p (subst (λ m. After next m s) (f.one tokens other made b a) q)
-
-one_then : {X Y : Type 0} {first : Step X} {next : X → Step Y} → IsSingle first → ((x : X) → IsSingle (next x)) → IsSingle (first then next)
-one_then {X} {Y} {first} {next} f n = record { one = one_then_at first next f n }
-
-one_times : {X : Type 0} (n : ℕ) (step : Step X) → IsSingle step → IsSingle (Times n step)
-one_times zero step h = one_given []
-one_times (suc n) step h = one_then h (λ x. one_then (one_times n step h) (λ xs. one_given (x ∷ xs)))
-
--- ---- tokens
-next_at : (line : ℕ) (what : Want) (tokens : List Token) (r s : Reading Token) → NextToken line what tokens r → NextToken line what tokens s → r ≡ s
-next_at line what [] r s e h = e ∙ sym h
-next_at line what (t ∷ tokens) r s e h = e ∙ sym h
-
-one_next : (line : ℕ) (what : Want) → IsSingle (NextToken line what)
-one_next line what = record { one = next_at line what }
-
+-- ---- counts
 one_count_of : (count : Option ℕ) (line : ℕ) → IsSingle (CountOf count line)
 one_count_of (Some n) line = one_given (n, line)
 one_count_of None line = one_failed line BadNumber
@@ -61,39 +27,13 @@ one_count_of None line = one_failed line BadNumber
 one_count : (bytes : List ℕ) (line : ℕ) (what : Want) → IsSingle (Count bytes line what)
 one_count bytes line what = one_then (one_next line what) (λ t. one_count_of (count_of (text_of bytes t)) t.line)
 
--- ---- units
-both_sizes : {P : Type 0} (small large : ℕ) → small ≡ large → small ≤ 1048576 → 1048576 < large → P
-both_sizes small large e h k = absurd (omega arith)
-
-units_at : (decimals : ℕ) (text : List ℕ) (line : ℕ) (tokens : List Token) (r s : Reading ℤ) → Units decimals text line tokens r → Units decimals text line tokens s → r ≡ s
-units_at decimals text line tokens r s (inl (n, a, e)) (inl (m, b, h)) = e ∙ ap (λ (z : ℤ). Ok (z, tokens)) (one_units decimals text n m) ∙ sym h
-units_at decimals text line tokens r s (inl (n, a, e)) (inr (inl (m, b, h))) = both_sizes (magnitude_of decimals n) (magnitude_of decimals m) (one_value decimals text n m) a b
-units_at decimals text line tokens r s (inl (n, a, e)) (inr (inr (never, h))) = absurd (never n)
-units_at decimals text line tokens r s (inr (inl (n, a, e))) (inl (m, b, h)) = both_sizes (magnitude_of decimals m) (magnitude_of decimals n) (one_value decimals text m n) b a
-units_at decimals text line tokens r s (inr (inl (n, a, e))) (inr (inl (m, b, h))) = e ∙ sym h
-units_at decimals text line tokens r s (inr (inl (n, a, e))) (inr (inr (never, h))) = absurd (never n)
-units_at decimals text line tokens r s (inr (inr (never, e))) (inl (m, b, h)) = absurd (never m)
-units_at decimals text line tokens r s (inr (inr (never, e))) (inr (inl (m, b, h))) = absurd (never m)
-units_at decimals text line tokens r s (inr (inr (never, e))) (inr (inr (none, h))) = e ∙ sym h
-
-one_units_of : (decimals : ℕ) (text : List ℕ) (line : ℕ) → IsSingle (Units decimals text line)
-one_units_of decimals text line = record { one = units_at decimals text line }
-
--- ---- header and vertices
+-- ---- the header
 one_limited : (bytes : List ℕ) (limit : ℕ) → IsSingle (Limited bytes limit)
 one_limited bytes limit = one_then (one_count bytes (end bytes) want.Count) (λ n. one_computed (checked (nat_le n.0 limit) n.0 n.1 TooMany))
 
 one_header : (bytes : List ℕ) → IsSingle (Header bytes)
 one_header bytes =
     one_then (one_computed (keyword bytes)) (λ _. one_then (one_limited bytes 60000) (λ vertices. one_then (one_limited bytes 20000) (λ faces. one_then (one_next (end bytes) want.Count) (λ _. one_given (vertices, faces)))))
-
-one_coordinate : (decimals : ℕ) (bytes : List ℕ) → IsSingle (Coordinate decimals bytes)
-one_coordinate decimals bytes = one_then (one_next (end bytes) want.Coordinate) (λ t. one_units_of decimals (text_of bytes t) t.line)
-
-one_vertex : (decimals : ℕ) (bytes : List ℕ) → IsSingle (Vertex decimals bytes)
-one_vertex decimals bytes =
-    let c = one_coordinate decimals bytes in
-    one_then c (λ x. one_then c (λ y. one_then c (λ z. one_given (record { x = x; y = y; z = z }))))
 
 -- ---- faces
 one_size : (bytes : List ℕ) (before : ℕ) → IsSingle (Size bytes before)
@@ -133,9 +73,6 @@ one_triangles vertices number line (a ∷ []) = one_fan_step (a ∷ []) (corners
 one_triangles vertices number line (a ∷ b ∷ []) = one_fan_step (a ∷ b ∷ []) (corners_at vertices (a ∷ b ∷ [])) number line
 one_triangles vertices number line (a ∷ b ∷ c ∷ []) = one_given (record { a = a; b = b; c = c } ∷ [])
 one_triangles vertices number line (a ∷ b ∷ c ∷ d ∷ others) = one_fan_step (a ∷ b ∷ c ∷ d ∷ others) (corners_at vertices (a ∷ b ∷ c ∷ d ∷ others)) number line
-
-one_skip : (line : ℕ) → IsSingle (SkipLine line)
-one_skip line = one_computed _
 
 one_face : (bytes : List ℕ) (vertices : List Triple) (number before : ℕ) → IsSingle (Face bytes vertices number before)
 one_face bytes vertices number before =

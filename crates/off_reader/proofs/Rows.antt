@@ -8,14 +8,11 @@ use Rattle.lattice.specs.Triple.{Triple}
 use Rattle.lex_lines.specs.declared.token.Token.{Token}
 use Rattle.weld.specs.declared.fault.PartFault.{PartFault}
 use Rattle.weld.specs.declared.fault.PartKind.TheVariants.{FaceUnseen}
-use Rattle.off_reader.specs.Steps.{Reading, fault_at, Times}
+use Rattle.part_text.specs.Steps.{Reading, fault_at, Times}
 use Rattle.off_reader.specs.Off.{Size, Index, last_line, fan_read, Triangles, Face, Faces}
 use Rattle.off_reader.specs.Fans.{corners_at, IsFan}
 use Rattle.off_reader.specs.Rows.{Numbers}
-use Rattle.off_reader.proofs.Again.{AreOne, impossible, same_reading, same_fault, one_more, one_fails}
-
-rest_after : (k count : ℕ) → k < count → k + suc (count - k - 1) ≡ count
-rest_after k count h = omega (arith, h)
+use Rattle.part_text.proofs.Again.{AreOne, impossible, same_reading, same_fault, one_more, rest_after, fails_within}
 
 -- ---- indices
 pub no_indices : (bytes : List ℕ) (vertices : ℕ) (start : List Token) → Numbers bytes vertices 0 start (Ok (([], 0), start))
@@ -48,7 +45,7 @@ pub index_fails : (bytes : List ℕ) (vertices k count : ℕ) (start mid : List 
 index_fails bytes vertices k count start mid numbers line fault less (Err other, times, e) = impossible e
 index_fails bytes vertices k count start mid numbers line fault less (Ok (indices, end), times, e) =
     same_reading (λ made mid. Index bytes vertices mid (Err fault) → Numbers bytes vertices count start (Err fault)) e
-    (λ h. let all : Times count (Index bytes vertices) start (Err fault) = rw (← rest_after k count less) (one_fails (Index bytes vertices) k (count - k - 1) start end indices fault times h) in (Err fault, all, refl))
+    (λ h. let all : Times count (Index bytes vertices) start (Err fault) = fails_within (Index bytes vertices) k count start end indices fault less times h in (Err fault, all, refl))
 
 -- ---- a face
 pub face_read : (bytes : List ℕ) (vertices : List Triple) (number before size line : ℕ) (numbers : List ℕ) (last : ℕ) (start first mid : List Token) (r : Reading (List Tri)) → Size bytes before start (Ok ((size, line), first)) → Numbers bytes (length vertices) size first (Ok ((numbers, last), mid)) → Triangles vertices number line numbers (filter (λ t. nat_lt last t.line) mid) r → Face bytes vertices number before start r

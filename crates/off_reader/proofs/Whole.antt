@@ -1,5 +1,5 @@
 -- The whole reading, by the step at which it ends.
-use Rattle.std.proofs.Common.{◌≡◌, ℕ, true, ◌==◌, List, Option, Some, None, option_map, position, refl, sym, subst, ◌∙◌, Ok, Err}
+use Rattle.std.proofs.Common.{◌≡◌, ℕ, true, List, Some, None, refl, sym, subst, Ok, Err}
 use Rattle.lattice.specs.declared.soup.Tri.{Tri}
 use Rattle.lattice.specs.Triple.{Triple}
 use Rattle.lex_lines.specs.declared.token.Token.{Token}
@@ -8,13 +8,13 @@ use Rattle.weld.specs.declared.fault.PartError.{PartError}
 use Rattle.weld.specs.declared.fault.PartError.TheVariants.{Part, Memory}
 use Rattle.weld.specs.declared.fault.PartFault.{PartFault}
 use Rattle.weld.specs.declared.fault.PartKind.TheVariants.{Binary}
-use Rattle.off_reader.specs.Steps.{Reading, fault_at, Times, read_value}
-use Rattle.off_reader.specs.Off.{Header, Vertex, Faces, Raw, at_end, Whole, ReadsFrom, ReadsOff, AnswersOff}
-use Rattle.off_reader.specs.Made.{IsMade}
-use Rattle.off_reader.proofs.Again.{AreOne}
-
-abbrev pub zero_place : List ℕ → Option ℕ
-zero_place bytes = position (λ byte. byte == 0) bytes
+use Rattle.part_text.specs.Steps.{Reading, fault_at, Times, read_value}
+use Rattle.weld.specs.Raw.{Raw}
+use Rattle.part_text.specs.Vertices.{Vertex}
+use Rattle.part_text.proofs.Again.{AreOne}
+use Rattle.part_text.proofs.FirstZero.{zero_place}
+use Rattle.off_reader.specs.Off.{Header, Faces, at_end, Whole, ReadsFrom, ReadsOff, AnswersOff}
+use Rattle.part_text.specs.Made.{IsMade}
 
 -- a zero byte
 pub zero_read : (decimals : ℕ) (bytes : List ℕ) (place : ℕ) → zero_place bytes ≡ Some place → ReadsOff decimals bytes (Err (fault_at (line_at bytes place) Binary))
@@ -39,13 +39,6 @@ ends decimals bytes vertices faces start first second third corners triangles r 
     (Ok ((vertices, faces), first), header, (Ok (corners, second), rows, (Ok (triangles, third), others, h)))
 
 -- ---- answers
-pub no_zero : (bytes : List ℕ) (line : Option ℕ) → line ≡ option_map (line_at bytes) (zero_place bytes) → line ≡ None → zero_place bytes ≡ None
-no_zero bytes line e none = unmapped (line_at bytes) (zero_place bytes) (sym e ∙ none)
-  where
-    unmapped : (f : ℕ → ℕ) (o : Option ℕ) → option_map f o ≡ None → o ≡ None
-    unmapped f None e = refl
-    unmapped f (Some place) e = absurd (let no : ⊥ = cc in no)
-
 -- an error of a step is the answer of the whole
 pub error_answer : {A X : Type 0} (decimals : ℕ) (bytes : List ℕ) (P : Reading X → Type 0) (view : A → X) (error : PartError) (start left : List Token) → zero_place bytes ≡ None → AreTokens true bytes start → ((fault : PartFault) → P (Err fault) → Whole decimals bytes start (Err fault)) → IsMade view P (Err error) left → AnswersOff decimals bytes (Err error)
 error_answer decimals bytes P view (Part fault) start left none tokens h p = text_read decimals bytes start (Err fault) none tokens (h fault p)

@@ -1,8 +1,9 @@
 -- A face of more than three corners as a fan of triangles, from the least corner that sees it whole.
-use Rattle.std.specs.Prelude.{◌≡◌, ◌⊎◌, ℕ, ◌<◌, pos, ◌+ℤ◌, ◌-ℤ◌, ◌<ℤ◌, List, [], ◌∷◌, ◌++◌, length, take, drop, map, fold, get_or, Option, Some, None, All}
+use Rattle.std.specs.Prelude.{◌≡◌, ◌⊎◌, ℕ, ◌<◌, pos, ◌+ℤ◌, ◌-ℤ◌, ◌<ℤ◌, List, [], ◌∷◌, ◌++◌, length, take, drop, map, fold, Option, Some, None, All}
 use Rattle.std.specs.List.{zip, Any}
 use Rattle.lattice.specs.declared.soup.Tri.{Tri}
 use Rattle.lattice.specs.Triple.{Triple, dot, cross}
+use Rattle.weld.specs.Welds.{vertex_at}
 use Rattle.off_reader.specs.declared.fan.Area.{Area}
 
 -- ---- going around
@@ -31,7 +32,7 @@ zero_triple = record { x = pos 0; y = pos 0; z = pos 0 }
 
 -- the corners with these numbers
 abbrev pub corners_at : List Triple → List ℕ → List Triple
-corners_at vertices numbers = map (λ i. get_or vertices i zero_triple) numbers
+corners_at vertices numbers = map (vertex_at vertices) numbers
 
 abbrev pub of_area : Area → Triple
 of_area area = record { x = area.x; y = area.y; z = area.z }

@@ -1,6 +1,4 @@
-pub mod Steps
-pub mod Words
+pub mod Counts
 pub mod Fans
 pub mod Off
-pub mod Made
 pub mod Rows

@@ -1,7 +1,6 @@
 -- What a text of OFF says: corners and triangles, or its one fault.
-use Rattle.std.specs.Prelude.{◌≡◌, ℕ, zero, suc, ◌+◌, ◌-◌, ◌==◌, true, nat_le, nat_lt, ◌&&◌, if◌then◌else◌, ℤ, List, [], ◌∷◌, ◌++◌, length, filter, map, fold, position, Option, Some, None, Result, Ok, Err, codes}
+use Rattle.std.specs.Prelude.{◌≡◌, ℕ, zero, suc, ◌+◌, ◌-◌, ◌==◌, true, nat_le, nat_lt, ◌&&◌, if◌then◌else◌, List, [], ◌∷◌, ◌++◌, length, map, fold, position, Option, Some, None, Result, Ok, Err, codes}
 use Rattle.lattice.specs.declared.soup.Tri.{Tri}
-use Rattle.lattice.specs.Points.{of_corner}
 use Rattle.lattice.specs.Triple.{Triple}
 use Rattle.lex_lines.specs.declared.token.Token.{Token}
 use Rattle.lex_lines.specs.Places.{AreTokens, line_at}
@@ -11,13 +10,12 @@ use Rattle.weld.specs.declared.fault.PartFault.{PartFault}
 use Rattle.weld.specs.declared.fault.PartKind.TheVariants.{Binary, Prefixed, TooMany, BadIndex, FaceSize, FaceUnseen, Trailing}
 use Rattle.weld.specs.declared.fault.Want.TheVariants as want
 use Rattle.weld.specs.declared.raw_part.RawPart.{RawPart}
-use Rattle.off_reader.specs.Steps.{Reading, Step, fault_at, Gives, ◌then◌, Times, Computes, Check, read_value}
-use Rattle.off_reader.specs.Words.{text_of, NextToken, is_word, ends_with, Count, Units}
+use Rattle.weld.specs.Raw.{Raw, seen}
+use Rattle.part_text.specs.Steps.{Reading, Step, fault_at, Gives, ◌then◌, Times, Computes, Check, read_value}
+use Rattle.part_text.specs.Words.{text_of, NextToken, is_word, ends_with}
+use Rattle.part_text.specs.Vertices.{end, Vertex, SkipLine}
+use Rattle.off_reader.specs.Counts.{Count}
 use Rattle.off_reader.specs.Fans.{corners_at, IsFan}
-
--- the text's last line
-abbrev pub end : List ℕ → ℕ
-end bytes = line_at bytes (length bytes)
 
 -- ---- the header
 module _ (bytes : List ℕ) where
@@ -41,14 +39,6 @@ module _ (bytes : List ℕ) where
   abbrev pub Header : Step (ℕ × ℕ)
   Header = Computes keyword then λ _. Limited 60000 then λ vertices. Limited 20000 then λ faces. NextToken (end bytes) want.Count then λ _. Gives (vertices, faces)
 
--- ---- vertices
-module _ (decimals : ℕ) (bytes : List ℕ) where
-  abbrev pub Coordinate : Step ℤ
-  Coordinate = NextToken (end bytes) want.Coordinate then λ t. Units decimals (text_of bytes t) t.line
-
-  abbrev pub Vertex : Step Triple
-  Vertex = Coordinate then λ x. Coordinate then λ y. Coordinate then λ z. Gives (record { x = x; y = y; z = z })
-
 -- ---- faces
 module _ (bytes : List ℕ) where
   -- how many corners, where there are so many triangles before, and the line
@@ -60,10 +50,6 @@ module _ (bytes : List ℕ) where
   -- the number of a vertex, and its line
   abbrev pub Index : ℕ → Step (ℕ × ℕ)
   Index vertices = Count bytes (end bytes) want.Index then λ i. Check (nat_lt i.0 vertices) i i.1 (BadIndex i.0)
-
--- the rest of a line is not read
-abbrev pub SkipLine : ℕ → Step (Unit {0})
-SkipLine line = Computes (λ tokens. Ok (tt, filter (λ t. nat_lt line t.line) tokens))
 
 abbrev pub last_line : List (ℕ × ℕ) → ℕ
 last_line indices = fold (λ line i. i.1) 0 indices
@@ -91,17 +77,9 @@ module _ (bytes : List ℕ) where
       Face vertices number before then λ triangles. Faces vertices more (number + 1) (before + length triangles) then λ others. Gives (triangles ++ others)
 
 -- ---- the whole
--- vertices in units, and triangles by the numbers of their corners
-pub record Raw : Type 0 where
-  pub vertices : List Triple
-  pub triangles : List Tri
-
 abbrev pub at_end : Raw → List Token → Reading Raw
 at_end raw [] = Ok (raw, [])
 at_end raw (t ∷ tokens) = Err (fault_at t.line Trailing)
-
-abbrev pub seen : RawPart → Raw
-seen raw = record { vertices = map of_corner raw.corners.items; triangles = raw.triangles.items }
 
 module _ (decimals : ℕ) (bytes : List ℕ) where
   abbrev pub Whole : Step Raw

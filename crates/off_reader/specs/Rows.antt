@@ -1,6 +1,6 @@
 -- What the code keeps of a row of indices.
 use Rattle.std.specs.Prelude.{ℕ, List, map}
-use Rattle.off_reader.specs.Steps.{Step, Gives, ◌then◌, Times}
+use Rattle.part_text.specs.Steps.{Step, Gives, ◌then◌, Times}
 use Rattle.off_reader.specs.Off.{Index, last_line}
 
 -- the numbers of so many vertices, and the line of the last

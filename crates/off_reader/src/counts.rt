@@ -1,11 +1,11 @@
 // Counts: runs of digits.
 ghost use Rattle.std.specs.Prelude.{◌≡◌, ◌<◌, ◌^◌, length, IfSome, IfOk};
 ghost use Rattle.lex_lines.specs.Places.{line_at};
-ghost use Rattle.off_reader.specs.Words.{count_of, Count};
-ghost use Rattle.off_reader.specs.Made.{made};
+ghost use Rattle.off_reader.specs.Counts.{count_of, Count};
+ghost use Rattle.part_text.specs.Made.{made};
 
-use crate::tokens::{bytes_of, fault, next_token};
 use lex_lines::Tokens;
+use part_text::{bytes_of, fault, next_token};
 use weld::{PartFault, PartKind, Want};
 
 /// A count and the line that it stands on.

@@ -5,13 +5,13 @@ ghost use Rattle.lattice.specs.Triangles.{IsBelow};
 ghost use Rattle.lex_lines.specs.declared.token.Token.{Token};
 ghost use Rattle.off_reader.specs.Off.{Size, Index, Triangles, Face, Faces};
 ghost use Rattle.off_reader.specs.Rows.{Numbers};
-ghost use Rattle.off_reader.specs.Made.{made, IsMade};
+ghost use Rattle.part_text.specs.Made.{made, IsMade};
 
 use crate::counts::{Counted, read_count};
 use crate::fan::fan;
-use crate::tokens::fault;
 use lattice::{Corner, Tri};
 use lex_lines::Tokens;
+use part_text::fault;
 use std::alloc::Global;
 use weld::{PartError, PartFault, PartKind, Want};
 

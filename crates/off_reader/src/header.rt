@@ -2,12 +2,12 @@
 ghost use Rattle.std.specs.Prelude.{◌≡◌, ◌≤◌, true, length, IfOk};
 ghost use Rattle.lex_lines.specs.Scan.{tokens_of};
 ghost use Rattle.off_reader.specs.Off.{keyword, Limited, Header};
-ghost use Rattle.off_reader.specs.Steps.{Computes};
-ghost use Rattle.off_reader.specs.Made.{made};
+ghost use Rattle.part_text.specs.Steps.{Computes};
+ghost use Rattle.part_text.specs.Made.{made};
 
 use crate::counts::read_count;
-use crate::tokens::{bytes_of, ends_with, fault, is_word, next_token};
 use lex_lines::Tokens;
+use part_text::{bytes_of, ends_with, fault, is_word, next_token};
 use weld::{PartFault, PartKind, Want};
 
 /// The counts of vertices and of faces.

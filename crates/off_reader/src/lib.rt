@@ -11,7 +11,6 @@ mod header;
 mod off;
 #[cfg(test)]
 mod tests;
-mod tokens;
 mod vertices;
 
 pub use off::read_off;

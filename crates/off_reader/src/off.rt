@@ -1,14 +1,14 @@
 // The whole text.
-ghost use Rattle.std.specs.Prelude.{◌≡◌, ◌<◌, ◌≤◌, ◌==◌, length, position, option_map, IfSome};
-ghost use Rattle.lex_lines.specs.Places.{line_at};
-ghost use Rattle.off_reader.specs.Off.{Raw, at_end, AnswersOff};
-ghost use Rattle.off_reader.specs.Made.{made};
+ghost use Rattle.std.specs.Prelude.{◌≡◌, ◌≤◌, length};
+ghost use Rattle.weld.specs.Raw.{Raw};
+ghost use Rattle.off_reader.specs.Off.{at_end, AnswersOff};
+ghost use Rattle.part_text.specs.Made.{made};
 
 use crate::faces::read_faces;
 use crate::header::read_header;
-use crate::tokens::fault;
 use crate::vertices::read_vertices;
 use lex_lines::Tokens;
+use part_text::{fault, zero_line};
 use std::alloc::Global;
 use weld::{PartError, PartFault, PartKind, RawPart};
 
@@ -39,25 +39,6 @@ pub fn read_off(alloc: Global, bytes: &[u8], decimals: u8) -> Result<RawPart, Pa
     match at_end(&mut tokens) {
         Ok(()) => Ok(RawPart { corners, triangles }),
         Err(fault) => Err(PartError::Part(fault)),
-    }
-}
-
-/// The first zero byte.
-fn zero_place(bytes: &[u8]) -> Option<usize>
-    ensures place { result ≡ position (λ byte. byte == 0) bytes.now }
-    ensures within { IfSome result (λ place. place < length bytes.now) }
-{
-    bytes.iter().position(|byte| *byte == 0)
-}
-
-/// The line of the first zero byte.
-fn zero_line(bytes: &[u8]) -> Option<u32>
-    requires { length bytes.now ≤ 16777216 }
-    ensures { result ≡ option_map (line_at bytes.now) (position (λ byte. byte == 0) bytes.now) }
-{
-    match zero_place(bytes) {
-        Some(place) => Some(Tokens::new(&bytes[..place], false).end_line()),
-        None => None,
     }
 }
 

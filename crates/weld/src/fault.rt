@@ -4,6 +4,7 @@ ghost use Rattle.weld.specs.declared.fault.PartError.TheVariants.{Memory};
 
 use exact_frac::OutOfMemory;
 use std::alloc::{AllocError, AllocFailed};
+use thiserror::Error;
 
 /// A keyword of ASCII STL.
 #[derive(Clone, Copy, PartialEq, Eq, Debug)]
@@ -64,9 +65,11 @@ pub struct PartFault {
 }
 
 /// Why a text gives no part.
-#[derive(Clone, Copy, PartialEq, Eq, Debug)]
+#[derive(Clone, Copy, PartialEq, Eq, Debug, Error)]
 pub enum PartError {
+    #[error("line {}: this is no part", .0.line)]
     Part(PartFault),
+    #[error("there is not enough memory")]
     Memory(OutOfMemory),
 }
 

@@ -1,6 +1,7 @@
 use Rattle.std.proofs.Common.{sym, ◌∙◌, ap, Ok, Err}
-use Rattle.off_reader.specs.Words.{count_of}
-use Rattle.off_reader.proofs.Readings.{next_of, handed_on, counted, not_counted}
+use Rattle.part_text.proofs.Readings.{next_of, handed_on}
+use Rattle.off_reader.specs.Counts.{count_of}
+use Rattle.off_reader.proofs.Counted.{counted, not_counted}
 use Rattle.off_reader.proofs.counts.read_count.Goals as goal
 
 pub returns-in_err-token-clause-step : goal.returns-in_err-token-clause-step

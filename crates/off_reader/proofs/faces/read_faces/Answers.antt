@@ -3,7 +3,7 @@ use Rattle.lattice.specs.declared.soup.Tri.{Tri}
 use Rattle.lattice.specs.Points.{of_corner}
 use Rattle.lattice.specs.Triangles.{IsBelow}
 use Rattle.off_reader.specs.Off.{Face, Faces}
-use Rattle.off_reader.proofs.Again.{error_so}
+use Rattle.part_text.proofs.Again.{error_so}
 use Rattle.off_reader.proofs.Rows.{faces_more, faces_fail, most_joined, below_joined}
 use Rattle.off_reader.proofs.faces.read_faces.Goals as goal
 

@@ -1,5 +1,5 @@
 use Rattle.std.proofs.Common.{refl, Ok, Err, ◌∙◌}
-use Rattle.off_reader.proofs.Readings.{next_of, handed_on}
+use Rattle.part_text.proofs.Readings.{next_of, handed_on}
 use Rattle.off_reader.proofs.header.read_header.Goals as goal
 
 pub returns-in_err-_edges-clause-step : goal.returns-in_err-_edges-clause-step

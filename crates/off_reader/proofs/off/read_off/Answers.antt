@@ -2,9 +2,11 @@ use Rattle.std.proofs.Common.{◌≡◌, map, None, Err, sym, Vec, Global, rules
 use Rattle.lattice.specs.declared.points.Corner.{Corner}
 use Rattle.lattice.specs.declared.soup.Tri.{Tri}
 use Rattle.lattice.specs.Points.{of_corner}
-use Rattle.off_reader.specs.Off.{Vertex, Faces}
-use Rattle.off_reader.specs.Steps.{Times}
-use Rattle.off_reader.proofs.Whole.{no_zero, error_answer, end_answer, vertices_fail, faces_fail}
+use Rattle.off_reader.specs.Off.{Faces}
+use Rattle.part_text.specs.Steps.{Times}
+use Rattle.part_text.specs.Vertices.{Vertex}
+use Rattle.part_text.proofs.FirstZero.{no_zero}
+use Rattle.off_reader.proofs.Whole.{error_answer, end_answer, vertices_fail, faces_fail}
 use Rattle.off_reader.proofs.off.read_off.Goals as goal
 
 pub returns-in-Err-read_vertices : goal.returns-in-Err-read_vertices

@@ -1,0 +1,5 @@
+pub mod Readings
+pub mod Units
+pub mod Again
+pub mod Single
+pub mod FirstZero

@@ -1,0 +1,5 @@
+pub mod Checks
+pub mod Turns
+pub mod Shorter
+pub mod Whole
+pub mod OneReading
