@@ -1,11 +1,46 @@
 -- What a desk holds, and what its calls do to it.
-use Rattle.std.specs.Prelude.{◌≡◌, ◌≢◌, ◌<◌, ◌≤◌, ◌-◌, ◌^◌, ◌⊎◌, ◌↔◌, ℕ, List, length, take, drop, Option, Some, None, Result, Ok, Err}
+use Rattle.std.specs.Prelude.{◌≡◌, ◌≢◌, ◌<◌, ◌≤◌, ◌-◌, ◌^◌, ◌⊎◌, ◌↔◌, ◌++◌, ℕ, Bool, List, length, take, drop, Option, Some, None, Result, Ok, Err}
 use Rattle.desk.specs.declared.desk.DeskFault.{DeskFault}
 use Rattle.desk.specs.declared.desk.DeskFault.TheVariants.{Failed, Memory}
 
 -- the bytes under each name, and none where there is no such name
 abbrev pub Files : Type 0
 Files = List ℕ → Option (List ℕ)
+
+-- what a desk stands for
+pub record DeskState : Type 0 where
+  -- whether it tells its files, and the bytes under each name where it tells them
+  pub tells : Bool
+  pub files : Files
+  -- the same of what was said, and of what was warned
+  pub tells_said : Bool
+  pub said : List ℕ
+  pub tells_warned : Bool
+  pub warned : List ℕ
+  -- the faults of reading, of keeping and saying, and of warning so far
+  pub read_faults : ℕ
+  pub write_faults : ℕ
+  pub warn_faults : ℕ
+  -- whether it fails only where a name is missing
+  pub steady : Bool
+  -- whether it always finds memory
+  pub firm : Bool
+
+-- nothing but the faults of reading changed
+abbrev pub OnlyReads : DeskState → DeskState → Type 0
+OnlyReads old new = new ≡ record old { read_faults = new.read_faults }
+
+-- nothing but the files and the faults of writing changed
+abbrev pub OnlyKeeps : DeskState → DeskState → Type 0
+OnlyKeeps old new = new ≡ record old { files = new.files; write_faults = new.write_faults }
+
+-- nothing but what was said and the faults of writing changed
+abbrev pub OnlySays : DeskState → DeskState → Type 0
+OnlySays old new = new ≡ record old { said = new.said; write_faults = new.write_faults }
+
+-- nothing but what was warned and the faults of warning changed
+abbrev pub OnlyWarns : DeskState → DeskState → Type 0
+OnlyWarns old new = new ≡ record old { warned = new.warned; warn_faults = new.warn_faults }
 
 -- a count rose: it is greater now, or it stands at the end of its type
 abbrev pub Rose : ℕ → ℕ → Type 0
@@ -36,3 +71,13 @@ abbrev pub Leaves : {T : Type 0} → Result T DeskFault → Files → Files → 
 Leaves (Ok done) old new name bytes = Keeps old new name bytes
 Leaves (Err Failed) old new name bytes = MayKeepFront old new name bytes
 Leaves (Err (Memory none)) old new name bytes = new ≡ old
+
+-- a prefix of these bytes came to the end
+abbrev pub AppendsFront : List ℕ → List ℕ → List ℕ → Type 0
+AppendsFront old new bytes = (n : ℕ) × (new ≡ old ++ take n bytes)
+
+-- what saying or warning leaves of what was said or warned before, by its answer
+abbrev pub Appends : {T : Type 0} → Result T DeskFault → List ℕ → List ℕ → List ℕ → Type 0
+Appends (Ok done) old new bytes = new ≡ old ++ bytes
+Appends (Err Failed) old new bytes = AppendsFront old new bytes
+Appends (Err (Memory none)) old new bytes = new ≡ old

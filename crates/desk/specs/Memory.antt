@@ -2,7 +2,7 @@
 use Rattle.std.specs.Prelude.{◌≡◌, take, option_map, slice_get, ◌+◌, ◌-◌, ◌^◌, min, ℕ, Bool, true, false, List, [], ◌∷◌, Some, None, Result, Ok, Err, if◌then◌else◌, Vec}
 use Rattle.std.specs.Str.{bytes_eq}
 use Rattle.std.specs.declared.alloc.Global.{Global}
-use Rattle.desk.specs.Files.{Files, Keeps}
+use Rattle.desk.specs.Files.{Files, Keeps, DeskState}
 use Rattle.desk.specs.declared.desk.DeskFault.{DeskFault}
 use Rattle.desk.specs.declared.desk.DeskFault.TheVariants.{Failed, Memory}
 
@@ -16,13 +16,17 @@ pub record IsPlaceOf (files : List (List ℕ × Vec ℕ Global)) (name : List �
   pub before : file_at (take i files) name ≡ None
   pub here : option_map (λ file. file.0) (slice_get files i) ≡ Some name
 
--- its files, the numbers of the calls that are to fail, how many calls there were, and how many faults of each kind
+-- its files, the numbers of the calls that are to fail, how many calls there were, what was said and warned, and how many
+-- faults there were of each kind
 pub record MemoryState : Type 0 where
   pub files : Files
   pub failing : List ℕ
   pub calls : ℕ
+  pub said : List ℕ
+  pub warned : List ℕ
   pub read_faults : ℕ
   pub write_faults : ℕ
+  pub warn_faults : ℕ
 
 -- a count after one more: it stays at the end of its type
 abbrev pub next : ℕ → ℕ
@@ -40,13 +44,45 @@ with_read_fault s = record s { read_faults = next s.read_faults }
 abbrev pub with_write_fault : MemoryState → MemoryState
 with_write_fault s = record s { write_faults = next s.write_faults }
 
+-- one fault of warning more
+abbrev pub with_warn_fault : MemoryState → MemoryState
+with_warn_fault s = record s { warn_faults = next s.warn_faults }
+
+abbrev pub with_said : List ℕ → MemoryState → MemoryState
+with_said bytes s = record s { said = bytes }
+
+abbrev pub with_warned : List ℕ → MemoryState → MemoryState
+with_warned bytes s = record s { warned = bytes }
+
 -- what a keep leaves, by its answer
 abbrev pub LeavesState : {T : Type 0} → Result T DeskFault → MemoryState → MemoryState → List ℕ → List ℕ → Type 0
 LeavesState (Ok done) old new name bytes = (new ≡ record (called old) { files = new.files }) × Keeps old.files new.files name bytes
 LeavesState (Err Failed) old new name bytes = new ≡ with_write_fault (called old)
 LeavesState (Err (Memory none)) old new name bytes = new ≡ called old
 
+-- what a saying or a warning leaves, by its answer: done, failed, or with no memory found
+abbrev pub IsOneOf : {T : Type 0} → Result T DeskFault → MemoryState → MemoryState → MemoryState → MemoryState → Type 0
+IsOneOf (Ok r) new done failed wanting = new ≡ done
+IsOneOf (Err Failed) new done failed wanting = new ≡ failed
+IsOneOf (Err (Memory e)) new done failed wanting = new ≡ wanting
+
 -- there is nothing in the list
 abbrev pub is_empty : List ℕ → Bool
 is_empty [] = true
 is_empty (x ∷ xs) = false
+
+-- it tells all; it is steady where no call is to fail, and may find no memory
+abbrev pub told : MemoryState → DeskState
+told s = record {
+  tells = true;
+  files = s.files;
+  tells_said = true;
+  said = s.said;
+  tells_warned = true;
+  warned = s.warned;
+  read_faults = s.read_faults;
+  write_faults = s.write_faults;
+  warn_faults = s.warn_faults;
+  steady = is_empty s.failing;
+  firm = false;
+}

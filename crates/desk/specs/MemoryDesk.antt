@@ -7,6 +7,9 @@ state_of desk = record {
   files = file_at desk.files.items;
   failing = desk.failing.items;
   calls = desk.calls;
+  said = desk.said.items;
+  warned = desk.warned.items;
   read_faults = desk.read_faults;
   write_faults = desk.write_faults;
+  warn_faults = desk.warn_faults;
 }

@@ -1,22 +1,26 @@
 // A desk in memory, which fails the calls that it is told to fail.
-ghost use Rattle.std.specs.Prelude.{◌≡◌, ◌-◌, ◌<◌, ◌≤◌, ◌⊎◌, ◌↔◌, refl, true, min, length, take, drop, option_map, Contains, None, IsTrue, IfOk, IfSome, IfNone, OnOk, OnErr, IsErr, IsErrOf, IsSomeAnd};
+ghost use Rattle.std.specs.Prelude.{◌≡◌, ◌-◌, ◌<◌, ◌≤◌, ◌⊎◌, ◌↔◌, ◌++◌, refl, [], min, length, take, drop, option_map, Contains, None, IsTrue, IfOk, IfSome, IfNone, OnOk, OnErr, IsErr, IsErrOf, IsSomeAnd};
 ghost use Rattle.desk.specs.Files.{Keeps};
-ghost use Rattle.desk.specs.Memory.{file_at, IsPlaceOf, called, with_read_fault, LeavesState, is_empty};
+ghost use Rattle.desk.specs.Memory.{file_at, IsPlaceOf, called, with_read_fault, with_write_fault, with_warn_fault, with_said, with_warned, LeavesState, IsOneOf, told};
 
 use crate::{Desk, DeskFault, Failed};
 use dec_text::Name;
 use exact_frac::OutOfMemory;
 use std::alloc::Global;
 
-/// Files in memory. The calls are numbered from 0. Each looks through the files in their order.
+/// Files in memory, and what was said and warned. The calls are numbered from 0. `fetch` and `keep` look through the
+/// files in their order.
 #[derive(Drop)]
 pub struct MemoryDesk {
     alloc: Global,
     files: Vec<(Name, Vec<u8>)>,
     failing: Vec<u64>,
     calls: u64,
+    said: Vec<u8>,
+    warned: Vec<u8>,
     read_faults: u64,
     write_faults: u64,
+    warn_faults: u64,
 }
 
 // The place of the first file with this name.
@@ -72,6 +76,13 @@ fn put(
     Ok(())
 }
 
+// The list has this number.
+fn is_listed(numbers: &[u64], number: u64) -> bool
+    ensures { IsTrue result ↔ Contains numbers.now number }
+{
+    numbers.contains(&number)
+}
+
 impl MemoryDesk {
     ghost use Rattle.desk.specs.MemoryDesk.{state_of};
 
@@ -81,8 +92,11 @@ impl MemoryDesk {
           files = file_at files.items;
           failing = fail.items;
           calls = 0;
+          said = [];
+          warned = [];
           read_faults = 0;
           write_faults = 0;
+          warn_faults = 0;
         } }
     {
         MemoryDesk {
@@ -90,8 +104,11 @@ impl MemoryDesk {
             files,
             failing: fail,
             calls: 0,
+            said: Vec::new(alloc),
+            warned: Vec::new(alloc),
             read_faults: 0,
             write_faults: 0,
+            warn_faults: 0,
         }
     }
 
@@ -105,6 +122,20 @@ impl MemoryDesk {
         }
     }
 
+    /// What was said.
+    pub fn said_bytes(&self) -> &[u8]
+        ensures { result.now ≡ (state_of self.now).said }
+    {
+        &self.said
+    }
+
+    /// What was warned.
+    pub fn warned_bytes(&self) -> &[u8]
+        ensures { result.now ≡ (state_of self.now).warned }
+    {
+        &self.warned
+    }
+
     // Counts a call, and tells whether it is to fail.
     fn count_call(&mut self) -> bool
         ensures fails { IsTrue result ↔ Contains (state_of self.old).failing (state_of self.old).calls }
@@ -112,7 +143,7 @@ impl MemoryDesk {
     {
         let call = self.calls;
         self.calls = call.saturating_add(1);
-        self.failing.contains(&call)
+        is_listed(&self.failing, call)
     }
 
     fn count_read_fault(&mut self) -> Failed
@@ -122,20 +153,42 @@ impl MemoryDesk {
         self.read_faults = self.read_faults.saturating_add(1);
         Failed
     }
+
+    fn count_write_fault(&mut self) -> DeskFault
+        ensures failed { result ≡ DeskFault.Failed }
+        ensures counted { state_of self.new ≡ with_write_fault (state_of self.old) }
+        ensures never_falls { (state_of self.old).write_faults ≤ (state_of self.new).write_faults }
+    {
+        self.write_faults = self.write_faults.saturating_add(1);
+        DeskFault::Failed
+    }
+
+    fn count_warn_fault(&mut self) -> DeskFault
+        ensures failed { result ≡ DeskFault.Failed }
+        ensures counted { state_of self.new ≡ with_warn_fault (state_of self.old) }
+        ensures never_falls { (state_of self.old).warn_faults ≤ (state_of self.new).warn_faults }
+    {
+        self.warn_faults = self.warn_faults.saturating_add(1);
+        DeskFault::Failed
+    }
+}
+
+// Appends bytes.
+fn append(out: &mut Vec<u8>, bytes: &[u8]) -> Result<(), DeskFault>
+    ensures ok { OnOk result (out.new.items ≡ out.old.items ++ bytes.now) }
+    ensures err { OnErr result (out.new.items ≡ out.old.items) }
+    ensures memory { IsErrOf result DeskFault.Failed → ⊥ }
+{
+    match out.extend_from_slice(bytes) {
+        Ok(()) => Ok(()),
+        Err(_) => Err(DeskFault::Memory(OutOfMemory)),
+    }
 }
 
 impl Desk for MemoryDesk {
     ghost use Rattle.desk.specs.MemoryDesk.{state_of};
 
-    ghost tells = { λ desk. true };
-
-    ghost files = { λ desk. (state_of desk).files };
-
-    ghost read_faults = { λ desk. (state_of desk).read_faults };
-
-    ghost write_faults = { λ desk. (state_of desk).write_faults };
-
-    ghost steady = { λ desk. is_empty (state_of desk).failing };
+    ghost state = { λ desk. told (state_of desk) };
 
     ghost steady_tells = { λ desk h. refl };
 
@@ -171,13 +224,44 @@ impl Desk for MemoryDesk {
         ensures never_falls { (state_of self.old).write_faults ≤ (state_of self.new).write_faults }
     {
         if self.count_call() {
-            self.write_faults = self.write_faults.saturating_add(1);
-            return Err(DeskFault::Failed);
+            return Err(self.count_write_fault());
         }
         match put(self.alloc, &mut self.files, name, bytes) {
             Ok(()) => Ok(()),
             Err(none) => Err(DeskFault::Memory(none)),
         }
+    }
+
+    /// Fails exactly where it is told to.
+    fn say(&mut self, bytes: &[u8]) -> Result<(), DeskFault>
+        ensures fails { let s = state_of self.old in
+            IsErrOf result DeskFault.Failed ↔ Contains s.failing s.calls }
+        ensures leaves { let s = called (state_of self.old) in
+            IsOneOf result (state_of self.new) (with_said (s.said ++ bytes.now) s) (with_write_fault s) s }
+
+        // Above the range of its type the equation alone would let the count fall.
+        ensures never_falls { (state_of self.old).write_faults ≤ (state_of self.new).write_faults }
+    {
+        if self.count_call() {
+            return Err(self.count_write_fault());
+        }
+        append(&mut self.said, bytes)
+    }
+
+    /// Fails exactly where it is told to.
+    fn warn(&mut self, bytes: &[u8]) -> Result<(), DeskFault>
+        ensures fails { let s = state_of self.old in
+            IsErrOf result DeskFault.Failed ↔ Contains s.failing s.calls }
+        ensures leaves { let s = called (state_of self.old) in
+            IsOneOf result (state_of self.new) (with_warned (s.warned ++ bytes.now) s) (with_warn_fault s) s }
+
+        // Above the range of its type the equation alone would let the count fall.
+        ensures never_falls { (state_of self.old).warn_faults ≤ (state_of self.new).warn_faults }
+    {
+        if self.count_call() {
+            return Err(self.count_warn_fault());
+        }
+        append(&mut self.warned, bytes)
     }
 }
 
@@ -212,8 +296,8 @@ mod tests {
     }
 
     #[test]
-    fn listed_calls_fail_and_change_no_file(rt: HostRuntime) -> Result<(), Fail> {
-        let mut desk = desk_of(rt.alloc(), &[1, 3])?;
+    fn listed_calls_fail_and_change_nothing(rt: HostRuntime) -> Result<(), Fail> {
+        let mut desk = desk_of(rt.alloc(), &[1, 3, 7, 9])?;
         let mut into = [0u8; 3];
         assert_eq!(rt; desk.keep("a", b"kept"), Ok(()));
         assert_eq!(rt; desk.keep("a", b"lost"), Err(DeskFault::Failed));
@@ -221,6 +305,13 @@ mod tests {
         assert_eq!(rt; desk.fetch("a", 0, &mut into), Err(Failed));
         assert_eq!(rt; desk.fetch("a", 1, &mut into), Ok(3));
         assert_eq!(rt; into, *b"ept");
+        assert_eq!(rt; desk.say(b"said "), Ok(()));
+        assert_eq!(rt; desk.warn(b"warned"), Ok(()));
+        assert_eq!(rt; desk.say(b"lost"), Err(DeskFault::Failed));
+        assert_eq!(rt; desk.say(b"again"), Ok(()));
+        assert_eq!(rt; desk.warn(b"lost"), Err(DeskFault::Failed));
+        assert_eq!(rt; desk.said_bytes(), b"said again".as_slice());
+        assert_eq!(rt; desk.warned_bytes(), b"warned".as_slice());
         for (name, want) in [
             ("a", Some(b"kept".as_slice())),
             ("b", Some(b"second".as_slice())),

@@ -1,23 +1,27 @@
-// The desk of real files. It tells nothing of what they hold.
-ghost use Rattle.std.specs.Prelude.{◌≡◌, ◌≤◌, false, None, length, IfOk, IsErrOf};
+// The desk of real files, of the standard output and the standard error. It tells nothing of what they hold.
+ghost use Rattle.std.specs.Prelude.{◌≡◌, ◌≤◌, length, IfOk, IsErrOf};
 ghost use Rattle.desk.specs.Files.{Rose};
+ghost use Rattle.draw_cli.specs.Disk.{disk_state};
 
 use dec_text::Name;
 use desk::{Desk, DeskFault, Failed};
 use exact_frac::OutOfMemory;
 use std::alloc::Global;
-use std::io::{Read, Seek, SeekFrom};
+use std::io::{Read, Seek, SeekFrom, Write};
 use std::rt::Files;
 use std::{fs, io};
 
-/// Files of the system. Each error of the system is a fault. It never answers want of memory.
+/// Files of the system, and where to say and to warn. Each error of the system is a fault. It never answers want of memory.
 #[derive(Drop)]
-pub struct DiskDesk<R: Files + Drop> {
+pub struct DiskDesk<R: Files + Drop, O: Write + Drop, E: Write + Drop> {
     alloc: Global,
     rt: R,
+    out: O,
+    err: E,
     reading: Option<Reading<R::File>>,
     read_faults: u64,
     write_faults: u64,
+    warn_faults: u64,
 }
 
 // A file that a fetch left open, and the place of its next byte.
@@ -28,14 +32,18 @@ struct Reading<F> {
     file: F,
 }
 
-impl<R: Files + Drop> DiskDesk<R> {
-    pub fn new(alloc: Global, rt: R) -> Self {
+impl<R: Files + Drop, O: Write + Drop, E: Write + Drop> DiskDesk<R, O, E> {
+    /// A desk that says to `out` and warns to `err`.
+    pub fn new(alloc: Global, rt: R, out: O, err: E) -> Self {
         DiskDesk {
             alloc,
             rt,
+            out,
+            err,
             reading: None,
             read_faults: 0,
             write_faults: 0,
+            warn_faults: 0,
         }
     }
 }
@@ -80,16 +88,30 @@ fn read_at<R: Files>(
     Ok(n)
 }
 
-impl<R: Files + Drop> Desk for DiskDesk<R> {
-    ghost tells = { λ desk. false };
+// Writes all bytes at once.
+fn write_out<W: Write>(out: &mut W, bytes: &[u8]) -> io::Result<()> {
+    out.write_all(bytes)?;
+    out.flush()
+}
 
-    ghost files = { λ desk name. None };
+// An error of the system is counted as a fault.
+fn counted(done: io::Result<()>, faults: &mut u64) -> Result<(), DeskFault>
+    ensures cause { IsErrOf result DeskFault.Failed → Rose faults.old faults.new }
+    ensures no_cause { (IsErrOf result DeskFault.Failed → ⊥) → faults.new ≡ faults.old }
+    ensures never_falls { faults.old ≤ faults.new }
+    ensures never_memory { (none : OutOfMemory) → IsErrOf result (DeskFault.Memory none) → ⊥ }
+{
+    match done {
+        Ok(()) => Ok(()),
+        Err(_) => {
+            *faults = faults.saturating_add(1);
+            Err(DeskFault::Failed)
+        }
+    }
+}
 
-    ghost read_faults = { λ desk. desk.read_faults };
-
-    ghost write_faults = { λ desk. desk.write_faults };
-
-    ghost steady = { λ desk. false };
+impl<R: Files + Drop, O: Write + Drop, E: Write + Drop> Desk for DiskDesk<R, O, E> {
+    ghost state = { λ desk. disk_state desk.read_faults desk.write_faults desk.warn_faults };
 
     ghost steady_tells = { λ desk h. h };
 
@@ -103,38 +125,29 @@ impl<R: Files + Drop> Desk for DiskDesk<R> {
         }
     }
 
-    /// Never answers want of memory.
-    fn keep(&mut self, name: &str, bytes: &[u8]) -> Result<(), DeskFault>
-        ensures never_memory { (none : OutOfMemory) → IsErrOf result (DeskFault.Memory none) → ⊥ }
-        ensures cause { IsErrOf result DeskFault.Failed → Rose self.old.write_faults self.new.write_faults }
-        ensures no_cause { (IsErrOf result DeskFault.Failed → ⊥) → self.new.write_faults ≡ self.old.write_faults }
-        ensures never_falls { self.old.write_faults ≤ self.new.write_faults }
-        ensures read_faults { self.new.read_faults ≡ self.old.read_faults }
-    {
-        match fs::write(&self.rt, name, bytes) {
-            Ok(()) => Ok(()),
-            Err(_) => {
-                self.write_faults = self.write_faults.saturating_add(1);
-                Err(DeskFault::Failed)
-            }
-        }
+    fn keep(&mut self, name: &str, bytes: &[u8]) -> Result<(), DeskFault> {
+        counted(fs::write(&self.rt, name, bytes), &mut self.write_faults)
+    }
+
+    fn say(&mut self, bytes: &[u8]) -> Result<(), DeskFault> {
+        counted(write_out(&mut self.out, bytes), &mut self.write_faults)
+    }
+
+    fn warn(&mut self, bytes: &[u8]) -> Result<(), DeskFault> {
+        counted(write_out(&mut self.err, bytes), &mut self.warn_faults)
     }
 }
 
 #[cfg(test)]
 mod tests {
     use super::*;
-    use std::io::{Write, pipe};
+    use std::io::pipe;
     use std::os::fd::AsRawFd;
     use std::test::Fail;
     use std::{env, process};
 
     // Fetches three bytes at a time.
-    fn fetch_all<R: Files + Drop>(
-        alloc: Global,
-        desk: &mut DiskDesk<R>,
-        name: &str,
-    ) -> Result<Vec<u8>, Fail> {
+    fn fetch_all<D: Desk>(alloc: Global, desk: &mut D, name: &str) -> Result<Vec<u8>, Fail> {
         let mut bytes = Vec::new(alloc);
         for _ in 0..5 {
             let mut block = [0u8; 3];
@@ -150,7 +163,7 @@ mod tests {
     #[test]
     fn files_and_pipes_are_fetched(rt: HostRuntime) -> Result<(), Fail> {
         let alloc = rt.alloc();
-        let mut desk = DiskDesk::new(alloc, rt);
+        let mut desk = DiskDesk::new(alloc, rt, Vec::new(alloc), Vec::new(alloc));
         let mut path = env::temp_dir(&rt)?;
         path.push(format!(in alloc; "draw_disk_{}", process::id(rt.process()))?)?;
         let file = path.as_path().to_str().ok_or("no text")?;
@@ -165,7 +178,14 @@ mod tests {
             desk.keep("/no such folder/file", b"kept"),
             Err(DeskFault::Failed)
         );
-        assert_eq!(rt; (desk.read_faults, desk.write_faults), (1, 1));
+        assert_eq!(rt; desk.say(b"said"), Ok(()));
+        assert_eq!(rt; desk.warn(b"warned"), Ok(()));
+        assert_eq!(rt; desk.out.as_slice(), b"said".as_slice());
+        assert_eq!(rt; desk.err.as_slice(), b"warned".as_slice());
+        assert_eq!(rt;
+            (desk.read_faults, desk.write_faults, desk.warn_faults),
+            (1, 1, 0)
+        );
 
         let (reader, mut writer) = pipe(&rt)?;
         writer.write_all(b"piped bytes")?;

@@ -5,7 +5,7 @@ mod disk;
 
 use desk::Desk;
 use disk::DiskDesk;
-use draw_core::draw;
+use draw_core::{MEMORY_LINE, draw};
 use std::alloc::Global;
 use std::process::ExitCode;
 use std::rt::Env;
@@ -16,19 +16,23 @@ fn words_of<R: Env + AllocGlobal>(rt: &R) -> io::Result<Vec<String>> {
     Ok(env::args(rt)?.skip(1).collect(rt.alloc())?)
 }
 
-// The status of a run. Words that can't be had, as those that aren't UTF-8, are a faulty command line.
+// The status of a run. Where the words can't be had, as where they aren't UTF-8, there are none.
 fn status_of<D: Desk>(alloc: Global, words: io::Result<Vec<String>>, desk: &mut D) -> u8 {
     match words {
         Ok(words) => draw(alloc, &words, desk).status,
-        Err(fault) if fault.kind() == io::ErrorKind::OutOfMemory => 9,
-        Err(_) => 2,
+        Err(fault) if fault.kind() == io::ErrorKind::OutOfMemory => {
+            let _unheard = desk.warn(MEMORY_LINE.as_bytes());
+            9
+        }
+        Err(_) => draw(alloc, &[], desk).status,
     }
 }
 
 fn main(rt: HostRuntime) -> ExitCode {
     let alloc = rt.alloc();
     let words = words_of(&rt);
-    let mut desk = DiskDesk::new(alloc, rt);
+    let (out, err) = (rt.stdout(), rt.stderr());
+    let mut desk = DiskDesk::new(alloc, rt, out, err);
     ExitCode::from(status_of(alloc, words, &mut desk))
 }
 

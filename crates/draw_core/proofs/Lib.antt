@@ -10,3 +10,4 @@ pub mod Shown
 pub mod SpanPlaces
 pub mod SpanSums
 pub mod VisibleRight
+pub mod Warnings

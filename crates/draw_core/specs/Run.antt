@@ -1,11 +1,13 @@
 -- What a run answers, from its words and the files at entry: steps in order, each with what it gives and what it refuses.
-use Rattle.std.specs.Prelude.{◌≡◌, ◌⊎◌, ◌<◌, ◌≤◌, ℕ, List, [], length, map, Option, Some, None, IsSome, IsSomeAnd, Result, Ok, Err, Bool, false, IsTrue, codes}
+use Rattle.std.specs.Prelude.{◌≡◌, ◌⊎◌, ◌<◌, ◌≤◌, ℕ, List, [], length, Option, Some, None, IsSome, IsSomeAnd, Result, Ok, Err, Bool, false, IsTrue, codes}
 use Rattle.desk.specs.Files.{Files, Keeps, MayKeepFront}
-use Rattle.geometry.specs.Parts.{Part, IsClosed, IsOpen}
-use Rattle.off_reader.specs.Off.{Raw, ReadsOff}
-use Rattle.lattice.specs.Points.{of_corner}
+use Rattle.geometry.specs.Parts.{Part, IsClosed, HasNoDouble}
+use Rattle.weld.specs.Raw.{Raw}
+use Rattle.weld.specs.Welds.{IsWeldOf, proper_of}
 use Rattle.weld.specs.declared.fault.PartFault.{PartFault}
-use Rattle.solid_mesh.specs.declared.faults.MeshFault.TheVariants.{NotClosed}
+use Rattle.solid_mesh.specs.Faults.{HasFault}
+use Rattle.solid_mesh.specs.declared.faults.MeshFault.{MeshFault}
+use Rattle.draw_core.specs.Reading.{ReadsPartText}
 use Rattle.draw_core.specs.Words.{part_name}
 use Rattle.draw_core.specs.declared.fault.Input.TheVariants.{Part as ThePart}
 use Rattle.draw_core.specs.declared.fault.Fault.{Fault}
@@ -39,22 +41,22 @@ TakesPart files name (Err e) =
 
 -- what its text says, in thousandths
 abbrev pub ReadsText : (bytes : List ℕ) → Result Raw Fault → Type 0
-ReadsText bytes (Ok raw) = ReadsOff 3 bytes (Ok raw)
-ReadsText bytes (Err e) = (cause : PartFault) × (e ≡ PartUnread cause) × ReadsOff 3 bytes (Err cause)
+ReadsText bytes (Ok raw) = ReadsPartText 3 bytes (Ok raw)
+ReadsText bytes (Err e) = (cause : PartFault) × (e ≡ PartUnread cause) × ReadsPartText 3 bytes (Err cause)
 
--- a reading with a triangle is the part with these corners and triangles
-abbrev pub MakesPart : Raw → Result Part Fault → Type 0
-MakesPart raw (Ok part) = (map of_corner part.corners ≡ raw.vertices) × (part.triangles ≡ raw.triangles) × (0 < length raw.triangles)
-MakesPart raw (Err e) = (e ≡ Nothing) × (raw.triangles ≡ [])
+-- its weld has a triangle
+abbrev pub WeldsPart : Raw → Result Part Fault → Type 0
+WeldsPart raw (Ok part) = IsWeldOf raw part.corners part.triangles × (0 < length part.triangles)
+WeldsPart raw (Err e) = (e ≡ Nothing) × (proper_of raw ≡ [])
 
--- its text is read, and says a part
+-- its text is read, and welded
 abbrev pub ReadsPart : List ℕ → Result Part Fault → Type 0
-ReadsPart bytes = ReadsText bytes and_then MakesPart
+ReadsPart bytes = ReadsText bytes and_then WeldsPart
 
--- its surface is closed
+-- its surface is closed, and no two of its triangles have the same corners
 abbrev pub ChecksPart : Part → Result Part Fault → Type 0
-ChecksPart part (Ok solid) = (solid ≡ part) × IsClosed part
-ChecksPart part (Err e) = (e ≡ Mesh NotClosed) × IsOpen part
+ChecksPart part (Ok solid) = (solid ≡ part) × IsClosed part × HasNoDouble part
+ChecksPart part (Err e) = (fault : MeshFault) × (e ≡ Mesh fault) × HasFault part fault
 
 -- a run: the part that is drawn, or the refusal
 abbrev pub Runs : List (List ℕ) → Files → Result Part Fault → Type 0

@@ -6,11 +6,7 @@ use Rattle.lattice.specs.declared.pieces.Piece.{Piece}
 use Rattle.lattice.specs.Triple.{Triple}
 use Rattle.lattice.specs.Points.{of_spot}
 use Rattle.draw_core.specs.Sheet.{sheet_x, sheet_y}
-
--- one text and then another, grouped to the right as the parts of a format are
-infixr 10 ◌⊕◌
-abbrev pub ◌⊕◌ : List ℕ → List ℕ → List ℕ
-a ⊕ b = a ++ b
+use Rattle.draw_core.specs.Texts.{◌⊕◌}
 
 -- the frame, and the beginning of the view
 abbrev pub head : List ℕ

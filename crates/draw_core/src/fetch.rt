@@ -1,6 +1,6 @@
 // Fetches a file from a desk, a block at a time.
 ghost use Rattle.std.specs.Prelude.{◌≡◌, ◌<◌, ◌≤◌, ◌+◌, true, length, None, Some, vec_len, IfOk, IsErrOf, IsSomeAnd};
-ghost use Rattle.desk.specs.Files.{Rose};
+ghost use Rattle.desk.specs.Files.{OnlyReads, Rose};
 ghost use Rattle.draw_core.specs.Fetch.{IsFetchedOnto};
 ghost use Rattle.draw_core.specs.declared.fetch.FetchFault.TheVariants.{Memory};
 
@@ -31,20 +31,17 @@ impl From<AllocError> for FetchFault {
 
 // Takes the next block of a file to the end of out.
 fn fetch_block<D: Desk>(desk: &mut D, name: &str, out: &mut Vec<u8>) -> Result<usize, FetchFault>
-    ensures took { D.tells desk.old ≡ true →
-        IfOk result (λ n. IsFetchedOnto (D.files desk.old name.now) out.old.items n out.new.items) }
+    ensures took { (D.state desk.old).tells ≡ true →
+        IfOk result (λ n. IsFetchedOnto ((D.state desk.old).files name.now) out.old.items n out.new.items) }
     ensures count { IfOk result (λ n. (vec_len out.new ≡ vec_len out.old + n) × (n ≤ BLOCK)) }
     ensures not_long { IsErrOf result FetchFault.TooLong → ⊥ }
-    ensures tells { D.tells desk.new ≡ D.tells desk.old }
-    ensures files { D.tells desk.old ≡ true → D.files desk.new ≡ D.files desk.old }
-    ensures steady { D.steady desk.new ≡ D.steady desk.old }
+    ensures changes { OnlyReads (D.state desk.old) (D.state desk.new) }
     ensures cause { IsErrOf result FetchFault.Failed →
-        Rose (D.read_faults desk.old) (D.read_faults desk.new) }
+        Rose (D.state desk.old).read_faults (D.state desk.new).read_faults }
     ensures no_cause { (IsErrOf result FetchFault.Failed → ⊥) →
-        D.read_faults desk.new ≡ D.read_faults desk.old }
-    ensures write_faults { D.write_faults desk.new ≡ D.write_faults desk.old }
-    ensures missing { D.steady desk.old ≡ true → IsErrOf result FetchFault.Failed →
-        D.files desk.old name.now ≡ None }
+        (D.state desk.new).read_faults ≡ (D.state desk.old).read_faults }
+    ensures missing { (D.state desk.old).steady ≡ true → IsErrOf result FetchFault.Failed →
+        (D.state desk.old).files name.now ≡ None }
 {
     let mut block = [0u8; BLOCK];
     let at = out.len() as u64;
@@ -64,21 +61,18 @@ pub(crate) fn fetch_all<D: Desk>(
     name: &str,
     limit: usize,
 ) -> Result<Vec<u8>, FetchFault>
-    ensures took { D.tells desk.old ≡ true →
-        IfOk result (λ bytes. D.files desk.old name.now ≡ Some bytes.items) }
+    ensures took { (D.state desk.old).tells ≡ true →
+        IfOk result (λ bytes. (D.state desk.old).files name.now ≡ Some bytes.items) }
     ensures within { IfOk result (λ bytes. vec_len bytes ≤ limit) }
-    ensures too_long { D.tells desk.old ≡ true → IsErrOf result FetchFault.TooLong →
-        IsSomeAnd (D.files desk.old name.now) (λ bytes. limit < length bytes) }
-    ensures tells { D.tells desk.new ≡ D.tells desk.old }
-    ensures files { D.tells desk.old ≡ true → D.files desk.new ≡ D.files desk.old }
-    ensures steady { D.steady desk.new ≡ D.steady desk.old }
+    ensures too_long { (D.state desk.old).tells ≡ true → IsErrOf result FetchFault.TooLong →
+        IsSomeAnd ((D.state desk.old).files name.now) (λ bytes. limit < length bytes) }
+    ensures changes { OnlyReads (D.state desk.old) (D.state desk.new) }
     ensures cause { IsErrOf result FetchFault.Failed →
-        Rose (D.read_faults desk.old) (D.read_faults desk.new) }
+        Rose (D.state desk.old).read_faults (D.state desk.new).read_faults }
     ensures no_cause { (IsErrOf result FetchFault.Failed → ⊥) →
-        D.read_faults desk.new ≡ D.read_faults desk.old }
-    ensures write_faults { D.write_faults desk.new ≡ D.write_faults desk.old }
-    ensures missing { D.steady desk.old ≡ true → IsErrOf result FetchFault.Failed →
-        D.files desk.old name.now ≡ None }
+        (D.state desk.new).read_faults ≡ (D.state desk.old).read_faults }
+    ensures missing { (D.state desk.old).steady ≡ true → IsErrOf result FetchFault.Failed →
+        (D.state desk.old).files name.now ≡ None }
 {
     let mut out = Vec::new(alloc);
     while out.len() <= limit {

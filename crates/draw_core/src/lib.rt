@@ -5,6 +5,8 @@ mod drawing;
 mod ends;
 mod fault;
 mod fetch;
+mod lines;
+mod part;
 mod pick;
 mod run;
 mod sheet;
@@ -16,4 +18,5 @@ mod words;
 
 pub use drawing::{Drawing, Outcome, ViewDrawing};
 pub use fault::{Fault, Input, Target};
+pub use lines::MEMORY_LINE;
 pub use run::{OUT, draw};

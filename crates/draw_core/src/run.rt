@@ -1,14 +1,18 @@
 // The top call: from the words and a desk to a drawing.
-ghost use Rattle.std.specs.Prelude.{◌≡◌, true, false, length, None, Some, Ok, Err, IfOk, IfErr, IfSome, IfNone, IsSome, IsErrOf, OnOk, is_some, string_bytes, vec_len, ◌<◌, ◌≤◌};
-ghost use Rattle.desk.specs.Files.{Rose};
+ghost use Rattle.std.specs.Prelude.{◌≡◌, ◌⊎◌, ◌++◌, true, false, length, None, Some, Ok, Err, IfOk, IfErr, IfSome, IfNone, IsSome, IsErrOf, OnOk, is_some, string_bytes, vec_len, ◌<◌, ◌≤◌};
+ghost use Rattle.desk.specs.Files.{OnlyReads, OnlyWarns, Rose, AppendsFront};
 ghost use Rattle.solid_mesh.specs.Solids.{solid_part};
 ghost use Rattle.draw_core.specs.Words.{texts, part_name};
-ghost use Rattle.draw_core.specs.Run.{◌and_then◌, NamesPart, TakesPart, ReadsPart, ChecksPart, Runs, Refuses, Gives, AnswersWords, HasDrawing, LeavesAfter, IsWriteOutcome, status_of, out_name};
+ghost use Rattle.draw_core.specs.Run.{◌and_then◌, NamesPart, TakesPart, Runs, Refuses, Gives, AnswersWords, HasDrawing, LeavesAfter, IsWriteOutcome, status_of, out_name};
+ghost use Rattle.draw_core.specs.Desks.{OnlyWrites, OnlyRuns, HearsAll};
+ghost use Rattle.draw_core.specs.Lines.{NamesNoNumber, Warns, WarnsWhole};
 ghost use Rattle.draw_core.specs.Drawing.{IsFrontDrawing, IsTextOf, Writes};
 
 use crate::drawing::{Drawing, Outcome, ViewDrawing};
 use crate::fault::{Fault, Input, Target};
 use crate::fetch::{FetchFault, fetch_all};
+use crate::lines::{MEMORY_LINE, WRITE_LINE, line_of};
+use crate::part::solid_of;
 use crate::pick::drawn_edges;
 use crate::sheet::place_of;
 use crate::svg::svg;
@@ -16,39 +20,31 @@ use crate::visible::visible_pieces;
 use crate::words::part_word;
 use desk::{Desk, DeskFault};
 use exact_frac::OutOfMemory;
-use lattice::{Dir, Soup, ViewSpec};
-use off_reader::read_off;
-use solid_mesh::{MeshError, Solid};
+use lattice::{Dir, ViewSpec};
+use solid_mesh::Solid;
 use std::alloc::Global;
-use weld::{PartError, RawPart};
 
 /// The most bytes that a part may have.
-const PART_LIMIT: usize = 16_777_216;
-
-/// How many decimals a millimetre has: a unit of the part is a thousandth of one.
-const DECIMALS: u8 = 3;
+pub(crate) const PART_LIMIT: usize = 16_777_216;
 
 /// The name that the drawing is written under.
 pub const OUT: &str = "drawing.svg";
 
 /// The bytes of the part that the words name.
 fn take_part<D: Desk>(alloc: Global, words: &[String], desk: &mut D) -> Result<Vec<u8>, Fault>
-    ensures answer { D.tells desk.old ≡ true →
-        Gives (λ v. v.items) (NamesPart (texts words.now) and_then TakesPart (D.files desk.old)) result }
+    ensures answer { (D.state desk.old).tells ≡ true →
+        Gives (λ v. v.items) (NamesPart (texts words.now) and_then TakesPart (D.state desk.old).files) result }
     ensures short { IfOk result (λ v. vec_len v ≤ PART_LIMIT) }
     ensures words_ok { OnOk result (IsSome (part_name (texts words.now))) }
     ensures words { IfErr result (λ fault. AnswersWords (part_name (texts words.now)) (Some fault)) }
     ensures no_write { IsErrOf result (Fault.WriteFault Target.Out) → ⊥ }
     ensures read_fault { IsErrOf result (Fault.ReadFault Input.Part) →
-        Rose (D.read_faults desk.old) (D.read_faults desk.new) }
+        Rose (D.state desk.old).read_faults (D.state desk.new).read_faults }
     ensures no_read_fault { (IsErrOf result (Fault.ReadFault Input.Part) → ⊥) →
-        D.read_faults desk.new ≡ D.read_faults desk.old }
-    ensures missing { D.steady desk.old ≡ true → IsErrOf result (Fault.ReadFault Input.Part) →
-        (NamesPart (texts words.now) and_then TakesPart (D.files desk.old)) (Err (Fault.ReadFault Input.Part)) }
-    ensures tells { D.tells desk.new ≡ D.tells desk.old }
-    ensures files { D.tells desk.old ≡ true → D.files desk.new ≡ D.files desk.old }
-    ensures steady { D.steady desk.new ≡ D.steady desk.old }
-    ensures write_faults { D.write_faults desk.new ≡ D.write_faults desk.old }
+        (D.state desk.new).read_faults ≡ (D.state desk.old).read_faults }
+    ensures missing { (D.state desk.old).steady ≡ true → IsErrOf result (Fault.ReadFault Input.Part) →
+        (NamesPart (texts words.now) and_then TakesPart (D.state desk.old).files) (Err (Fault.ReadFault Input.Part)) }
+    ensures changes { OnlyReads (D.state desk.old) (D.state desk.new) }
 {
     let name = match part_word(words) {
         Some(name) => name,
@@ -62,46 +58,20 @@ fn take_part<D: Desk>(alloc: Global, words: &[String], desk: &mut D) -> Result<V
     }
 }
 
-/// The closed solid of a part's text.
-fn solid_of(alloc: Global, bytes: &[u8]) -> Result<Solid, Fault>
-    requires short { length bytes.now ≤ PART_LIMIT }
-    ensures answer { Gives solid_part (ReadsPart bytes.now and_then ChecksPart) result }
-    ensures no_read { IsErrOf result (Fault.ReadFault Input.Part) → ⊥ }
-    ensures no_usage { IsErrOf result Fault.Usage → ⊥ }
-    ensures no_write { IsErrOf result (Fault.WriteFault Target.Out) → ⊥ }
-{
-    let RawPart { corners, triangles } = match read_off(alloc, bytes, DECIMALS) {
-        Ok(raw) => raw,
-        Err(PartError::Part(fault)) => return Err(Fault::Part(fault)),
-        Err(PartError::Memory(_)) => return Err(Fault::Memory),
-    };
-    if triangles.is_empty() {
-        return Err(Fault::Nothing);
-    }
-    match Solid::check(alloc, Soup { corners, triangles }) {
-        Ok(solid) => Ok(solid),
-        Err(MeshError::Mesh(fault)) => Err(Fault::Mesh(fault)),
-        Err(MeshError::Memory(_)) => Err(Fault::Memory),
-    }
-}
-
 /// The solid of the part that the words name.
 fn take_solid<D: Desk>(alloc: Global, words: &[String], desk: &mut D) -> Result<Solid, Fault>
-    ensures answer { D.tells desk.old ≡ true →
-        Gives solid_part (Runs (texts words.now) (D.files desk.old)) result }
+    ensures answer { (D.state desk.old).tells ≡ true →
+        Gives solid_part (Runs (texts words.now) (D.state desk.old).files) result }
     ensures words_ok { OnOk result (IsSome (part_name (texts words.now))) }
     ensures words { IfErr result (λ fault. AnswersWords (part_name (texts words.now)) (Some fault)) }
     ensures no_write { IsErrOf result (Fault.WriteFault Target.Out) → ⊥ }
     ensures read_fault { IsErrOf result (Fault.ReadFault Input.Part) →
-        Rose (D.read_faults desk.old) (D.read_faults desk.new) }
+        Rose (D.state desk.old).read_faults (D.state desk.new).read_faults }
     ensures no_read_fault { (IsErrOf result (Fault.ReadFault Input.Part) → ⊥) →
-        D.read_faults desk.new ≡ D.read_faults desk.old }
-    ensures missing { D.steady desk.old ≡ true → IsErrOf result (Fault.ReadFault Input.Part) →
-        Runs (texts words.now) (D.files desk.old) (Err (Fault.ReadFault Input.Part)) }
-    ensures tells { D.tells desk.new ≡ D.tells desk.old }
-    ensures files { D.tells desk.old ≡ true → D.files desk.new ≡ D.files desk.old }
-    ensures steady { D.steady desk.new ≡ D.steady desk.old }
-    ensures write_faults { D.write_faults desk.new ≡ D.write_faults desk.old }
+        (D.state desk.new).read_faults ≡ (D.state desk.old).read_faults }
+    ensures missing { (D.state desk.old).steady ≡ true → IsErrOf result (Fault.ReadFault Input.Part) →
+        Runs (texts words.now) (D.state desk.old).files (Err (Fault.ReadFault Input.Part)) }
+    ensures changes { OnlyReads (D.state desk.old) (D.state desk.new) }
 {
     match take_part(alloc, words, desk) {
         Ok(bytes) => solid_of(alloc, &bytes),
@@ -130,7 +100,7 @@ fn front_drawing(alloc: Global, solid: Solid) -> Result<(Drawing, String), OutOf
 }
 
 /// An end without a drawing.
-fn refusal(fault: Fault) -> Outcome
+fn ended(fault: Fault) -> Outcome
     ensures status { result.status ≡ status_of result.fault }
     ensures fault { result.fault ≡ Some fault }
     ensures none { result.drawing ≡ None }
@@ -142,31 +112,68 @@ fn refusal(fault: Fault) -> Outcome
     }
 }
 
-/// Writes a drawing's text, and says how that ended.
-fn keep_drawing<D: Desk>(drawing: Drawing, text: &str, desk: &mut D) -> Outcome
-    ensures status { result.status ≡ status_of result.fault }
-    ensures drawing { result.drawing ≡ Some drawing }
-    ensures drawn { HasDrawing result.fault (is_some result.drawing) }
-    ensures files { D.tells desk.old ≡ true →
-        LeavesAfter result.fault (D.files desk.old) (D.files desk.new) out_name text.now }
-    ensures write_fault { result.fault ≡ Some (Fault.WriteFault Target.Out) →
-        Rose (D.write_faults desk.old) (D.write_faults desk.new) }
-    ensures no_write_fault { (result.fault ≡ Some (Fault.WriteFault Target.Out) → ⊥) →
-        D.write_faults desk.new ≡ D.write_faults desk.old }
-    ensures steady { D.steady desk.old ≡ true → result.fault ≡ Some (Fault.WriteFault Target.Out) → ⊥ }
-    ensures read_faults { D.read_faults desk.new ≡ D.read_faults desk.old }
-    ensures tells { D.tells desk.new ≡ D.tells desk.old }
-    ensures steady_stays { D.steady desk.new ≡ D.steady desk.old }
+/// Warns by a line. A desk that can't is not asked again.
+fn warn<D: Desk>(line: &str, desk: &mut D)
+    ensures front { (D.state desk.old).tells_warned ≡ true →
+        AppendsFront (D.state desk.old).warned (D.state desk.new).warned line.now }
+    ensures whole { HearsAll (D.state desk.old) (D.state desk.new) →
+        (D.state desk.new).warned ≡ (D.state desk.old).warned ++ line.now }
+    ensures changes { OnlyWarns (D.state desk.old) (D.state desk.new) }
 {
-    let fault = match desk.keep(OUT, text.as_bytes()) {
+    let _unheard = desk.warn(line.as_bytes());
+}
+
+/// Ends a run with a fault, and warns of it. Where its line finds no memory, the fault is want of memory.
+fn refuse<D: Desk>(alloc: Global, fault: Fault, desk: &mut D) -> Outcome
+    ensures status { result.status ≡ status_of result.fault }
+    ensures none { result.drawing ≡ None }
+    ensures fault { (result.fault ≡ Some fault) ⊎ (result.fault ≡ Some Fault.Memory) }
+    ensures told { NamesNoNumber fault → result.fault ≡ Some fault }
+    ensures warned { (D.state desk.old).tells_warned ≡ true →
+        Warns result.fault (D.state desk.old).warned (D.state desk.new).warned }
+    ensures whole { HearsAll (D.state desk.old) (D.state desk.new) →
+        WarnsWhole result.fault (D.state desk.old).warned (D.state desk.new).warned }
+    ensures changes { OnlyWarns (D.state desk.old) (D.state desk.new) }
+{
+    match line_of(alloc, &fault) {
+        Ok(line) => {
+            warn(line.as_str(), desk);
+            ended(fault)
+        }
+        Err(_) => {
+            warn(MEMORY_LINE, desk);
+            ended(Fault::Memory)
+        }
+    }
+}
+
+/// Writes a drawing's text, and tells why it couldn't, of which it warns.
+fn keep_text<D: Desk>(text: &str, desk: &mut D) -> Option<Fault>
+    ensures fault { IfSome result IsWriteOutcome }
+    ensures files { (D.state desk.old).tells ≡ true →
+        LeavesAfter result (D.state desk.old).files (D.state desk.new).files out_name text.now }
+    ensures write_fault { result ≡ Some (Fault.WriteFault Target.Out) →
+        Rose (D.state desk.old).write_faults (D.state desk.new).write_faults }
+    ensures no_write_fault { (result ≡ Some (Fault.WriteFault Target.Out) → ⊥) →
+        (D.state desk.new).write_faults ≡ (D.state desk.old).write_faults }
+    ensures steady { (D.state desk.old).steady ≡ true → result ≡ Some (Fault.WriteFault Target.Out) → ⊥ }
+    ensures firm { (D.state desk.old).firm ≡ true → result ≡ Some Fault.Memory → ⊥ }
+    ensures warned { (D.state desk.old).tells_warned ≡ true →
+        Warns result (D.state desk.old).warned (D.state desk.new).warned }
+    ensures whole { HearsAll (D.state desk.old) (D.state desk.new) →
+        WarnsWhole result (D.state desk.old).warned (D.state desk.new).warned }
+    ensures changes { OnlyWrites (D.state desk.old) (D.state desk.new) }
+{
+    match desk.keep(OUT, text.as_bytes()) {
         Ok(()) => None,
-        Err(DeskFault::Failed) => Some(Fault::WriteFault(Target::Out)),
-        Err(DeskFault::Memory(_)) => Some(Fault::Memory),
-    };
-    Outcome {
-        status: fault.map_or(0, |fault| fault.status()),
-        fault,
-        drawing: Some(drawing),
+        Err(DeskFault::Failed) => {
+            warn(WRITE_LINE, desk);
+            Some(Fault::WriteFault(Target::Out))
+        }
+        Err(DeskFault::Memory(_)) => {
+            warn(MEMORY_LINE, desk);
+            Some(Fault::Memory)
+        }
     }
 }
 
@@ -177,26 +184,35 @@ fn write_drawing<D: Desk>(alloc: Global, solid: Solid, desk: &mut D) -> Outcome
     ensures drawn { HasDrawing result.fault (is_some result.drawing) }
     ensures solid { IfSome result.drawing (λ d. d.solid ≡ solid) }
     ensures shows { IfSome result.drawing IsFrontDrawing }
-    ensures files { D.tells desk.old ≡ true →
-        IfSome result.drawing (Writes result.fault (D.files desk.old) (D.files desk.new) out_name) }
-    ensures untouched { D.tells desk.old ≡ true →
-        IfNone result.drawing (D.files desk.new ≡ D.files desk.old) }
+    ensures files { (D.state desk.old).tells ≡ true →
+        IfSome result.drawing (Writes result.fault (D.state desk.old).files (D.state desk.new).files out_name) }
+    ensures untouched { IfNone result.drawing ((D.state desk.new).files ≡ (D.state desk.old).files) }
+    ensures firm { (D.state desk.old).firm ≡ true → result.fault ≡ Some Fault.Memory → result.drawing ≡ None }
     ensures write_fault { result.fault ≡ Some (Fault.WriteFault Target.Out) →
-        Rose (D.write_faults desk.old) (D.write_faults desk.new) }
+        Rose (D.state desk.old).write_faults (D.state desk.new).write_faults }
     ensures no_write_fault { (result.fault ≡ Some (Fault.WriteFault Target.Out) → ⊥) →
-        D.write_faults desk.new ≡ D.write_faults desk.old }
-    ensures steady { D.steady desk.old ≡ true → result.fault ≡ Some (Fault.WriteFault Target.Out) → ⊥ }
-    ensures read_faults { D.read_faults desk.new ≡ D.read_faults desk.old }
-    ensures tells { D.tells desk.new ≡ D.tells desk.old }
-    ensures steady_stays { D.steady desk.new ≡ D.steady desk.old }
+        (D.state desk.new).write_faults ≡ (D.state desk.old).write_faults }
+    ensures steady { (D.state desk.old).steady ≡ true → result.fault ≡ Some (Fault.WriteFault Target.Out) → ⊥ }
+    ensures warned { (D.state desk.old).tells_warned ≡ true →
+        Warns result.fault (D.state desk.old).warned (D.state desk.new).warned }
+    ensures whole { HearsAll (D.state desk.old) (D.state desk.new) →
+        WarnsWhole result.fault (D.state desk.old).warned (D.state desk.new).warned }
+    ensures changes { OnlyWrites (D.state desk.old) (D.state desk.new) }
 {
-    match front_drawing(alloc, solid) {
-        Ok((drawing, text)) => keep_drawing(drawing, text.as_str(), desk),
-        Err(_) => refusal(Fault::Memory),
+    let (drawing, text) = match front_drawing(alloc, solid) {
+        Ok(made) => made,
+        Err(_) => return refuse(alloc, Fault::Memory, desk),
+    };
+    let fault = keep_text(text.as_str(), desk);
+    Outcome {
+        status: fault.map_or(0, |fault| fault.status()),
+        fault,
+        drawing: Some(drawing),
     }
 }
 
-/// Reads the part that the words name, draws its front view and writes it under `drawing.svg`.
+/// Reads the part that the words name, draws its front view and writes it under `drawing.svg`. Of a fault it warns once, by
+/// one line.
 ///
 /// The faults are looked for in this order: the words, the part's bytes, its text, whether it has a triangle, its
 /// surface, the drawing's file. Want of memory may be answered at any place; then no file has changed. Time is about
@@ -204,41 +220,46 @@ fn write_drawing<D: Desk>(alloc: Global, solid: Solid, desk: &mut D) -> Outcome
 pub fn draw<D: Desk>(alloc: Global, words: &[String], desk: &mut D) -> Outcome
     // The answer is that of the run's steps, in their order.
     ensures status { result.status ≡ status_of result.fault }
-    ensures answer { D.tells desk.old ≡ true →
-        IfSome result.fault (Refuses (Runs (texts words.now) (D.files desk.old))) }
+    ensures answer { (D.state desk.old).tells ≡ true →
+        IfSome result.fault (Refuses (Runs (texts words.now) (D.state desk.old).files)) }
     ensures words { AnswersWords (part_name (texts words.now)) result.fault }
 
     // A fault of the desk is answered exactly where it counted one.
     ensures read_fault { result.fault ≡ Some (Fault.ReadFault Input.Part) →
-        Rose (D.read_faults desk.old) (D.read_faults desk.new) }
+        Rose (D.state desk.old).read_faults (D.state desk.new).read_faults }
     ensures no_read_fault { (result.fault ≡ Some (Fault.ReadFault Input.Part) → ⊥) →
-        D.read_faults desk.new ≡ D.read_faults desk.old }
+        (D.state desk.new).read_faults ≡ (D.state desk.old).read_faults }
     ensures write_fault { result.fault ≡ Some (Fault.WriteFault Target.Out) →
-        Rose (D.write_faults desk.old) (D.write_faults desk.new) }
+        Rose (D.state desk.old).write_faults (D.state desk.new).write_faults }
     ensures no_write_fault { (result.fault ≡ Some (Fault.WriteFault Target.Out) → ⊥) →
-        D.write_faults desk.new ≡ D.write_faults desk.old }
+        (D.state desk.new).write_faults ≡ (D.state desk.old).write_faults }
 
     // A steady desk fails only where the part is missing.
-    ensures missing { D.steady desk.old ≡ true → result.fault ≡ Some (Fault.ReadFault Input.Part) →
-        Runs (texts words.now) (D.files desk.old) (Err (Fault.ReadFault Input.Part)) }
-    ensures steady { D.steady desk.old ≡ true → result.fault ≡ Some (Fault.WriteFault Target.Out) → ⊥ }
+    ensures missing { (D.state desk.old).steady ≡ true → result.fault ≡ Some (Fault.ReadFault Input.Part) →
+        Runs (texts words.now) (D.state desk.old).files (Err (Fault.ReadFault Input.Part)) }
+    ensures steady { (D.state desk.old).steady ≡ true → result.fault ≡ Some (Fault.WriteFault Target.Out) → ⊥ }
 
     // The drawing shows the part of the text at entry, and its text is what the file holds.
     ensures drawn { HasDrawing result.fault (is_some result.drawing) }
-    ensures part { D.tells desk.old ≡ true →
-        IfSome result.drawing (λ d. Runs (texts words.now) (D.files desk.old) (Ok (solid_part d.solid))) }
+    ensures part { (D.state desk.old).tells ≡ true →
+        IfSome result.drawing (λ d. Runs (texts words.now) (D.state desk.old).files (Ok (solid_part d.solid))) }
     ensures shows { IfSome result.drawing IsFrontDrawing }
-    ensures files { D.tells desk.old ≡ true →
-        IfSome result.drawing (Writes result.fault (D.files desk.old) (D.files desk.new) out_name) }
-    ensures untouched { D.tells desk.old ≡ true →
-        IfNone result.drawing (D.files desk.new ≡ D.files desk.old) }
+    ensures files { (D.state desk.old).tells ≡ true →
+        IfSome result.drawing (Writes result.fault (D.state desk.old).files (D.state desk.new).files out_name) }
+    ensures untouched { IfNone result.drawing ((D.state desk.new).files ≡ (D.state desk.old).files) }
+    ensures firm { (D.state desk.old).firm ≡ true → result.fault ≡ Some Fault.Memory → result.drawing ≡ None }
 
-    // What the desk is stays.
-    ensures tells { D.tells desk.new ≡ D.tells desk.old }
-    ensures steady_stays { D.steady desk.new ≡ D.steady desk.old }
+    // Of a fault it warns once, by its line.
+    ensures warned { (D.state desk.old).tells_warned ≡ true →
+        Warns result.fault (D.state desk.old).warned (D.state desk.new).warned }
+    ensures whole { HearsAll (D.state desk.old) (D.state desk.new) →
+        WarnsWhole result.fault (D.state desk.old).warned (D.state desk.new).warned }
+
+    // Nothing else of the desk changes.
+    ensures changes { OnlyRuns (D.state desk.old) (D.state desk.new) }
 {
     match take_solid(alloc, words, desk) {
         Ok(solid) => write_drawing(alloc, solid, desk),
-        Err(fault) => refusal(fault),
+        Err(fault) => refuse(alloc, fault, desk),
     }
 }

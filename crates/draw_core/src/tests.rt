@@ -2,9 +2,10 @@
 use crate::{Drawing, Fault, OUT, draw};
 use dec_text::Name;
 use desk::MemoryDesk;
+use solid_mesh::MeshFault;
 use std::alloc::{AllocError, Global};
 use std::test::Fail;
-use weld::{PartFault, PartKind, Want};
+use weld::{PartFault, PartKind, Want, Word};
 
 // A cube of 10 mm.
 const CUBE: &str =
@@ -36,6 +37,39 @@ const WEDGE: &str =
 // The cube, and a spike that sticks out of its front face.
 const SPIKE: &str =
     "OFF\n12 16 0\n0 0 0\n10 0 0\n10 10 0\n0 10 0\n0 0 10\n10 0 10\n10 10 10\n0 10 10\n5 -5 5\n4 5 4\n6 5 4\n5 5 6\n3 0 3 2\n3 0 2 1\n3 4 5 6\n3 4 6 7\n3 0 1 5\n3 0 5 4\n3 1 2 6\n3 1 6 5\n3 2 3 7\n3 2 7 6\n3 3 0 4\n3 3 4 7\n3 8 9 11\n3 8 11 10\n3 8 10 9\n3 9 10 11\n";
+
+// A tetrahedron.
+const TETRA: &str = "solid Mesh\r
+  facet normal 0.000000e+00 0.000000e+00 -1.000000e+00\r
+    Outer loop\r
+      vertex 0.000000e+00 0.000000e+00 0.000000e+00\r
+      vertex 0.000000e+00 1.000000e+01 0.000000e+00\r
+      vertex 1.000000e+01 0.000000e+00 0.000000e+00\r
+    endloop\r
+  endfacet\r
+  facet normal 0.000000e+00 -1.000000e+00 0.000000e+00\r
+    outer loop\r
+      vertex 0.000000e+00 0.000000e+00 0.000000e+00\r
+      vertex 1.000000e+01 0.000000e+00 0.000000e+00\r
+      vertex 0.000000e+00 0.000000e+00 1.000000e+01\r
+    endloop\r
+  endfacet\r
+  facet normal -1.000000e+00 0.000000e+00 0.000000e+00\r
+    outer loop\r
+      vertex 0.000000e+00 0.000000e+00 0.000000e+00\r
+      vertex 0.000000e+00 0.000000e+00 1.000000e+01\r
+      vertex 0.000000e+00 1.000000e+01 0.000000e+00\r
+    endloop\r
+  endfacet\r
+  facet normal 1.000000e+00 1.000000e+00 1.000000e+00\r
+    outer loop\r
+      vertex 1.000000e+01 0.000000e+00 0.000000e+00\r
+      vertex 0.000000e+00 1.000000e+01 0.000000e+00\r
+      vertex 0.000000e+00 0.000000e+00 1.000000e+01\r
+    endloop\r
+  endfacet\r
+endsolid Mesh\r
+";
 
 // A drawing up to its first line, and from behind its last one on.
 const HEAD: &str = "<?xml version=\"1.0\" encoding=\"UTF-8\"?>
@@ -141,19 +175,30 @@ fn scenes_show_what_is_visible(rt: HostRuntime) -> Result<(), Fail> {
 }
 
 #[test]
-fn each_refusal_has_its_status(rt: HostRuntime) -> Result<(), Fail> {
+fn each_refusal_has_its_status_and_its_line(rt: HostRuntime) -> Result<(), Fail> {
     let alloc = rt.alloc();
-    for (words, part, fail, status, drawn) in [
-        ("p", "", 9, 4, false),
-        ("p", OPEN_CUBE, 9, 5, false),
-        ("", CUBE, 9, 2, false),
-        ("p p", CUBE, 9, 2, false),
-        ("-p", CUBE, 9, 2, false),
-        ("q", CUBE, 9, 7, false),
-        ("p", CUBE, 0, 7, false),
-        ("p", CUBE, 1, 7, false),
-        ("p", CUBE, 2, 8, true),
-        ("p", CUBE, 3, 0, true),
+    let usage = "draw: usage: draw PART [--job JOB] [--out OUT]\n";
+    let unread = "draw: cannot read the part\n";
+    for (words, part, fail, status, drawn, line) in [
+        ("p", "", 9, 4, false, "draw: part: line 1: missing count\n"),
+        // The warning fails.
+        ("p", "", 1, 4, false, ""),
+        (
+            "p",
+            OPEN_CUBE,
+            9,
+            5,
+            false,
+            "draw: solid: side 2 of triangle 3 has no partner\n",
+        ),
+        ("", CUBE, 9, 2, false, usage),
+        ("p p", CUBE, 9, 2, false, usage),
+        ("-p", CUBE, 9, 2, false, usage),
+        ("q", CUBE, 9, 7, false, unread),
+        ("p", CUBE, 0, 7, false, unread),
+        ("p", CUBE, 1, 7, false, unread),
+        ("p", CUBE, 2, 8, true, "draw: cannot write the drawing\n"),
+        ("p", CUBE, 3, 0, true, ""),
     ] {
         let mut desk = desk_of(alloc, part, fail)?;
         let outcome = draw(alloc, &words_of(alloc, words)?, &mut desk);
@@ -168,6 +213,63 @@ fn each_refusal_has_its_status(rt: HostRuntime) -> Result<(), Fail> {
             status == 0,
             "{words}, call {fail} fails"
         );
+        assert_eq!(rt; desk.warned_bytes(), line.as_bytes());
+        assert_eq!(rt; desk.said_bytes(), b"".as_slice());
+    }
+    Ok(())
+}
+
+#[test]
+fn a_part_may_be_too_long(rt: HostRuntime) -> Result<(), Fail> {
+    let alloc = rt.alloc();
+    let mut files = Vec::new(alloc);
+    files.push((Name::new(alloc, "p")?, vec![in alloc; b' '; 16_777_217]?))?;
+    let mut desk = MemoryDesk::new(alloc, files, Vec::new(alloc));
+    let outcome = draw(alloc, &words_of(alloc, "p")?, &mut desk);
+    assert_eq!(rt; outcome.fault, Some(Fault::PartTooLong));
+    Ok(())
+}
+
+// A text of STL with these facets: each three letters, a letter a corner.
+fn stl_of(alloc: Global, facets: &str) -> Result<String, AllocError> {
+    let mut text = String::from_str(alloc, "solid\n")?;
+    for facet in facets.split_whitespace() {
+        text.push_str("facet normal 0 0 0 outer loop")?;
+        for corner in facet.chars() {
+            text.push_str(match corner {
+                'X' => " vertex 10 0 0",
+                'Y' => " vertex 0 10 0",
+                'Z' => " vertex 0 0 10",
+                'M' => " vertex 5 0 0",
+                _ => " vertex 0 0 0",
+            })?;
+        }
+        text.push_str(" endloop endfacet\n")?;
+    }
+    text.push_str("endsolid\n")?;
+    Ok(text)
+}
+
+#[test]
+fn each_surface_is_closed_or_refused_by_its_fault(rt: HostRuntime) -> Result<(), Fail> {
+    let alloc = rt.alloc();
+    for (facets, fault) in [
+        ("OYX OXZ OZY XYZ", None),
+        ("OOX OYX OXZ OZO OZY XYZ", None),
+        (
+            "OYX OZX OZY XYZ",
+            Some(Fault::Mesh(MeshFault::SameWay(0, 1))),
+        ),
+        ("OYX OXZ OZY", Some(Fault::Mesh(MeshFault::Unpaired(0, 1)))),
+        ("OYX OXZ OZY XYZ OMX", Some(Fault::Mesh(MeshFault::Flat(4)))),
+        ("OXY", Some(Fault::Mesh(MeshFault::Unpaired(0, 0)))),
+        ("OXY YXO", Some(Fault::Mesh(MeshFault::Double(0, 1)))),
+        ("OOX", Some(Fault::Nothing)),
+        ("", Some(Fault::Nothing)),
+    ] {
+        let mut desk = desk_of(alloc, stl_of(alloc, facets)?.as_str(), 9)?;
+        let outcome = draw(alloc, &words_of(alloc, "p")?, &mut desk);
+        assert_eq!(rt; outcome.fault, fault, "{facets}");
     }
     Ok(())
 }
@@ -205,6 +307,17 @@ fn each_text_is_read_or_refused_on_its_line(rt: HostRuntime) -> Result<(), Fail>
             on_line(17, PartKind::Trailing),
         ),
         (USHAPE, "", on_line(11, PartKind::FaceUnseen(0))),
+        (
+            "solid\nfacet normal 0 0 1\nouter lop",
+            "",
+            on_line(3, PartKind::Expected(Word::Loop)),
+        ),
+        (
+            "solid",
+            "",
+            on_line(1, PartKind::Missing(Want::Keyword(Word::Facet))),
+        ),
+        ("\n\tSoLiD a b\r\n\nendSOLID", " a", Some(Fault::Nothing)),
         ("OFF\n3 x 0", "", on_line(2, PartKind::BadNumber)),
         ("OFF\n1 0 0\n0 1e9 0", "", on_line(3, PartKind::TooLarge)),
         (NO_FACE, "-3 0 1 2", on_line(4, PartKind::BadNumber)),
@@ -244,19 +357,21 @@ fn each_text_is_read_or_refused_on_its_line(rt: HostRuntime) -> Result<(), Fail>
     Ok(())
 }
 
-// A text that is cut off is no part, but where its last line feed alone is missing.
+// A text that is cut off is no part, but where nothing that is read is missing.
 #[test]
-fn two_beginnings_of_a_cube_are_a_cube(rt: HostRuntime) -> Result<(), Fail> {
+fn few_beginnings_of_a_part_are_one(rt: HostRuntime) -> Result<(), Fail> {
     let alloc = rt.alloc();
-    let text = format!(in alloc; "{FIVE_FACES}4 3 0 4 7\n")?;
-    for end in 0..=text.len() {
-        let Some(part) = text.as_str().get(..end) else {
-            return Err("no text".into());
-        };
-        let mut desk = desk_of(alloc, part, 9)?;
-        let outcome = draw(alloc, &words_of(alloc, "p")?, &mut desk);
-        let whole = text.len() - end <= 1;
-        assert_eq!(rt; outcome.status == 0, whole, "{end} bytes");
+    let cube = format!(in alloc; "{FIVE_FACES}4 3 0 4 7\n")?;
+    for (text, rest) in [(cube.as_str(), 1), (TETRA, 7)] {
+        for end in 0..=text.len() {
+            let Some(part) = text.get(..end) else {
+                return Err("no text".into());
+            };
+            let mut desk = desk_of(alloc, part, 9)?;
+            let outcome = draw(alloc, &words_of(alloc, "p")?, &mut desk);
+            let whole = text.len() - end <= rest;
+            assert_eq!(rt; outcome.status == 0, whole, "{end} bytes");
+        }
     }
     Ok(())
 }

@@ -1,0 +1,34 @@
+-- What the text of a part says, whatever its form.
+use Rattle.std.specs.Prelude.{ℕ, Bool, true, false, List, [], ◌∷◌, Result, codes}
+use Rattle.lex_lines.specs.declared.token.Token.{Token}
+use Rattle.lex_lines.specs.Places.{AreTokens}
+use Rattle.weld.specs.Raw.{Raw, seen}
+use Rattle.weld.specs.declared.fault.PartError.{PartError}
+use Rattle.weld.specs.declared.fault.PartError.TheVariants.{Part, Memory}
+use Rattle.weld.specs.declared.fault.PartFault.{PartFault}
+use Rattle.weld.specs.declared.raw_part.RawPart.{RawPart}
+use Rattle.part_text.specs.Words.{text_of, is_word}
+use Rattle.off_reader.specs.Off.{ReadsOff}
+use Rattle.stl_reader.specs.Stl.{ReadsStl}
+use Rattle.std.specs.Prelude.{Ok, Err}
+
+-- the first token is the word `solid`, in any case of its letters
+abbrev pub begins_solid : List ℕ → List Token → Bool
+begins_solid bytes [] = false
+begins_solid bytes (t ∷ tokens) = is_word (codes "solid") (text_of bytes t)
+
+-- as STL, or as OFF
+abbrev pub ReadsAs : Bool → ℕ → List ℕ → Result Raw PartFault → Type 0
+ReadsAs true decimals bytes r = ReadsStl decimals bytes r
+ReadsAs false decimals bytes r = ReadsOff decimals bytes r
+
+-- what the text says, in units of 10^-decimals mm: it is STL where its first token, without comments, is `solid`, and else OFF
+abbrev pub ReadsPartText : ℕ → List ℕ → Result Raw PartFault → Type 0
+ReadsPartText decimals bytes r =
+    (tokens : List Token) × AreTokens false bytes tokens × ReadsAs (begins_solid bytes tokens) decimals bytes r
+
+-- the answer is what the text says, or want of memory
+abbrev pub AnswersPart : ℕ → List ℕ → Result RawPart PartError → Type 0
+AnswersPart decimals bytes (Ok raw) = ReadsPartText decimals bytes (Ok (seen raw))
+AnswersPart decimals bytes (Err (Part fault)) = ReadsPartText decimals bytes (Err fault)
+AnswersPart decimals bytes (Err (Memory e)) = Unit {0}
