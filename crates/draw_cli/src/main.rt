@@ -8,7 +8,7 @@ use disk::DiskDesk;
 use draw_core::{MEMORY_LINE, draw};
 use std::alloc::Global;
 use std::process::ExitCode;
-use std::rt::Env;
+use std::rt::{Env, Stderr, Stdout};
 use std::{env, io};
 
 // The words after the program's name.
@@ -32,7 +32,7 @@ fn main(rt: HostRuntime) -> ExitCode {
     let alloc = rt.alloc();
     let words = words_of(&rt);
     let (out, err) = (rt.stdout(), rt.stderr());
-    let mut desk = DiskDesk::new(alloc, rt, out, err);
+    let mut desk: DiskDesk<_, Stdout, Stderr> = DiskDesk::new(alloc, rt, out, err);
     ExitCode::from(status_of(alloc, words, &mut desk))
 }
 

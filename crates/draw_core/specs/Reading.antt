@@ -22,7 +22,7 @@ abbrev pub ReadsAs : Bool → ℕ → List ℕ → Result Raw PartFault → Type
 ReadsAs true decimals bytes r = ReadsStl decimals bytes r
 ReadsAs false decimals bytes r = ReadsOff decimals bytes r
 
--- what the text says, in units of 10^-decimals mm: it is STL where its first token, without comments, is `solid`, and else OFF
+-- what the text says, in units of 10^-decimals mm: it is STL where its first token, no byte being in a comment, is `solid`, and else OFF
 abbrev pub ReadsPartText : ℕ → List ℕ → Result Raw PartFault → Type 0
 ReadsPartText decimals bytes r =
     (tokens : List Token) × AreTokens false bytes tokens × ReadsAs (begins_solid bytes tokens) decimals bytes r

@@ -127,3 +127,87 @@ fn word_text(word: &Word) -> &'static str
         Word::Endfacet => "endfacet",
     }
 }
+
+#[cfg(test)]
+mod tests {
+    use super::*;
+    use crate::fault::Input;
+    use std::test::Fail;
+
+    #[test]
+    fn each_fault_has_its_line(rt: HostRuntime) -> Result<(), Fail> {
+        let part = |kind| Fault::Part(PartFault { line: 7, kind });
+        for (fault, line) in [
+            (Fault::ReadFault(Input::Part), "cannot read the part"),
+            (Fault::PartTooLong, "part: more than 16777216 bytes"),
+            (part(PartKind::Binary), "part: line 7: binary"),
+            (part(PartKind::Prefixed), "part: line 7: prefixed OFF"),
+            (
+                part(PartKind::Missing(Want::Count)),
+                "part: line 7: missing count",
+            ),
+            (
+                part(PartKind::Missing(Want::Coordinate)),
+                "part: line 7: missing coordinate",
+            ),
+            (
+                part(PartKind::Missing(Want::FaceSize)),
+                "part: line 7: missing face size",
+            ),
+            (
+                part(PartKind::Missing(Want::Index)),
+                "part: line 7: missing index",
+            ),
+            (
+                part(PartKind::Missing(Want::Normal)),
+                "part: line 7: missing normal",
+            ),
+            (
+                part(PartKind::Missing(Want::Keyword(Word::Facet))),
+                "part: line 7: missing facet or endsolid",
+            ),
+            (part(PartKind::BadNumber), "part: line 7: bad number"),
+            (part(PartKind::TooLarge), "part: line 7: number too large"),
+            (part(PartKind::BadIndex(12)), "part: line 7: no vertex 12"),
+            (
+                part(PartKind::FaceSize(2)),
+                "part: line 7: face of 2 corners",
+            ),
+            (
+                part(PartKind::TooMany),
+                "part: line 7: too many vertices or triangles",
+            ),
+            (
+                part(PartKind::Trailing),
+                "part: line 7: text after the last face",
+            ),
+            (
+                part(PartKind::FaceUnseen(3)),
+                "part: line 7: face 3 is not seen whole from a corner",
+            ),
+            (
+                part(PartKind::Expected(Word::Endloop)),
+                "part: line 7: expected endloop",
+            ),
+            (Fault::Nothing, "part: no triangle"),
+            (Fault::Mesh(MeshFault::Flat(4)), "solid: triangle 4 is flat"),
+            (
+                Fault::Mesh(MeshFault::SameWay(0, 12)),
+                "solid: triangles 0 and 12 use a side the same way",
+            ),
+            (
+                Fault::Mesh(MeshFault::Unpaired(5, 1)),
+                "solid: side 1 of triangle 5 has no partner",
+            ),
+            (
+                Fault::Mesh(MeshFault::Double(0, 1)),
+                "solid: triangles 0 and 1 have the same corners",
+            ),
+            (Fault::Memory, "out of memory"),
+        ] {
+            let line = format!(in rt.alloc(); "draw: {line}\n")?;
+            assert_eq!(rt; line_of(rt.alloc(), &fault)?.as_str(), line.as_str());
+        }
+        Ok(())
+    }
+}

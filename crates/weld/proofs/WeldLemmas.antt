@@ -117,6 +117,7 @@ module _ (raw : Raw) (keys : List Place) (corners : List Corner) (triangles : Li
 
   pub is_weld : IsWeldOf raw corners triangles
   is_weld = record {
+    in_range = subst (λ (n : ℕ). All (IsBelow n) triangles) (length-map corners of_corner) welded.in_range;
     proper = all_proper;
     distinct = corners_distinct keys corners tied;
     used = λ i h. welded.numbered.used i (omega (arith, length-map corners of_corner));

@@ -1,10 +1,11 @@
 -- The corners and triangles that are left of a raw part once equal corners are one.
-use Rattle.std.specs.Prelude.{◌≡◌, ◌≢◌, ℕ, ◌<◌, pos, Bool, not, ◌&&◌, List, [], ◌∷◌, length, map, filter, take, get_or, slice_get, Some, Contains, AllPairs}
+use Rattle.std.specs.Prelude.{◌≡◌, ◌≢◌, ℕ, ◌<◌, pos, Bool, not, ◌&&◌, List, [], ◌∷◌, length, map, filter, take, get_or, slice_get, Some, Contains, All, AllPairs}
 use Rattle.std.specs.List.{flat_map}
 use Rattle.std.specs.Ordering.{int_eq}
 use Rattle.lattice.specs.declared.points.Corner.{Corner}
 use Rattle.lattice.specs.declared.soup.Tri.{Tri}
 use Rattle.lattice.specs.Points.{of_corner}
+use Rattle.lattice.specs.Triangles.{IsBelow}
 use Rattle.lattice.specs.Triple.{Triple}
 use Rattle.weld.specs.Raw.{Raw}
 
@@ -32,6 +33,8 @@ abbrev pub numbers_of : List Tri → List ℕ
 numbers_of triangles = flat_map (λ t. t.a ∷ t.b ∷ t.c ∷ []) triangles
 
 pub record IsWeldOf (raw : Raw) (corners : List Corner) (triangles : List Tri) : Type 0 where
+  -- each number is that of a corner
+  pub in_range : All (IsBelow (length corners)) triangles
   -- the triangles with three different places, in order
   pub proper : map (placed (map of_corner corners)) triangles ≡ proper_of raw
   -- no two corners are at one place
