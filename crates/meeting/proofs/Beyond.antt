@@ -1,0 +1,219 @@
+-- Where an edge from a triangle's corner has another point in common with it.
+use Rattle.std.proofs.Common.{◌≡◌, ℕ, zero, suc, ◌+◌, ◌<◌, [], ◌∷◌, refl, sym, ◌∙◌, arith}
+use Rattle.std.specs.Prelude.{◌↔◌, ℤ, pos, ◌+ℤ◌, ◌-ℤ◌, ◌*ℤ◌, ◌≤ℤ◌, ◌<ℤ◌, unsigned_abs}
+use Rattle.std.proofs.lemmas.Int.{ints, by_lt_z}
+use Rattle.integers.proofs.Ring.{var, con, ◌⊕◌, ◌⊖◌, ◌⊗◌, ring, by_one, by_two}
+use Rattle.integers.proofs.Signs.{mul_nonneg, nonneg_of_mul, zero_of_mul}
+use Rattle.lattice.specs.declared.points.Corner.{Corner}
+use Rattle.lattice.specs.Triple.{Triple, det}
+use Rattle.lattice.specs.Points.{difference, point_of, AreOnePoint}
+use Rattle.geometry.specs.Faces.{facing_of, edge_sum, face_sum}
+use Rattle.meeting.specs.Touching.{TouchBeyond}
+use Rattle.meeting.specs.Rises.{rise_of}
+use Rattle.meeting.proofs.Letters.{A, B, C, rises, facings, values}
+use Rattle.meeting.proofs.Weights.{weights-sum, weigh_x, weigh_y, weigh_z, level-at}
+use Rattle.meeting.proofs.CommonPoints.{nonneg_at, nonneg_of_pos, natural, is_natural, weight-ca, weight-ab}
+
+-- ---- an edge whose two ends are one corner has one point
+record AreAlike (a q : Corner) : Type 0 where
+  x : q.x ≡ a.x
+  y : q.y ≡ a.y
+  z : q.z ≡ a.z
+
+alike-point : (a q : Corner) (i j : ℕ) → AreAlike a q → AreOnePoint (point_of a) (edge_sum a q i j)
+alike-point a q i j same = record { x = one a.x q.x same.x; y = one a.y q.y same.y; z = one a.z q.z same.z }
+  where
+    one : (f g : ℤ) → g ≡ f → f *ℤ (pos i +ℤ pos j) ≡ ((pos i *ℤ f) +ℤ (pos j *ℤ g)) *ℤ pos 1
+    one f g e = by_one _ _ g f (pos 0 -ℤ pos j)
+        (ring (pos i ∷ pos j ∷ f ∷ g ∷ [])
+        ((var 2 ⊗ (var 0 ⊕ var 1)) ⊖ (((var 0 ⊗ var 2) ⊕ (var 1 ⊗ var 3)) ⊗ con (pos 1)))
+        ((var 3 ⊖ var 2) ⊗ (con (pos 0) ⊖ var 1)) refl) e
+
+-- and where it has another, the first is not all of its sum
+alike-of-point : (a q : Corner) (i j : ℕ) → 0 < j → AreOnePoint (point_of a) (edge_sum a q i j) → AreAlike a q
+alike-of-point a q i j some h = record { x = one a.x q.x h.x; y = one a.y q.y h.y; z = one a.z q.z h.z }
+  where
+    close : (f g : ℤ) → g -ℤ f ≡ pos 0 → g ≡ f
+    close f g e = omega (arith, ints)
+
+    one : (f g : ℤ) → f *ℤ (pos i +ℤ pos j) ≡ ((pos i *ℤ f) +ℤ (pos j *ℤ g)) *ℤ pos 1 → g ≡ f
+    one f g e = close f g (zero_of_mul (pos j) (g -ℤ f) (omega (arith, ints))
+        (by_one _ _ (((pos i *ℤ f) +ℤ (pos j *ℤ g)) *ℤ pos 1) (f *ℤ (pos i +ℤ pos j)) (pos 1)
+        (ring (pos i ∷ pos j ∷ f ∷ g ∷ [])
+        ((var 1 ⊗ (var 3 ⊖ var 2)) ⊖ con (pos 0))
+        (((((var 0 ⊗ var 2) ⊕ (var 1 ⊗ var 3)) ⊗ con (pos 1)) ⊖ (var 2 ⊗ (var 0 ⊕ var 1))) ⊗ con (pos 1)) refl) (sym e)))
+
+off-start : (a q : Corner) (i j : ℕ) → ¬ AreOnePoint (point_of a) (edge_sum a q i j) → 0 < j
+off-start a q i zero off = absurd (off (record { x = none a.x q.x; y = none a.y q.y; z = none a.z q.z }))
+  where
+    none : (f g : ℤ) → f *ℤ (pos i +ℤ pos 0) ≡ ((pos i *ℤ f) +ℤ (pos 0 *ℤ g)) *ℤ pos 1
+    none f g = ring (pos i ∷ f ∷ g ∷ []) (var 1 ⊗ (var 0 ⊕ con (pos 0))) (((var 0 ⊗ var 1) ⊕ (con (pos 0) ⊗ var 2)) ⊗ con (pos 1)) refl
+off-start a q i (suc j) off = omega arith
+
+module _ (d : Triple) (a b c q : Corner) where
+  abbrev F : ℤ
+  F = facing_of d a b c
+
+  abbrev bc : ℤ
+  bc = facing_of d b c q
+
+  abbrev ca : ℤ
+  ca = facing_of d c a q
+
+  abbrev ab : ℤ
+  ab = facing_of d a b q
+
+  -- the first corner is on its sides
+  ca-at-a : facing_of d c a a ≡ pos 0
+  ca-at-a = ring (values d a b c a a []) (facings C A A) (con (pos 0)) refl
+
+  ab-at-a : facing_of d a b a ≡ pos 0
+  ab-at-a = ring (values d a b c a a []) (facings A B A) (con (pos 0)) refl
+
+  rise-at-a : rise_of a b c a ≡ pos 0
+  rise-at-a = ring (values d a b c a a []) (rises A B C A) (con (pos 0)) refl
+
+  on-sides : AreAlike a q → ca +ℤ ab ≡ pos 0
+  on-sides same = both _ _
+      ((λ t. det d (difference c a) (record { x = same.x t -ℤ c.x; y = same.y t -ℤ c.y; z = same.z t -ℤ c.z })) ∙ ca-at-a)
+      ((λ t. det d (difference a b) (record { x = same.x t -ℤ a.x; y = same.y t -ℤ a.y; z = same.z t -ℤ a.z })) ∙ ab-at-a)
+    where
+      both : (y z : ℤ) → y ≡ pos 0 → z ≡ pos 0 → y +ℤ z ≡ pos 0
+      both y z e f = omega (arith, ints)
+
+  module _ (front : pos 0 <ℤ F) where
+    -- a corner that is in the plane and on two sides is the first
+    alike-of-sides : rise_of a b c q ≡ pos 0 → ca ≡ pos 0 → ab ≡ pos 0 → AreAlike a q
+    alike-of-sides level on_ca on_ab = record {
+      x = one a.x b.x c.x q.x d.x (weigh_x d a b c q);
+      y = one a.y b.y c.y q.y d.y (weigh_y d a b c q);
+      z = one a.z b.z c.z q.z d.z (weigh_z d a b c q);
+    }
+      where
+        close : (f g : ℤ) → g -ℤ f ≡ pos 0 → g ≡ f
+        close f g e = omega (arith, ints)
+
+        sum : (bc +ℤ pos 0) +ℤ pos 0 ≡ F
+        sum = sym (λ t. (bc +ℤ on_ca t) +ℤ on_ab t) ∙ weights-sum d a b c q
+
+        one : (f g h k r : ℤ) → ((bc *ℤ f) +ℤ (ca *ℤ g)) +ℤ (ab *ℤ h) ≡ (F *ℤ k) -ℤ (rise_of a b c q *ℤ r) → k ≡ f
+        one f g h k r e = close f k (zero_of_mul F (k -ℤ f) front
+            (by_two _ _ (((bc *ℤ f) +ℤ (pos 0 *ℤ g)) +ℤ (pos 0 *ℤ h)) ((F *ℤ k) -ℤ (pos 0 *ℤ r)) (pos 0 -ℤ pos 1) ((bc +ℤ pos 0) +ℤ pos 0) F f
+            (ring (bc ∷ F ∷ f ∷ g ∷ h ∷ k ∷ r ∷ [])
+            ((var 1 ⊗ (var 5 ⊖ var 2)) ⊖ con (pos 0))
+            ((((((var 0 ⊗ var 2) ⊕ (con (pos 0) ⊗ var 3)) ⊕ (con (pos 0) ⊗ var 4)) ⊖ ((var 1 ⊗ var 5) ⊖ (con (pos 0) ⊗ var 6))) ⊗ (con (pos 0) ⊖ con (pos 1)))
+            ⊕ ((((var 0 ⊕ con (pos 0)) ⊕ con (pos 0)) ⊖ var 1) ⊗ var 2)) refl)
+            (sym (λ t. ((bc *ℤ f) +ℤ (on_ca t *ℤ g)) +ℤ (on_ab t *ℤ h)) ∙ e ∙ (λ t. (F *ℤ k) -ℤ (level t *ℤ r))) sum))
+
+    -- ---- from a common point
+    module _ (t : TouchBeyond a b c q) where
+      module _ (i j : ℕ) (is : t.point ≡ edge_sum a q i j) (k l m : ℕ) (on_face : t.point ≡ face_sum a b c k l m) where
+        off-sum : ¬ AreOnePoint (point_of a) (edge_sum a q i j)
+        off-sum same = t.off (subst-point same)
+          where
+            subst-point : AreOnePoint (point_of a) (edge_sum a q i j) → AreOnePoint (point_of a) t.point
+            subst-point h = record {
+              x = (λ s. a.x *ℤ (is s).w) ∙ h.x ∙ sym (λ s. (is s).x *ℤ pos 1);
+              y = (λ s. a.y *ℤ (is s).w) ∙ h.y ∙ sym (λ s. (is s).y *ℤ pos 1);
+              z = (λ s. a.z *ℤ (is s).w) ∙ h.z ∙ sym (λ s. (is s).z *ℤ pos 1);
+            }
+
+        ahead : pos 0 <ℤ pos j
+        ahead = count (off-start a q i j off-sum)
+          where
+            count : 0 < j → pos 0 <ℤ pos j
+            count h = omega (arith, ints)
+
+        same : edge_sum a q i j ≡ face_sum a b c k l m
+        same = sym is ∙ on_face
+
+        -- what is linear along the edge and 0 at its start
+        last : (f g n : ℤ) → f ≡ pos 0 → (pos i *ℤ f) +ℤ (pos j *ℤ g) ≡ n → pos j *ℤ g ≡ n
+        last f g n e h = by_two _ _ ((pos i *ℤ f) +ℤ (pos j *ℤ g)) n (pos 1) f (pos 0) (pos 0 -ℤ pos i)
+            (ring (pos i ∷ pos j ∷ f ∷ g ∷ n ∷ [])
+            ((var 1 ⊗ var 3) ⊖ var 4)
+            (((((var 0 ⊗ var 2) ⊕ (var 1 ⊗ var 3)) ⊖ var 4) ⊗ con (pos 1)) ⊕ ((var 2 ⊖ con (pos 0)) ⊗ (con (pos 0) ⊖ var 0))) refl) h e
+
+        plane : rise_of a b c q ≡ pos 0
+        plane = zero_of_mul (pos j) _ ahead (last _ _ _ rise-at-a (level-at a b c a q i j k l m same))
+
+        ca-least : pos 0 ≤ℤ ca
+        ca-least = nonneg_of_mul (pos j) ca ahead (nonneg_at _ _ (last _ _ _ ca-at-a (weight-ca d a b c a q i j k l m same)) (mul_nonneg (pos l) F (natural l) (nonneg_of_pos F front)))
+
+        ab-least : pos 0 ≤ℤ ab
+        ab-least = nonneg_of_mul (pos j) ab ahead (nonneg_at _ _ (last _ _ _ ab-at-a (weight-ab d a b c a q i j k l m same)) (mul_nonneg (pos m) F (natural m) (nonneg_of_pos F front)))
+
+        some : pos 0 <ℤ (ca +ℤ ab)
+        some = by_lt_z (pos 0) (ca +ℤ ab) (λ h. h)
+            (λ h. let e = zeros ca ab ca-least ab-least h in absurd (off-sum (alike-point a q i j (alike-of-sides plane (e.0) (e.1)))))
+          where
+            zeros : (y z : ℤ) → pos 0 ≤ℤ y → pos 0 ≤ℤ z → (y +ℤ z) ≤ℤ pos 0 → (y ≡ pos 0) × (z ≡ pos 0)
+            zeros y z p r h = (omega (arith, ints), omega (arith, ints))
+
+      pub beyond-level : rise_of a b c q ≡ pos 0
+      beyond-level = let e = t.on_edge in let f = t.on_face in plane e.0 e.1 e.3 f.0 f.1 f.2 f.4
+
+      pub beyond-sides : (pos 0 ≤ℤ ca) × (pos 0 ≤ℤ ab) × (pos 0 <ℤ (ca +ℤ ab))
+      beyond-sides =
+          let e = t.on_edge in
+          let f = t.on_face in
+          (ca-least e.0 e.1 e.3 f.0 f.1 f.2 f.4, ab-least e.0 e.1 e.3 f.0 f.1 f.2 f.4, some e.0 e.1 e.3 f.0 f.1 f.2 f.4)
+
+    -- ---- to a common point
+    module _ (level : rise_of a b c q ≡ pos 0) (ca_least : pos 0 ≤ℤ ca) (ab_least : pos 0 ≤ℤ ab) (some : pos 0 <ℤ (ca +ℤ ab)) where
+      abbrev k : ℕ
+      k = unsigned_abs F
+
+      abbrev l : ℕ
+      l = unsigned_abs ca
+
+      abbrev m : ℕ
+      m = unsigned_abs ab
+
+      is_k : pos k ≡ F
+      is_k = is_natural F (nonneg_of_pos F front)
+
+      is_l : pos l ≡ ca
+      is_l = is_natural ca ca_least
+
+      is_m : pos m ≡ ab
+      is_m = is_natural ab ab_least
+
+      coordinate : (f g h y r : ℤ) → ((bc *ℤ f) +ℤ (ca *ℤ g)) +ℤ (ab *ℤ h) ≡ (F *ℤ y) -ℤ (rise_of a b c q *ℤ r)
+          → ((pos l +ℤ pos m) *ℤ f) +ℤ (pos k *ℤ y) ≡ ((pos k *ℤ f) +ℤ (pos l *ℤ g)) +ℤ (pos m *ℤ h)
+      coordinate f g h y r e =
+          (λ t. ((is_l t +ℤ is_m t) *ℤ f) +ℤ (is_k t *ℤ y))
+          ∙ by_two _ _ (((bc *ℤ f) +ℤ (ca *ℤ g)) +ℤ (ab *ℤ h)) ((F *ℤ y) -ℤ (pos 0 *ℤ r)) (pos 0 -ℤ pos 1) ((bc +ℤ ca) +ℤ ab) F f
+          (ring (bc ∷ ca ∷ ab ∷ F ∷ f ∷ g ∷ h ∷ y ∷ r ∷ [])
+          ((((var 1 ⊕ var 2) ⊗ var 4) ⊕ (var 3 ⊗ var 7)) ⊖ (((var 3 ⊗ var 4) ⊕ (var 1 ⊗ var 5)) ⊕ (var 2 ⊗ var 6)))
+          ((((((var 0 ⊗ var 4) ⊕ (var 1 ⊗ var 5)) ⊕ (var 2 ⊗ var 6)) ⊖ ((var 3 ⊗ var 7) ⊖ (con (pos 0) ⊗ var 8))) ⊗ (con (pos 0) ⊖ con (pos 1)))
+          ⊕ ((((var 0 ⊕ var 1) ⊕ var 2) ⊖ var 3) ⊗ var 4)) refl)
+          (e ∙ (λ t. (F *ℤ y) -ℤ (level t *ℤ r))) (weights-sum d a b c q)
+          ∙ sym (λ t. ((is_k t *ℤ f) +ℤ (is_l t *ℤ g)) +ℤ (is_m t *ℤ h))
+
+      weights : (l + m) + k ≡ (k + l) + m
+      weights = omega arith
+
+      positive : 0 < k
+      positive = count k F is_k front
+        where
+          count : (n : ℕ) (z : ℤ) → pos n ≡ z → pos 0 <ℤ z → 0 < n
+          count n z e h = omega (arith, ints)
+
+      pub beyond-of-sides : TouchBeyond a b c q
+      beyond-of-sides =
+          let on_x = coordinate a.x b.x c.x q.x d.x (weigh_x d a b c q) in
+          let on_y = coordinate a.y b.y c.y q.y d.y (weigh_y d a b c q) in
+          let on_z = coordinate a.z b.z c.z q.z d.z (weigh_z d a b c q) in
+          record {
+            point = edge_sum a q (l + m) k;
+            on_edge = (l + m, k, omega (arith, positive), refl);
+            on_face = (k, l, m, omega (arith, positive), λ t. record { x = on_x t; y = on_y t; z = on_z t; w = pos (weights t) });
+            off = λ h. not_so _ some (on-sides (alike-of-point a q (l + m) k positive h));
+          }
+        where
+          not_so : (z : ℤ) → pos 0 <ℤ z → z ≡ pos 0 → ⊥
+          not_so z h e = omega (arith, ints)
+
+    pub beyond : rise_of a b c q ≡ pos 0 → TouchBeyond a b c q ↔ ((pos 0 ≤ℤ ca) × (pos 0 ≤ℤ ab) × (pos 0 <ℤ (ca +ℤ ab)))
+    beyond level = (beyond-sides, λ (p, r, s). beyond-of-sides level p r s)

@@ -1,0 +1,12 @@
+pub mod Machine
+pub mod Products
+pub mod Ranges
+pub mod BoxAxes
+pub mod Letters
+pub mod Weights
+pub mod CommonPoints
+pub mod Through
+pub mod InPlane
+pub mod Beyond
+pub mod Fronts
+pub mod TouchingBoxes

@@ -1,0 +1,6 @@
+pub mod Touching
+pub mod Ranges
+pub mod Boxes
+pub mod Rises
+pub mod Courses
+pub mod Places
