@@ -1,4 +1,4 @@
--- Being on one line of sight is an equivalence of points, and what is regular stays so along one.
+-- Being on one line of sight is an equivalence of points, and what is ordinary stays so along one.
 use Rattle.std.proofs.Common.{◌≡◌, [], ◌∷◌, refl, sym, arith}
 use Rattle.std.specs.Prelude.{ℤ, pos, ◌-ℤ◌, ◌*ℤ◌, ◌<ℤ◌}
 use Rattle.std.proofs.lemmas.Int.{ints}
@@ -7,7 +7,7 @@ use Rattle.integers.proofs.Signs.{zero_of_mul}
 use Rattle.lattice.specs.Triple.{Triple}
 use Rattle.lattice.specs.Points.{Point, IsPoint, point_of, OnOneSight, across_of, upward_of}
 use Rattle.geometry.specs.Parts.{Part, Edge}
-use Rattle.geometry.specs.Views.{IsRegular, PassesOver}
+use Rattle.geometry.specs.Views.{IsOrdinary, PassesOver}
 
 pub same_of_gap : (x y : ℤ) → x -ℤ y ≡ pos 0 → x ≡ y
 same_of_gap x y h = omega (arith, ints)
@@ -31,13 +31,10 @@ module _ (d : Triple) where
     upward = cancel (upward_of d p) (upward_of d q) (upward_of d r) p.w q.w r.w positive h.upward k.upward;
   }
 
-  pub regular_along : (s : Part) (p q : Point) → IsPoint q → OnOneSight d q p → IsRegular d s p → IsRegular d s q
-  regular_along s p q positive h regular = record {
-    ordinary = record {
-      off_corners = λ c there k. regular.ordinary.off_corners c there (sight_on (point_of c) q p positive k h);
-      off_crossings = λ e f over_e over_f. regular.ordinary.off_crossings e f (along e over_e) (along f over_f);
-    };
-    off_meetings = λ e f r meets k. regular.off_meetings e f r meets (sight_on r q p positive k h);
+  pub ordinary_along : (s : Part) (p q : Point) → IsPoint q → OnOneSight d q p → IsOrdinary d s p → IsOrdinary d s q
+  ordinary_along s p q positive h ordinary = record {
+    off_corners = λ c there k. ordinary.off_corners c there (sight_on (point_of c) q p positive k h);
+    off_crossings = λ e f over_e over_f. ordinary.off_crossings e f (along e over_e) (along f over_f);
   }
     where
       along : (e : Edge s) → PassesOver d e q → PassesOver d e p

@@ -2,3 +2,4 @@ pub mod Faces
 pub mod Parts
 pub mod Views
 pub mod Pieces
+pub mod Sound

@@ -7,7 +7,7 @@ use Rattle.lattice.specs.declared.pieces.Style.TheVariants.{Solid}
 use Rattle.lattice.specs.Triple.{Triple}
 use Rattle.lattice.specs.Points.{Point, IsPoint, of_spot, across_of, upward_of, OnOneSight}
 use Rattle.geometry.specs.Parts.{Part}
-use Rattle.geometry.specs.Views.{IsHidden, IsOrdinary, IsRegular, IsDrawnPoint}
+use Rattle.geometry.specs.Views.{IsHidden, IsOrdinary, IsDrawnPoint}
 
 -- the sum of two spots with whole weights
 abbrev pub spot_sum : Spot → Spot → ℕ → ℕ → Point
@@ -50,10 +50,6 @@ ShowVisibleAt d fraction s pieces p = LiesOnStyle d pieces Solid p ↔ SeesDrawn
 -- so it is at each ordinary point
 abbrev pub ShowVisible : Triple → ℕ → Part → List Piece → Type 0
 ShowVisible d fraction s pieces = (p : Point) → IsPoint p → IsOrdinary d s p → ShowVisibleAt d fraction s pieces p
-
--- so it is at each ordinary point on whose line of sight no edge meets a face that does not have it as a side
-abbrev pub ShowVisibleOffMeetings : Triple → ℕ → Part → List Piece → Type 0
-ShowVisibleOffMeetings d fraction s pieces = (p : Point) → IsPoint p → IsRegular d s p → ShowVisibleAt d fraction s pieces p
 
 -- The pieces are right for the part, the crease's fraction and the direction. There is no other style than solid yet.
 pub record AreRight (d : Triple) (fraction : ℕ) (s : Part) (pieces : List Piece) : Type 0 where

@@ -4,8 +4,8 @@ use Rattle.std.specs.List.Sorted.{IsStrictlyIncreasing}
 use Rattle.std.proofs.Common.{zero, suc}
 use Rattle.lattice.specs.declared.points.Corner.{Corner}
 use Rattle.lattice.specs.Triple.{Triple, dot, det}
-use Rattle.lattice.specs.Points.{Point, point_of, AreOnePoint, OnOneSight}
-use Rattle.geometry.specs.Faces.{difference, normal, facing_of, FaceHides, IsPointOfEdge, IsPointOfFace}
+use Rattle.lattice.specs.Points.{Point, point_of, OnOneSight}
+use Rattle.geometry.specs.Faces.{difference, normal, facing_of, FaceHides, IsPointOfEdge}
 use Rattle.geometry.specs.Parts.{Part, Face, Edge, AreEdges, IsNumbered}
 
 -- 1, 0 or -1
@@ -60,22 +60,6 @@ PassesOver d e p = (q : Point) × IsPointOfEdge e.a e.b q × OnOneSight d q p
 pub record IsOrdinary (d : Triple) (s : Part) (p : Point) : Type 0 where
   pub off_corners : (c : Corner) → Contains s.corners c → ¬ OnOneSight d (point_of c) p
   pub off_crossings : (e f : Edge s) → PassesOver d e p → PassesOver d f p → AreParallel d e f
-
--- the point is on the edge, and on a face that does not have the edge as a side; it may be a corner of both
-pub record MeetsFace {s : Part} (e : Edge s) (f : Face s) (q : Point) : Type 0 where
-  pub not_left : f.number ≢ e.left.number
-  pub not_right : f.number ≢ e.right.number
-  pub on_edge : IsPointOfEdge e.a e.b q
-  pub on_face : IsPointOfFace f.a f.b f.c q
-
--- edges meet faces at corners only
-abbrev pub MeetAtCorners : Part → Type 0
-MeetAtCorners s = (e : Edge s) (f : Face s) (q : Point) → MeetsFace e f q → (c : Corner) × Contains s.corners c × AreOnePoint (point_of c) q
-
--- ordinary, and on its line of sight no edge meets a face that does not have it as a side
-pub record IsRegular (d : Triple) (s : Part) (p : Point) : Type 0 where
-  pub ordinary : IsOrdinary d s p
-  pub off_meetings : (e : Edge s) (f : Face s) (q : Point) → MeetsFace e f q → ¬ OnOneSight d q p
 
 -- a point of a drawn edge
 abbrev pub IsDrawnPoint : Triple → ℕ → Part → Point → Type 0

@@ -1,4 +1,4 @@
--- Where a face that is not edge-on begins or ceases to hide an edge, there is no regular point.
+-- Where a face that is not edge-on begins or ceases to hide an edge, there is no ordinary point.
 use Rattle.std.proofs.Common.{◌≡◌, ◌⊎◌, inl, inr, ℕ, zero, suc, ◌+◌, ◌*◌, ◌/◌, ◌%◌, ◌<◌, All, Contains, length, slice_get, Some, [], ◌∷◌, refl, sym, subst, ap, ◌∙◌, arith}
 use Rattle.std.specs.Prelude.{◌≢◌, ℤ, pos, ◌+ℤ◌, ◌-ℤ◌, ◌*ℤ◌, ◌<ℤ◌, ◌≤ℤ◌}
 use Rattle.std.proofs.lemmas.Int.{ints}
@@ -12,11 +12,12 @@ use Rattle.lattice.specs.Triple.{Triple}
 use Rattle.lattice.specs.Points.{Point, point_of, OnOneSight}
 use Rattle.lattice.proofs.SightLines.{sight_of_along}
 use Rattle.geometry.specs.Faces.{share_point, edge_sum, face_sum, facing_of, IsPointOfFace}
-use Rattle.geometry.specs.Parts.{Part, Face, Edge, IsHalf, IsClosed, start_of, end_of}
-use Rattle.geometry.specs.Views.{IsRegular}
+use Rattle.geometry.specs.Parts.{Part, Face, Edge, IsHalf, start_of, end_of}
+use Rattle.geometry.specs.Views.{IsOrdinary}
+use Rattle.geometry.specs.Sound.{IsSound}
 use Rattle.geometry.proofs.Listed.{same_element}
 use Rattle.hiding.specs.Values.{side_of, depth_of, AreCornersOf, IsSideOf}
-use Rattle.hiding.proofs.Regular.{not-at-corner, not-at-crossing, not-at-meeting}
+use Rattle.hiding.proofs.Ordinary.{not-at-corner, not-at-crossing, not-at-meeting}
 use Rattle.hiding.proofs.Weights.{natural, facing-round, depth-at_a, depth-at_b, depth-at_c, parallel-side, side-total, side-sight, meeting-point, scaled-sight}
 
 -- what is linear, f at one end and another g at the other, is 0 here
@@ -109,24 +110,24 @@ scaled-weight (suc w) u v h k = omega arith
 at-least : (z : ℤ) → pos 0 <ℤ z → pos 0 ≤ℤ z
 at-least z h = omega (arith, ints)
 
-module _ (d : Triple) (s : Part) (closed : IsClosed s) (in_range : All (IsBelow (length s.corners)) s.triangles) (e : Edge s) (p : Point) (u v : ℕ) (some : 0 < u + v) (at : p ≡ edge_sum e.a e.b u v) where
+module _ (d : Triple) (s : Part) (sound : IsSound s) (in_range : All (IsBelow (length s.corners)) s.triangles) (e : Edge s) (p : Point) (u v : ℕ) (some : 0 < u + v) (at : p ≡ edge_sum e.a e.b u v) where
   divisor : pos 0 <ℤ p.w
   divisor = positive-divisor (u + v) p.w (ap (λ (q : Point). q.w) at) some
 
   -- the edge passes over a side, and is not parallel to it
   not-over-side : (f : Face s) (a b c : Corner) → IsSideOf f a b → pos 0 <ℤ facing_of d a b c → pos 0 ≤ℤ side_of d b c p → pos 0 ≤ℤ side_of d c a p
-      → IsRoot (side_of d a b (point_of e.a)) (side_of d a b (point_of e.b)) (side_of d a b p) → ¬ IsRegular d s p
+      → IsRoot (side_of d a b (point_of e.a)) (side_of d a b (point_of e.b)) (side_of d a b p) → ¬ IsOrdinary d s p
   not-over-side f a b c side front bc ca (changes, here) =
       let (i, hi) = natural (side_of d b c p) bc in
       let (j, hj) = natural (side_of d c a p) ca in
       let weight : 0 < i + j = positive-weight (i + j) _ (side-total d a b c p i j hi hj here) (mul_pos p.w (facing_of d a b c) divisor front) in
-      not-at-crossing d s p closed in_range e (p, (u, v, some, at), record { across = refl; upward = refl }) f a b side (edge_sum a b i j) (i, j, weight, refl)
+      not-at-crossing d s p sound.closed in_range e (p, (u, v, some, at), record { across = refl; upward = refl }) f a b side (edge_sum a b i j) (i, j, weight, refl)
       (side-sight d a b c p i j hi hj here) (λ parallel. changes (parallel-side d a b e.a e.b parallel))
 
   module _ (f : Face s) (a b c : Corner) (corners : AreCornersOf f a b c) (front : pos 0 <ℤ facing_of d a b c)
       (ab : pos 0 ≤ℤ side_of d a b p) (bc : pos 0 ≤ℤ side_of d b c p) (ca : pos 0 ≤ℤ side_of d c a p) where
     -- the edge meets the plane in a point of the face, which has not the edge as a side
-    not-in-face : f.number ≢ e.left.number → f.number ≢ e.right.number → depth_of a b c p ≡ pos 0 → ¬ IsRegular d s p
+    not-in-face : f.number ≢ e.left.number → f.number ≢ e.right.number → depth_of a b c p ≡ pos 0 → ¬ IsOrdinary d s p
     not-in-face not_left not_right level =
         let (i, hi) = natural (side_of d b c p) bc in
         let (j, hj) = natural (side_of d c a p) ca in
@@ -135,7 +136,7 @@ module _ (d : Triple) (s : Part) (closed : IsClosed s) (in_range : All (IsBelow 
         let q = edge_sum e.a e.b (w * u) (w * v) in
         let same : q ≡ face_sum a b c i j k = meeting-point d a b c p i j hi hj k hk level w hw e.a e.b u v at in
         let weight : 0 < w * u + w * v = scaled-weight w u v (positive-weight w _ (sym hw) front) some in
-        not-at-meeting d s p e f q (record {
+        not-at-meeting d s p sound.apart e f q (record {
           not_left = not_left;
           not_right = not_right;
           on_edge = (w * u, w * v, weight, refl);
@@ -146,18 +147,18 @@ module _ (d : Triple) (s : Part) (closed : IsClosed s) (in_range : All (IsBelow 
     not-in-side : IsCornerOf f e.a × IsCornerOf f e.b → depth_of a b c (point_of e.a) ≡ depth_of a b c (point_of e.b)
     not-in-side (x, y) = level-at s f a b c corners e.a x ∙ sym (level-at s f a b c corners e.b y)
 
-    not-through-plane : IsRoot (depth_of a b c (point_of e.a)) (depth_of a b c (point_of e.b)) (depth_of a b c p) → ¬ IsRegular d s p
+    not-through-plane : IsRoot (depth_of a b c (point_of e.a)) (depth_of a b c (point_of e.b)) (depth_of a b c p) → ¬ IsOrdinary d s p
     not-through-plane (changes, here) =
         not-in-face (λ h. changes (not-in-side (half-ends s f e.half e.m e.n e.a e.b e.goes (h ∙ e.on_left) e.at_m e.at_n)))
         (λ h. let (y, x) = half-ends s f e.other e.n e.m e.b e.a e.returns (h ∙ e.on_right) e.at_n e.at_m in changes (not-in-side (x, y))) here
 
-module _ (d : Triple) (s : Part) (closed : IsClosed s) (e : Edge s) (n m : ℤ) (positive : pos 0 <ℤ m) (least : pos 0 ≤ℤ n) (most : n ≤ℤ m) where
+module _ (d : Triple) (s : Part) (e : Edge s) (n m : ℤ) (positive : pos 0 <ℤ m) (least : pos 0 ≤ℤ n) (most : n ≤ℤ m) where
   abbrev here : Point
   here = share_point e.a e.b n m
 
   -- the ends of the edge
   module _ (k : Corner) (listed : Contains s.corners k) (h : (x : Corner → ℤ) → x k *ℤ m ≡ ((m -ℤ n) *ℤ x e.a) +ℤ (n *ℤ x e.b)) where
-    not-at-end : ¬ IsRegular d s here
+    not-at-end : ¬ IsOrdinary d s here
     not-at-end = not-at-corner d s here k listed (sight_of_along d (point_of k) here (record {
       n = pos 0;
       m = pos 1;
@@ -170,7 +171,7 @@ module _ (d : Triple) (s : Part) (closed : IsClosed s) (e : Edge s) (n m : ℤ) 
         none : (x y r : ℤ) → x ≡ y → pos 1 *ℤ (x -ℤ y *ℤ pos 1) ≡ pos 0 *ℤ r
         none x y r h = omega (arith, ints)
 
-  pub not-at-start : n ≡ pos 0 → ¬ IsRegular d s (share_point e.a e.b n m)
+  pub not-at-start : n ≡ pos 0 → ¬ IsOrdinary d s (share_point e.a e.b n m)
   not-at-start h = not-at-end e.a (e.m, slice_get_within s.corners e.m e.a e.at_m, get_or_from_slice_get s.corners e.m e.a e.a e.at_m) (λ x. start (x e.a) (x e.b))
     where
       start : (a b : ℤ) → a *ℤ m ≡ ((m -ℤ n) *ℤ a) +ℤ (n *ℤ b)
@@ -178,7 +179,7 @@ module _ (d : Triple) (s : Part) (closed : IsClosed s) (e : Edge s) (n m : ℤ) 
           by_one (a *ℤ m) (((m -ℤ n) *ℤ a) +ℤ (n *ℤ b)) n (pos 0) (a -ℤ b)
           (ring (n ∷ m ∷ a ∷ b ∷ []) ((var 2 ⊗ var 1) ⊖ (((var 1 ⊖ var 0) ⊗ var 2) ⊕ (var 0 ⊗ var 3))) ((var 0 ⊖ con (pos 0)) ⊗ (var 2 ⊖ var 3)) refl) h
 
-  pub not-at-finish : n ≡ m → ¬ IsRegular d s (share_point e.a e.b n m)
+  pub not-at-finish : n ≡ m → ¬ IsOrdinary d s (share_point e.a e.b n m)
   not-at-finish h = not-at-end e.b (e.n, slice_get_within s.corners e.n e.b e.at_n, get_or_from_slice_get s.corners e.n e.b e.b e.at_n) (λ x. finish (x e.a) (x e.b))
     where
       finish : (a b : ℤ) → b *ℤ m ≡ ((m -ℤ n) *ℤ a) +ℤ (n *ℤ b)
@@ -186,14 +187,14 @@ module _ (d : Triple) (s : Part) (closed : IsClosed s) (e : Edge s) (n m : ℤ) 
           by_one (b *ℤ m) (((m -ℤ n) *ℤ a) +ℤ (n *ℤ b)) n m (a -ℤ b)
           (ring (n ∷ m ∷ a ∷ b ∷ []) ((var 3 ⊗ var 1) ⊖ (((var 1 ⊖ var 0) ⊗ var 2) ⊕ (var 0 ⊗ var 3))) ((var 0 ⊖ var 1) ⊗ (var 2 ⊖ var 3)) refl) h
 
-  module _ (in_range : All (IsBelow (length s.corners)) s.triangles) (f : Face s) (a b c : Corner) (corners : AreCornersOf f a b c) (front : pos 0 <ℤ facing_of d a b c)
+  module _ (sound : IsSound s) (in_range : All (IsBelow (length s.corners)) s.triangles) (f : Face s) (a b c : Corner) (corners : AreCornersOf f a b c) (front : pos 0 <ℤ facing_of d a b c)
       (ab : pos 0 ≤ℤ side_of d a b (share_point e.a e.b n m)) (bc : pos 0 ≤ℤ side_of d b c (share_point e.a e.b n m)) (ca : pos 0 ≤ℤ side_of d c a (share_point e.a e.b n m))
       (depth : pos 0 ≤ℤ depth_of a b c (share_point e.a e.b n m)) where
     pub not-at-front-end : IsRoot (side_of d a b (point_of e.a)) (side_of d a b (point_of e.b)) (side_of d a b (share_point e.a e.b n m))
         ⊎ IsRoot (side_of d b c (point_of e.a)) (side_of d b c (point_of e.b)) (side_of d b c (share_point e.a e.b n m))
         ⊎ IsRoot (side_of d c a (point_of e.a)) (side_of d c a (point_of e.b)) (side_of d c a (share_point e.a e.b n m))
         ⊎ IsRoot (depth_of a b c (point_of e.a)) (depth_of a b c (point_of e.b)) (depth_of a b c (share_point e.a e.b n m))
-        → ¬ IsRegular d s (share_point e.a e.b n m)
+        → ¬ IsOrdinary d s (share_point e.a e.b n m)
     not-at-front-end root =
         let (u, hu) = natural (m -ℤ n) (omega (arith, ints)) in
         let (v, hv) = natural n least in
@@ -213,10 +214,10 @@ module _ (d : Triple) (s : Part) (closed : IsClosed s) (e : Edge s) (n m : ℤ) 
         by : (u v : ℕ) → 0 < u + v → here ≡ edge_sum e.a e.b u v
             → IsRoot (side_of d a b (point_of e.a)) (side_of d a b (point_of e.b)) (side_of d a b here) ⊎ IsRoot (side_of d b c (point_of e.a)) (side_of d b c (point_of e.b)) (side_of d b c here)
             ⊎ IsRoot (side_of d c a (point_of e.a)) (side_of d c a (point_of e.b)) (side_of d c a here) ⊎ IsRoot (depth_of a b c (point_of e.a)) (depth_of a b c (point_of e.b)) (depth_of a b c here)
-            → ¬ IsRegular d s here
-        by u v some at (inl root) = not-over-side d s closed in_range e here u v some at f a b c (ab-side s f a b c corners) front bc ca root
+            → ¬ IsOrdinary d s here
+        by u v some at (inl root) = not-over-side d s sound in_range e here u v some at f a b c (ab-side s f a b c corners) front bc ca root
         by u v some at (inr (inl root)) =
-            not-over-side d s closed in_range e here u v some at f b c a (bc-side s f a b c corners) (subst (λ (z : ℤ). pos 0 <ℤ z) (sym (facing-round d a b c)) front) ca ab root
+            not-over-side d s sound in_range e here u v some at f b c a (bc-side s f a b c corners) (subst (λ (z : ℤ). pos 0 <ℤ z) (sym (facing-round d a b c)) front) ca ab root
         by u v some at (inr (inr (inl root))) =
-            not-over-side d s closed in_range e here u v some at f c a b (ca-side s f a b c corners) (subst (λ (z : ℤ). pos 0 <ℤ z) (facing-round d c a b) front) ab bc root
-        by u v some at (inr (inr (inr root))) = not-through-plane d s closed in_range e here u v some at f a b c corners front ab bc ca root
+            not-over-side d s sound in_range e here u v some at f c a b (ca-side s f a b c corners) (subst (λ (z : ℤ). pos 0 <ℤ z) (facing-round d c a b) front) ab bc root
+        by u v some at (inr (inr (inr root))) = not-through-plane d s sound in_range e here u v some at f a b c corners front ab bc ca root

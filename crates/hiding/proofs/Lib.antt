@@ -10,7 +10,7 @@ pub mod ScreenScale
 pub mod Flatness
 pub mod Hiding
 pub mod Weights
-pub mod Regular
+pub mod Ordinary
 pub mod FrontEnds
 pub mod Readings
 pub mod SidePoints

@@ -1,4 +1,4 @@
--- What a side of an edge-on face hides of an edge that is seen in line with it, and that where it begins or ceases there is no regular point.
+-- What a side of an edge-on face hides of an edge that is seen in line with it, and that where it begins or ceases there is no ordinary point.
 use Rattle.std.proofs.Common.{◌≡◌, ◌⊎◌, inl, inr, ℕ, ◌+◌, ◌*◌, ◌<◌, eqb, true, false, [], ◌∷◌, refl, sym, ap, ◌∙◌, subst, arith, mul-pos, All, length}
 use Rattle.std.specs.Prelude.{◌≢◌, ℤ, pos, ◌+ℤ◌, ◌-ℤ◌, ◌*ℤ◌, ◌<ℤ◌, ◌≤ℤ◌, ◌↔◌}
 use Rattle.std.proofs.lemmas.Int.{ints, by_lt_z}
@@ -11,11 +11,12 @@ use Rattle.lattice.specs.Triple.{Triple, dot, cross, det, IsZero}
 use Rattle.lattice.specs.Points.{Point, point_of, of_corner, scaled, difference, OnOneSight, IsNearer, AreOnePoint}
 use Rattle.lattice.proofs.SightAxes.{agree_of_sight, sight_of_agreement, one_point_of_agreement, sight_of_one_point}
 use Rattle.geometry.specs.Faces.{share_point, edge_sum}
-use Rattle.geometry.specs.Parts.{Part, Face, Edge, IsClosed}
-use Rattle.geometry.specs.Views.{IsRegular, PassesOver}
+use Rattle.geometry.specs.Parts.{Part, Face, Edge}
+use Rattle.geometry.specs.Views.{IsOrdinary, PassesOver}
+use Rattle.geometry.specs.Sound.{IsSound}
 use Rattle.hiding.specs.Values.{SideHides, IsSideOf, IsAhead, IsInLine, IsBehindSide, offset, side_of, value_at, past_of, short_of, behind_of}
 use Rattle.hiding.proofs.Values.{behind-share}
-use Rattle.hiding.proofs.Regular.{not-at-corner, not-at-crossing, not-at-meeting}
+use Rattle.hiding.proofs.Ordinary.{not-at-corner, not-at-crossing, not-at-meeting}
 use Rattle.hiding.proofs.FrontEnds.{not-at-start, not-at-finish}
 use Rattle.hiding.proofs.Readings.{dot-offset, dot-difference, dot-share, dot-sum, det-reads, cross-first, cross-second, pos-sum, short-is, behind-is, past-nonneg, short-nonneg, behind-positive, weights-sum, weights-meet, weights-behind, level-meet, end-meets, level-end, level-by-meeting, behind-at-first, behind-at-second, only-at-start, only-at-finish}
 use Rattle.hiding.proofs.SidePoints.{natural, edge-turned, share-sum, one-sum, scaled-one, face-of-side, side-listed, HaveCommonEnd, common-end, own-side}
@@ -179,7 +180,7 @@ side-hides-turned d k l p h = record {
   nearer = h.nearer;
 }
 
-module _ (d axis : Triple) (somewhere : ¬ IsZero d) (s : Part) (closed : IsClosed s) (in_range : All (IsBelow (length s.corners)) s.triangles) (e : Edge s) (n m : ℤ) (positive : pos 0 <ℤ m) (least : pos 0 ≤ℤ n) (most : n ≤ℤ m) (ahead : IsAhead d axis e.a e.b)
+module _ (d axis : Triple) (somewhere : ¬ IsZero d) (s : Part) (sound : IsSound s) (in_range : All (IsBelow (length s.corners)) s.triangles) (e : Edge s) (n m : ℤ) (positive : pos 0 <ℤ m) (least : pos 0 ≤ℤ n) (most : n ≤ℤ m) (ahead : IsAhead d axis e.a e.b)
     (f : Face s) (k l : Corner) (side : IsSideOf f k l) where
   abbrev place : Point
   place = share_point e.a e.b n m
@@ -226,12 +227,12 @@ module _ (d axis : Triple) (somewhere : ¬ IsZero d) (s : Part) (closed : IsClos
       equal : (a b : ℤ) → b -ℤ a ≡ pos 0 → b ≡ a
       equal a b h = omega (arith, ints)
 
-  -- at a regular point a side that hides an edge is in line with it
-  pub in-line : IsRegular d s (share_point e.a e.b n m) → SideHides d k l (share_point e.a e.b n m) → IsInLine d e.a e.b k l
+  -- at an ordinary point a side that hides an edge is in line with it
+  pub in-line : IsOrdinary d s (share_point e.a e.b n m) → SideHides d k l (share_point e.a e.b n m) → IsInLine d e.a e.b k l
   in-line r h =
       by_equal (det d (difference e.a e.b) (difference k l)) (pos 0)
       (λ parallel. parallel-in-line parallel h.on_side.0 h.on_side.1 h.on_side.2 (subst (λ (q : Point). OnOneSight d q place) h.on_side.3 h.same_sight))
-      (λ crosses. absurd (not-at-crossing d s place closed in_range e over f k l side h.point h.on_side h.same_sight crosses r))
+      (λ crosses. absurd (not-at-crossing d s place sound.closed in_range e over f k l side h.point h.on_side h.same_sight crosses r))
     where
       by_equal : {P : Type 0} (a b : ℤ) → (a ≡ b → P) → (¬ (a ≡ b) → P) → P
       by_equal a b same other =
@@ -239,17 +240,17 @@ module _ (d axis : Triple) (somewhere : ¬ IsZero d) (s : Part) (closed : IsClos
           (λ most. by_lt_z b a (λ less. other (λ e. absurd (omega (arith, ints)))) (λ least. same (omega (arith, ints))))
 
   -- the edge is a side of the face: the behind is 0 at the end that it shares with the side, and there alone
-  not-at-own : HaveCommonEnd k l e.a e.b → behind_of d axis k l (point_of e.a) ≢ behind_of d axis k l (point_of e.b) → behind_of d axis k l place ≡ pos 0 → ¬ IsRegular d s place
+  not-at-own : HaveCommonEnd k l e.a e.b → behind_of d axis k l (point_of e.a) ≢ behind_of d axis k l (point_of e.b) → behind_of d axis k l place ≡ pos 0 → ¬ IsOrdinary d s place
   not-at-own shared differ none r = go shared
     where
       evenly : value_at (behind_of d axis k l (point_of e.a)) (behind_of d axis k l (point_of e.b)) n m ≡ pos 0
       evenly = sym (behind-share d e.a e.b n m axis k l) ∙ none
 
       start : behind_of d axis k l (point_of e.a) ≡ pos 0 → ⊥
-      start at = not-at-start d s closed e n m positive least most (only-at-start _ _ n m differ at evenly least) r
+      start at = not-at-start d s e n m positive least most (only-at-start _ _ n m differ at evenly least) r
 
       finish : behind_of d axis k l (point_of e.b) ≡ pos 0 → ⊥
-      finish at = not-at-finish d s closed e n m positive least most (only-at-finish _ _ n m differ at evenly most) r
+      finish at = not-at-finish d s e n m positive least most (only-at-finish _ _ n m differ at evenly most) r
 
       moved : (c x : Corner) → c ≡ x → behind_of d axis k l (point_of c) ≡ pos 0 → behind_of d axis k l (point_of x) ≡ pos 0
       moved c x same at = subst (λ (y : Corner). behind_of d axis k l (point_of y) ≡ pos 0) same at
@@ -261,7 +262,7 @@ module _ (d axis : Triple) (somewhere : ¬ IsZero d) (s : Part) (closed : IsClos
       go (inr (inr (inr h))) = finish (moved l e.b h (behind-at-second d axis k l))
 
   -- the edge is none of the face's: it meets the face
-  not-at-others : f.number ≢ e.left.number → f.number ≢ e.right.number → (i j : ℕ) → 0 < i + j → AreOnePoint (edge_sum k l i j) place → ¬ IsRegular d s place
+  not-at-others : f.number ≢ e.left.number → f.number ≢ e.right.number → (i j : ℕ) → 0 < i + j → AreOnePoint (edge_sum k l i j) place → ¬ IsOrdinary d s place
   not-at-others not_left not_right i j some one r =
       let w = weights in
       let met = edge_sum e.a e.b (w.u * (i + j)) (w.v * (i + j)) in
@@ -269,7 +270,7 @@ module _ (d axis : Triple) (somewhere : ¬ IsZero d) (s : Part) (closed : IsClos
       one-sum e.a e.b k l w.u w.v i j (subst (λ (p : Point). AreOnePoint (edge_sum k l i j) p) w.same one) in
       let sight : OnOneSight d met place =
       subst (λ (p : Point). OnOneSight d met p) (sym w.same) (sight_of_one_point d met (edge_sum e.a e.b w.u w.v) (scaled-one e.a e.b w.u w.v (i + j))) in
-      not-at-meeting d s place e f met (record {
+      not-at-meeting d s place sound.apart e f met (record {
         not_left = not_left;
         not_right = not_right;
         on_edge = (w.u * (i + j), w.v * (i + j), counted w.u w.v (i + j) w.some some, refl);
@@ -280,7 +281,7 @@ module _ (d axis : Triple) (somewhere : ¬ IsZero d) (s : Part) (closed : IsClos
       counted u v w p q = let product = mul-pos p q in omega (arith, product)
 
   not-at-root : IsInLine d e.a e.b k l → pos 0 <ℤ dot axis (difference k l) → pos 0 ≤ℤ past_of axis k place → pos 0 ≤ℤ short_of axis l place
-      → behind_of d axis k l (point_of e.a) ≢ behind_of d axis k l (point_of e.b) → behind_of d axis k l place ≡ pos 0 → ¬ IsRegular d s place
+      → behind_of d axis k l (point_of e.a) ≢ behind_of d axis k l (point_of e.b) → behind_of d axis k l place ≡ pos 0 → ¬ IsOrdinary d s place
   not-at-root in_line forward past short differ none r = go (eqb_tells f.number e.left.number) (eqb_tells f.number e.right.number)
     where
       own : (f.number ≡ e.left.number) ⊎ (f.number ≡ e.right.number) → ⊥
@@ -304,7 +305,7 @@ module _ (d axis : Triple) (somewhere : ¬ IsZero d) (s : Part) (closed : IsClos
       → pos 0 ≤ℤ past_of axis k (share_point e.a e.b n m) → pos 0 ≤ℤ short_of axis l (share_point e.a e.b n m) → pos 0 ≤ℤ behind_of d axis k l (share_point e.a e.b n m)
       → (past_of axis k (share_point e.a e.b n m) ≡ pos 0) ⊎ (short_of axis l (share_point e.a e.b n m) ≡ pos 0)
       ⊎ ((behind_of d axis k l (point_of e.a) ≢ behind_of d axis k l (point_of e.b)) × (behind_of d axis k l (share_point e.a e.b n m) ≡ pos 0))
-      → ¬ IsRegular d s (share_point e.a e.b n m)
+      → ¬ IsOrdinary d s (share_point e.a e.b n m)
   not-at-side-end in_line forward past short behind (inl none) r =
       not-at-corner d s place k (side-listed f k l side).0 (end-sight d axis e.a e.b k l n m somewhere positive ahead in_line k in_line.0 none) r
   not-at-side-end in_line forward past short behind (inr (inl none)) r =

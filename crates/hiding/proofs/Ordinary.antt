@@ -1,7 +1,8 @@
--- Points that are not regular: at corners, where edges cross, and where an edge meets a face of others.
+-- Points that are not ordinary: at corners, where edges cross, and where an edge meets a face that does not have it as a side.
 use Rattle.std.proofs.Common.{◌≡◌, ◌⊎◌, inl, inr, ℕ, ◌+◌, ◌*◌, ◌/◌, ◌%◌, ◌<◌, All, Contains, length, slice_get, Some, refl, sym, subst, ap, ◌∙◌, arith}
 use Rattle.std.specs.Prelude.{pos}
 use Rattle.std.proofs.lemmas.Int.{ints}
+use Rattle.std.proofs.lemmas.Option.{slice_get_within, get_or_from_slice_get}
 use Rattle.lattice.specs.declared.points.Corner.{Corner}
 use Rattle.lattice.specs.Triangles.{IsBelow}
 use Rattle.lattice.specs.Triple.{Triple, det}
@@ -9,7 +10,8 @@ use Rattle.lattice.specs.Points.{Point, IsPoint, OnOneSight, point_of, differenc
 use Rattle.lattice.proofs.SightAxes.{sight_of_one_point}
 use Rattle.geometry.specs.Faces.{IsPointOfEdge}
 use Rattle.geometry.specs.Parts.{Part, Face, Edge, IsHalf, IsClosed, start_of, end_of}
-use Rattle.geometry.specs.Views.{IsOrdinary, IsRegular, MeetsFace, MeetAtCorners, PassesOver}
+use Rattle.geometry.specs.Views.{IsOrdinary, PassesOver}
+use Rattle.geometry.specs.Sound.{MeetsFace, MeetInSharedCorners}
 use Rattle.geometry.proofs.Listed.{face_at}
 use Rattle.geometry.proofs.Sights.{sight_on}
 use Rattle.hiding.specs.Values.{IsSideOf}
@@ -72,30 +74,27 @@ side-edge s closed in_range f k l (inr (inl h)) = half_edge s closed in_range (3
 side-edge s closed in_range f k l (inr (inr h)) = half_edge s closed in_range (3 * f.number + 2) f.tri.c f.tri.a f.c f.a k l (side_half s f 2 (omega arith)) f.at_c f.at_a h
 
 module _ (d : Triple) (s : Part) (p : Point) where
-  pub not-at-corner : (c : Corner) → Contains s.corners c → OnOneSight d (point_of c) p → ¬ IsRegular d s p
-  not-at-corner c listed same r = r.ordinary.off_corners c listed same
+  pub not-at-corner : (c : Corner) → Contains s.corners c → OnOneSight d (point_of c) p → ¬ IsOrdinary d s p
+  not-at-corner c listed same r = r.off_corners c listed same
 
   -- a side of a face and an edge cross
   pub not-at-crossing : IsClosed s → All (IsBelow (length s.corners)) s.triangles → (e : Edge s) → PassesOver d e p → (f : Face s) (k l : Corner) → IsSideOf f k l
-      → (q : Point) → IsPointOfEdge k l q → OnOneSight d q p → ¬ (det d (difference e.a e.b) (difference k l) ≡ pos 0) → ¬ IsRegular d s p
+      → (q : Point) → IsPointOfEdge k l q → OnOneSight d q p → ¬ (det d (difference e.a e.b) (difference k l) ≡ pos 0) → ¬ IsOrdinary d s p
   not-at-crossing closed in_range e over f k l side q on_side same crosses r =
       let here = side-edge s closed in_range f k l side in
       let on_edge : IsPointOfEdge here.edge.a here.edge.b q =
       subst (λ (x : Corner). IsPointOfEdge x here.edge.b q) (sym here.at_a) (subst (λ (y : Corner). IsPointOfEdge k y q) (sym here.at_b) on_side) in
-      let parallel : det d (difference e.a e.b) (difference here.edge.a here.edge.b) ≡ pos 0 = r.ordinary.off_crossings e here.edge over (q, on_edge, same) in
+      let parallel : det d (difference e.a e.b) (difference here.edge.a here.edge.b) ≡ pos 0 = r.off_crossings e here.edge over (q, on_edge, same) in
       crosses (subst (λ (x : Corner). det d (difference e.a e.b) (difference x l) ≡ pos 0) here.at_a (subst (λ (y : Corner). det d (difference e.a e.b) (difference here.edge.a y) ≡ pos 0) here.at_b parallel))
 
-  pub not-at-meeting : (e : Edge s) (f : Face s) (q : Point) → MeetsFace e f q → OnOneSight d q p → ¬ IsRegular d s p
-  not-at-meeting e f q meets same r = r.off_meetings e f q meets same
-
--- where edges meet faces at corners only, each ordinary point is regular
-pub regular-of-ordinary : (d : Triple) (s : Part) → MeetAtCorners s → (p : Point) → IsOrdinary d s p → IsRegular d s p
-regular-of-ordinary d s corners p ordinary = record {
-  ordinary = ordinary;
-  off_meetings = λ e f q meets same.
-      let (c, listed, one) = corners e f q meets in
-      ordinary.off_corners c listed (sight_on d (point_of c) q p (is_point e.a e.b q meets.on_edge) (sight_of_one_point d (point_of c) q one) same);
-}
-  where
-    is_point : (a b : Corner) (q : Point) → IsPointOfEdge a b q → IsPoint q
-    is_point a b q (i, j, some, is) = subst IsPoint (sym is) (omega (arith, ints))
+  -- an edge meets a face that does not have it as a side: in a shared corner
+  pub not-at-meeting : MeetInSharedCorners s → (e : Edge s) (f : Face s) (q : Point) → MeetsFace e f q → OnOneSight d q p → ¬ IsOrdinary d s p
+  not-at-meeting apart e f q meets same r =
+      let shared = apart e f q meets in
+      let k = shared.number in
+      let c = shared.corner in
+      not-at-corner c (k, slice_get_within s.corners k c shared.at, get_or_from_slice_get s.corners k c c shared.at)
+      (sight_on d (point_of c) q p (is_point e.a e.b q meets.on_edge) (sight_of_one_point d (point_of c) q shared.here) same) r
+    where
+      is_point : (a b : Corner) (q : Point) → IsPointOfEdge a b q → IsPoint q
+      is_point a b q (i, j, some, is) = subst IsPoint (sym is) (omega (arith, ints))
