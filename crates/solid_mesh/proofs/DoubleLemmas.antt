@@ -15,22 +15,22 @@ use Rattle.solid_mesh.proofs.HalfLemmas.{table_returns}
 use Rattle.solid_mesh.proofs.Sharing.{starts_differ}
 
 -- ---- corners and sides of one triangle
-starts_at_corner : (t : Tri) (side : ℕ) → IsCornerOf t (start_of t side)
+pub starts_at_corner : (t : Tri) (side : ℕ) → IsCornerOf t (start_of t side)
 starts_at_corner t zero = inl refl
 starts_at_corner t (suc zero) = inr (inl refl)
 starts_at_corner t (suc (suc side)) = inr (inr refl)
 
-ends_at_corner : (t : Tri) (side : ℕ) → IsCornerOf t (end_of t side)
+pub ends_at_corner : (t : Tri) (side : ℕ) → IsCornerOf t (end_of t side)
 ends_at_corner t zero = inr (inl refl)
 ends_at_corner t (suc zero) = inr (inr refl)
 ends_at_corner t (suc (suc side)) = inl refl
 
 -- a side of the triangle goes there or back
-abbrev HasSideBetween : Tri → ℕ → ℕ → Type 0
+abbrev pub HasSideBetween : Tri → ℕ → ℕ → Type 0
 HasSideBetween t m n = (side : ℕ) × (side < 3) × (((start_of t side ≡ m) × (end_of t side ≡ n)) ⊎ ((start_of t side ≡ n) × (end_of t side ≡ m)))
 
 -- between two corners of a triangle one of its sides goes
-side_between : (t : Tri) (m n : ℕ) → (m ≡ n → ⊥) → IsCornerOf t m → IsCornerOf t n → HasSideBetween t m n
+pub side_between : (t : Tri) (m n : ℕ) → (m ≡ n → ⊥) → IsCornerOf t m → IsCornerOf t n → HasSideBetween t m n
 side_between t m n apart (inl p) (inl q) = absurd (apart (sym p ∙ q))
 side_between t m n apart (inl p) (inr (inl q)) = (0, omega arith, inl (p, q))
 side_between t m n apart (inl p) (inr (inr q)) = (2, omega arith, inr (q, p))
@@ -57,7 +57,7 @@ double_back : {s : Part} {i j : ℕ} → AreDouble s i j → AreDouble s j i
 double_back d = record { first = d.second; second = d.first; at_first = d.at_second; at_second = d.at_first; same = λ n. ((d.same n).1, (d.same n).0) }
 
 -- the half along a triangle's side
-half_of : (s : Part) (t : Tri) (i side half : ℕ) → slice_get s.triangles i ≡ Some t → side < 3 → half ≡ 3 * i + side → IsHalf s half (start_of t side) (end_of t side)
+pub half_of : (s : Part) (t : Tri) (i side half : ℕ) → slice_get s.triangles i ≡ Some t → side < 3 → half ≡ 3 * i + side → IsHalf s half (start_of t side) (end_of t side)
 half_of s t i side half at less is =
     let third : half / 3 ≡ i = omega arith in
     let rest : half % 3 ≡ side = omega arith in

@@ -11,12 +11,12 @@ use Rattle.solid_mesh.specs.Halves.{start_at, end_at}
 use Rattle.solid_mesh.specs.Solids.{HasNumbers, IsEdgeAt, IsWithinPart}
 use Rattle.solid_mesh.proofs.HalfLemmas.{start_of_half, end_of_half}
 
-start_below : (n : ℕ) (t : Tri) (side : ℕ) → IsBelow n t → start_of t side < n
+pub start_below : (n : ℕ) (t : Tri) (side : ℕ) → IsBelow n t → start_of t side < n
 start_below n t zero h = h.a
 start_below n t (suc zero) h = h.b
 start_below n t (suc (suc side)) h = h.c
 
-end_below : (n : ℕ) (t : Tri) (side : ℕ) → IsBelow n t → end_of t side < n
+pub end_below : (n : ℕ) (t : Tri) (side : ℕ) → IsBelow n t → end_of t side < n
 end_below n t zero h = h.b
 end_below n t (suc zero) h = h.c
 end_below n t (suc (suc side)) h = h.a

@@ -4,10 +4,12 @@ use Rattle.std.proofs.lemmas.Option.{slice_get-get_or}
 use Rattle.std.proofs.lemmas.List.Elements.{Contains-get_or}
 use Rattle.lattice.specs.Triangles.{IsBelow}
 use Rattle.geometry.specs.Parts.{Edge, IsClosed, HasNoDouble, AreEdges, IsNumbered}
+use Rattle.geometry.specs.Sound.{MeetInSharedCorners, IsSound}
 use Rattle.integers.proofs.Passing as passing
 use Rattle.solid_mesh.specs.Halves.{is_lower}
 use Rattle.solid_mesh.specs.Solids.{solid_part, edge_halves}
 use Rattle.solid_mesh.specs.declared.solid.Solid.{Solid}
+use Rattle.solid_mesh.proofs.Apart.{shared_only}
 use Rattle.solid_mesh.proofs.EdgeLemmas.{edge_along}
 use Rattle.solid_mesh.proofs.HalfLemmas.{table_closed, table_edges}
 
@@ -30,6 +32,13 @@ module _ (s : Solid) where
 
   pub no_double : HasNoDouble (solid_part s)
   no_double = s.no_double
+
+  -- edges meet faces in shared corners only
+  pub apart : MeetInSharedCorners (solid_part s)
+  apart = shared_only (solid_part s) closed s.apart
+
+  pub sound : IsSound (solid_part s)
+  sound = record { some = some_triangle; closed = closed; no_double = no_double; apart = apart }
 
   -- the edges' halves are halves, of which there are three a triangle
   pub halves_within : All (λ half. half < 3 * length (solid_part s).triangles) (edge_halves s)

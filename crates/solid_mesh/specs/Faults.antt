@@ -1,9 +1,10 @@
 -- What is wrong with a part: each kind of fault, with its least numbers, where no earlier kind is there.
-use Rattle.std.specs.Prelude.{◌≡◌, ℕ, ◌+◌, ◌*◌, ◌/◌, ◌<◌, ◌≤◌}
+use Rattle.std.specs.Prelude.{◌≡◌, ℕ, ◌+◌, ◌*◌, ◌/◌, ◌<◌, ◌≤◌, List}
 use Rattle.geometry.specs.Faces.{IsFlat}
-use Rattle.geometry.specs.Parts.{Part, Face, IsHalf, HasNoFlatTriangle, HasNoSideTwice, IsClosed, AreDouble}
+use Rattle.geometry.specs.Parts.{Part, Face, Edge, IsHalf, HasNoFlatTriangle, HasNoSideTwice, IsClosed, AreDouble, HasNoDouble, AreEdges, IsNumbered}
+use Rattle.geometry.specs.Sound.{MeetsElsewhere}
 use Rattle.solid_mesh.specs.declared.faults.MeshFault.{MeshFault}
-use Rattle.solid_mesh.specs.declared.faults.MeshFault.TheVariants.{Flat, SameWay, Unpaired, Double}
+use Rattle.solid_mesh.specs.declared.faults.MeshFault.TheVariants.{Flat, SameWay, Unpaired, Double, Meet}
 
 -- m is the least number of which it holds
 pub record IsLeast (P : ℕ → Type 0) (m : ℕ) : Type 0 where
@@ -40,8 +41,13 @@ pub record IsUnpaired (s : Part) (half : ℕ) : Type 0 where
 abbrev pub DoublesEarlier : Part → ℕ → ℕ → Type 0
 DoublesEarlier s j i = (i < j) × AreDouble s i j
 
+-- the edge with this number, in this list, meets the triangle with this number in another point than a shared corner
+abbrev pub MeetsAt : Part → List ℕ → ℕ → ℕ → Type 0
+MeetsAt s halves i t = (e : Edge s) × (f : Face s) × IsNumbered halves i e × (f.number ≡ t) × MeetsElsewhere e f
+
 -- The part has this fault and none of an earlier kind. Of two numbers of triangles the second is the least for which there is
--- a first, and the first is the least for it; a side has the least triangle and there the least number.
+-- a first, and the first is the least for it; a side has the least triangle and there the least number; an edge that meets a
+-- triangle is the least, and the triangle is the least for it.
 abbrev pub HasFault : Part → MeshFault → Type 0
 HasFault s (Flat i) = IsLeast (IsFlatAt s) i
 HasFault s (SameWay i j) =
@@ -50,3 +56,6 @@ HasFault s (Unpaired i side) =
     HasNoFlatTriangle s × HasNoSideTwice s × (side < 3) × IsLeast (IsUnpaired s) (3 * i + side)
 HasFault s (Double i j) =
     IsClosed s × IsLeast (λ j. (i : ℕ) × DoublesEarlier s j i) j × IsLeast (DoublesEarlier s j) i
+HasFault s (Meet i t) =
+    IsClosed s × HasNoDouble s
+    × ((halves : List ℕ) × AreEdges s halves × IsLeast (λ i. (t : ℕ) × MeetsAt s halves i t) i × IsLeast (MeetsAt s halves i) t)

@@ -1,4 +1,7 @@
+pub mod Extents
 pub mod Faults
 pub mod Halves
+pub mod Meetings
 pub mod Solids
 pub mod Stars
+pub mod Sweeps

@@ -6,7 +6,7 @@ use exact_frac::OutOfMemory;
 use std::alloc::{AllocError, AllocFailed};
 use thiserror::Error;
 
-/// What is wrong with a part. Triangles are numbered from 0.
+/// What is wrong with a part. Triangles and edges are numbered from 0.
 #[derive(Clone, Copy, PartialEq, Eq, Debug, Error)]
 pub enum MeshFault {
     /// This triangle is flat: its corners are in one line.
@@ -21,6 +21,9 @@ pub enum MeshFault {
     /// The second triangle has the same three corners as the first.
     #[error("triangles {0} and {1} have the same three corners")]
     Double(u32, u32),
+    /// This edge meets this triangle in another point than a corner that both have.
+    #[error("edge {0} meets triangle {1}")]
+    Meet(u32, u32),
 }
 
 /// Why a part makes no solid.

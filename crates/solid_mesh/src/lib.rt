@@ -1,15 +1,21 @@
-//! Closed parts: each has its edges numbered, and tells for each directed side which one goes back.
+//! Sound parts: each has its edges numbered, and tells for each directed side which one goes back.
 #![tactic(auto)]
 
 mod doubles;
+mod edges;
+mod extent;
+mod extents;
 mod faults;
 mod flats;
+mod pairs;
 mod places;
 mod sides;
 mod solid;
 mod stars;
+mod sweep;
 #[cfg(test)]
 mod tests;
 
 pub use faults::{MeshError, MeshFault};
+pub use pairs::{PairMeter, box_test, pair_test};
 pub use solid::{Edge, Solid};

@@ -1,16 +1,18 @@
-// A closed part and its readers.
-ghost use Rattle.std.specs.Prelude.{◌≡◌, ◌+◌, ◌*◌, ◌<◌, ◌≤◌, ◌^◌, ℤ, pos, ◌+ℤ◌, ◌*ℤ◌, ◌<ℤ◌, ◌≤ℤ◌, unsigned_abs, length, slice_get, Some, OnOk, IfOk, IfErr};
+// A sound part and its readers.
+ghost use Rattle.std.specs.Prelude.{◌≡◌, ℕ, ◌+◌, ◌-◌, ◌*◌, ◌<◌, ◌≤◌, ◌^◌, List, ℤ, pos, ◌+ℤ◌, ◌*ℤ◌, ◌<ℤ◌, ◌≤ℤ◌, unsigned_abs, length, slice_get, Some, OnOk, IfOk, IfErr};
 ghost use Rattle.std.specs.List.{All};
 ghost use Rattle.lattice.specs.Triangles.{IsBelow};
 ghost use Rattle.geometry.specs.Parts.{Face, IsHalf, IsTwin, HasNoFlatTriangle, HasNoSideTwice, IsClosed, HasNoDouble, AreEdges, IsNumbered, part_with, part_of};
+ghost use Rattle.geometry.specs.Sound.{IsSound};
 ghost use Rattle.solid_mesh.specs.Halves.{AreTwins, lower_halves_of};
+ghost use Rattle.solid_mesh.specs.Meetings.{HasNoMeeting, HaveCommonX, HaveCommonBox, IsAtMostPairs};
 ghost use Rattle.solid_mesh.specs.Stars.{AreStars, lists_of};
 
-use crate::doubles::find_double;
-use crate::faults::{MeshError, MeshFault};
-use crate::flats::find_flat;
+use crate::edges::{find_edges, pair_sides};
+use crate::faults::MeshError;
+use crate::pairs::PairMeter;
 use crate::places::{share, turned};
-use crate::sides::{ends, find_lower, find_twins, index_sides};
+use crate::sides::ends;
 use crate::stars::find_stars;
 use exact_frac::Frac;
 use lattice::{Corner, Dir, Soup, Spot, Tri};
@@ -26,7 +28,7 @@ pub struct Edge {
     pub right: u32,
 }
 
-/// A closed part, no two triangles of which have the same three corners. Half `3t + s` is the directed side `s` of triangle `t`.
+/// A sound part: closed, no two triangles have the same three corners, and edges meet triangles in shared corners only. Half `3t + s` is the directed side `s` of triangle `t`.
 #[derive(Debug, Drop)]
 pub struct Solid {
     corners: Vec<Corner>,
@@ -43,6 +45,7 @@ pub struct Solid {
     ghost paired: { AreTwins triangles.items twins.items },
     ghost lower: { lower_halves.items ≡ lower_halves_of twins.items },
     ghost no_double: { HasNoDouble (part_with corners.items triangles.items) },
+    ghost apart: { HasNoMeeting (part_with corners.items triangles.items) },
     ghost around: { AreStars (length corners.items) triangles.items (length triangles.items) (lists_of stars.items) },
 }
 
@@ -54,27 +57,46 @@ impl Solid {
     ghost use Rattle.solid_mesh.specs.Solids.{solid_part, edge_halves, IsEdgeAt, IsWithinPart, HasNumbers, AreTrianglesAt, IsRefusedFor};
 
     /// The solid with these corners and triangles, at most 60,000 and 20,000, or the first fault: a flat triangle, a directed
-    /// side that occurs twice, one whose reverse is missing, or two triangles on the same three corners, looked for in this
-    /// order and told with the least numbers. Takes time about linear in the numbers of corners and triangles: each directed
-    /// side is hashed once, and looked up once by its reverse. Each reader takes constant time and no memory.
+    /// side that occurs twice, one whose reverse is missing, two triangles on the same three corners, or an edge that meets a
+    /// triangle in another point than a shared corner, looked for in this order and told with the least numbers. Takes the time
+    /// of a hash for each directed side, of sorting, and of a test for each pair of an edge and a triangle whose ranges of x
+    /// meet. Each reader takes constant time and no memory.
     pub fn check(alloc: Global, soup: Soup) -> Result<Solid, MeshError>
         requires some_triangle { 0 < length (part_of soup).triangles }
         requires few_corners { length (part_of soup).corners ≤ 60000 }
         requires few_triangles { length (part_of soup).triangles ≤ 20000 }
         ensures part { IfOk result (λ s. solid_part s ≡ part_of soup) }
-        ensures closed { OnOk result (IsClosed (part_of soup)) }
-        ensures no_double { OnOk result (HasNoDouble (part_of soup)) }
+        ensures sound { OnOk result (IsSound (part_of soup)) }
         ensures refused { IfErr result (IsRefusedFor (part_of soup)) }
     {
-        if let Some(tri) = find_flat(&soup) {
-            return Err(MeshError::Mesh(MeshFault::Flat(tri)));
-        }
-        let sides = index_sides(alloc, &soup)?;
-        let twins = find_twins(alloc, &soup, &sides)?;
-        if let Some((first, second)) = find_double(&soup, &twins) {
-            return Err(MeshError::Mesh(MeshFault::Double(first, second)));
-        }
-        let lower_halves = find_lower(alloc, &twins)?;
+        let mut meter = PairMeter { boxes: 0, pairs: 0 };
+        Solid::check_metered(alloc, soup, &mut meter)
+    }
+
+    /// The same, with a meter: of boxes at most as many are tested as pairs of an edge and a triangle have ranges of x that
+    /// meet, and of pairs at most as many as have boxes that meet.
+    pub fn check_metered(
+        alloc: Global,
+        soup: Soup,
+        meter: &mut PairMeter,
+    ) -> Result<Solid, MeshError>
+        requires some_triangle { 0 < length (part_of soup).triangles }
+        requires few_corners { length (part_of soup).corners ≤ 60000 }
+        requires few_triangles { length (part_of soup).triangles ≤ 20000 }
+        requires old_boxes { meter.old.boxes < 2 ^ 63 }
+        requires old_pairs { meter.old.pairs < 2 ^ 63 }
+        ensures part { IfOk result (λ s. solid_part s ≡ part_of soup) }
+        ensures sound { OnOk result (IsSound (part_of soup)) }
+        ensures refused { IfErr result (IsRefusedFor (part_of soup)) }
+        ensures more_boxes { meter.old.boxes ≤ meter.new.boxes }
+        ensures more_pairs { meter.old.pairs ≤ meter.new.pairs }
+        ensures boxes { (halves : List ℕ) → AreEdges (part_of soup) halves
+            → IsAtMostPairs (HaveCommonX (part_of soup)) halves (meter.new.boxes - meter.old.boxes) }
+        ensures pairs { (halves : List ℕ) → AreEdges (part_of soup) halves
+            → IsAtMostPairs (HaveCommonBox (part_of soup)) halves (meter.new.pairs - meter.old.pairs) }
+    {
+        let twins = pair_sides(alloc, &soup)?;
+        let lower_halves = find_edges(alloc, &soup, &twins, meter)?;
         let stars = find_stars(alloc, &soup)?;
         let Soup { corners, triangles } = soup;
         Ok(Solid {
@@ -93,11 +115,10 @@ impl Solid {
         self.corners.len() as u32
     }
 
-    /// The number of triangles, which are closed and no two of which have the same three corners.
+    /// The number of triangles, which are a sound part.
     pub fn triangles(&self) -> u32
         ensures count { result ≡ length (solid_part self.now).triangles }
-        ensures closed { IsClosed (solid_part self.now) }
-        ensures no_double { HasNoDouble (solid_part self.now) }
+        ensures sound { IsSound (solid_part self.now) }
     {
         self.triangles.len() as u32
     }

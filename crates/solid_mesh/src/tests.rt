@@ -4,7 +4,8 @@ ghost use Rattle.std.specs.List.{All};
 ghost use Rattle.lattice.specs.Triangles.{IsBelow};
 ghost use Rattle.geometry.specs.Parts.{part_of};
 
-use crate::{Edge, MeshError, MeshFault, Solid};
+use crate::flats::find_flat;
+use crate::{Edge, MeshError, MeshFault, PairMeter, Solid, box_test, pair_test};
 use exact_frac::Frac;
 use lattice::{Corner, Dir, Soup, Tri};
 use std::alloc::{AllocError, Global};
@@ -28,49 +29,80 @@ const CUBE: [[u32; 3]; 12] = [
 // A tetrahedron on the cube's corners 0, 3, 1 and 4.
 const TETRA: [[u32; 3]; 4] = [[0, 3, 1], [0, 1, 4], [0, 4, 3], [1, 3, 4]];
 
-/// Corner 0 to 7 of the cube, around the bottom and around the top, and corner 8 in one line with 0 and 1.
-fn corner(i: u32) -> Corner {
+// The cube, and over it a tetrahedron with its tip, corner 9, down.
+const OVER: [[u32; 3]; 16] = [
+    [0, 3, 2],
+    [0, 2, 1],
+    [4, 5, 6],
+    [4, 6, 7],
+    [0, 1, 5],
+    [0, 5, 4],
+    [1, 2, 6],
+    [1, 6, 5],
+    [2, 3, 7],
+    [2, 7, 6],
+    [3, 0, 4],
+    [3, 4, 7],
+    [10, 11, 12],
+    [11, 10, 9],
+    [12, 11, 9],
+    [10, 12, 9],
+];
+
+/// Corner 0 to 7 of the cube, around the bottom and around the top, corner 8 in one line with 0 and 1, and corners 9 to 12 of a
+/// tetrahedron over the cube's top, the first of them at this height.
+fn corner(i: u32, tip: u8) -> Corner {
     Corner {
         x: match i {
-            1 | 2 | 5 | 6 => 10,
+            1 | 2 | 5 | 6 | 11 => 10,
             8 => 20,
+            9 | 12 => 5,
             _ => 0,
         },
-        y: if matches!(i, 2 | 3 | 6 | 7) { 10 } else { 0 },
-        z: if matches!(i, 4 | 5 | 6 | 7) { 10 } else { 0 },
+        y: match i {
+            2 | 3 | 6 | 7 | 12 => 10,
+            9 => 5,
+            _ => 0,
+        },
+        z: match i {
+            4 | 5 | 6 | 7 => 10,
+            9 => i32::from(tip),
+            10 | 11 | 12 => 20,
+            _ => 0,
+        },
     }
 }
 
-/// The nine corners with these triangles.
-fn soup(alloc: Global, numbers: &[[u32; 3]]) -> Result<Soup, AllocError>
-    ensures corners { IfOk result (λ s. length (part_of s).corners ≡ 9) }
+/// The thirteen corners with these triangles.
+fn soup(alloc: Global, numbers: &[[u32; 3]], tip: u8) -> Result<Soup, AllocError>
+    ensures corners { IfOk result (λ s. length (part_of s).corners ≡ 13) }
     ensures triangles { IfOk result (λ s. length (part_of s).triangles ≡ length numbers.now) }
 {
-    let corners = corners(alloc)?;
+    let corners = corners(alloc, tip)?;
     let triangles = triangles(alloc, numbers)?;
     Ok(Soup { corners, triangles })
 }
 
-fn corners(alloc: Global) -> Result<Vec<Corner>, AllocError>
-    ensures { IfOk result (λ v. length v.items ≡ 9) }
+fn corners(alloc: Global, tip: u8) -> Result<Vec<Corner>, AllocError>
+    ensures { IfOk result (λ v. length v.items ≡ 13) }
 {
     let mut corners = Vec::new(alloc);
-    for i in 0..9 {
-        corners.push(corner(i))?;
+    for i in 0..13 {
+        corners.push(corner(i, tip))?;
     }
     Ok(corners)
 }
 
 fn triangles(alloc: Global, numbers: &[[u32; 3]]) -> Result<Vec<Tri>, AllocError>
     ensures long { IfOk result (λ v. length v.items ≡ length numbers.now) }
-    ensures in_range { IfOk result (λ v. All (IsBelow 9) v.items) }
+    ensures in_range { IfOk result (λ v. All (IsBelow 13) v.items) }
 {
     let mut triangles = Vec::new(alloc);
     for n in numbers {
         triangles.push(Tri {
-            a: n[0] % 9,
-            b: n[1] % 9,
-            c: n[2] % 9,
+            a: n[0] % 13,
+            b: n[1] % 13,
+            c: n[2] % 13,
         })?;
     }
     Ok(triangles)
@@ -98,13 +130,60 @@ fn tells_the_first_fault(rt: HostRuntime) -> Result<(), Fail> {
             MeshFault::Double(1, 2),
         ),
     ] {
-        let soup = soup(rt.alloc(), numbers)?;
+        let soup = soup(rt.alloc(), numbers, 11)?;
         assert!(rt;
-            soup.corners.len() == 9 && soup.triangles.len() > 0 && soup.triangles.len() < 25
+            soup.corners.len() == 13 && soup.triangles.len() > 0 && soup.triangles.len() < 25
         );
         let found = Solid::check(rt.alloc(), soup).err();
         assert_eq!(rt; found, Some(MeshError::Mesh(fault)));
     }
+    Ok(())
+}
+
+#[test]
+fn a_tip_touches_the_cube(rt: HostRuntime) -> Result<(), Fail> {
+    for (tip, fault) in [
+        (9, Some(MeshError::Mesh(MeshFault::Meet(7, 13)))),
+        (10, Some(MeshError::Mesh(MeshFault::Meet(7, 13)))),
+        (11, None),
+    ] {
+        let found = Solid::check(rt.alloc(), soup(rt.alloc(), &OVER, tip)?).err();
+        assert_eq!(rt; found, fault);
+    }
+    Ok(())
+}
+
+#[test]
+fn counts_tests(rt: HostRuntime) -> Result<(), Fail> {
+    let mut meter = PairMeter { boxes: 5, pairs: 7 };
+    let s = Solid::check_metered(rt.alloc(), soup(rt.alloc(), &OVER, 11)?, &mut meter)?;
+    assert_eq!(rt;
+        (s.edges(), meter),
+        (
+            24,
+            PairMeter {
+                boxes: 347,
+                pairs: 187
+            }
+        )
+    );
+    Ok(())
+}
+
+#[test]
+fn tests_a_side_and_a_triangle(rt: HostRuntime) -> Result<(), Fail> {
+    let soup = soup(rt.alloc(), &OVER, 10)?;
+    assert!(rt; soup.triangles.len() == 16);
+    let mut meter = PairMeter { boxes: 0, pairs: 0 };
+    // the diagonal of the cube's top, and a face from the tip
+    assert!(rt; box_test(&soup, 8, 13, &mut meter));
+    // a side of the cube's bottom, and its top
+    assert!(rt; !box_test(&soup, 0, 2, &mut meter));
+    match find_flat(&soup) {
+        None => assert!(rt; pair_test(&soup, 8, 13, &mut meter)),
+        Some(_) => assert!(rt; false),
+    }
+    assert_eq!(rt; (meter.boxes, meter.pairs), (2, 1));
     Ok(())
 }
 
@@ -120,8 +199,8 @@ fn a_fault_tells_its_numbers(rt: HostRuntime) -> Result<(), Fail> {
 
 #[test]
 fn reads_the_cube(rt: HostRuntime) -> Result<(), Fail> {
-    let s = Solid::check(rt.alloc(), soup(rt.alloc(), &CUBE)?)?;
-    assert_eq!(rt; (s.corners(), s.triangles(), s.edges()), (9, 12, 18));
+    let s = Solid::check(rt.alloc(), soup(rt.alloc(), &CUBE, 11)?)?;
+    assert_eq!(rt; (s.corners(), s.triangles(), s.edges()), (13, 12, 18));
     assert_eq!(rt; (s.corner(6).x, s.corner(6).y, s.corner(6).z), (10, 10, 10));
     assert_eq!(rt; s.triangle(8), Tri { a: 2, b: 3, c: 7 });
     assert_eq!(rt; s.star(6), [2, 3, 6, 7, 9].as_slice());
@@ -150,8 +229,8 @@ fn reads_the_cube(rt: HostRuntime) -> Result<(), Fail> {
 
 #[test]
 fn sees_the_cube_from_the_front(rt: HostRuntime) -> Result<(), Fail> {
-    let s = Solid::check(rt.alloc(), soup(rt.alloc(), &CUBE)?)?;
-    assert_eq!(rt; (s.corners(), s.triangles(), s.edges()), (9, 12, 18));
+    let s = Solid::check(rt.alloc(), soup(rt.alloc(), &CUBE, 11)?)?;
+    assert_eq!(rt; (s.corners(), s.triangles(), s.edges()), (13, 12, 18));
     let spot = s.spot(1, &Frac { num: 1, den: 4 });
     assert_eq!(rt; (spot.x, spot.y, spot.z, spot.w), (10, 40, 0, 4));
     let front = Dir::new(0, -1, 0)?;

@@ -1,5 +1,5 @@
-use Rattle.solid_mesh.proofs.Facts.{closed}
+use Rattle.solid_mesh.proofs.Facts.{sound}
 use Rattle.solid_mesh.proofs.solid.Solid.triangles.Goals as goal
 
-pub returns-clause-closed : goal.returns-clause-closed
-returns-clause-closed c = closed c.args.self.now
+pub returns-clause-sound : goal.returns-clause-sound
+returns-clause-sound c = sound c.args.self.now
