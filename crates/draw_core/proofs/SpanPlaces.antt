@@ -1,4 +1,4 @@
--- A regular point of an edge is strictly within one of its spans.
+-- An ordinary point of an edge is strictly within one of its spans.
 use Rattle.std.proofs.Common.{◌≡◌, zero, suc, List, [], ◌∷◌, Contains, refl, sym, subst, ◌∙◌, arith}
 use Rattle.std.specs.Prelude.{ℤ, pos, ◌-ℤ◌, ◌*ℤ◌, ◌<ℤ◌, ◌≤ℤ◌}
 use Rattle.std.proofs.lemmas.Int.{ints, by_lt_z}
@@ -9,11 +9,11 @@ use Rattle.exact_frac.specs.declared.Frac.{Frac}
 use Rattle.lattice.specs.Triple.{Triple}
 use Rattle.geometry.specs.Faces.{share_point}
 use Rattle.geometry.specs.Parts.{Part, Edge}
-use Rattle.geometry.specs.Views.{IsRegular}
+use Rattle.geometry.specs.Views.{IsOrdinary}
 use Rattle.span_slow.specs.declared.span.Span.{Span}
 use Rattle.span_slow.specs.Places.{point_at, IsEarlier, IsBetween}
-use Rattle.span_slow.specs.Spans.{Follow, CoverEdge, HasNoRegularEnd, AreSpans}
-use Rattle.geometry.proofs.Sights.{regular_along}
+use Rattle.span_slow.specs.Spans.{Follow, CoverEdge, HasNoOrdinaryEnd, AreSpans}
+use Rattle.geometry.proofs.Sights.{ordinary_along}
 use Rattle.geometry.proofs.Shares.{one_place}
 use Rattle.draw_core.proofs.Shown.{in_rest, in_first}
 
@@ -37,12 +37,12 @@ earlier_in from to (y ∷ ys) (same, earlier, later) x (zero, within, is) = subs
 earlier_in from to (y ∷ ys) (same, earlier, later) x (suc k, within, is) = earlier_in y.to to ys later x (k, omega arith, is)
 
 -- ---- from a place to its span
-module _ (d : Triple) {s : Part} (e : Edge s) (n m : ℤ) (positive : pos 0 <ℤ m) (regular : IsRegular d s (share_point e.a e.b n m)) where
-  -- a regular point is at no end
-  pub not_at : (r : Frac) → ¬ IsRegular d s (point_at e r) → r.num *ℤ m ≡ n *ℤ r.den → ⊥
-  not_at r irregular same = irregular (regular_along d s (share_point e.a e.b n m) (point_at e r) r.positive (one_place d e.a e.b r.num r.den n m same) regular)
+module _ (d : Triple) {s : Part} (e : Edge s) (n m : ℤ) (positive : pos 0 <ℤ m) (ordinary : IsOrdinary d s (share_point e.a e.b n m)) where
+  -- an ordinary point is at no end
+  pub not_at : (r : Frac) → ¬ IsOrdinary d s (point_at e r) → r.num *ℤ m ≡ n *ℤ r.den → ⊥
+  not_at r apart same = apart (ordinary_along d s (share_point e.a e.b n m) (point_at e r) r.positive (one_place d e.a e.b r.num r.den n m same) ordinary)
 
-  find : (from to : Frac) (spans : List Span) → Follow from spans to → ((x : Span) → Contains spans x → HasNoRegularEnd d e x.from x.to)
+  find : (from to : Frac) (spans : List Span) → Follow from spans to → ((x : Span) → Contains spans x → HasNoOrdinaryEnd d e x.from x.to)
       → (from.num *ℤ m) <ℤ (n *ℤ from.den) → (n *ℤ to.den) ≤ℤ (to.num *ℤ m) → (x : Span) × Contains spans x × IsBetween x.from x.to n m
   find from to [] same apart after before =
       absurd (not_less (from.num *ℤ m) (n *ℤ from.den) after
@@ -78,12 +78,12 @@ module _ (d : Triple) {s : Part} (e : Edge s) (n m : ℤ) (positive : pos 0 <ℤ
       none = (λ i. zero_is i *ℤ m) ∙ times_zero m
 
   pub span_of_place : pos 0 ≤ℤ n → n ≤ℤ m → (spans : List Span) → AreSpans d e spans → (x : Span) × Contains spans x × IsBetween x.from x.to n m
-  span_of_place least most spans right = go spans right.covers (λ x c. All-contains (λ x. HasNoRegularEnd d e x.from x.to) spans x right.ends c)
+  span_of_place least most spans right = go spans right.covers (λ x c. All-contains (λ x. HasNoOrdinaryEnd d e x.from x.to) spans x right.ends c)
     where
       no_length : (k : ℤ) → pos 0 <ℤ k → k ≡ pos 0 → ⊥
       no_length k h e = omega (arith, ints)
 
-      go : (spans : List Span) → CoverEdge spans → ((x : Span) → Contains spans x → HasNoRegularEnd d e x.from x.to) → (x : Span) × Contains spans x × IsBetween x.from x.to n m
+      go : (spans : List Span) → CoverEdge spans → ((x : Span) → Contains spans x → HasNoOrdinaryEnd d e x.from x.to) → (x : Span) × Contains spans x × IsBetween x.from x.to n m
       go [] (from, to, zero_is, one_is, same) apart = absurd (no_length to.den to.positive (sym one_is ∙ sym same.0 ∙ zero_is))
       go (x ∷ xs) (from, to, zero_is, one_is, follow) apart =
           by_lt_z (from.num *ℤ m) (n *ℤ from.den)

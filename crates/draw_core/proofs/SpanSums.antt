@@ -10,12 +10,12 @@ use Rattle.lattice.specs.Points.{Point, IsPoint, OnOneSight}
 use Rattle.geometry.specs.Faces.{share_point}
 use Rattle.geometry.specs.Parts.{Part, Edge}
 use Rattle.geometry.specs.Pieces.{LiesOn}
-use Rattle.geometry.specs.Views.{IsRegular}
+use Rattle.geometry.specs.Views.{IsOrdinary}
 use Rattle.span_slow.specs.declared.span.Span.{Span}
 use Rattle.span_slow.specs.Places.{point_at, IsEarlier, IsBetween}
-use Rattle.span_slow.specs.Spans.{HasNoRegularEnd}
+use Rattle.span_slow.specs.Spans.{HasNoOrdinaryEnd}
 use Rattle.draw_core.specs.Visible.{HasEnds, IsPieceOf}
-use Rattle.geometry.proofs.Sights.{sight_on, regular_along}
+use Rattle.geometry.proofs.Sights.{sight_on, ordinary_along}
 use Rattle.geometry.proofs.Shares.{one_place, sum_is, sum_turned}
 use Rattle.draw_core.proofs.SpanPlaces.{at_most_by, weak, not_at}
 
@@ -117,12 +117,12 @@ module _ (d : Triple) {s : Part} (e : Edge s) (x : Span) (p : Point) where
   abbrev m_of : ℕ → ℕ → ℤ
   m_of i j = (pos i *ℤ x.from.den) +ℤ (pos j *ℤ x.to.den)
 
-  -- a sum of the ends that is seen at a regular point is a place within the span
-  pub place_of_sum : IsEarlier x.from x.to → HasNoRegularEnd d e x.from x.to → IsPoint p → IsRegular d s p → LiesWithin d e x p → HasPlace d e x p
-  place_of_sum earlier apart positive regular (i, j, some, sight) = go i j (sum_pos x.from.den x.to.den i j x.from.positive x.to.positive some) sight
+  -- a sum of the ends that is seen at an ordinary point is a place within the span
+  pub place_of_sum : IsEarlier x.from x.to → HasNoOrdinaryEnd d e x.from x.to → IsPoint p → IsOrdinary d s p → LiesWithin d e x p → HasPlace d e x p
+  place_of_sum earlier apart positive ordinary (i, j, some, sight) = go i j (sum_pos x.from.den x.to.den i j x.from.positive x.to.positive some) sight
     where
-      along : (n m : ℤ) → pos 0 <ℤ m → OnOneSight d (share_point e.a e.b n m) p → IsRegular d s (share_point e.a e.b n m)
-      along n m h sight = regular_along d s p (share_point e.a e.b n m) h sight regular
+      along : (n m : ℤ) → pos 0 <ℤ m → OnOneSight d (share_point e.a e.b n m) p → IsOrdinary d s (share_point e.a e.b n m)
+      along n m h sight = ordinary_along d s p (share_point e.a e.b n m) h sight ordinary
 
       go : (i j : ℕ) → pos 0 <ℤ m_of i j → OnOneSight d (share_point e.a e.b (n_of i j) (m_of i j)) p → HasPlace d e x p
       go zero j h sight =

@@ -5,7 +5,7 @@ use Rattle.lattice.specs.Points.{of_dir}
 use Rattle.lattice.specs.declared.pieces.ViewSpec.{ViewSpec}
 use Rattle.lattice.specs.declared.pieces.ViewSpec.TheVariants.{Plain}
 use Rattle.geometry.specs.Views.{AreDrawnEdges}
-use Rattle.geometry.specs.Pieces.{ShowVisibleOffMeetings}
+use Rattle.geometry.specs.Pieces.{ShowVisible}
 use Rattle.solid_mesh.specs.declared.solid.Solid.{Solid}
 use Rattle.solid_mesh.specs.Solids.{solid_part, edge_halves}
 use Rattle.desk.specs.Files.{Files}
@@ -27,7 +27,7 @@ IsPlainFrom d (Plain toward) = of_dir toward ≡ d
 -- the view shows, from this direction, what is visible of the drawn edges of the solid, edge by edge in their order
 pub record ShowsVisible (d : Triple) (s : Solid) (view : ViewDrawing) : Type 0 where
   pub from : IsPlainFrom d view.spec
-  pub right : ShowVisibleOffMeetings d 0 (solid_part s) view.pieces.items
+  pub right : ShowVisible d 0 (solid_part s) view.pieces.items
   pub numbers : List ℕ
   pub drawn : AreDrawnEdges d 0 (solid_part s) (edge_halves s) numbers
   pub edges : ShowEdges d (solid_part s) (edge_halves s) numbers view.pieces.items

@@ -3,7 +3,7 @@ use Rattle.std.specs.Prelude.{ℕ, List, Option, Some, None, ◌≡◌, ◌++◌
 use Rattle.std.specs.Fmt.{decimal}
 use Rattle.desk.specs.Files.{AppendsFront}
 use Rattle.solid_mesh.specs.declared.faults.MeshFault.{MeshFault}
-use Rattle.solid_mesh.specs.declared.faults.MeshFault.TheVariants.{Flat, SameWay, Unpaired, Double}
+use Rattle.solid_mesh.specs.declared.faults.MeshFault.TheVariants.{Flat, SameWay, Unpaired, Double, Meet}
 use Rattle.weld.specs.declared.fault.PartFault.{PartFault}
 use Rattle.weld.specs.declared.fault.PartKind.{PartKind}
 use Rattle.weld.specs.declared.fault.PartKind.TheVariants.{Binary, Prefixed, Missing, BadNumber, TooLarge, BadIndex, FaceSize, TooMany, Trailing, FaceUnseen, Expected}
@@ -54,6 +54,7 @@ mesh_line (Flat t) = codes "draw: solid: triangle " ⊕ decimal t ⊕ codes " is
 mesh_line (SameWay a b) = codes "draw: solid: triangles " ⊕ decimal a ⊕ codes " and " ⊕ decimal b ⊕ codes " use a side the same way\n"
 mesh_line (Unpaired t side) = codes "draw: solid: side " ⊕ decimal side ⊕ codes " of triangle " ⊕ decimal t ⊕ codes " has no partner\n"
 mesh_line (Double a b) = codes "draw: solid: triangles " ⊕ decimal a ⊕ codes " and " ⊕ decimal b ⊕ codes " have the same corners\n"
+mesh_line (Meet e t) = codes "draw: solid: edge " ⊕ decimal e ⊕ codes " meets triangle " ⊕ decimal t ⊕ codes "\n"
 
 abbrev pub fault_line : Fault → List ℕ
 fault_line Usage = codes "draw: usage: draw PART [--job JOB] [--out OUT]\n"

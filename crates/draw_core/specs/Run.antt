@@ -1,7 +1,8 @@
 -- What a run answers, from its words and the files at entry: steps in order, each with what it gives and what it refuses.
 use Rattle.std.specs.Prelude.{◌≡◌, ◌⊎◌, ◌<◌, ◌≤◌, ℕ, List, [], length, Option, Some, None, IsSome, IsSomeAnd, Result, Ok, Err, Bool, false, IsTrue, codes}
 use Rattle.desk.specs.Files.{Files, Keeps, MayKeepFront}
-use Rattle.geometry.specs.Parts.{Part, IsClosed, HasNoDouble}
+use Rattle.geometry.specs.Parts.{Part}
+use Rattle.geometry.specs.Sound.{IsSound}
 use Rattle.weld.specs.Raw.{Raw}
 use Rattle.weld.specs.Welds.{IsWeldOf, proper_of}
 use Rattle.weld.specs.declared.fault.PartFault.{PartFault}
@@ -53,9 +54,9 @@ WeldsPart raw (Err e) = (e ≡ Nothing) × (proper_of raw ≡ [])
 abbrev pub ReadsPart : List ℕ → Result Part Fault → Type 0
 ReadsPart bytes = ReadsText bytes and_then WeldsPart
 
--- its surface is closed, and no two of its triangles have the same corners
+-- its surface is sound: it is closed, no two triangles have the same corners, and edges meet faces in shared corners only
 abbrev pub ChecksPart : Part → Result Part Fault → Type 0
-ChecksPart part (Ok solid) = (solid ≡ part) × IsClosed part × HasNoDouble part
+ChecksPart part (Ok solid) = (solid ≡ part) × IsSound part
 ChecksPart part (Err e) = (fault : MeshFault) × (e ≡ Mesh fault) × HasFault part fault
 
 -- a run: the part that is drawn, or the refusal

@@ -73,6 +73,9 @@ fn mesh_line(alloc: Global, fault: &MeshFault) -> Result<String, AllocError>
         MeshFault::Double(a, b) => {
             format!(in alloc; "draw: solid: triangles {a} and {b} have the same corners\n")
         }
+        MeshFault::Meet(edge, t) => {
+            format!(in alloc; "draw: solid: edge {edge} meets triangle {t}\n")
+        }
     }
 }
 
@@ -202,6 +205,10 @@ mod tests {
             (
                 Fault::Mesh(MeshFault::Double(0, 1)),
                 "solid: triangles 0 and 1 have the same corners",
+            ),
+            (
+                Fault::Mesh(MeshFault::Meet(7, 13)),
+                "solid: edge 7 meets triangle 13",
             ),
             (Fault::Memory, "out of memory"),
         ] {

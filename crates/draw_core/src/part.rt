@@ -41,7 +41,7 @@ fn read_part(alloc: Global, bytes: &[u8]) -> Result<RawPart, PartError>
     }
 }
 
-/// The closed solid of a part's text.
+/// The sound solid of a part's text.
 pub(crate) fn solid_of(alloc: Global, bytes: &[u8]) -> Result<Solid, Fault>
     requires short { length bytes.now ≤ 16777216 }
     ensures answer { Gives solid_part (ReadsPart bytes.now and_then ChecksPart) result }

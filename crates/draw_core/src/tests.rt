@@ -34,9 +34,11 @@ const TWO_CUBES: &str =
 const WEDGE: &str =
     "OFF\n14 20 0\n0 0 0\n10 0 0\n10 10 0\n0 10 0\n0 0 10\n10 0 10\n10 10 10\n0 10 10\n-5 20 -5\n15 20 -5\n15 20 15\n-5 30 -5\n15 30 -5\n15 30 15\n3 0 3 2\n3 0 2 1\n3 4 5 6\n3 4 6 7\n3 0 1 5\n3 0 5 4\n3 1 2 6\n3 1 6 5\n3 2 3 7\n3 2 7 6\n3 3 0 4\n3 3 4 7\n3 8 9 10\n3 11 13 12\n3 9 8 11\n3 9 11 12\n3 10 9 12\n3 10 12 13\n3 8 10 13\n3 8 13 11\n";
 
-// The cube, and a spike that sticks out of its front face.
-const SPIKE: &str =
-    "OFF\n12 16 0\n0 0 0\n10 0 0\n10 10 0\n0 10 0\n0 0 10\n10 0 10\n10 10 10\n0 10 10\n5 -5 5\n4 5 4\n6 5 4\n5 5 6\n3 0 3 2\n3 0 2 1\n3 4 5 6\n3 4 6 7\n3 0 1 5\n3 0 5 4\n3 1 2 6\n3 1 6 5\n3 2 3 7\n3 2 7 6\n3 3 0 4\n3 3 4 7\n3 8 9 11\n3 8 11 10\n3 8 10 9\n3 9 10 11\n";
+// A cube and a tetrahedron above it, up to the tetrahedron's lowest corner and behind it.
+const STANDING: [&str; 2] = [
+    "OFF\n12 10 18\n0 0 0\n10 0 0\n10 10 0\n0 10 0\n0 0 10\n10 0 10\n10 10 10\n0 10 10\n",
+    "\n0 0 20\n10 0 20\n5 10 20\n4 0 3 2 1\n4 4 5 6 7\n4 0 1 5 4\n4 1 2 6 5\n4 2 3 7 6\n4 3 0 4 7\n3 9 10 11\n3 10 9 8\n3 11 10 8\n3 9 11 8\n",
+];
 
 // A tetrahedron.
 const TETRA: &str = "solid Mesh\r
@@ -149,20 +151,10 @@ fn scenes_show_what_is_visible(rt: HostRuntime) -> Result<(), Fail> {
         [3500, 2500, 4000, 2000],
         [2000, 4000, 2500, 3500],
     ];
-    let spike = [
-        SQUARE[0],
-        SQUARE[1],
-        SQUARE[2],
-        SQUARE[3],
-        [2450, 2550, 2500, 2500],
-        [2500, 2500, 2500, 2450],
-        [2500, 2500, 2550, 2550],
-    ];
     for (part, lines) in [
         (CUBE, &SQUARE[..]),
         (TWO_CUBES, &two_cubes[..]),
         (WEDGE, &wedge[..]),
-        (SPIKE, &spike[..]),
     ] {
         let mut desk = desk_of(alloc, part, 9)?;
         let outcome = draw(alloc, &words_of(alloc, "p")?, &mut desk);
@@ -270,6 +262,24 @@ fn each_surface_is_closed_or_refused_by_its_fault(rt: HostRuntime) -> Result<(),
         let mut desk = desk_of(alloc, stl_of(alloc, facets)?.as_str(), 9)?;
         let outcome = draw(alloc, &words_of(alloc, "p")?, &mut desk);
         assert_eq!(rt; outcome.fault, fault, "{facets}");
+    }
+    Ok(())
+}
+
+// A tetrahedron whose tip is on the cube's top face, in it, and above it.
+#[test]
+fn a_tip_touches_a_face_or_not(rt: HostRuntime) -> Result<(), Fail> {
+    let alloc = rt.alloc();
+    for (tip, fault) in [
+        ("5 5 10", Some(Fault::Mesh(MeshFault::Meet(7, 13)))),
+        ("5 5 9", Some(Fault::Mesh(MeshFault::Meet(7, 13)))),
+        ("5 5 10.001", None),
+    ] {
+        let [before, behind] = STANDING;
+        let text = format!(in alloc; "{before}{tip}{behind}")?;
+        let mut desk = desk_of(alloc, text.as_str(), 9)?;
+        let outcome = draw(alloc, &words_of(alloc, "p")?, &mut desk);
+        assert_eq!(rt; outcome.fault, fault, "{tip}");
     }
     Ok(())
 }

@@ -2,7 +2,7 @@
 ghost use Rattle.std.specs.Prelude.{◌≡◌, ◌<◌, List, ◌++◌, length, IfOk, OnOk};
 ghost use Rattle.lattice.specs.declared.pieces.Piece.{Piece};
 ghost use Rattle.lattice.specs.Points.{of_dir};
-ghost use Rattle.geometry.specs.Pieces.{ShowVisibleOffMeetings};
+ghost use Rattle.geometry.specs.Pieces.{ShowVisible};
 ghost use Rattle.geometry.specs.Views.{IsEndOn, AreDrawnEdges};
 ghost use Rattle.solid_mesh.specs.Solids.{solid_part, edge_halves};
 ghost use Rattle.span_slow.specs.Places.{IsEarlier};
@@ -65,7 +65,7 @@ pub(crate) fn visible_pieces(
     requires { AreDrawnEdges (of_dir d.now) 0 (solid_part solid.now) (edge_halves solid.now) numbers.now }
     ensures edges { let halves = edge_halves solid.now in
         IfOk result (λ pieces. ShowEdges (of_dir d.now) (solid_part solid.now) halves numbers.now pieces.items) }
-    ensures right { IfOk result (λ pieces. ShowVisibleOffMeetings (of_dir d.now) 0 (solid_part solid.now) pieces.items) }
+    ensures right { IfOk result (λ pieces. ShowVisible (of_dir d.now) 0 (solid_part solid.now) pieces.items) }
 {
     let mut pieces = Vec::new(alloc);
     for edge in numbers {

@@ -8,8 +8,9 @@ use Rattle.lattice.specs.Triangles.{IsBelow}
 use Rattle.lattice.specs.Triple.{Triple}
 use Rattle.lattice.specs.Points.{Point, point_of}
 use Rattle.geometry.specs.Faces.{FaceHides, facing_of, share_point}
-use Rattle.geometry.specs.Parts.{Part, Face, Edge, IsClosed}
-use Rattle.geometry.specs.Views.{IsRegular}
+use Rattle.geometry.specs.Parts.{Part, Face, Edge}
+use Rattle.geometry.specs.Views.{IsOrdinary}
+use Rattle.geometry.specs.Sound.{IsSound}
 use Rattle.hiding.specs.Values.{value_at, side_of, depth_of, IsBehind, AreCornersOf}
 use Rattle.span_slow.specs.declared.interval.Interval.{Interval}
 use Rattle.span_slow.specs.declared.interval.Linear.{Linear}
@@ -51,7 +52,7 @@ pub rooted : {s : Part} (e : Edge s) (v : Linear) (F : Point → ℤ) (n m : ℤ
     → (v.start ≢ v.end) × (value_at v.start v.end n m ≡ pos 0) → IsRoot (F (point_of e.a)) (F (point_of e.b)) (F (share_point e.a e.b n m))
 rooted e v F n m (start, end) same (changes, zero) = ((λ alike. changes (start ∙ alike ∙ sym end)), sym same ∙ zero)
 
-module _ (d : Triple) (s : Part) (closed : IsClosed s) (in_range : All (IsBelow (length s.corners)) s.triangles) (e : Edge s) (f : Face s) (a b c : Corner) (corners : AreCornersOf f a b c) (front : pos 0 <ℤ facing_of d a b c)
+module _ (d : Triple) (s : Part) (sound : IsSound s) (in_range : All (IsBelow (length s.corners)) s.triangles) (e : Edge s) (f : Face s) (a b c : Corner) (corners : AreCornersOf f a b c) (front : pos 0 <ℤ facing_of d a b c)
     (depth : Linear) (tells_depth : Tells e depth (depth_of a b c)) where
   at_depth : (n m : ℤ) → value_at depth.start depth.end n m ≡ depth_of a b c (share_point e.a e.b n m)
   at_depth n m = told e depth (depth_of a b c) n m tells_depth (depth-share d e.a e.b n m a b c)
@@ -65,7 +66,7 @@ module _ (d : Triple) (s : Part) (closed : IsClosed s) (in_range : All (IsBelow 
 
   -- in front of the plane
   pub front_none : depth.start ≤ℤ pos 0 → depth.end ≤ℤ pos 0 → AreWhere d e (FaceHides d f.a f.b f.c) []
-  front_none start end = where_none d e (FaceHides d f.a f.b f.c) (λ n m hn hm regular hides.
+  front_none start end = where_none d e (FaceHides d f.a f.b f.c) (λ n m hn hm ordinary hides.
       let least : pos 0 <ℤ value_at depth.start depth.end n m = subst (λ (v : ℤ). pos 0 <ℤ v) (sym (at_depth n m)) ((behind n m (positive_of n m hn hm)).0 hides).depth in
       apart (value_at depth.start depth.end n m) least (at_most_between depth.start depth.end n m hn hm start end))
     where
@@ -86,11 +87,11 @@ module _ (d : Triple) (s : Part) (closed : IsClosed s) (in_range : All (IsBelow 
     linears = ab ∷ bc ∷ ca ∷ depth ∷ []
 
     -- where one of the four begins or ceases to be at least 0
-    end_apart : (n m : ℤ) → pos 0 <ℤ m → pos 0 ≤ℤ n → n ≤ℤ m → AreNonnegative linears n m → IsRootOrEndAt linears n m → ¬ IsRegular d s (share_point e.a e.b n m)
-    end_apart n m positive least most all (inl h) = not-at-start d s closed e n m positive least most h
-    end_apart n m positive least most all (inr (inl h)) = not-at-finish d s closed e n m positive least most h
+    end_apart : (n m : ℤ) → pos 0 <ℤ m → pos 0 ≤ℤ n → n ≤ℤ m → AreNonnegative linears n m → IsRootOrEndAt linears n m → ¬ IsOrdinary d s (share_point e.a e.b n m)
+    end_apart n m positive least most all (inl h) = not-at-start d s e n m positive least most h
+    end_apart n m positive least most all (inr (inl h)) = not-at-finish d s e n m positive least most h
     end_apart n m positive least most (h_ab, (h_bc, (h_ca, (h_depth, _)))) (inr (inr root)) =
-        not-at-front-end d s closed e n m positive least most in_range f a b c corners front
+        not-at-front-end d s e n m positive least most sound in_range f a b c corners front
         (moved (at_ab n m) h_ab) (moved (at_bc n m) h_bc) (moved (at_ca n m) h_ca) (moved (at_depth n m) h_depth) (roots root)
       where
         moved : {v w : ℤ} → v ≡ w → pos 0 ≤ℤ v → pos 0 ≤ℤ w
@@ -108,8 +109,8 @@ module _ (d : Triple) (s : Part) (closed : IsClosed s) (in_range : All (IsBelow 
 
     -- the edge is not in front of the plane at both ends
     module _ (some : (pos 0 <ℤ depth.start) ⊎ (pos 0 <ℤ depth.end)) where
-      inside : (n m : ℤ) → pos 0 <ℤ n → n <ℤ m → IsRegular d s (share_point e.a e.b n m) → FaceHides d f.a f.b f.c (share_point e.a e.b n m) ↔ AreNonnegative linears n m
-      inside n m hn hm regular = ((λ hides. all ((behind n m positive).0 hides)), (λ least. (behind n m positive).1 (all_back least)))
+      inside : (n m : ℤ) → pos 0 <ℤ n → n <ℤ m → IsOrdinary d s (share_point e.a e.b n m) → FaceHides d f.a f.b f.c (share_point e.a e.b n m) ↔ AreNonnegative linears n m
+      inside n m hn hm ordinary = ((λ hides. all ((behind n m positive).0 hides)), (λ least. (behind n m positive).1 (all_back least)))
         where
           positive : pos 0 <ℤ m
           positive = positive_of n m hn hm
@@ -130,7 +131,7 @@ module _ (d : Triple) (s : Part) (closed : IsClosed s) (in_range : All (IsBelow 
             ca = moved_back (at_ca n m) h_ca;
             depth = subst (λ (z : ℤ). pos 0 <ℤ z) (at_depth n m) (strict h_depth (λ zero.
                 let root : (depth.start ≢ depth.end) × (value_at depth.start depth.end n m ≡ pos 0) = (changes depth.start depth.end n m positive some (sym zero), sym zero) in
-                end_apart n m positive (weaker hn) (weaker hm) (h_ab, (h_bc, (h_ca, (h_depth, u)))) (inr (inr (inr (inr (inr (inl root)))))) regular));
+                end_apart n m positive (weaker hn) (weaker hm) (h_ab, (h_bc, (h_ca, (h_depth, u)))) (inr (inr (inr (inr (inr (inl root)))))) ordinary));
           }
 
       pub front_where : (x : Interval) → IsWhereNonnegative linears x → (o : Option Interval) → IfSome o (λ y. (y ≡ x) × IsEarlier x.from x.to) → IfNone o (¬ IsEarlier x.from x.to)

@@ -50,13 +50,13 @@ HidesBelow d s k p = (f : Face s) × (f.number < k) × FaceHides d f.a f.b f.c p
 
 module _ (d : Triple) {s : Part} (e : Edge s) where
   pub below_none : AreWhere d e (HidesBelow d s 0) []
-  below_none = where_none d e (HidesBelow d s 0) (λ n m hn hm regular (f, h, hides). omega arith)
+  below_none = where_none d e (HidesBelow d s 0) (λ n m hn hm ordinary (f, h, hides). omega arith)
 
   pub below_next : (k : ℕ) (f : Face s) → f.number ≡ k → (old new : List Interval) → AreWhere d e (HidesBelow d s k) old → AreAdded d e (FaceHides d f.a f.b f.c) old new
       → AreWhere d e (HidesBelow d s (k + 1)) new
   below_next k f at old new before more =
       subst (λ (xs : List Interval). AreWhere d e (HidesBelow d s (k + 1)) xs) (sym more.all)
-      (where_alike d e (λ p. HidesBelow d s k p ⊎ FaceHides d f.a f.b f.c p) (HidesBelow d s (k + 1)) (old ++ more.added) (λ n m hn hm regular. (up _, down _))
+      (where_alike d e (λ p. HidesBelow d s k p ⊎ FaceHides d f.a f.b f.c p) (HidesBelow d s (k + 1)) (old ++ more.added) (λ n m hn hm ordinary. (up _, down _))
       (where_either d e (HidesBelow d s k) (FaceHides d f.a f.b f.c) old more.added before more.right))
     where
       up : (p : Point) → HidesBelow d s k p ⊎ FaceHides d f.a f.b f.c p → HidesBelow d s (k + 1) p
@@ -76,7 +76,7 @@ module _ (d : Triple) {s : Part} (e : Edge s) where
           by (inr below) = inl (g, below, hides)
 
   pub below_all : (k : ℕ) → length s.triangles ≤ k → (xs : List Interval) → AreWhere d e (HidesBelow d s k) xs → AreWhere d e (IsHidden d s) xs
-  below_all k all xs h = where_alike d e (HidesBelow d s k) (IsHidden d s) xs (λ n m hn hm regular. (
+  below_all k all xs h = where_alike d e (HidesBelow d s k) (IsHidden d s) xs (λ n m hn hm ordinary. (
     (λ (f, below, hides). (f, hides)),
     (λ (f, hides). let within = slice_get_within s.triangles f.number f.tri f.listed in (f, omega arith, hides)),
   )) h

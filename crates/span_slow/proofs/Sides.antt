@@ -7,8 +7,9 @@ use Rattle.lattice.specs.Triangles.{IsBelow}
 use Rattle.lattice.specs.Triple.{Triple, dot, IsZero}
 use Rattle.lattice.specs.Points.{Point, point_of, difference, OnOneSight}
 use Rattle.geometry.specs.Faces.{share_point}
-use Rattle.geometry.specs.Parts.{Part, Face, Edge, IsClosed}
-use Rattle.geometry.specs.Views.{IsRegular}
+use Rattle.geometry.specs.Parts.{Part, Face, Edge}
+use Rattle.geometry.specs.Views.{IsOrdinary}
+use Rattle.geometry.specs.Sound.{IsSound}
 use Rattle.hiding.specs.Values.{value_at, past_of, short_of, behind_of, IsBehindSide, IsAhead, IsInLine, IsSideOf, WideSideHides}
 use Rattle.span_slow.specs.declared.interval.Interval.{Interval}
 use Rattle.span_slow.specs.declared.interval.Linear.{Linear}
@@ -36,7 +37,7 @@ side_turned f k l (inr (inr (inl (p, q)))) = inr (inr (inr (q, p)))
 side_turned f k l (inr (inr (inr (p, q)))) = inr (inr (inl (q, p)))
 
 pub where_turned : (d : Triple) {s : Part} (e : Edge s) (k l : Corner) (xs : List Interval) → AreWhere d e (WideSideHides d l k) xs → AreWhere d e (WideSideHides d k l) xs
-where_turned d e k l xs h = where_alike d e (WideSideHides d l k) (WideSideHides d k l) xs (λ n m hn hm regular. (turned d l k _, turned d k l _)) h
+where_turned d e k l xs h = where_alike d e (WideSideHides d l k) (WideSideHides d k l) xs (λ n m hn hm ordinary. (turned d l k _, turned d k l _)) h
 
 -- ---- the edge's corners
 pub ahead_at : (d axis : Triple) {s : Part} (e : Edge s) (a b : Corner) → e.a ≡ a → e.b ≡ b → IsAhead d axis a b → IsAhead d axis e.a e.b
@@ -48,19 +49,19 @@ in_line_at d e a b k l at_a at_b = (
   (λ h. subst (λ (x : Corner). IsInLine d x e.b k l) (sym at_a) (subst (λ (y : Corner). IsInLine d a y k l) (sym at_b) h)),
 )
 
-module _ (d axis : Triple) (somewhere : ¬ IsZero d) (s : Part) (closed : IsClosed s) (in_range : All (IsBelow (length s.corners)) s.triangles) (e : Edge s) (ahead : IsAhead d axis e.a e.b) (f : Face s) (k l : Corner) (side : IsSideOf f k l) where
-  -- ---- sides that hide nothing at regular points
-  hides_in_line : (n m : ℤ) → pos 0 <ℤ n → n <ℤ m → IsRegular d s (share_point e.a e.b n m) → WideSideHides d k l (share_point e.a e.b n m) → IsInLine d e.a e.b k l
-  hides_in_line n m hn hm regular h = in-line d axis somewhere s closed in_range e n m (positive_of n m hn hm) (weaker hn) (weaker hm) ahead f k l side regular h.1
+module _ (d axis : Triple) (somewhere : ¬ IsZero d) (s : Part) (sound : IsSound s) (in_range : All (IsBelow (length s.corners)) s.triangles) (e : Edge s) (ahead : IsAhead d axis e.a e.b) (f : Face s) (k l : Corner) (side : IsSideOf f k l) where
+  -- ---- sides that hide nothing at ordinary points
+  hides_in_line : (n m : ℤ) → pos 0 <ℤ n → n <ℤ m → IsOrdinary d s (share_point e.a e.b n m) → WideSideHides d k l (share_point e.a e.b n m) → IsInLine d e.a e.b k l
+  hides_in_line n m hn hm ordinary h = in-line d axis somewhere s sound in_range e n m (positive_of n m hn hm) (weaker hn) (weaker hm) ahead f k l side ordinary h.1
 
   -- not in line with the edge
   pub side_off_line : ¬ IsInLine d e.a e.b k l → AreWhere d e (WideSideHides d k l) []
-  side_off_line off = where_none d e (WideSideHides d k l) (λ n m hn hm regular h. off (hides_in_line n m hn hm regular h))
+  side_off_line off = where_none d e (WideSideHides d k l) (λ n m hn hm ordinary h. off (hides_in_line n m hn hm ordinary h))
 
   -- seen end-on
   pub side_end_on : dot axis (difference k l) ≡ pos 0 → AreWhere d e (WideSideHides d k l) []
-  side_end_on same = where_none d e (WideSideHides d k l) (λ n m hn hm regular h.
-      h.0 (one-sight d axis e.a e.b k l somewhere ahead (hides_in_line n m hn hm regular h) same))
+  side_end_on same = where_none d e (WideSideHides d k l) (λ n m hn hm ordinary h.
+      h.0 (one-sight d axis e.a e.b k l somewhere ahead (hides_in_line n m hn hm ordinary h) same))
 
   -- ---- a side in line with the edge, which goes forward as the edge does
   module _ (square : pos 0 <ℤ dot d d) (in_line : IsInLine d e.a e.b k l) (forward : pos 0 <ℤ dot axis (difference k l))
@@ -82,7 +83,7 @@ module _ (d axis : Triple) (somewhere : ¬ IsZero d) (s : Part) (closed : IsClos
 
     -- in front of the line
     pub side_none : behind.start ≤ℤ pos 0 → behind.end ≤ℤ pos 0 → AreWhere d e (WideSideHides d k l) []
-    side_none start end = where_none d e (WideSideHides d k l) (λ n m hn hm regular hides.
+    side_none start end = where_none d e (WideSideHides d k l) (λ n m hn hm ordinary hides.
         let least : pos 0 <ℤ value_at behind.start behind.end n m = subst (λ (v : ℤ). pos 0 <ℤ v) (sym (at_behind n m)) ((under n m (positive_of n m hn hm)).0 hides).behind in
         apart (value_at behind.start behind.end n m) least (at_most_between behind.start behind.end n m hn hm start end))
       where
@@ -100,11 +101,11 @@ module _ (d axis : Triple) (somewhere : ¬ IsZero d) (s : Part) (closed : IsClos
       linears = past ∷ short ∷ behind ∷ []
 
       -- where one of the three begins or ceases to be at least 0
-      end_apart : (n m : ℤ) → pos 0 <ℤ m → pos 0 ≤ℤ n → n ≤ℤ m → AreNonnegative linears n m → IsRootOrEndAt linears n m → ¬ IsRegular d s (share_point e.a e.b n m)
-      end_apart n m positive least most all (inl h) = not-at-start d s closed e n m positive least most h
-      end_apart n m positive least most all (inr (inl h)) = not-at-finish d s closed e n m positive least most h
+      end_apart : (n m : ℤ) → pos 0 <ℤ m → pos 0 ≤ℤ n → n ≤ℤ m → AreNonnegative linears n m → IsRootOrEndAt linears n m → ¬ IsOrdinary d s (share_point e.a e.b n m)
+      end_apart n m positive least most all (inl h) = not-at-start d s e n m positive least most h
+      end_apart n m positive least most all (inr (inl h)) = not-at-finish d s e n m positive least most h
       end_apart n m positive least most (h_past, (h_short, (h_behind, _))) (inr (inr root)) =
-          not-at-side-end d axis somewhere s closed in_range e n m positive least most ahead f k l side in_line forward
+          not-at-side-end d axis somewhere s sound in_range e n m positive least most ahead f k l side in_line forward
           (moved (at_past n m) h_past) (moved (at_short n m) h_short) (moved (at_behind n m) h_behind) (roots root)
         where
           moved : {v w : ℤ} → v ≡ w → pos 0 ≤ℤ v → pos 0 ≤ℤ w
@@ -119,8 +120,8 @@ module _ (d axis : Triple) (somewhere : ¬ IsZero d) (s : Part) (closed : IsClos
 
       -- the edge is not in front of the line at both ends
       module _ (some : (pos 0 <ℤ behind.start) ⊎ (pos 0 <ℤ behind.end)) where
-        inside : (n m : ℤ) → pos 0 <ℤ n → n <ℤ m → IsRegular d s (share_point e.a e.b n m) → WideSideHides d k l (share_point e.a e.b n m) ↔ AreNonnegative linears n m
-        inside n m hn hm regular = ((λ hides. all ((under n m positive).0 hides)), (λ least. (under n m positive).1 (all_back least)))
+        inside : (n m : ℤ) → pos 0 <ℤ n → n <ℤ m → IsOrdinary d s (share_point e.a e.b n m) → WideSideHides d k l (share_point e.a e.b n m) ↔ AreNonnegative linears n m
+        inside n m hn hm ordinary = ((λ hides. all ((under n m positive).0 hides)), (λ least. (under n m positive).1 (all_back least)))
           where
             positive : pos 0 <ℤ m
             positive = positive_of n m hn hm
@@ -140,7 +141,7 @@ module _ (d axis : Triple) (somewhere : ¬ IsZero d) (s : Part) (closed : IsClos
               short = moved_back (at_short n m) h_short;
               behind = subst (λ (z : ℤ). pos 0 <ℤ z) (at_behind n m) (strict h_behind (λ zero.
                   let root : (behind.start ≢ behind.end) × (value_at behind.start behind.end n m ≡ pos 0) = (changes behind.start behind.end n m positive some (sym zero), sym zero) in
-                  end_apart n m positive (weaker hn) (weaker hm) (h_past, (h_short, (h_behind, u))) (inr (inr (inr (inr (inl root))))) regular));
+                  end_apart n m positive (weaker hn) (weaker hm) (h_past, (h_short, (h_behind, u))) (inr (inr (inr (inr (inl root))))) ordinary));
             }
 
         pub side_where : (x : Interval) → IsWhereNonnegative linears x → (o : Option Interval) → IfSome o (λ y. (y ≡ x) × IsEarlier x.from x.to) → IfNone o (¬ IsEarlier x.from x.to)

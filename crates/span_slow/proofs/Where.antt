@@ -8,12 +8,12 @@ use Rattle.lattice.specs.Triple.{Triple}
 use Rattle.lattice.specs.Points.{Point, point_of}
 use Rattle.geometry.specs.Faces.{share_point}
 use Rattle.geometry.specs.Parts.{Part, Edge}
-use Rattle.geometry.specs.Views.{IsRegular}
+use Rattle.geometry.specs.Views.{IsOrdinary}
 use Rattle.hiding.specs.Values.{value_at}
 use Rattle.span_slow.specs.declared.interval.Interval.{Interval}
 use Rattle.span_slow.specs.declared.interval.Linear.{Linear}
 use Rattle.span_slow.specs.Places.{IsPlace, IsEarlier, IsValue, IsBetween, IsFromTo}
-use Rattle.span_slow.specs.Spans.{HasNoRegularEnd}
+use Rattle.span_slow.specs.Spans.{HasNoOrdinaryEnd}
 use Rattle.span_slow.specs.Hidden.{AreNonnegative, HasRoot, IsRootOrEnd, IsWhereNonnegative, IsWithinAny, AreWhere}
 use Rattle.span_slow.proofs.LinearValues.{same_root}
 use Rattle.span_slow.proofs.Fractions.{weaker, no_less, strict, positive_of, value_at_start, value_at_finish, earlier_between}
@@ -53,31 +53,31 @@ within_either xs ys n m = (
 -- ---- where one thing is so, or another
 module _ (d : Triple) {s : Part} (e : Edge s) where
   pub where_alike : (P Q : Point → Type 0) (xs : List Interval)
-      → ((n m : ℤ) → pos 0 <ℤ n → n <ℤ m → IsRegular d s (share_point e.a e.b n m) → P (share_point e.a e.b n m) ↔ Q (share_point e.a e.b n m))
+      → ((n m : ℤ) → pos 0 <ℤ n → n <ℤ m → IsOrdinary d s (share_point e.a e.b n m) → P (share_point e.a e.b n m) ↔ Q (share_point e.a e.b n m))
       → AreWhere d e P xs → AreWhere d e Q xs
   where_alike P Q xs alike h = record {
     ordered = h.ordered;
     ends = h.ends;
-    exactly = λ n m least most regular.
-        let both = alike n m least most regular in
-        let known = h.exactly n m least most regular in
+    exactly = λ n m least most ordinary.
+        let both = alike n m least most ordinary in
+        let known = h.exactly n m least most ordinary in
         ((λ q. known.0 (both.1 q)), (λ within. both.0 (known.1 within)));
   }
 
   pub where_none : (P : Point → Type 0)
-      → ((n m : ℤ) → pos 0 <ℤ n → n <ℤ m → IsRegular d s (share_point e.a e.b n m) → ¬ P (share_point e.a e.b n m))
+      → ((n m : ℤ) → pos 0 <ℤ n → n <ℤ m → IsOrdinary d s (share_point e.a e.b n m) → ¬ P (share_point e.a e.b n m))
       → AreWhere d e P []
   where_none P never = record {
     ordered = λ k x h. absurd (omega arith);
     ends = λ k x h. absurd (omega arith);
-    exactly = λ n m least most regular. ((λ p. absurd (never n m least most regular p)), (λ within. absurd (within_none n m within)));
+    exactly = λ n m least most ordinary. ((λ p. absurd (never n m least most ordinary p)), (λ within. absurd (within_none n m within)));
   }
 
   pub where_either : (P Q : Point → Type 0) (xs ys : List Interval) → AreWhere d e P xs → AreWhere d e Q ys → AreWhere d e (λ p. P p ⊎ Q p) (xs ++ ys)
   where_either P Q xs ys h k = record {
     ordered = All-append (λ x. IsEarlier x.from x.to) xs ys h.ordered k.ordered;
-    ends = All-append (λ x. HasNoRegularEnd d e x.from x.to) xs ys h.ends k.ends;
-    exactly = λ n m least most regular. either n m (h.exactly n m least most regular) (k.exactly n m least most regular);
+    ends = All-append (λ x. HasNoOrdinaryEnd d e x.from x.to) xs ys h.ends k.ends;
+    exactly = λ n m least most ordinary. either n m (h.exactly n m least most ordinary) (k.exactly n m least most ordinary);
   }
     where
       either : (n m : ℤ) → P (share_point e.a e.b n m) ↔ IsWithinAny xs n m → Q (share_point e.a e.b n m) ↔ IsWithinAny ys n m
@@ -123,41 +123,41 @@ cut_at linears r n m same (inl h) = inl (value_at_start r.num r.den n m r.positi
 cut_at linears r n m same (inr (inl h)) = inr (inl (value_at_finish r.num r.den n m r.positive same h))
 cut_at linears r n m same (inr (inr h)) = inr (inr (root_at linears r n m same h))
 
--- P holds at regular points exactly where all the values are at least 0, and where one of them begins or ceases to be so there is none
+-- P holds at ordinary points exactly where all the values are at least 0, and where one of them begins or ceases to be so there is none
 module _ (d : Triple) {s : Part} (e : Edge s) (P : Point → Type 0) (linears : List Linear)
-    (inside : (n m : ℤ) → pos 0 <ℤ n → n <ℤ m → IsRegular d s (share_point e.a e.b n m) → P (share_point e.a e.b n m) ↔ AreNonnegative linears n m)
-    (apart : (n m : ℤ) → pos 0 <ℤ m → pos 0 ≤ℤ n → n ≤ℤ m → AreNonnegative linears n m → IsRootOrEndAt linears n m → ¬ IsRegular d s (share_point e.a e.b n m))
+    (inside : (n m : ℤ) → pos 0 <ℤ n → n <ℤ m → IsOrdinary d s (share_point e.a e.b n m) → P (share_point e.a e.b n m) ↔ AreNonnegative linears n m)
+    (apart : (n m : ℤ) → pos 0 <ℤ m → pos 0 ≤ℤ n → n ≤ℤ m → AreNonnegative linears n m → IsRootOrEndAt linears n m → ¬ IsOrdinary d s (share_point e.a e.b n m))
     (x : Interval) (least : IsWhereNonnegative linears x) where
-  -- so a regular point where P holds is not at an end
-  is_between : (n m : ℤ) → pos 0 <ℤ n → n <ℤ m → IsRegular d s (share_point e.a e.b n m) → P (share_point e.a e.b n m) → IsBetween x.from x.to n m
-  is_between n m hn hm regular p =
+  -- so an ordinary point where P holds is not at an end
+  is_between : (n m : ℤ) → pos 0 <ℤ n → n <ℤ m → IsOrdinary d s (share_point e.a e.b n m) → P (share_point e.a e.b n m) → IsBetween x.from x.to n m
+  is_between n m hn hm ordinary p =
       let positive = positive_of n m hn hm in
-      let all = (inside n m hn hm regular).0 p in
+      let all = (inside n m hn hm ordinary).0 p in
       let closed = (least.exactly n m positive (weaker hn) (weaker hm)).1 all in
-      let cut : IsRootOrEndAt linears n m → ⊥ = λ c. apart n m positive (weaker hn) (weaker hm) all c regular in (
+      let cut : IsRootOrEndAt linears n m → ⊥ = λ c. apart n m positive (weaker hn) (weaker hm) all c ordinary in (
         strict closed.0 (λ h. cut (cut_at linears x.from n m (sym h) least.from_end)),
         strict closed.1 (λ h. cut (cut_at linears x.to n m h least.to_end)),
       )
 
-  holds_between : (n m : ℤ) → pos 0 <ℤ n → n <ℤ m → IsRegular d s (share_point e.a e.b n m) → IsBetween x.from x.to n m → P (share_point e.a e.b n m)
-  holds_between n m hn hm regular between =
-      (inside n m hn hm regular).1 ((least.exactly n m (positive_of n m hn hm) (weaker hn) (weaker hm)).0 (weaker between.0, weaker between.1))
+  holds_between : (n m : ℤ) → pos 0 <ℤ n → n <ℤ m → IsOrdinary d s (share_point e.a e.b n m) → IsBetween x.from x.to n m → P (share_point e.a e.b n m)
+  holds_between n m hn hm ordinary between =
+      (inside n m hn hm ordinary).1 ((least.exactly n m (positive_of n m hn hm) (weaker hn) (weaker hm)).0 (weaker between.0, weaker between.1))
 
-  at_end : (r : Frac) → IsPlace r → IsRootOrEnd linears r → IsFromTo x.from x.to r.num r.den → ¬ IsRegular d s (share_point e.a e.b r.num r.den)
+  at_end : (r : Frac) → IsPlace r → IsRootOrEnd linears r → IsFromTo x.from x.to r.num r.den → ¬ IsOrdinary d s (share_point e.a e.b r.num r.den)
   at_end r place cut within =
       apart r.num r.den r.positive place.least place.most ((least.exactly r.num r.den r.positive place.least place.most).0 within) (cut_at linears r r.num r.den refl cut)
 
   where_one : IsEarlier x.from x.to → AreWhere d e P (x ∷ [])
   where_one earlier = record {
     ordered = all_one (λ x. IsEarlier x.from x.to) x earlier;
-    ends = all_one (λ x. HasNoRegularEnd d e x.from x.to) x (at_end x.from x.from_place least.from_end (no_less refl, weaker earlier), at_end x.to x.to_place least.to_end (weaker earlier, no_less refl));
-    exactly = λ n m hn hm regular.
-        ((λ p. (within_one x n m).0 (is_between n m hn hm regular p)), (λ within. holds_between n m hn hm regular ((within_one x n m).1 within)));
+    ends = all_one (λ x. HasNoOrdinaryEnd d e x.from x.to) x (at_end x.from x.from_place least.from_end (no_less refl, weaker earlier), at_end x.to x.to_place least.to_end (weaker earlier, no_less refl));
+    exactly = λ n m hn hm ordinary.
+        ((λ p. (within_one x n m).0 (is_between n m hn hm ordinary p)), (λ within. holds_between n m hn hm ordinary ((within_one x n m).1 within)));
   }
 
   where_no_inside : ¬ IsEarlier x.from x.to → AreWhere d e P []
-  where_no_inside later = where_none d e P (λ n m hn hm regular p.
-      let between = is_between n m hn hm regular p in
+  where_no_inside later = where_none d e P (λ n m hn hm ordinary p.
+      let between = is_between n m hn hm ordinary p in
       later (earlier_between x.from.num x.from.den x.to.num x.to.den n m x.from.positive x.to.positive (positive_of n m hn hm) between.0 between.1))
 
   -- kept if it has an inside

@@ -5,13 +5,13 @@ use Rattle.lattice.specs.Triple.{Triple}
 use Rattle.lattice.specs.Points.{Point}
 use Rattle.geometry.specs.Faces.{share_point}
 use Rattle.geometry.specs.Parts.{Part, Edge}
-use Rattle.geometry.specs.Views.{IsRegular}
+use Rattle.geometry.specs.Views.{IsOrdinary}
 use Rattle.hiding.specs.Values.{value_at}
 use Rattle.span_slow.specs.declared.interval.Interval.{Interval}
 use Rattle.span_slow.specs.declared.interval.Linear.{Linear}
 use Rattle.span_slow.specs.declared.span.Span.{Span}
 use Rattle.span_slow.specs.Places.{IsEarlier, IsSame, IsValue, IsBetween, IsFromTo}
-use Rattle.span_slow.specs.Spans.{CoverEdge, Alternate, HasNoRegularEnd}
+use Rattle.span_slow.specs.Spans.{CoverEdge, Alternate, HasNoOrdinaryEnd}
 
 -- ---- where values that are linear along an edge are at least 0
 abbrev pub AreNonnegative : List Linear → ℤ → ℤ → Type 0
@@ -37,11 +37,11 @@ pub record IsWhereNonnegative (linears : List Linear) (x : Interval) : Type 0 wh
 abbrev pub IsWithinAny : List Interval → ℤ → ℤ → Type 0
 IsWithinAny xs n m = (x : Interval) × Contains xs x × IsBetween x.from x.to n m
 
--- at each regular inner point of the edge P holds exactly if it is strictly within an interval; no interval ends at such a point
+-- at each ordinary inner point of the edge P holds exactly if it is strictly within an interval; no interval ends at such a point
 pub record AreWhere (d : Triple) {s : Part} (e : Edge s) (P : Point → Type 0) (xs : List Interval) : Type 0 where
   pub ordered : All (λ x. IsEarlier x.from x.to) xs
-  pub ends : All (λ x. HasNoRegularEnd d e x.from x.to) xs
-  pub exactly : (n m : ℤ) → pos 0 <ℤ n → n <ℤ m → IsRegular d s (share_point e.a e.b n m) → P (share_point e.a e.b n m) ↔ IsWithinAny xs n m
+  pub ends : All (λ x. HasNoOrdinaryEnd d e x.from x.to) xs
+  pub exactly : (n m : ℤ) → pos 0 <ℤ n → n <ℤ m → IsOrdinary d s (share_point e.a e.b n m) → P (share_point e.a e.b n m) ↔ IsWithinAny xs n m
 
 -- the new list is the old one with such intervals
 pub record AreAdded (d : Triple) {s : Part} (e : Edge s) (P : Point → Type 0) (old new : List Interval) : Type 0 where

@@ -4,7 +4,7 @@ use Rattle.exact_frac.specs.declared.Frac.{Frac}
 use Rattle.lattice.specs.Triple.{Triple}
 use Rattle.geometry.specs.Faces.{share_point}
 use Rattle.geometry.specs.Parts.{Part, Edge}
-use Rattle.geometry.specs.Views.{IsHidden, IsRegular}
+use Rattle.geometry.specs.Views.{IsHidden, IsOrdinary}
 use Rattle.span_slow.specs.declared.span.Span.{Span}
 use Rattle.span_slow.specs.Places.{point_at, IsEarlier, IsSame, IsBetween}
 
@@ -23,16 +23,16 @@ Alternate [] = Unit {0}
 Alternate (x ∷ []) = Unit {0}
 Alternate (x ∷ y ∷ xs) = (x.hidden ≢ y.hidden) × Alternate (y ∷ xs)
 
--- neither end is at a regular point
-abbrev pub HasNoRegularEnd : Triple → {s : Part} → Edge s → Frac → Frac → Type 0
-HasNoRegularEnd d {s = s} e from to = (¬ IsRegular d s (point_at e from)) × ¬ IsRegular d s (point_at e to)
+-- neither end is at an ordinary point
+abbrev pub HasNoOrdinaryEnd : Triple → {s : Part} → Edge s → Frac → Frac → Type 0
+HasNoOrdinaryEnd d {s = s} e from to = (¬ IsOrdinary d s (point_at e from)) × ¬ IsOrdinary d s (point_at e to)
 
--- at each regular point strictly within the span, what it tells is so
+-- at each ordinary point strictly within the span, what it tells is so
 abbrev pub IsAnswer : Triple → {s : Part} → Edge s → Span → Type 0
-IsAnswer d {s = s} e x = (n m : ℤ) → pos 0 <ℤ m → IsBetween x.from x.to n m → IsRegular d s (share_point e.a e.b n m) → IsTrue x.hidden ↔ IsHidden d s (share_point e.a e.b n m)
+IsAnswer d {s = s} e x = (n m : ℤ) → pos 0 <ℤ m → IsBetween x.from x.to n m → IsOrdinary d s (share_point e.a e.b n m) → IsTrue x.hidden ↔ IsHidden d s (share_point e.a e.b n m)
 
 pub record AreSpans (d : Triple) {s : Part} (e : Edge s) (spans : List Span) : Type 0 where
   pub covers : CoverEdge spans
-  pub ends : All (λ x. HasNoRegularEnd d e x.from x.to) spans
+  pub ends : All (λ x. HasNoOrdinaryEnd d e x.from x.to) spans
   pub answers : All (IsAnswer d e) spans
   pub alternate : Alternate spans

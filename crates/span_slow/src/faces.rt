@@ -4,8 +4,9 @@ ghost use Rattle.lattice.specs.Triangles.{IsBelow};
 ghost use Rattle.lattice.specs.Triple.{dot};
 ghost use Rattle.lattice.specs.Points.{of_dir, of_vector, point_of, difference};
 ghost use Rattle.geometry.specs.Faces.{FaceHides, facing_of};
-ghost use Rattle.geometry.specs.Parts.{Part, Face, Edge, IsClosed};
+ghost use Rattle.geometry.specs.Parts.{Part, Face, Edge};
 ghost use Rattle.geometry.specs.Views.{IsHidden};
+ghost use Rattle.geometry.specs.Sound.{IsSound};
 ghost use Rattle.solid_mesh.specs.Solids.{solid_part};
 ghost use Rattle.hiding.specs.Values.{side_of, AreCornersOf, IsSideOf, WideSideHides, IsInLine};
 ghost use Rattle.span_slow.specs.Places.{IsEarlier};
@@ -73,7 +74,7 @@ fn add(hidden: &mut Vec<Interval>, x: Option<Interval>) -> Result<(), OutOfMemor
 /// Where the edge is hidden by a face whose corners are seen counterclockwise: within its three sides and behind its plane.
 fn front_interval(seen: &SeenEdge, a: &Corner, b: &Corner, c: &Corner) -> Option<Interval>
     requires { pos 0 <ℤ facing_of (of_dir seen.now.d) a.now b.now c.now }
-    ensures { (s : Part) → IsClosed s → All (IsBelow (length s.corners)) s.triangles → (e : Edge s) → e.a ≡ seen.now.a → e.b ≡ seen.now.b →
+    ensures { (s : Part) → IsSound s → All (IsBelow (length s.corners)) s.triangles → (e : Edge s) → e.a ≡ seen.now.a → e.b ≡ seen.now.b →
         (f : Face s) → AreCornersOf f a.now b.now c.now →
         AreWhere (of_dir seen.now.d) e (FaceHides (of_dir seen.now.d) f.a f.b f.c) (option_to_list result) }
 {
@@ -91,7 +92,7 @@ fn front_interval(seen: &SeenEdge, a: &Corner, b: &Corner, c: &Corner) -> Option
 
 /// Where the edge is hidden by a side of a face that is edge-on.
 fn side_interval(seen: &SeenEdge, k: &Corner, l: &Corner) -> Option<Interval>
-    ensures { (s : Part) → IsClosed s → All (IsBelow (length s.corners)) s.triangles → (e : Edge s) → e.a ≡ seen.now.a → e.b ≡ seen.now.b →
+    ensures { (s : Part) → IsSound s → All (IsBelow (length s.corners)) s.triangles → (e : Edge s) → e.a ≡ seen.now.a → e.b ≡ seen.now.b →
         (f : Face s) → IsSideOf f k.now l.now →
         AreWhere (of_dir seen.now.d) e (WideSideHides (of_dir seen.now.d) k.now l.now) (option_to_list result) }
 {
@@ -123,7 +124,7 @@ fn is_in_line(seen: &SeenEdge, k: &Corner) -> bool
 fn forward_interval(seen: &SeenEdge, k: &Corner, l: &Corner) -> Option<Interval>
     requires in_line { IsInLine (of_dir seen.now.d) seen.now.a seen.now.b k.now l.now }
     requires forward { pos 0 <ℤ dot (of_vector seen.now.axis) (difference k.now l.now) }
-    ensures { (s : Part) → IsClosed s → All (IsBelow (length s.corners)) s.triangles → (e : Edge s) → e.a ≡ seen.now.a → e.b ≡ seen.now.b →
+    ensures { (s : Part) → IsSound s → All (IsBelow (length s.corners)) s.triangles → (e : Edge s) → e.a ≡ seen.now.a → e.b ≡ seen.now.b →
         (f : Face s) → IsSideOf f k.now l.now →
         AreWhere (of_dir seen.now.d) e (WideSideHides (of_dir seen.now.d) k.now l.now) (option_to_list result) }
 {

@@ -29,8 +29,7 @@ pub use span::Span;
 use std::alloc::Global;
 
 /// The spans of an edge that is not seen end-on: they follow one another from 0 to 1, each is hidden or visible, and
-/// neighbours differ. No end of a span is at a regular point, and at each regular point within a span `hidden` is exact;
-/// regular is a point that is ordinary, and on whose line of sight no edge meets a face that doesn't have it as a side.
+/// neighbours differ. No end of a span is at an ordinary point, and at each ordinary point within a span `hidden` is exact.
 ///
 /// Cost: at most one interval for each face, three where it is edge-on, each of a few products; then a sort of the
 /// intervals that are there.

@@ -3,7 +3,6 @@ use Rattle.lattice.specs.Triple.{Triple}
 use Rattle.lattice.specs.Points.{of_dir}
 use Rattle.geometry.specs.Views.{IsHidden}
 use Rattle.solid_mesh.specs.Solids.{solid_part}
-use Rattle.solid_mesh.proofs.Facts.{closed}
 use Rattle.span_slow.specs.Hidden.{AreWhere}
 use Rattle.span_slow.proofs.Numbered.{if_ok}
 use Rattle.span_slow.proofs.Told.{read_ends, spans_are}
@@ -16,4 +15,4 @@ returns c e numbered =
     let hidden = c.in_ok-hidden.ensures e (p ∙ sym c.new-seen.ensures.a) (q ∙ sym c.new-seen.ensures.b) in
     let of_seen : AreWhere (of_dir c.args.d.now) e (IsHidden (of_dir c.args.d.now) s) c.in_ok-hidden.hidden.items =
     subst (λ (d : Triple). AreWhere d e (IsHidden d s) c.in_ok-hidden.hidden.items) c.new-seen.ensures.d hidden in
-    if_ok c.spans_of.result (λ spans right. spans_are (of_dir c.args.d.now) s (closed c.args.solid.now) e c.in_ok-hidden.hidden.items of_seen spans.items right) c.spans_of.ensures
+    if_ok c.spans_of.result (λ spans right. spans_are (of_dir c.args.d.now) s e c.in_ok-hidden.hidden.items of_seen spans.items right) c.spans_of.ensures

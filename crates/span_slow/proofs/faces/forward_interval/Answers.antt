@@ -10,7 +10,7 @@ use Rattle.span_slow.proofs.faces.forward_interval.Goals as goal
 use Rattle.span_slow.proofs.faces.forward_interval.Goals.{else-behind-le0-via-then-behind-le0+else-behind-le0-2, else-behind-le0-via-else-behind-le0}
 
 pub returns-then-behind-le0-2 : goal.returns-then-behind-le0-2
-returns-then-behind-le0-2 c s closed in_range e at_a at_b f side =
+returns-then-behind-le0-2 c s sound in_range e at_a at_b f side =
     let seen = c.args.seen.now in
     let k = c.args.k.now in
     let l = c.args.l.now in
@@ -19,12 +19,12 @@ returns-then-behind-le0-2 c s closed in_range e at_a at_b f side =
     let behind = c.behind-behind.result in
     let start : behind.start ≤ℤ pos 0 = omega (arith, ints) in
     let end : behind.end ≤ℤ pos 0 = omega (arith, ints) in
-    side_none d axis (somewhere seen.d) s closed in_range e (ahead_at d axis e seen.a seen.b at_a at_b seen.ahead) f k l side (square_positive seen.d)
+    side_none d axis (somewhere seen.d) s sound in_range e (ahead_at d axis e seen.a seen.b at_a at_b seen.ahead) f k l side (square_positive seen.d)
     ((in_line_at d e seen.a seen.b k l at_a at_b).1 c.requires.in_line) c.requires.forward
     behind (tells e behind (behind_of d axis k l) seen.a seen.b at_a at_b c.behind-behind.ensures.start c.behind-behind.ensures.end) start end
 
 pub returns : goal.returns
-returns c s closed in_range e at_a at_b f side =
+returns c s sound in_range e at_a at_b f side =
     let seen = c.args.seen.now in
     let k = c.args.k.now in
     let l = c.args.l.now in
@@ -35,7 +35,7 @@ returns c s closed in_range e at_a at_b f side =
       | else-behind-le0-via-then-behind-le0+else-behind-le0-2 w ↦ let h : pos 0 <ℤ behind.end = omega (arith, ints, w.if-behind-le0-2.false) in inr h
       | else-behind-le0-via-else-behind-le0 w ↦ let h : pos 0 <ℤ behind.start = omega (arith, ints, w.if-behind-le0.false) in inl h
     ] in
-    side_where d axis (somewhere seen.d) s closed in_range e (ahead_at d axis e seen.a seen.b at_a at_b seen.ahead) f k l side (square_positive seen.d)
+    side_where d axis (somewhere seen.d) s sound in_range e (ahead_at d axis e seen.a seen.b at_a at_b seen.ahead) f k l side (square_positive seen.d)
     ((in_line_at d e seen.a seen.b k l at_a at_b).1 c.requires.in_line) c.requires.forward
     behind (tells e behind (behind_of d axis k l) seen.a seen.b at_a at_b c.behind-behind.ensures.start c.behind-behind.ensures.end)
     c.past.result c.short.result
