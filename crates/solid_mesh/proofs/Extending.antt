@@ -139,13 +139,22 @@ module _ (P : Extent → Type 0) where
         flips x y = grind (arith, nat_tests)
 
     pub number_there : (i : ℕ) → i < n → (x : Extent) × Contains xs x × (x.number ≡ i)
-    number_there i within =
-        let listed : Contains (range_with_len 0 n) i = (i, omega (arith, length-range_with_len 0 n), get_or-range_with_len 0 n i i within ∙ omega arith) in
-        let (k, less, is) = Contains-permutation (range_with_len 0 n) (map number_of xs) i h.numbers listed in
-        let below : k < length xs = omega (arith, length-map xs number_of) in
-        let (x, at) = found xs k below in
-        let here = get_or_from_slice_get xs k x x at in
-        (x, (k, below, here), ap number_of (sym here) ∙ sym (get_or-map number_of xs k x i below) ∙ is)
+    number_there i within = by (Contains-permutation (range_with_len 0 n) (map number_of xs) i h.numbers listed)
+      where
+        listed : Contains (range_with_len 0 n) i
+        listed = (i, omega (arith, length-range_with_len 0 n), get_or-range_with_len 0 n i i within ∙ omega arith)
+
+        at : (k : ℕ) → k < length xs → get_or (map number_of xs) k i ≡ i → (x : Extent) → get_or xs k x ≡ x → (x : Extent) × Contains xs x × (x.number ≡ i)
+        at k below is x here =
+            let same : get_or (map number_of xs) k i ≡ (get_or xs k x).number = get_or-map number_of xs k x i below in
+            let back : x.number ≡ (get_or xs k x).number = ap number_of (sym here) in
+            (x, (k, below, here), back ∙ sym same ∙ is)
+
+        by : Contains (map number_of xs) i → (x : Extent) × Contains xs x × (x.number ≡ i)
+        by (k, less, is) =
+            let below : k < length xs = omega (arith, length-map xs number_of) in
+            let (x, there) = found xs k below in
+            at k below is x (get_or_from_slice_get xs k x x there)
 
 -- what was put in order
 pub ordered_ok : {E : Type 0} (P : Extent → Type 0) (m n : ℕ) (xs : List Extent) (r : Result (Vec Extent Global) E) → m ≡ n → AreExtents P m xs → IfOk r (λ v. IsPermutation xs v.items) → IfOk r (λ v. IsNonDecreasingBy (λ (x : Extent). x.from) v.items)

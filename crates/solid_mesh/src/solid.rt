@@ -28,7 +28,8 @@ pub struct Edge {
     pub right: u32,
 }
 
-/// A sound part: closed, no two triangles have the same three corners, and edges meet triangles in shared corners only. Half `3t + s` is the directed side `s` of triangle `t`.
+/// A sound part: it is closed, no two triangles have the same three corners, and edges meet triangles in shared corners only.
+/// Half `3t + s` is the directed side `s` of triangle `t`.
 #[derive(Debug, Drop)]
 pub struct Solid {
     corners: Vec<Corner>,
@@ -59,8 +60,8 @@ impl Solid {
     /// The solid with these corners and triangles, at most 60,000 and 20,000, or the first fault: a flat triangle, a directed
     /// side that occurs twice, one whose reverse is missing, two triangles on the same three corners, or an edge that meets a
     /// triangle in another point than a shared corner, looked for in this order and told with the least numbers. Takes the time
-    /// of a hash for each directed side, of sorting, and of a test for each pair of an edge and a triangle whose ranges of x
-    /// meet. Each reader takes constant time and no memory.
+    /// of a hash for each directed side, of sorting, and of a short test for each pair of an edge and a triangle whose ranges of
+    /// x meet: so a part that is long in y and z and short in x is slow. Each reader takes constant time and no memory.
     pub fn check(alloc: Global, soup: Soup) -> Result<Solid, MeshError>
         requires some_triangle { 0 < length (part_of soup).triangles }
         requires few_corners { length (part_of soup).corners ≤ 60000 }
@@ -73,8 +74,8 @@ impl Solid {
         Solid::check_metered(alloc, soup, &mut meter)
     }
 
-    /// The same, with a meter: of boxes at most as many are tested as pairs of an edge and a triangle have ranges of x that
-    /// meet, and of pairs at most as many as have boxes that meet.
+    /// The same, with a meter of its tests: boxes rises by at most the number of pairs of an edge and a triangle whose ranges of
+    /// x meet, and pairs by at most the number of those whose boxes meet.
     pub fn check_metered(
         alloc: Global,
         soup: Soup,
