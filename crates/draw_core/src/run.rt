@@ -216,7 +216,9 @@ fn write_drawing<D: Desk>(alloc: Global, solid: Solid, desk: &mut D) -> Outcome
 ///
 /// The faults are looked for in this order: the words, the part's bytes, its text, whether it has a triangle, its
 /// surface, the drawing's file. Want of memory may be answered at any place; then no file has changed. Time is about
-/// linear in the bytes of the part, and for the spans in the product of the numbers of drawn edges and of triangles.
+/// linear in the bytes of the part; for the check that of sorting, and of one test for each pair of an edge and a triangle
+/// whose ranges of x meet, which for some parts is nearly every pair; and for the spans that of the product of the numbers of
+/// drawn edges and of triangles.
 pub fn draw<D: Desk>(alloc: Global, words: &[String], desk: &mut D) -> Outcome
     // The answer is that of the run's steps, in their order.
     ensures status { result.status ≡ status_of result.fault }

@@ -2,7 +2,8 @@
 use crate::{Drawing, Fault, OUT, draw};
 use dec_text::Name;
 use desk::MemoryDesk;
-use solid_mesh::MeshFault;
+use off_reader::read_off;
+use solid_mesh::{MeshFault, PairMeter, Solid};
 use std::alloc::{AllocError, Global};
 use std::test::Fail;
 use weld::{PartFault, PartKind, Want, Word};
@@ -281,6 +282,57 @@ fn a_tip_touches_a_face_or_not(rt: HostRuntime) -> Result<(), Fail> {
         let outcome = draw(alloc, &words_of(alloc, "p")?, &mut desk);
         assert_eq!(rt; outcome.fault, fault, "{tip}");
     }
+    Ok(())
+}
+
+// A text of 512 cubes of 10 mm, 20 mm apart.
+fn grid(alloc: Global) -> Result<String, AllocError> {
+    let mut text = String::from_str(alloc, "OFF 4096 6144 0\n")?;
+    for cube in 0u32..512 {
+        let (x, y, z) = (cube / 64 * 20, cube / 8 % 8 * 20, cube % 8 * 20);
+        for i in 0..8 {
+            let x = if matches!(i, 1 | 2 | 5 | 6) {
+                x + 10
+            } else {
+                x
+            };
+            let y = if matches!(i, 2 | 3 | 6 | 7) {
+                y + 10
+            } else {
+                y
+            };
+            let z = if i < 4 { z } else { z + 10 };
+            text.push_str(&format!(in alloc; "{x} {y} {z}\n")?)?;
+        }
+    }
+    for cube in 0u32..512 {
+        // The last three bits of a corner's number tell which of the cube's it is.
+        let first = 8 * cube;
+        for [a, b, c, d] in [
+            [0, 3, 2, 1],
+            [4, 5, 6, 7],
+            [0, 1, 5, 4],
+            [1, 2, 6, 5],
+            [2, 3, 7, 6],
+            [3, 0, 4, 7],
+        ] {
+            let (a, b, c, d) = (first | a, first | b, first | c, first | d);
+            text.push_str(&format!(in alloc; "3 {a} {b} {c}\n3 {a} {c} {d}\n")?)?;
+        }
+    }
+    Ok(text)
+}
+
+// As many boxes are tested as there are pairs of an edge and a triangle whose ranges of x meet; all pairs would be 56,623,104.
+#[test]
+fn a_grid_is_swept(rt: HostRuntime) -> Result<(), Fail> {
+    let text = grid(rt.alloc())?;
+    assert!(rt; text.len() <= 1_000_000);
+    let soup = read_off(rt.alloc(), text.as_bytes(), 3)?.weld(rt.alloc())?;
+    let mut meter = PairMeter { boxes: 0, pairs: 0 };
+    let solid = Solid::check_metered(rt.alloc(), soup, &mut meter)?;
+    assert_eq!(rt; (solid.triangles(), solid.edges()), (6_144, 9_216));
+    assert_eq!(rt; meter.boxes, 6_422_528);
     Ok(())
 }
 
