@@ -1,4 +1,5 @@
-//! Sound parts: each has its edges numbered, and tells for each directed side which one goes back.
+//! Sound parts: what is wrong with a part is told by its first fault, and a sound one has its edges numbered and tells for
+//! each directed side which one goes back, and for each corner the triangles around it.
 #![tactic(auto)]
 
 mod doubles;

@@ -19,7 +19,7 @@ pub struct PairMeter {
     pub pairs: u64,
 }
 
-/// Whether the closed boxes of a side, by its half, and of a triangle have a common point. Takes constant time.
+/// Whether the closed boxes of a side, by its half, and of a triangle have a common point. Counts one box. Takes constant time.
 pub fn box_test(soup: &Soup, half: u32, tri: u32, meter: &mut PairMeter) -> bool
     requires half { half < 3 * length (part_of soup.now).triangles }
     requires tri { tri < length (part_of soup.now).triangles }
@@ -42,7 +42,7 @@ pub fn box_test(soup: &Soup, half: u32, tri: u32, meter: &mut PairMeter) -> bool
 }
 
 /// Whether a side, by its half, and a triangle that isn't flat and doesn't have it have a common point that isn't at a corner
-/// number of both. Takes constant time.
+/// number of both. Counts one pair. Takes constant time.
 pub fn pair_test(soup: &Soup, half: u32, tri: u32, meter: &mut PairMeter) -> bool
     requires half { half < 3 * length (part_of soup.now).triangles }
     requires tri { tri < length (part_of soup.now).triangles }

@@ -61,7 +61,8 @@ impl Solid {
     /// side that occurs twice, one whose reverse is missing, two triangles on the same three corners, or an edge that meets a
     /// triangle in another point than a shared corner, looked for in this order and told with the least numbers. Takes the time
     /// of a hash for each directed side, of sorting, and of a short test for each pair of an edge and a triangle whose ranges of
-    /// x meet: so a part that is long in y and z and short in x is slow. Each reader takes constant time and no memory.
+    /// x meet: slow, up to every pair, where many span the same x, as in a part that is drawn out along x. Each reader takes
+    /// constant time and no memory.
     pub fn check(alloc: Global, soup: Soup) -> Result<Solid, MeshError>
         requires some_triangle { 0 < length (part_of soup).triangles }
         requires few_corners { length (part_of soup).corners ≤ 60000 }

@@ -30,8 +30,8 @@ pub(crate) struct Found {
 
 /// The first edge, by the halves, that meets a triangle in another point than a shared corner, with the first such triangle.
 /// Each pair whose ranges of x meet is tested once, by the one of the two that begins first. Takes the time of sorting and
-/// that of one box test for each such pair: so it is slow for a part that is long in y and z and short in x, or whose edges all
-/// span the whole range of x.
+/// that of one box test for each such pair: slow, up to every pair, where many edges and triangles span the same x, as in a
+/// part that is drawn out along x, or in a finely divided face across it.
 pub(crate) fn find_meeting(alloc: Global, soup: &Soup, halves: &[u32]) -> Result<Found, AllocError>
     requires few_edges { length halves.now ≤ 60000 }
     requires few_triangles { length (part_of soup.now).triangles ≤ 20000 }
