@@ -180,10 +180,15 @@ fn tests_a_side_and_a_triangle(rt: HostRuntime) -> Result<(), Fail> {
     // a side of the cube's bottom, and its top
     assert!(rt; !box_test(&soup, 0, 2, &mut meter));
     match find_flat(&soup) {
-        None => assert!(rt; pair_test(&soup, 8, 13, &mut meter)),
+        None => {
+            assert!(rt; pair_test(&soup, 8, 13, &mut meter));
+            // a triangle that has the side, and one that has its first corner alone
+            assert!(rt; !pair_test(&soup, 8, 2, &mut meter));
+            assert!(rt; !pair_test(&soup, 0, 4, &mut meter));
+        }
         Some(_) => assert!(rt; false),
     }
-    assert_eq!(rt; (meter.boxes, meter.pairs), (2, 1));
+    assert_eq!(rt; (meter.boxes, meter.pairs), (2, 3));
     Ok(())
 }
 
