@@ -1,13 +1,13 @@
 -- Where an edge from a triangle's corner has another point in common with it.
-use Rattle.std.proofs.Common.{◌≡◌, ℕ, zero, suc, ◌+◌, ◌<◌, [], ◌∷◌, refl, sym, ◌∙◌, arith}
+use Rattle.std.proofs.Common.{◌≡◌, ℕ, zero, suc, ◌+◌, ◌<◌, [], ◌∷◌, refl, sym, subst, ◌∙◌, arith}
 use Rattle.std.specs.Prelude.{◌↔◌, ℤ, pos, ◌+ℤ◌, ◌-ℤ◌, ◌*ℤ◌, ◌≤ℤ◌, ◌<ℤ◌, unsigned_abs}
 use Rattle.std.proofs.lemmas.Int.{ints, by_lt_z}
 use Rattle.integers.proofs.Ring.{var, con, ◌⊕◌, ◌⊖◌, ◌⊗◌, ring, by_one, by_two}
 use Rattle.integers.proofs.Signs.{mul_nonneg, nonneg_of_mul, zero_of_mul}
 use Rattle.lattice.specs.declared.points.Corner.{Corner}
 use Rattle.lattice.specs.Triple.{Triple, det}
-use Rattle.lattice.specs.Points.{difference, point_of, AreOnePoint}
-use Rattle.geometry.specs.Faces.{facing_of, edge_sum, face_sum}
+use Rattle.lattice.specs.Points.{Point, difference, point_of, AreOnePoint}
+use Rattle.geometry.specs.Faces.{normal, facing_of, edge_sum, face_sum}
 use Rattle.meeting.specs.Touching.{TouchBeyond}
 use Rattle.meeting.specs.Rises.{rise_of}
 use Rattle.meeting.proofs.Letters.{A, B, C, rises, facings, values}
@@ -15,12 +15,12 @@ use Rattle.meeting.proofs.Weights.{weights-sum, weigh_x, weigh_y, weigh_z, level
 use Rattle.meeting.proofs.CommonPoints.{nonneg_at, nonneg_of_pos, natural, is_natural, weight-ca, weight-ab}
 
 -- ---- an edge whose two ends are one corner has one point
-record AreAlike (a q : Corner) : Type 0 where
-  x : q.x ≡ a.x
-  y : q.y ≡ a.y
-  z : q.z ≡ a.z
+pub record AreAlike (a q : Corner) : Type 0 where
+  pub x : q.x ≡ a.x
+  pub y : q.y ≡ a.y
+  pub z : q.z ≡ a.z
 
-alike-point : (a q : Corner) (i j : ℕ) → AreAlike a q → AreOnePoint (point_of a) (edge_sum a q i j)
+pub alike-point : (a q : Corner) (i j : ℕ) → AreAlike a q → AreOnePoint (point_of a) (edge_sum a q i j)
 alike-point a q i j same = record { x = one a.x q.x same.x; y = one a.y q.y same.y; z = one a.z q.z same.z }
   where
     one : (f g : ℤ) → g ≡ f → f *ℤ (pos i +ℤ pos j) ≡ ((pos i *ℤ f) +ℤ (pos j *ℤ g)) *ℤ pos 1
@@ -30,7 +30,7 @@ alike-point a q i j same = record { x = one a.x q.x same.x; y = one a.y q.y same
         ((var 3 ⊖ var 2) ⊗ (con (pos 0) ⊖ var 1)) refl) e
 
 -- and where it has another, the first is not all of its sum
-alike-of-point : (a q : Corner) (i j : ℕ) → 0 < j → AreOnePoint (point_of a) (edge_sum a q i j) → AreAlike a q
+pub alike-of-point : (a q : Corner) (i j : ℕ) → 0 < j → AreOnePoint (point_of a) (edge_sum a q i j) → AreAlike a q
 alike-of-point a q i j some h = record { x = one a.x q.x h.x; y = one a.y q.y h.y; z = one a.z q.z h.z }
   where
     close : (f g : ℤ) → g -ℤ f ≡ pos 0 → g ≡ f
@@ -43,12 +43,38 @@ alike-of-point a q i j some h = record { x = one a.x q.x h.x; y = one a.y q.y h.
         ((var 1 ⊗ (var 3 ⊖ var 2)) ⊖ con (pos 0))
         (((((var 0 ⊗ var 2) ⊕ (var 1 ⊗ var 3)) ⊗ con (pos 1)) ⊖ (var 2 ⊗ (var 0 ⊕ var 1))) ⊗ con (pos 1)) refl) (sym e)))
 
-off-start : (a q : Corner) (i j : ℕ) → ¬ AreOnePoint (point_of a) (edge_sum a q i j) → 0 < j
+pub off-start : (a q : Corner) (i j : ℕ) → ¬ AreOnePoint (point_of a) (edge_sum a q i j) → 0 < j
 off-start a q i zero off = absurd (off (record { x = none a.x q.x; y = none a.y q.y; z = none a.z q.z }))
   where
     none : (f g : ℤ) → f *ℤ (pos i +ℤ pos 0) ≡ ((pos i *ℤ f) +ℤ (pos 0 *ℤ g)) *ℤ pos 1
     none f g = ring (pos i ∷ f ∷ g ∷ []) (var 1 ⊗ (var 0 ⊕ con (pos 0))) (((var 0 ⊗ var 1) ⊕ (con (pos 0) ⊗ var 2)) ⊗ con (pos 1)) refl
 off-start a q i (suc j) off = omega arith
+
+-- ---- the edge from a common point
+-- it goes on from its start
+off-sum : (a q : Corner) (i j : ℕ) (s : Point) → s ≡ edge_sum a q i j → ¬ AreOnePoint (point_of a) s → ¬ AreOnePoint (point_of a) (edge_sum a q i j)
+off-sum a q i j s is off = subst (λ (k : Point). ¬ AreOnePoint (point_of a) k) is off
+
+ahead : (j : ℕ) → 0 < j → pos 0 <ℤ pos j
+ahead j h = omega (arith, ints)
+
+-- what is linear along it and 0 at its start
+last : (i j : ℕ) (f g n : ℤ) → f ≡ pos 0 → (pos i *ℤ f) +ℤ (pos j *ℤ g) ≡ n → pos j *ℤ g ≡ n
+last i j f g n e h = by_two _ _ ((pos i *ℤ f) +ℤ (pos j *ℤ g)) n (pos 1) f (pos 0) (pos 0 -ℤ pos i)
+    (ring (pos i ∷ pos j ∷ f ∷ g ∷ n ∷ [])
+    ((var 1 ⊗ var 3) ⊖ var 4)
+    (((((var 0 ⊗ var 2) ⊕ (var 1 ⊗ var 3)) ⊖ var 4) ⊗ con (pos 1)) ⊕ ((var 2 ⊖ con (pos 0)) ⊗ (con (pos 0) ⊖ var 0))) refl) h e
+
+-- it is in the triangle's plane
+pub beyond-level : (a b c q : Corner) → TouchBeyond a b c q → rise_of a b c q ≡ pos 0
+beyond-level a b c q t =
+    let (i, j, some, is) = t.on_edge in
+    let (k, l, m, some_face, on_face) = t.on_face in
+    zero_of_mul (pos j) (rise_of a b c q) (ahead j (off-start a q i j (off-sum a q i j t.point is t.off)))
+    (last i j _ _ _ at_start (level-at a b c a q i j k l m (sym is ∙ on_face)))
+  where
+    at_start : rise_of a b c a ≡ pos 0
+    at_start = ring (values (normal a b c) a b c a a []) (rises A B C A) (con (pos 0)) refl
 
 module _ (d : Triple) (a b c q : Corner) where
   abbrev F : ℤ
@@ -69,9 +95,6 @@ module _ (d : Triple) (a b c q : Corner) where
 
   ab-at-a : facing_of d a b a ≡ pos 0
   ab-at-a = ring (values d a b c a a []) (facings A B A) (con (pos 0)) refl
-
-  rise-at-a : rise_of a b c a ≡ pos 0
-  rise-at-a = ring (values d a b c a a []) (rises A B C A) (con (pos 0)) refl
 
   on-sides : AreAlike a q → ca +ℤ ab ≡ pos 0
   on-sides same = both _ _
@@ -108,50 +131,27 @@ module _ (d : Triple) (a b c q : Corner) where
     -- ---- from a common point
     module _ (t : TouchBeyond a b c q) where
       module _ (i j : ℕ) (is : t.point ≡ edge_sum a q i j) (k l m : ℕ) (on_face : t.point ≡ face_sum a b c k l m) where
-        off-sum : ¬ AreOnePoint (point_of a) (edge_sum a q i j)
-        off-sum same = t.off (subst-point same)
-          where
-            subst-point : AreOnePoint (point_of a) (edge_sum a q i j) → AreOnePoint (point_of a) t.point
-            subst-point h = record {
-              x = (λ s. a.x *ℤ (is s).w) ∙ h.x ∙ sym (λ s. (is s).x *ℤ pos 1);
-              y = (λ s. a.y *ℤ (is s).w) ∙ h.y ∙ sym (λ s. (is s).y *ℤ pos 1);
-              z = (λ s. a.z *ℤ (is s).w) ∙ h.z ∙ sym (λ s. (is s).z *ℤ pos 1);
-            }
+        off : ¬ AreOnePoint (point_of a) (edge_sum a q i j)
+        off = off-sum a q i j t.point is t.off
 
-        ahead : pos 0 <ℤ pos j
-        ahead = count (off-start a q i j off-sum)
-          where
-            count : 0 < j → pos 0 <ℤ pos j
-            count h = omega (arith, ints)
+        more : pos 0 <ℤ pos j
+        more = ahead j (off-start a q i j off)
 
         same : edge_sum a q i j ≡ face_sum a b c k l m
         same = sym is ∙ on_face
 
-        -- what is linear along the edge and 0 at its start
-        last : (f g n : ℤ) → f ≡ pos 0 → (pos i *ℤ f) +ℤ (pos j *ℤ g) ≡ n → pos j *ℤ g ≡ n
-        last f g n e h = by_two _ _ ((pos i *ℤ f) +ℤ (pos j *ℤ g)) n (pos 1) f (pos 0) (pos 0 -ℤ pos i)
-            (ring (pos i ∷ pos j ∷ f ∷ g ∷ n ∷ [])
-            ((var 1 ⊗ var 3) ⊖ var 4)
-            (((((var 0 ⊗ var 2) ⊕ (var 1 ⊗ var 3)) ⊖ var 4) ⊗ con (pos 1)) ⊕ ((var 2 ⊖ con (pos 0)) ⊗ (con (pos 0) ⊖ var 0))) refl) h e
-
-        plane : rise_of a b c q ≡ pos 0
-        plane = zero_of_mul (pos j) _ ahead (last _ _ _ rise-at-a (level-at a b c a q i j k l m same))
-
         ca-least : pos 0 ≤ℤ ca
-        ca-least = nonneg_of_mul (pos j) ca ahead (nonneg_at _ _ (last _ _ _ ca-at-a (weight-ca d a b c a q i j k l m same)) (mul_nonneg (pos l) F (natural l) (nonneg_of_pos F front)))
+        ca-least = nonneg_of_mul (pos j) ca more (nonneg_at _ _ (last i j _ _ _ ca-at-a (weight-ca d a b c a q i j k l m same)) (mul_nonneg (pos l) F (natural l) (nonneg_of_pos F front)))
 
         ab-least : pos 0 ≤ℤ ab
-        ab-least = nonneg_of_mul (pos j) ab ahead (nonneg_at _ _ (last _ _ _ ab-at-a (weight-ab d a b c a q i j k l m same)) (mul_nonneg (pos m) F (natural m) (nonneg_of_pos F front)))
+        ab-least = nonneg_of_mul (pos j) ab more (nonneg_at _ _ (last i j _ _ _ ab-at-a (weight-ab d a b c a q i j k l m same)) (mul_nonneg (pos m) F (natural m) (nonneg_of_pos F front)))
 
         some : pos 0 <ℤ (ca +ℤ ab)
         some = by_lt_z (pos 0) (ca +ℤ ab) (λ h. h)
-            (λ h. let e = zeros ca ab ca-least ab-least h in absurd (off-sum (alike-point a q i j (alike-of-sides plane (e.0) (e.1)))))
+            (λ h. let e = zeros ca ab ca-least ab-least h in absurd (off (alike-point a q i j (alike-of-sides (beyond-level a b c q t) (e.0) (e.1)))))
           where
             zeros : (y z : ℤ) → pos 0 ≤ℤ y → pos 0 ≤ℤ z → (y +ℤ z) ≤ℤ pos 0 → (y ≡ pos 0) × (z ≡ pos 0)
             zeros y z p r h = (omega (arith, ints), omega (arith, ints))
-
-      pub beyond-level : rise_of a b c q ≡ pos 0
-      beyond-level = let e = t.on_edge in let f = t.on_face in plane e.0 e.1 e.3 f.0 f.1 f.2 f.4
 
       pub beyond-sides : (pos 0 ≤ℤ ca) × (pos 0 ≤ℤ ab) × (pos 0 <ℤ (ca +ℤ ab))
       beyond-sides =

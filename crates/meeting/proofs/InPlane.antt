@@ -4,7 +4,7 @@ use Rattle.std.specs.Prelude.{◌↔◌, ℤ, pos, ◌+ℤ◌, ◌-ℤ◌, ◌*�
 use Rattle.std.proofs.lemmas.Int.{ints, by_lt_z}
 use Rattle.integers.proofs.Ring.{Expr, var, con, ◌⊕◌, ◌⊖◌, ◌⊗◌, ring}
 use Rattle.integers.proofs.Signs.{mul_nonneg, mul_pos, nonneg_of_mul}
-use Rattle.meeting.specs.declared.course.Turn.{Turn}
+use Rattle.meeting.specs.declared.course.Offset.{Offset}
 use Rattle.meeting.specs.declared.course.Course.{Course}
 use Rattle.meeting.specs.Places.{Place, Reaches, IsInOrder, Agree}
 use Rattle.meeting.proofs.CommonPoints.{nonneg_at}
@@ -19,7 +19,7 @@ sum_nonneg i j f g p q r s = add _ _ (mul_nonneg i f p r) (mul_nonneg j g q s)
     add : (x y : ℤ) → pos 0 ≤ℤ x → pos 0 ≤ℤ y → pos 0 ≤ℤ (x +ℤ y)
     add x y p q = omega (arith, ints)
 
-sum_pos : (i j f g : ℤ) → pos 0 ≤ℤ i → pos 0 ≤ℤ j → pos 0 <ℤ (i +ℤ j) → pos 0 <ℤ f → pos 0 <ℤ g → pos 0 <ℤ ((i *ℤ f) +ℤ (j *ℤ g))
+pub sum_pos : (i j f g : ℤ) → pos 0 ≤ℤ i → pos 0 ≤ℤ j → pos 0 <ℤ (i +ℤ j) → pos 0 <ℤ f → pos 0 <ℤ g → pos 0 <ℤ ((i *ℤ f) +ℤ (j *ℤ g))
 sum_pos i j f g p q some r s =
     by_lt_z (pos 0) i
     (λ h. left _ _ (mul_pos i f h r) (mul_nonneg j g q (least g s)))
@@ -55,18 +55,18 @@ sum_neg i j f g p q some r s = back _ _
     back m n e h = omega (arith, ints)
 
 -- ---- one side
-abbrev value : Turn → ℤ → ℤ → ℤ
+abbrev value : Offset → ℤ → ℤ → ℤ
 value x i j = (i *ℤ x.start) +ℤ (j *ℤ x.end)
 
 -- the place is not to the right of the side
-abbrev IsMet : Turn → ℤ → ℤ → Type 0
+abbrev IsMet : Offset → ℤ → ℤ → Type 0
 IsMet x i j = pos 0 ≤ℤ value x i j
 
 -- it is not yet, where the edge goes to the right of it
-abbrev IsSafe : Turn → ℤ → ℤ → Type 0
+abbrev IsSafe : Offset → ℤ → ℤ → Type 0
 IsSafe x i j = x.end <ℤ pos 0 → IsMet x i j
 
-safe_at_start : (x : Turn) → Reaches x → IsSafe x (pos 1) (pos 0)
+safe_at_start : (x : Offset) → Reaches x → IsSafe x (pos 1) (pos 0)
 safe_at_start x reaches falls = by_lt_z x.start (pos 0) (λ h. clash x.end falls (reaches h)) (λ h. simple x.start x.end h)
   where
     simple : (f g : ℤ) → pos 0 ≤ℤ f → pos 0 ≤ℤ ((pos 1 *ℤ f) +ℤ (pos 0 *ℤ g))
@@ -82,7 +82,7 @@ record Held (P : ℤ → ℤ → Type 0) : Type 0 where
   holds : P i j
 
 -- the place is kept, or left for that at which the edge comes up to the side
-step : (x : Turn) (P : ℤ → ℤ → Type 0) → Reaches x → Held (λ i j. P i j × IsSafe x i j)
+step : (x : Offset) (P : ℤ → ℤ → Type 0) → Reaches x → Held (λ i j. P i j × IsSafe x i j)
     → ((i j : ℤ) → pos 0 ≤ℤ j → pos 0 <ℤ (i +ℤ j) → P i j → x.start <ℤ pos 0 → value x i j <ℤ pos 0 → P x.end (pos 0 -ℤ x.start))
     → Held (λ i j. P i j × IsMet x i j)
 step x P reaches h move =
@@ -106,7 +106,7 @@ step x P reaches h move =
     some_there f g h k = omega (arith, ints)
 
 -- ---- two sides
-module _ (x y : Turn) where
+module _ (x y : Offset) where
   -- the value of y where the edge comes up to x
   root-value : value y x.end (pos 0 -ℤ x.start) ≡ (x.end *ℤ y.start) -ℤ (x.start *ℤ y.end)
   root-value = ring (x.start ∷ x.end ∷ y.start ∷ y.end ∷ []) ((var 1 ⊗ var 2) ⊕ ((O ⊖ var 0) ⊗ var 3)) ((var 1 ⊗ var 2) ⊖ (var 0 ⊗ var 3)) refl
@@ -180,7 +180,7 @@ module _ (x y : Turn) where
             let down = less_of _ _ (ring (j ∷ y.end ∷ []) (var 0 ⊗ (O ⊖ var 1)) (O ⊖ (var 0 ⊗ var 1)) refl) (mul_pos j _ e.1 (turned_pos y.end falls)) in
             clash _ down (nonneg_at _ _ (sym (ap (λ v. (v *ℤ y.start) +ℤ (j *ℤ y.end)) e.0 ∙ no_first (j *ℤ y.end) y.start)) met_y))
 
-agree_of : (x y : Turn) (i j : ℤ) → pos 0 ≤ℤ i → pos 0 ≤ℤ j → pos 0 <ℤ (i +ℤ j) → IsMet x i j → IsMet y i j → Agree x y
+agree_of : (x y : Offset) (i j : ℤ) → pos 0 ≤ℤ i → pos 0 ≤ℤ j → pos 0 <ℤ (i +ℤ j) → IsMet x i j → IsMet y i j → Agree x y
 agree_of x y i j il jl some met_x met_y = record {
   reaches = reaches-of x y i j il jl some met_x;
   ahead = order-of x y i j il jl some met_x met_y;
@@ -188,7 +188,7 @@ agree_of x y i j il jl some met_x met_y = record {
 }
 
 -- ---- three sides
-module _ (x y z : Turn) (xy : Agree x y) (yz : Agree y z) (zx : Agree z x) where
+module _ (x y z : Offset) (xy : Agree x y) (yz : Agree y z) (zx : Agree z x) where
   beginning : Held (λ i j. (IsSafe y i j × IsSafe z i j) × IsSafe x i j)
   beginning = record {
     i = pos 1;

@@ -8,5 +8,11 @@ pub mod CommonPoints
 pub mod Through
 pub mod InPlane
 pub mod Beyond
+pub mod Balance
+pub mod EdgeWeights
+pub mod Crossing
+pub mod Parallel
+pub mod FlatTriangles
+pub mod FlatBeyond
 pub mod Fronts
 pub mod TouchingBoxes

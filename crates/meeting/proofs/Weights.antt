@@ -1,13 +1,13 @@
 -- How far a corner is to the left of a triangle's three sides weighs the triangle's corners to it.
-use Rattle.std.proofs.Common.{◌≡◌, ℕ, ◌+◌, List, [], ◌∷◌, refl, subst, ap, ◌∙◌, arith}
+use Rattle.std.proofs.Common.{◌≡◌, ℕ, ◌+◌, List, [], ◌∷◌, refl, ap, ◌∙◌, arith}
 use Rattle.std.specs.Prelude.{ℤ, pos, ◌+ℤ◌, ◌-ℤ◌, ◌*ℤ◌}
 use Rattle.std.proofs.lemmas.Int.{ints}
 use Rattle.integers.proofs.Ring.{Expr, var, con, ◌⊕◌, ◌⊖◌, ◌⊗◌, ring, by_two, by_three}
 use Rattle.lattice.specs.declared.points.Corner.{Corner}
-use Rattle.lattice.specs.Triple.{Triple, cross, IsZero}
+use Rattle.lattice.specs.Triple.{Triple, cross}
 use Rattle.lattice.specs.Points.{Point, difference}
 use Rattle.lattice.proofs.Vectors.{Letters, crosses}
-use Rattle.geometry.specs.Faces.{normal, facing_of, edge_sum, face_sum, IsFlat, IsPointOfFace}
+use Rattle.geometry.specs.Faces.{normal, facing_of, edge_sum, face_sum, IsPointOfFace}
 use Rattle.meeting.specs.Rises.{rise_of}
 use Rattle.meeting.proofs.Letters.{D, A, B, C, P, Q, ways, normals, rises, facings, values}
 
@@ -119,14 +119,3 @@ face-round a b c i j k = λ t. record {
 
 pub point-round : (a b c : Corner) (s : Point) → IsPointOfFace a b c s → IsPointOfFace b c a s
 point-round a b c s (i, j, k, some, is) = (j, k, i, omega arith, is ∙ face-round a b c i j k)
-
--- and the triangle stays flat, or not
-pub flat-round : (a b c : Corner) → IsFlat a b c → IsFlat b c a
-flat-round a b c flat = subst IsZero round flat
-  where
-    round : normal a b c ≡ normal b c a
-    round =
-        let at = values (normal a b c) a b c a a [] in
-        let m = normals A B C in
-        let n = normals B C A in
-        λ t. record { x = ring at m.x n.x refl t; y = ring at m.y n.y refl t; z = ring at m.z n.z refl t }

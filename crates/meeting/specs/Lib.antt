@@ -1,4 +1,5 @@
 pub mod Touching
+pub mod Edges
 pub mod Ranges
 pub mod Boxes
 pub mod Rises

@@ -1,6 +1,6 @@
 -- Places of an edge that are in a triangle.
 use Rattle.std.specs.Prelude.{◌≡◌, ℤ, pos, ◌+ℤ◌, ◌*ℤ◌, ◌≤ℤ◌, ◌<ℤ◌}
-use Rattle.meeting.specs.declared.course.Turn.{Turn}
+use Rattle.meeting.specs.declared.course.Offset.{Offset}
 use Rattle.meeting.specs.declared.course.Course.{Course}
 
 -- a place of the edge, by the weights of its two ends, that is in the plane and to the right of no side
@@ -16,15 +16,15 @@ pub record Place (x : Course) : Type 0 where
   pub ab : pos 0 ≤ℤ ((i *ℤ x.ab.start) +ℤ (j *ℤ x.ab.end))
 
 -- where x begins below 0, it ends at 0 or above
-abbrev pub Reaches : Turn → Type 0
+abbrev pub Reaches : Offset → Type 0
 Reaches x = x.start <ℤ pos 0 → pos 0 ≤ℤ x.end
 
 -- where x begins below 0 and y ends there, x comes up to 0 no later than y goes below
-abbrev pub IsInOrder : Turn → Turn → Type 0
+abbrev pub IsInOrder : Offset → Offset → Type 0
 IsInOrder x y = x.start <ℤ pos 0 → y.end <ℤ pos 0 → (x.start *ℤ y.end) ≤ℤ (x.end *ℤ y.start)
 
 -- each of the two is at least 0 somewhere, and there is a place where both are
-pub record Agree (x y : Turn) : Type 0 where
+pub record Agree (x y : Offset) : Type 0 where
   pub reaches : Reaches x
   pub ahead : IsInOrder x y
   pub behind : IsInOrder y x

@@ -19,7 +19,7 @@ pub(crate) struct Rise {
 /// How far the first corner of an edge and its second are seen to the left of a side of a triangle, times the lengths of
 /// the side as it is seen and of the direction. It is linear along the edge.
 #[derive(Clone, Copy)]
-pub(crate) struct Turn {
+pub(crate) struct Offset {
     pub start: i128,
     pub end: i128,
     ghost start_small: { unsigned_abs start < 2 ^ 48 },
@@ -30,9 +30,9 @@ pub(crate) struct Turn {
 #[derive(Clone, Copy)]
 pub(crate) struct Course {
     pub above: Rise,
-    pub bc: Turn,
-    pub ca: Turn,
-    pub ab: Turn,
+    pub bc: Offset,
+    pub ca: Offset,
+    pub ab: Offset,
 }
 
 impl Course {
@@ -44,9 +44,9 @@ impl Course {
     {
         Course {
             above: Rise::new(a, b, c, p, q),
-            bc: Turn::new(d, b, c, p, q),
-            ca: Turn::new(d, c, a, p, q),
-            ab: Turn::new(d, a, b, p, q),
+            bc: Offset::new(d, b, c, p, q),
+            ca: Offset::new(d, c, a, p, q),
+            ab: Offset::new(d, a, b, p, q),
         }
     }
 }
@@ -65,14 +65,14 @@ impl Rise {
     }
 }
 
-impl Turn {
-    ghost use Rattle.meeting.specs.Courses.{IsTurnOf};
+impl Offset {
+    ghost use Rattle.meeting.specs.Courses.{IsOffsetOf};
 
     /// The edge from `p` to `q` against the side from `k` to `l`, as they are seen along `d`.
-    fn new(d: &Dir, k: &Corner, l: &Corner, p: &Corner, q: &Corner) -> Turn
-        ensures { IsTurnOf (of_dir d.now) k.now l.now p.now q.now result }
+    fn new(d: &Dir, k: &Corner, l: &Corner, p: &Corner, q: &Corner) -> Offset
+        ensures { IsOffsetOf (of_dir d.now) k.now l.now p.now q.now result }
     {
-        Turn {
+        Offset {
             start: left_of(d, k, l, p),
             end: left_of(d, k, l, q),
         }

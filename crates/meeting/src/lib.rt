@@ -9,6 +9,7 @@
 
 mod boxes;
 mod course;
+mod edges;
 mod places;
 mod range;
 #[cfg(test)]

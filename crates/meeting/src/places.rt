@@ -2,7 +2,7 @@
 ghost use Rattle.std.specs.Prelude.{◌≡◌, ◌↔◌, pos, ◌*ℤ◌, ◌≤ℤ◌, ◌<ℤ◌, IsTrue};
 ghost use Rattle.meeting.specs.Places.{Place, Reaches, IsInOrder, Agree};
 
-use crate::course::{Course, Rise, Turn};
+use crate::course::{Course, Rise, Offset};
 
 /// Whether the edge has a place in the plane that is to the right of no side.
 pub(crate) fn crosses(x: &Course) -> bool
@@ -61,28 +61,28 @@ fn stays(x: &Course) -> bool
 }
 
 /// Where an edge goes up through the plane, it is not to the right of the side.
-fn is_left(above: &Rise, side: &Turn) -> bool
+fn is_left(above: &Rise, side: &Offset) -> bool
     ensures { IsTrue result ↔ ((above.now.start *ℤ side.now.end) ≤ℤ (above.now.end *ℤ side.now.start)) }
 {
     above.start * side.end <= above.end * side.start
 }
 
 /// The same, where it goes down.
-fn is_left_below(above: &Rise, side: &Turn) -> bool
+fn is_left_below(above: &Rise, side: &Offset) -> bool
     ensures { IsTrue result ↔ ((above.now.end *ℤ side.now.start) ≤ℤ (above.now.start *ℤ side.now.end)) }
 {
     above.end * side.start <= above.start * side.end
 }
 
 /// Whether there is a place where the edge is to the right of neither side.
-fn agree(x: &Turn, y: &Turn) -> bool
+fn agree(x: &Offset, y: &Offset) -> bool
     ensures { IsTrue result ↔ Agree x.now y.now }
 {
     reaches(x) && is_in_order(x, y) && is_in_order(y, x)
 }
 
 /// Whether the edge, where it begins to the right of the side, ends to the left of it or on it.
-fn reaches(x: &Turn) -> bool
+fn reaches(x: &Offset) -> bool
     ensures { IsTrue result ↔ Reaches x.now }
 {
     if x.start >= 0 {
@@ -92,7 +92,7 @@ fn reaches(x: &Turn) -> bool
 }
 
 /// Whether the edge, where it comes from the right of side `x` and goes to the right of side `y`, doesn't go there first.
-fn is_in_order(x: &Turn, y: &Turn) -> bool
+fn is_in_order(x: &Offset, y: &Offset) -> bool
     ensures { IsTrue result ↔ IsInOrder x.now y.now }
 {
     if x.start >= 0 {

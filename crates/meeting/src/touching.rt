@@ -1,43 +1,72 @@
 // Whether an edge and a triangle have a common point.
 ghost use Rattle.std.specs.Prelude.{◌↔◌, pos, ◌<ℤ◌, IsTrue};
-ghost use Rattle.lattice.specs.Points.{of_dir};
-ghost use Rattle.geometry.specs.Faces.{IsFlat, facing_of};
+ghost use Rattle.lattice.specs.Triple.{dot, IsZero};
+ghost use Rattle.lattice.specs.Points.{of_dir, of_normal};
+ghost use Rattle.geometry.specs.Faces.{IsFlat};
 ghost use Rattle.meeting.specs.Touching.{Touch, TouchBeyond};
 
 use crate::course::{Course, above, left_of};
+use crate::edges::{edges_touch, is_one_way};
 use crate::places::crosses;
-use lattice::{Corner, Dir, Vector, cross};
+use lattice::{Corner, Dir, Normal, Vector, cross};
 
-/// Whether the edge from `p` to `q` and the triangle of `a`, `b` and `c`, which isn't flat, have a common point. Both are
-/// closed: the ends, the corners and the sides belong to them.
+/// Whether the edge from `p` to `q` and the triangle of `a`, `b` and `c` have a common point. Both are closed: the ends, the
+/// corners and the sides belong to them. The triangle may be flat, and the edge may have length 0.
 pub fn touches(a: &Corner, b: &Corner, c: &Corner, p: &Corner, q: &Corner) -> bool
-    requires { ¬ IsFlat a.now b.now c.now }
     ensures { IsTrue result ↔ Touch a.now b.now c.now p.now q.now }
 {
-    crosses(&Course::new(&front(a, b, c), a, b, c, p, q))
+    let normal = cross(&Vector::between(a, b), &Vector::between(a, c));
+    if normal.is_zero() {
+        return touches_flat(a, b, c, p, q);
+    }
+    crosses(&Course::new(&front(&normal), a, b, c, p, q))
 }
 
-/// Whether the edge from `a` to `q` and the triangle of `a`, `b` and `c`, which isn't flat, have another point than `a` in
-/// common. Where `q` is `a` they haven't.
+/// The same, of a flat triangle: each of its points is on one of its two sides from `a`.
+fn touches_flat(a: &Corner, b: &Corner, c: &Corner, p: &Corner, q: &Corner) -> bool
+    requires { IsFlat a.now b.now c.now }
+    ensures { IsTrue result ↔ Touch a.now b.now c.now p.now q.now }
+{
+    if edges_touch(a, b, p, q) {
+        return true;
+    }
+    edges_touch(a, c, p, q)
+}
+
+/// Whether the edge from `a` to `q` and the triangle of `a`, `b` and `c` have another point than `a` in common. The triangle may
+/// be flat. Where `q` is `a` they haven't.
 pub fn touches_beyond(a: &Corner, b: &Corner, c: &Corner, q: &Corner) -> bool
-    requires { ¬ IsFlat a.now b.now c.now }
     ensures { IsTrue result ↔ TouchBeyond a.now b.now c.now q.now }
 {
     if above(a, b, c, q) != 0 {
         return false;
     }
-    let d = front(a, b, c);
+    let normal = cross(&Vector::between(a, b), &Vector::between(a, c));
+    if normal.is_zero() {
+        return touches_beyond_flat(a, b, c, q);
+    }
+    let d = front(&normal);
     let ca = left_of(&d, c, a, q);
     let ab = left_of(&d, a, b, q);
     ca >= 0 && ab >= 0 && ca + ab > 0
 }
 
-/// A direction along which the corners of the triangle are seen counterclockwise: the signs of its normal.
-fn front(a: &Corner, b: &Corner, c: &Corner) -> Dir
-    requires { ¬ IsFlat a.now b.now c.now }
-    ensures { pos 0 <ℤ facing_of (of_dir result) a.now b.now c.now }
+/// The same, of a flat triangle.
+fn touches_beyond_flat(a: &Corner, b: &Corner, c: &Corner, q: &Corner) -> bool
+    requires { IsFlat a.now b.now c.now }
+    ensures { IsTrue result ↔ TouchBeyond a.now b.now c.now q.now }
 {
-    let normal = cross(&Vector::between(a, b), &Vector::between(a, c));
+    if is_one_way(a, b, q) {
+        return true;
+    }
+    is_one_way(a, c, q)
+}
+
+/// A direction along which the corners of the triangle with this normal are seen counterclockwise: the signs of the normal.
+fn front(normal: &Normal) -> Dir
+    requires { ¬ IsZero (of_normal normal.now) }
+    ensures { pos 0 <ℤ dot (of_dir result) (of_normal normal.now) }
+{
     match Dir::new(normal.x.signum(), normal.y.signum(), normal.z.signum()) {
         Ok(d) => d,
         Err(_) => unreachable!(),

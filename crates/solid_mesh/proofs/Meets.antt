@@ -6,13 +6,13 @@ use Rattle.lattice.specs.declared.points.Corner.{Corner}
 use Rattle.lattice.specs.declared.soup.Tri.{Tri}
 use Rattle.lattice.specs.Triangles.{IsBelow}
 use Rattle.lattice.specs.Points.{Point, point_of, AreOnePoint}
-use Rattle.geometry.specs.Faces.{IsFlat, IsPointOfEdge, IsPointOfFace}
+use Rattle.geometry.specs.Faces.{IsPointOfEdge, IsPointOfFace}
 use Rattle.geometry.specs.Parts.{Part, Face, IsCornerOf, start_of, end_of}
 use Rattle.geometry.proofs.Listed.{same_element, face_at}
 use Rattle.geometry.proofs.Shares.{edge_turned}
 use Rattle.meeting.specs.Boxes.{CoordinatesMeet, BoxesMeet}
 use Rattle.meeting.specs.Touching.{Touch, TouchBeyond}
-use Rattle.meeting.proofs.Weights.{point-round, flat-round}
+use Rattle.meeting.proofs.Weights.{point-round}
 use Rattle.meeting.proofs.TouchingBoxes.{boxes-of-touch}
 use Rattle.solid_mesh.specs.Meetings.{Side, MeetApart, HaveCommonBox, HaveCommonX}
 use Rattle.solid_mesh.specs.Pairs.{AreAt, MeetBeyond, IsTurn, IsTurnedTo}
@@ -130,9 +130,6 @@ corners_read s t below a b c at_a at_b at_c = record {
   at_c = slice_get_read s.corners (length s.corners) t.c c refl below.c at_c;
 }
 
-abbrev pub face_with : (s : Part) (t : Tri) (i : ℕ) → slice_get s.triangles i ≡ Some t → (a b c : Corner) → AreAt s t a b c → Face s
-face_with s t i listed a b c at = record { number = i; tri = t; a = a; b = b; c = c; listed = listed; at_a = at.at_a; at_b = at.at_b; at_c = at.at_c }
-
 pub turned_below : (n : ℕ) (t u : Tri) → IsTurn t u → IsBelow n t → IsBelow n u
 turned_below n t u (inl e) h = subst (IsBelow n) (sym e) h
 turned_below n t u (inr (inl e)) h = subst (IsBelow n) (sym e) (record { a = h.b; b = h.c; c = h.a })
@@ -175,9 +172,6 @@ module _ (s : Part) (t u : Tri) (a b c x y z : Corner) (at : AreAt s t a b c) (t
       by (inl (e, f, g)) = moved a b c e f g
       by (inr (inl (e, f, g))) = through (λ h. round a b c h, λ h. round c a b (round b c a h)) (moved b c a e f g)
       by (inr (inr (e, f, g))) = through (λ h. round b c a (round a b c h), λ h. round c a b h) (moved c a b e f g)
-
-  pub turned_flat : IsTurn t u → IsFlat a b c ↔ IsFlat x y z
-  turned_flat turn = turned_both (λ k l m. IsFlat k l m) flat-round turn
 
   pub turned_beyond : (corner : ℕ) (p q : Corner) → IsTurnedTo t corner u → IsCornerOf t corner → slice_get s.corners corner ≡ Some p → TouchBeyond x y z q ↔ MeetBeyond a b c p q
   turned_beyond corner p q turned has at_p =

@@ -1,8 +1,7 @@
 // Whether an edge meets a triangle, and how often that is tested.
 ghost use Rattle.std.specs.Prelude.{◌≡◌, ◌+◌, ◌*◌, ◌^◌, ◌<◌, ◌↔◌, length, slice_get, Some, IsTrue};
 ghost use Rattle.lattice.specs.declared.points.Corner.{Corner};
-ghost use Rattle.geometry.specs.Parts.{Face, part_of, IsCornerOf};
-ghost use Rattle.geometry.specs.Faces.{IsFlat};
+ghost use Rattle.geometry.specs.Parts.{part_of, IsCornerOf};
 ghost use Rattle.meeting.specs.Touching.{Touch};
 ghost use Rattle.lattice.specs.Triangles.{IsBelow};
 ghost use Rattle.solid_mesh.specs.Meetings.{HaveCommonBox, MeetApart};
@@ -41,12 +40,11 @@ pub fn box_test(soup: &Soup, half: u32, tri: u32, meter: &mut PairMeter) -> bool
     )
 }
 
-/// Whether a side, by its half, and a triangle that isn't flat and doesn't have it have a common point that isn't at a corner
-/// number of both. Counts one pair. Takes constant time.
+/// Whether a side, by its half, and a triangle that doesn't have it have a common point that isn't at a corner number of both.
+/// The triangle may be flat, and the side may have length 0. Counts one pair. Takes constant time.
 pub fn pair_test(soup: &Soup, half: u32, tri: u32, meter: &mut PairMeter) -> bool
     requires half { half < 3 * length (part_of soup.now).triangles }
     requires tri { tri < length (part_of soup.now).triangles }
-    requires not_flat { (f : Face (part_of soup.now)) → f.number ≡ tri → ¬ IsFlat f.a f.b f.c }
     requires boxes { meter.old.boxes < 2 ^ 63 }
     requires pairs { meter.old.pairs < 2 ^ 63 }
     ensures value { IsTrue result ↔ MeetApart (part_of soup.now) half tri }
@@ -100,7 +98,6 @@ fn meets(soup: &Soup, triangle: &Tri, m: u32, n: u32) -> bool
     requires triangle { IsBelow (length (part_of soup.now).corners) triangle.now }
     requires m { m < length (part_of soup.now).corners }
     requires n { n < length (part_of soup.now).corners }
-    requires not_flat { (a b c : Corner) → AreAt (part_of soup.now) triangle.now a b c → ¬ IsFlat a b c }
     ensures { (a b c p q : Corner) → AreAt (part_of soup.now) triangle.now a b c → slice_get (part_of soup.now).corners m ≡ Some p
         → slice_get (part_of soup.now).corners n ≡ Some q → IsTrue result ↔ Touch a b c p q }
 {
@@ -119,7 +116,6 @@ fn meets_beyond(soup: &Soup, triangle: &Tri, m: u32, n: u32) -> bool
     requires triangle { IsBelow (length (part_of soup.now).corners) triangle.now }
     requires has { IsCornerOf triangle.now m }
     requires n { n < length (part_of soup.now).corners }
-    requires not_flat { (a b c : Corner) → AreAt (part_of soup.now) triangle.now a b c → ¬ IsFlat a b c }
     ensures { (a b c p q : Corner) → AreAt (part_of soup.now) triangle.now a b c → slice_get (part_of soup.now).corners m ≡ Some p
         → slice_get (part_of soup.now).corners n ≡ Some q → IsTrue result ↔ MeetBeyond a b c p q }
 {

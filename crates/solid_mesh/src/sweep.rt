@@ -83,7 +83,6 @@ fn sweep(
     turned: bool,
     found: &mut Found,
 )
-    requires closed { IsClosed (part_of soup.now) }
     requires halves { All (λ half. half < 3 * length (part_of soup.now).triangles) halves.now }
     requires these { All (λ x. x.number < count_of (part_of soup.now) halves.now turned) these.now }
     requires others { All (λ x. x.number < count_of (part_of soup.now) halves.now (not turned)) others.now }
@@ -112,7 +111,6 @@ fn run(
     turned: bool,
     found: &mut Found,
 )
-    requires closed { IsClosed (part_of soup.now) }
     requires halves { All (λ half. half < 3 * length (part_of soup.now).triangles) halves.now }
     requires this { this.now.number < count_of (part_of soup.now) halves.now turned }
     requires others { All (λ x. x.number < count_of (part_of soup.now) halves.now (not turned)) others.now }
@@ -162,7 +160,6 @@ fn pair(turned: bool, this: u32, other: u32) -> (u32, u32)
 
 /// Tests an edge and a triangle: their boxes, and if these meet, and the pair is before the one that was found, the pair.
 fn test(soup: &Soup, halves: &[u32], edge: u32, tri: u32, found: &mut Found)
-    requires closed { IsClosed (part_of soup.now) }
     requires halves { All (λ half. half < 3 * length (part_of soup.now).triangles) halves.now }
     requires edge { edge < length halves.now }
     requires tri { tri < length (part_of soup.now).triangles }

@@ -3,23 +3,10 @@ use Rattle.std.specs.Prelude.{◌↔◌, IsTrue}
 use Rattle.std.proofs.lemmas.Option.{slice_get_read}
 use Rattle.lattice.specs.declared.points.Corner.{Corner}
 use Rattle.geometry.specs.Parts.{part_of}
-use Rattle.geometry.proofs.Listed.{found, same_element}
-use Rattle.solid_mesh.specs.Pairs.{AreAt, MeetBeyond}
-use Rattle.solid_mesh.proofs.Meets.{through, corners_read, turned_below, turned_flat, turned_beyond}
+use Rattle.geometry.proofs.Listed.{same_element}
+use Rattle.solid_mesh.specs.Pairs.{MeetBeyond}
+use Rattle.solid_mesh.proofs.Meets.{through, corners_read, turned_below, turned_beyond}
 use Rattle.solid_mesh.proofs.pairs.meets_beyond.Goals as goal
-
-pub touches_beyond-requires : goal.touches_beyond-requires
-touches_beyond-requires c flat =
-    let s = part_of c.args.soup.now in
-    let t = c.args.triangle.now in
-    let u = c.turned_to-a.result in
-    let below = turned_below (length s.corners) t u c.turned_to-a.ensures.turn c.requires.triangle in
-    let there = corners_read s u below c.index.result.now c.index-2.result.now c.index-3.result.now c.index.ensures c.index-2.ensures c.index-3.ensures in
-    let a = found s.corners t.a c.requires.triangle.a in
-    let b = found s.corners t.b c.requires.triangle.b in
-    let d = found s.corners t.c c.requires.triangle.c in
-    let at : AreAt s t a.0 b.0 d.0 = record { at_a = a.1; at_b = b.1; at_c = d.1 } in
-    c.requires.not_flat a.0 b.0 d.0 at ((turned_flat s t u a.0 b.0 d.0 _ _ _ at there c.turned_to-a.ensures.turn).1 flat)
 
 pub returns : goal.returns
 returns c a b d p q at at_p at_q =

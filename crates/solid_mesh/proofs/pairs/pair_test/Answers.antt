@@ -1,18 +1,8 @@
 use Rattle.std.proofs.Common.{◌≡◌, ◌/◌, ◌<◌, length, slice_get, Some, refl, sym, ◌∙◌, arith, true≢false}
 use Rattle.std.proofs.lemmas.Option.{slice_get_read}
 use Rattle.geometry.specs.Parts.{part_of}
-use Rattle.solid_mesh.proofs.Meets.{face_with, read-none, read-first, read-second, read-both}
+use Rattle.solid_mesh.proofs.Meets.{read-none, read-first, read-second, read-both}
 use Rattle.solid_mesh.proofs.pairs.pair_test.Goals as goal
-
-pub meets-requires-clause-not_flat : goal.meets-requires-clause-not_flat
-meets-requires-clause-not_flat c a b d at =
-    let soup = c.args.soup.now in
-    let s = part_of soup in
-    let half = c.args.half in
-    let tri = c.args.tri in
-    let u = c.index-triangle.result.now in
-    let listed : slice_get s.triangles tri ≡ Some u = slice_get_read s.triangles (length s.triangles) tri u refl c.requires.tri c.index-triangle.ensures in
-    c.requires.not_flat (face_with s u tri listed a b d at) refl
 
 pub returns-then-not-has-2-clause-value : goal.returns-then-not-has-2-clause-value
 returns-then-not-has-2-clause-value c =
@@ -26,16 +16,6 @@ returns-then-not-has-2-clause-value c =
     let within : half / 3 < length s.triangles = omega (arith, c.requires.half) in
     let at : slice_get s.triangles (half / 3) ≡ Some t = slice_get_read s.triangles (length s.triangles) (half / 3) t refl within c.index.ensures in
     read-none s soup.in_range half t at c.ends-m.result.0 c.ends-m.result.1 c.ends-m.ensures.start c.ends-m.ensures.end tri u listed c.meets.result c.meets.ensures (λ h. true≢false (sym (c.has.ensures.1 h) ∙ c.if-not-has.true)) (λ h. true≢false (sym (c.has-then-not-has.ensures.1 h) ∙ c.if-not-has-2.true))
-
-pub meets_beyond-requires-clause-not_flat : goal.meets_beyond-requires-clause-not_flat
-meets_beyond-requires-clause-not_flat c a b d at =
-    let soup = c.args.soup.now in
-    let s = part_of soup in
-    let half = c.args.half in
-    let tri = c.args.tri in
-    let u = c.index-triangle.result.now in
-    let listed : slice_get s.triangles tri ≡ Some u = slice_get_read s.triangles (length s.triangles) tri u refl c.requires.tri c.index-triangle.ensures in
-    c.requires.not_flat (face_with s u tri listed a b d at) refl
 
 pub returns-then-not-has-clause-value : goal.returns-then-not-has-clause-value
 returns-then-not-has-clause-value c =
@@ -62,16 +42,6 @@ returns-then-has-clause-value c =
     let within : half / 3 < length s.triangles = omega (arith, c.requires.half) in
     let at : slice_get s.triangles (half / 3) ≡ Some t = slice_get_read s.triangles (length s.triangles) (half / 3) t refl within c.index.ensures in
     (λ h. absurd (true≢false (sym h)), λ h. absurd (read-both s soup.in_range half t at c.ends-m.result.0 c.ends-m.result.1 c.ends-m.ensures.start c.ends-m.ensures.end tri u listed (c.has.ensures.0 c.if-not-has.false) (c.has-2.ensures.0 c.if-has.true) h))
-
-pub meets_beyond-requires-2-clause-not_flat : goal.meets_beyond-requires-2-clause-not_flat
-meets_beyond-requires-2-clause-not_flat c a b d at =
-    let soup = c.args.soup.now in
-    let s = part_of soup in
-    let half = c.args.half in
-    let tri = c.args.tri in
-    let u = c.index-triangle.result.now in
-    let listed : slice_get s.triangles tri ≡ Some u = slice_get_read s.triangles (length s.triangles) tri u refl c.requires.tri c.index-triangle.ensures in
-    c.requires.not_flat (face_with s u tri listed a b d at) refl
 
 pub returns-clause-value : goal.returns-clause-value
 returns-clause-value c =
