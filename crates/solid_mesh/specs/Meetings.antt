@@ -1,7 +1,6 @@
 -- Where a side and a triangle of a soup meet, and how many pairs there are at most.
 use Rattle.std.specs.Prelude.{◌≡◌, ◌≢◌, ◌⊎◌, ℕ, ◌≤◌, List, length, Some, slice_get, All, AllPairs}
 use Rattle.lattice.specs.declared.points.Corner.{Corner}
-use Rattle.lattice.specs.declared.soup.Tri.{Tri}
 use Rattle.lattice.specs.Points.{Point, point_of, AreOnePoint}
 use Rattle.geometry.specs.Faces.{IsPointOfEdge, IsPointOfFace}
 use Rattle.geometry.specs.Parts.{Part, Face, IsHalf, IsCornerOf}

@@ -1,10 +1,9 @@
-// The cube with an edge of 10 units, what is made of it, and parts that make no solid.
-ghost use Rattle.std.specs.Prelude.{◌≡◌, length, IfOk};
+// The cube with an edge of 10 units, what is made of it, parts that make no solid, and single sides and triangles.
+ghost use Rattle.std.specs.Prelude.{◌≡◌, ◌<◌, length, IfOk};
 ghost use Rattle.std.specs.List.{All};
 ghost use Rattle.lattice.specs.Triangles.{IsBelow};
 ghost use Rattle.geometry.specs.Parts.{part_of};
 
-use crate::flats::find_flat;
 use crate::{Edge, MeshError, MeshFault, PairMeter, Solid, box_test, pair_test};
 use exact_frac::Frac;
 use lattice::{Corner, Dir, Soup, Tri};
@@ -79,7 +78,7 @@ fn soup(alloc: Global, numbers: &[[u32; 3]], tip: u8) -> Result<Soup, AllocError
     ensures triangles { IfOk result (λ s. length (part_of s).triangles ≡ length numbers.now) }
 {
     let corners = corners(alloc, tip)?;
-    let triangles = triangles(alloc, numbers)?;
+    let triangles = triangles(alloc, numbers, 13)?;
     Ok(Soup { corners, triangles })
 }
 
@@ -93,19 +92,55 @@ fn corners(alloc: Global, tip: u8) -> Result<Vec<Corner>, AllocError>
     Ok(corners)
 }
 
-fn triangles(alloc: Global, numbers: &[[u32; 3]]) -> Result<Vec<Tri>, AllocError>
+fn triangles(alloc: Global, numbers: &[[u32; 3]], count: u32) -> Result<Vec<Tri>, AllocError>
+    requires { 0 < count }
     ensures long { IfOk result (λ v. length v.items ≡ length numbers.now) }
-    ensures in_range { IfOk result (λ v. All (IsBelow 13) v.items) }
+    ensures in_range { IfOk result (λ v. All (IsBelow count) v.items) }
 {
     let mut triangles = Vec::new(alloc);
     for n in numbers {
         triangles.push(Tri {
-            a: n[0] % 13,
-            b: n[1] % 13,
-            c: n[2] % 13,
+            a: n[0] % count,
+            b: n[1] % count,
+            c: n[2] % count,
         })?;
     }
     Ok(triangles)
+}
+
+/// Corners 0 to 4, the last two of them the ends, with a triangle whose first side is this and with this triangle.
+fn side_and_triangle(
+    alloc: Global,
+    face: &[[i8; 3]; 3],
+    ends: &[[i8; 3]; 2],
+    side: [u32; 2],
+    triangle: [u32; 3],
+) -> Result<Soup, AllocError>
+    ensures { IfOk result (λ s. length (part_of s).triangles ≡ 2) }
+{
+    let corners = places(alloc, face, ends)?;
+    let [m, n] = side;
+    let triangles = triangles(alloc, &[[m, n, n], triangle], 5)?;
+    Ok(Soup { corners, triangles })
+}
+
+fn places(
+    alloc: Global,
+    face: &[[i8; 3]; 3],
+    ends: &[[i8; 3]; 2],
+) -> Result<Vec<Corner>, AllocError>
+    ensures { IfOk result (λ v. length v.items ≡ 5) }
+{
+    let mut corners = Vec::new(alloc);
+    for i in 0..5 {
+        let [x, y, z] = if i < 3 { face[i] } else { ends[i - 3] };
+        corners.push(Corner {
+            x: i32::from(x),
+            y: i32::from(y),
+            z: i32::from(z),
+        })?;
+    }
+    Ok(corners)
 }
 
 #[test]
@@ -179,16 +214,190 @@ fn tests_a_side_and_a_triangle(rt: HostRuntime) -> Result<(), Fail> {
     assert!(rt; box_test(&soup, 8, 13, &mut meter));
     // a side of the cube's bottom, and its top
     assert!(rt; !box_test(&soup, 0, 2, &mut meter));
-    match find_flat(&soup) {
-        None => {
-            assert!(rt; pair_test(&soup, 8, 13, &mut meter));
-            // a triangle that has the side, and one that has its first corner alone
-            assert!(rt; !pair_test(&soup, 8, 2, &mut meter));
-            assert!(rt; !pair_test(&soup, 0, 4, &mut meter));
-        }
-        Some(_) => assert!(rt; false),
-    }
+    assert!(rt; pair_test(&soup, 8, 13, &mut meter));
+    // a triangle that has the side, and one that has its first corner alone
+    assert!(rt; !pair_test(&soup, 8, 2, &mut meter));
+    assert!(rt; !pair_test(&soup, 0, 4, &mut meter));
     assert_eq!(rt; (meter.boxes, meter.pairs), (2, 3));
+    Ok(())
+}
+
+#[test]
+fn tests_a_side_and_a_face(rt: HostRuntime) -> Result<(), Fail> {
+    let face = [[0, 0, 0], [6, 0, 0], [0, 6, 0]];
+    for (name, ends, side, expected) in [
+        (
+            "on into it from a shared corner",
+            [[2, 2, 0], [9, 9, 9]],
+            [0, 3],
+            true,
+        ),
+        (
+            "away from a shared corner",
+            [[2, -2, 0], [9, 9, 9]],
+            [0, 3],
+            false,
+        ),
+        (
+            "at a corner with another number",
+            [[0, 0, 0], [-1, 0, 0]],
+            [3, 4],
+            true,
+        ),
+        ("of length 0, in it", [[1, 1, 0], [1, 1, 0]], [3, 4], true),
+        (
+            "of length 0, beside it",
+            [[5, 5, 0], [5, 5, 0]],
+            [3, 4],
+            false,
+        ),
+        (
+            "of length 0, from a shared corner",
+            [[0, 0, 0], [9, 9, 9]],
+            [0, 3],
+            false,
+        ),
+        (
+            "one corner number, in it",
+            [[1, 1, 0], [9, 9, 9]],
+            [3, 3],
+            true,
+        ),
+        (
+            "one corner number, its own",
+            [[1, 1, 0], [9, 9, 9]],
+            [0, 0],
+            false,
+        ),
+    ] {
+        let soup = side_and_triangle(rt.alloc(), &face, &ends, side, [0, 1, 2])?;
+        let mut meter = PairMeter { boxes: 0, pairs: 0 };
+        assert_eq!(rt; pair_test(&soup, 0, 1, &mut meter), expected, "{name}");
+    }
+    Ok(())
+}
+
+#[test]
+fn tests_a_side_and_a_flat_triangle(rt: HostRuntime) -> Result<(), Fail> {
+    // the third corner is between the others, or the first; all are at one place
+    let line = [[0, 0, 0], [6, 0, 0], [2, 0, 0]];
+    let split = [[2, 0, 0], [0, 0, 0], [6, 0, 0]];
+    let point = [[1, 1, 1], [1, 1, 1], [1, 1, 1]];
+    let all = [0, 1, 2];
+    let twice = [0, 0, 1];
+    for (name, face, triangle, ends, side, expected) in [
+        (
+            "across it",
+            line,
+            all,
+            [[4, -1, 0], [4, 1, 0]],
+            [3, 4],
+            true,
+        ),
+        (
+            "across its first side",
+            split,
+            all,
+            [[1, -1, 0], [1, 1, 0]],
+            [3, 4],
+            true,
+        ),
+        (
+            "across its last side",
+            split,
+            all,
+            [[4, -1, 0], [4, 1, 0]],
+            [3, 4],
+            true,
+        ),
+        (
+            "past its end",
+            line,
+            all,
+            [[7, -1, 0], [7, 1, 0]],
+            [3, 4],
+            false,
+        ),
+        ("over it", line, all, [[4, -1, 1], [4, 1, 1]], [3, 4], false),
+        ("beside it", line, all, [[0, 1, 0], [6, 1, 0]], [3, 4], false),
+        (
+            "in its line, up to it",
+            line,
+            all,
+            [[9, 0, 0], [6, 0, 0]],
+            [3, 4],
+            true,
+        ),
+        (
+            "in its line, apart",
+            line,
+            all,
+            [[9, 0, 0], [7, 0, 0]],
+            [3, 4],
+            false,
+        ),
+        (
+            "in its line, around it",
+            line,
+            all,
+            [[-1, 0, 0], [9, 0, 0]],
+            [3, 4],
+            true,
+        ),
+        (
+            "along it from a shared corner",
+            line,
+            all,
+            [[4, 0, 0], [9, 9, 9]],
+            [2, 3],
+            true,
+        ),
+        (
+            "back from it",
+            line,
+            all,
+            [[-1, 0, 0], [9, 9, 9]],
+            [0, 3],
+            false,
+        ),
+        ("up from it", line, all, [[1, 1, 0], [9, 9, 9]], [0, 3], false),
+        (
+            "through a point",
+            point,
+            all,
+            [[0, 0, 0], [2, 2, 2]],
+            [3, 4],
+            true,
+        ),
+        (
+            "past a point",
+            point,
+            all,
+            [[0, 0, 0], [2, 2, 3]],
+            [3, 4],
+            false,
+        ),
+        (
+            "across one with a corner twice",
+            line,
+            twice,
+            [[4, -1, 0], [4, 1, 0]],
+            [3, 4],
+            true,
+        ),
+        (
+            "along one with a corner twice",
+            line,
+            twice,
+            [[4, 0, 0], [9, 9, 9]],
+            [0, 3],
+            true,
+        ),
+    ] {
+        let soup = side_and_triangle(rt.alloc(), &face, &ends, side, triangle)?;
+        let mut meter = PairMeter { boxes: 0, pairs: 0 };
+        assert_eq!(rt; pair_test(&soup, 0, 1, &mut meter), expected, "{name}");
+    }
     Ok(())
 }
 
