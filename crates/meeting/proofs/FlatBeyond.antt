@@ -211,7 +211,10 @@ module _ (a e q : Corner) (h : IsOneWay a e q) where
       )
 
 pub beyond-of-flat : (a b c q : Corner) → IsFlat a b c → TouchBeyond a b c q ↔ (IsOneWay a b q ⊎ IsOneWay a c q)
-beyond-of-flat a b c q flat = (to a b c q flat, λ h. elim h [
-  | inl w ↦ let (s, on_edge, on_face, off) = point-beyond a b q w (IsPointOfFace a b c) (face-of-first a b c) in record { point = s; on_edge = on_edge; on_face = on_face; off = off }
-  | inr w ↦ let (s, on_edge, on_face, off) = point-beyond a c q w (IsPointOfFace a b c) (face-of-second a b c) in record { point = s; on_edge = on_edge; on_face = on_face; off = off }
-])
+beyond-of-flat a b c q flat = (
+  to a b c q flat,
+  λ h. elim h [
+    | inl w ↦ let (s, on_edge, on_face, off) = point-beyond a b q w (IsPointOfFace a b c) (face-of-first a b c) in record { point = s; on_edge = on_edge; on_face = on_face; off = off }
+    | inr w ↦ let (s, on_edge, on_face, off) = point-beyond a c q w (IsPointOfFace a b c) (face-of-second a b c) in record { point = s; on_edge = on_edge; on_face = on_face; off = off }
+  ],
+)

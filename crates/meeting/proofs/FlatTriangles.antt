@@ -104,8 +104,8 @@ module _ (u v : Triple) (k l m : ℤ) where
         none : (y z : ℤ) → y +ℤ z ≡ pos 0 → pos 0 <ℤ y → pos 0 ≤ℤ z → ⊥
         none y z e p q = omega (arith, ints)
 
-        none' : (y z : ℤ) → y +ℤ z ≡ pos 0 → pos 0 ≤ℤ y → pos 0 <ℤ z → ⊥
-        none' y z e p q = omega (arith, ints)
+        none-last : (y z : ℤ) → y +ℤ z ≡ pos 0 → pos 0 ≤ℤ y → pos 0 <ℤ z → ⊥
+        none-last y z e p q = omega (arith, ints)
 
         rest : (k n : ℤ) → pos 0 <ℤ (k +ℤ n) → k ≤ℤ pos 0 → pos 0 <ℤ n
         rest k n h p = omega (arith, ints)
@@ -113,7 +113,7 @@ module _ (u v : Triple) (k l m : ℤ) where
         sum : (k n : ℤ) → pos 0 ≤ℤ k → pos 0 <ℤ (k +ℤ n) → (f g : ℤ) → (k *ℤ f) +ℤ g ≡ pos 0 → pos 0 <ℤ f → (pos 0 <ℤ n → pos 0 <ℤ g) → pos 0 ≤ℤ g → ⊥
         sum k n kl some f g e hf hg gl = by_lt_z (pos 0) k
             (λ p. none (k *ℤ f) g e (mul_pos k f p hf) gl)
-            (λ p. none' (k *ℤ f) g e (mul_nonneg k f kl (weak f hf)) (hg (rest k n some p)))
+            (λ p. none-last (k *ℤ f) g e (mul_nonneg k f kl (weak f hf)) (hg (rest k n some p)))
 
 -- ---- edges
 module _ (a b c p q : Corner) (flat : IsFlat a b c) where
@@ -135,9 +135,6 @@ module _ (a b c p q : Corner) (flat : IsFlat a b c) where
 
     abbrev v : Triple
     v = difference a c
-
-    nonneg : (y z : ℤ) → pos 0 ≤ℤ y → pos 0 ≤ℤ z → pos 0 ≤ℤ (y *ℤ z)
-    nonneg = mul_nonneg
 
     least : (z : ℤ) → pos 0 <ℤ z → pos 0 ≤ℤ z
     least z h = omega (arith, ints)
@@ -177,10 +174,10 @@ module _ (a b c p q : Corner) (flat : IsFlat a b c) where
       l = w.j *ℤ all;
       i = (w.i +ℤ w.j) *ℤ pos i;
       j = (w.i +ℤ w.j) *ℤ pos j;
-      k_least = nonneg w.i all w.i_least (least all positive);
-      l_least = nonneg w.j all w.j_least (least all positive);
-      i_least = nonneg (w.i +ℤ w.j) (pos i) (least _ w.some) (natural i);
-      j_least = nonneg (w.i +ℤ w.j) (pos j) (least _ w.some) (natural j);
+      k_least = mul_nonneg w.i all w.i_least (least all positive);
+      l_least = mul_nonneg w.j all w.j_least (least all positive);
+      i_least = mul_nonneg (w.i +ℤ w.j) (pos i) (least _ w.some) (natural i);
+      j_least = mul_nonneg (w.i +ℤ w.j) (pos j) (least _ w.some) (natural j);
       some = edge-some w.i w.j w.i_least w.j_least w.some;
       whole = edge-whole w.i w.j w.i_least w.j_least w.some;
       x = side w.i w.j w.i_least w.j_least w.some e.x a.x b.x c.x p.x q.x (ap (λ (s : Point). s.x) same) w.x;
@@ -200,10 +197,13 @@ module _ (a b c p q : Corner) (flat : IsFlat a b c) where
         (λ opposed. inl (on-side b (balance r s (line-u u v (pos k) (pos l) (pos m) flat) opposed)))
 
   pub touch-of-flat : Touch a b c p q ↔ (EdgesTouch a b p q ⊎ EdgesTouch a c p q)
-  touch-of-flat = (to, λ h. elim h [
-    | inl t ↦ record { point = t.point; on_edge = t.on_second; on_face = face-of-first a b c t.point t.on_first }
-    | inr t ↦ record { point = t.point; on_edge = t.on_second; on_face = face-of-second a b c t.point t.on_first }
-  ])
+  touch-of-flat = (
+    to,
+    λ h. elim h [
+      | inl t ↦ record { point = t.point; on_edge = t.on_second; on_face = face-of-first a b c t.point t.on_first }
+      | inr t ↦ record { point = t.point; on_edge = t.on_second; on_face = face-of-second a b c t.point t.on_first }
+    ],
+  )
     where
       to : Touch a b c p q → EdgesTouch a b p q ⊎ EdgesTouch a c p q
       to t =

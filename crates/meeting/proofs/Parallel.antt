@@ -85,7 +85,7 @@ module _ (k l i j : ℤ) (k_least : pos 0 ≤ℤ k) (l_least : pos 0 ≤ℤ l) (
 
   -- both ends can't be ahead of the second edge's end
   not-ahead : pos 0 <ℤ dot r s → dot r v <ℤ dot r r → dot s v <ℤ dot s s → ⊥
-  not-ahead same far further = 
+  not-ahead same far further =
       clash i j (dot r v) i_least j_least _ _ back
       (sum_pos k l (dot r r -ℤ dot r v) (dot r s -ℤ dot r v) k_least l_least some (gap (dot r v) (dot r r) far) (gap (dot r v) (dot r s) less))
       (sym reached) (sum_pos k l (dot r r) (dot r s) k_least l_least some (square-of-product r s same) same)

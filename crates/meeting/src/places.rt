@@ -2,7 +2,7 @@
 ghost use Rattle.std.specs.Prelude.{◌≡◌, ◌↔◌, pos, ◌*ℤ◌, ◌≤ℤ◌, ◌<ℤ◌, IsTrue};
 ghost use Rattle.meeting.specs.Places.{Place, Reaches, IsInOrder, Agree};
 
-use crate::course::{Course, Rise, Offset};
+use crate::course::{Course, Offset, Rise};
 
 /// Whether the edge has a place in the plane that is to the right of no side.
 pub(crate) fn crosses(x: &Course) -> bool

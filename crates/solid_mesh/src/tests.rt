@@ -319,7 +319,14 @@ fn tests_a_side_and_a_flat_triangle(rt: HostRuntime) -> Result<(), Fail> {
             false,
         ),
         ("over it", line, all, [[4, -1, 1], [4, 1, 1]], [3, 4], false),
-        ("beside it", line, all, [[0, 1, 0], [6, 1, 0]], [3, 4], false),
+        (
+            "beside it",
+            line,
+            all,
+            [[0, 1, 0], [6, 1, 0]],
+            [3, 4],
+            false,
+        ),
         (
             "in its line, up to it",
             line,
@@ -360,7 +367,14 @@ fn tests_a_side_and_a_flat_triangle(rt: HostRuntime) -> Result<(), Fail> {
             [0, 3],
             false,
         ),
-        ("up from it", line, all, [[1, 1, 0], [9, 9, 9]], [0, 3], false),
+        (
+            "up from it",
+            line,
+            all,
+            [[1, 1, 0], [9, 9, 9]],
+            [0, 3],
+            false,
+        ),
         (
             "through a point",
             point,
