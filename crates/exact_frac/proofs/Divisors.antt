@@ -17,21 +17,21 @@ positive_divisor a b (negsuc k) h d = absurd (omega (arith, ints, d.not_negative
 positive_divisor a (negsuc b) g h d = absurd (omega (arith, ints))
 positive_divisor a (pos b) (pos k) h d = let k_pos : 0 < k = pos_of_dvd_of_pos d.greatest.1 (omega (arith, ints)) in omega (arith, ints)
 
-rem_is_zero : (z : ℤ) (k : ℕ) → k ∣ unsigned_abs z → int_rem z (pos k) ≡ pos 0
-rem_is_zero (pos a) k h = ap pos (mod-eq-zero_of_dvd k h)
-rem_is_zero (negsuc a) k h = ap (λ (n : ℕ). neg_ℤ (pos n)) (mod-eq-zero_of_dvd k h)
+rem_is_zero : (z g : ℤ) → unsigned_abs g ∣ unsigned_abs z → int_rem z g ≡ pos 0
+rem_is_zero (pos a) (pos k) h = ap pos (mod-eq-zero_of_dvd k h)
+rem_is_zero (pos a) (negsuc k) h = ap pos (mod-eq-zero_of_dvd (suc k) h)
+rem_is_zero (negsuc a) (pos k) h = ap (λ (n : ℕ). neg_ℤ (pos n)) (mod-eq-zero_of_dvd k h)
+rem_is_zero (negsuc a) (negsuc k) h = ap (λ (n : ℕ). neg_ℤ (pos n)) (mod-eq-zero_of_dvd (suc k) h)
 
 -- a divisor divides with no rest
-exact : (z : ℤ) (k : ℕ) → k ∣ unsigned_abs z → int_div z (pos k) *ℤ pos k ≡ z
-exact z k h = let q = quot-rem z (pos k) in let r = rem_is_zero z k h in omega (arith, ints)
+pub exact : (z g : ℤ) → unsigned_abs g ∣ unsigned_abs z → int_div z g *ℤ g ≡ z
+exact z g h = let q = quot-rem z g in let r = rem_is_zero z g h in omega (arith, ints)
 
 pub exact_first : (a b g : ℤ) → IsGreatestDivisor a b g → int_div a g *ℤ g ≡ a
-exact_first a b (pos k) d = exact a k d.greatest.0
-exact_first a b (negsuc k) d = absurd (omega (arith, ints, d.not_negative))
+exact_first a b g d = exact a g d.greatest.0
 
 pub exact_second : (a b g : ℤ) → IsGreatestDivisor a b g → int_div b g *ℤ g ≡ b
-exact_second a b (pos k) d = exact b k d.greatest.1
-exact_second a b (negsuc k) d = absurd (omega (arith, ints, d.not_negative))
+exact_second a b g d = exact b g d.greatest.1
 
 -- a product is positive only where its first factor is, if the second is
 pub positive_factor : (x g z : ℤ) → x *ℤ g ≡ z → pos 0 <ℤ g → pos 0 <ℤ z → pos 0 <ℤ x

@@ -2,7 +2,7 @@
 use Rattle.std.proofs.Common.{◌≡◌, ℕ, ◌+◌, List, [], ◌∷◌, refl, ◌∙◌, arith}
 use Rattle.std.specs.Prelude.{ℤ, pos, ◌+ℤ◌, ◌-ℤ◌, ◌*ℤ◌, ◌<ℤ◌}
 use Rattle.std.proofs.lemmas.Int.{ints}
-use Rattle.integers.proofs.Ring.{Expr, var, con, ◌⊕◌, ◌⊖◌, ◌⊗◌, ring, by_one, gap_of_less}
+use Rattle.integers.proofs.Ring.{Expr, var, con, ◌⊕◌, ◌⊖◌, ◌⊗◌, ring, by_one, gap_of_less, same_of_gap}
 use Rattle.integers.proofs.Signs.{zero_of_mul}
 use Rattle.lattice.specs.declared.points.Corner.{Corner}
 use Rattle.lattice.specs.declared.points.Spot.{Spot}
@@ -11,7 +11,6 @@ use Rattle.lattice.specs.Points.{Point, of_spot, point_of, scaled, OnOneSight}
 use Rattle.lattice.proofs.Vectors.{Letters, letters, dots}
 use Rattle.geometry.specs.Faces.{share_point, edge_sum}
 use Rattle.geometry.specs.Pieces.{spot_sum}
-use Rattle.geometry.proofs.Sights.{same_of_gap}
 
 -- ---- a product with the point at a share
 abbrev values : Triple → Corner → Corner → ℤ → ℤ → ℤ → ℤ → List ℤ

@@ -1,16 +1,12 @@
 -- Being on one line of sight is an equivalence of points, and what is ordinary stays so along one.
-use Rattle.std.proofs.Common.{◌≡◌, [], ◌∷◌, refl, sym, arith}
+use Rattle.std.proofs.Common.{◌≡◌, [], ◌∷◌, refl, sym}
 use Rattle.std.specs.Prelude.{ℤ, pos, ◌-ℤ◌, ◌*ℤ◌, ◌<ℤ◌}
-use Rattle.std.proofs.lemmas.Int.{ints}
-use Rattle.integers.proofs.Ring.{var, con, ◌⊕◌, ◌⊖◌, ◌⊗◌, ring, by_two}
+use Rattle.integers.proofs.Ring.{var, con, ◌⊕◌, ◌⊖◌, ◌⊗◌, ring, by_two, same_of_gap}
 use Rattle.integers.proofs.Signs.{zero_of_mul}
 use Rattle.lattice.specs.Triple.{Triple}
 use Rattle.lattice.specs.Points.{Point, IsPoint, point_of, OnOneSight, across_of, upward_of}
 use Rattle.geometry.specs.Parts.{Part, Edge}
 use Rattle.geometry.specs.Views.{IsOrdinary, PassesOver}
-
-pub same_of_gap : (x y : ℤ) → x -ℤ y ≡ pos 0 → x ≡ y
-same_of_gap x y h = omega (arith, ints)
 
 -- two fractions with the value of a third are of one value
 cancel : (u v w a b c : ℤ) → pos 0 <ℤ b → u *ℤ b ≡ v *ℤ a → v *ℤ c ≡ w *ℤ b → u *ℤ c ≡ w *ℤ a

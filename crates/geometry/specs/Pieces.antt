@@ -1,9 +1,9 @@
--- What lies on a piece, and when a list of pieces is right for a plain view.
-use Rattle.std.specs.Prelude.{◌≡◌, ◌⊎◌, ◌↔◌, ℕ, ◌+◌, ◌<◌, pos, ◌+ℤ◌, ◌-ℤ◌, ◌*ℤ◌, List, Contains, All, AllPairs}
+-- What lies on a piece, when a list of pieces is right for a plain view, and the order of pieces.
+use Rattle.std.specs.Prelude.{◌≡◌, ◌⊎◌, ◌↔◌, ℕ, ◌+◌, ◌<◌, pos, ◌+ℤ◌, ◌-ℤ◌, ◌*ℤ◌, ◌<ℤ◌, List, Contains, All, AllPairs}
 use Rattle.lattice.specs.declared.points.Spot.{Spot}
 use Rattle.lattice.specs.declared.pieces.Piece.{Piece}
 use Rattle.lattice.specs.declared.pieces.Style.{Style}
-use Rattle.lattice.specs.declared.pieces.Style.TheVariants.{Solid}
+use Rattle.lattice.specs.declared.pieces.Style.TheVariants.{Solid, Dashed}
 use Rattle.lattice.specs.Triple.{Triple}
 use Rattle.lattice.specs.Points.{Point, IsPoint, of_spot, across_of, upward_of, OnOneSight}
 use Rattle.geometry.specs.Parts.{Part}
@@ -18,17 +18,29 @@ spot_sum p q i j = record {
   w = (pos i *ℤ p.w) +ℤ (pos j *ℤ q.w);
 }
 
--- on one line of sight with a sum of the piece's two ends, with whole weights that are not both 0
+-- on one line of sight with a sum of the two spots, with whole weights that are not both 0
+abbrev pub LiesBetween : Triple → Spot → Spot → Point → Type 0
+LiesBetween d a b p = (i : ℕ) × (j : ℕ) × (0 < i + j) × OnOneSight d (spot_sum a b i j) p
+
 abbrev pub LiesOn : Triple → Piece → Point → Type 0
-LiesOn d l p = (i : ℕ) × (j : ℕ) × (0 < i + j) × OnOneSight d (spot_sum l.a l.b i j) p
+LiesOn d l p = LiesBetween d l.a l.b p
 
 -- on some piece of this style
 abbrev pub LiesOnStyle : Triple → List Piece → Style → Point → Type 0
 LiesOnStyle d pieces style p = (l : Piece) × Contains pieces l × (l.style ≡ style) × LiesOn d l p
 
+-- a drawn point is on the line of sight of p
+abbrev pub IsDrawnAt : Triple → ℕ → Part → Point → Point → Type 0
+IsDrawnAt d fraction s p q = IsDrawnPoint d fraction s q × OnOneSight d q p
+
 -- a drawn point that is not hidden is on the line of sight of p
 abbrev pub SeesDrawn : Triple → ℕ → Part → Point → Type 0
 SeesDrawn d fraction s p = (q : Point) × IsDrawnPoint d fraction s q × OnOneSight d q p × ¬ IsHidden d s q
+
+-- drawn points are on the line of sight of p, and all of them are hidden
+pub record SeesOnlyHidden (d : Triple) (fraction : ℕ) (s : Part) (p : Point) : Type 0 where
+  pub some : (q : Point) × IsDrawnAt d fraction s p q
+  pub hidden : (q : Point) → IsDrawnAt d fraction s p q → IsHidden d s q
 
 -- the projections of the two pieces are parallel
 abbrev pub ArePiecesParallel : Triple → Piece → Piece → Type 0
@@ -43,20 +55,48 @@ ShareAnEnd d l m =
     let meet = λ (p q : Spot). OnOneSight d (of_spot p) (of_spot q) in
     meet l.a m.a ⊎ meet l.a m.b ⊎ meet l.b m.a ⊎ meet l.b m.b
 
--- p lies on a solid piece exactly if a drawn point that is not hidden is on its line of sight
-abbrev pub ShowVisibleAt : Triple → ℕ → Part → List Piece → Point → Type 0
-ShowVisibleAt d fraction s pieces p = LiesOnStyle d pieces Solid p ↔ SeesDrawn d fraction s p
+-- no piece is seen as a dot
+abbrev pub AreProper : Triple → List Piece → Type 0
+AreProper d pieces = All (λ l. ¬ OnOneSight d (of_spot l.a) (of_spot l.b)) pieces
 
--- so it is at each ordinary point
-abbrev pub ShowVisible : Triple → ℕ → Part → List Piece → Type 0
-ShowVisible d fraction s pieces = (p : Point) → IsPoint p → IsOrdinary d s p → ShowVisibleAt d fraction s pieces p
+-- p lies on at most one piece, at one place of the list
+abbrev pub LieOnOnce : Triple → List Piece → Point → Type 0
+LieOnOnce d pieces p = AllPairs (λ l m. LiesOn d l p → ¬ LiesOn d m p) pieces
 
--- The pieces are right for the part, the crease's fraction and the direction. There is no other style than solid yet.
+-- no piece goes on where another of its line and style ends
+abbrev pub AreWhole : Triple → List Piece → Type 0
+AreWhole d pieces = AllPairs (λ l m. l.style ≡ m.style → ArePiecesParallel d l m → ¬ ShareAnEnd d l m) pieces
+
+-- The pieces are right for the part, the crease's fraction and the direction.
 pub record AreRight (d : Triple) (fraction : ℕ) (s : Part) (pieces : List Piece) : Type 0 where
-  -- no piece is seen as a dot
-  pub proper : All (λ l. ¬ OnOneSight d (of_spot l.a) (of_spot l.b)) pieces
-  pub visible : ShowVisible d fraction s pieces
-  -- no two share an ordinary point
-  pub once : (p : Point) → IsPoint p → IsOrdinary d s p → AllPairs (λ l m. LiesOn d l p → ¬ LiesOn d m p) pieces
-  -- none goes on where another of its line and style ends
-  pub whole : AllPairs (λ l m. l.style ≡ m.style → ArePiecesParallel d l m → ¬ ShareAnEnd d l m) pieces
+  pub proper : AreProper d pieces
+  -- an ordinary point lies on a solid piece exactly if a drawn point that is not hidden is on its line of sight
+  pub visible : (p : Point) → IsPoint p → IsOrdinary d s p → LiesOnStyle d pieces Solid p ↔ SeesDrawn d fraction s p
+  -- it lies on a dashed piece exactly if only hidden drawn points are
+  pub hidden : (p : Point) → IsPoint p → IsOrdinary d s p → LiesOnStyle d pieces Dashed p ↔ SeesOnlyHidden d fraction s p
+  -- no two pieces share an ordinary point
+  pub once : (p : Point) → IsPoint p → IsOrdinary d s p → LieOnOnce d pieces p
+  pub whole : AreWhole d pieces
+
+-- ---- the order of pieces
+-- p has the lesser U, or the same U and the lesser V
+abbrev pub IsBefore : Triple → Point → Point → Type 0
+IsBefore d p q =
+    ((across_of d p *ℤ q.w) <ℤ (across_of d q *ℤ p.w))
+    ⊎ ((across_of d p *ℤ q.w ≡ across_of d q *ℤ p.w) × ((upward_of d p *ℤ q.w) <ℤ (upward_of d q *ℤ p.w)))
+
+-- solid pieces stand before dashed ones
+abbrev pub rank_of : Style → ℕ
+rank_of Solid = 0
+rank_of Dashed = 1
+
+-- l stands before m: by its style, then by its end a, then by its end b
+abbrev pub StandsBefore : Triple → Piece → Piece → Type 0
+StandsBefore d l m =
+    (rank_of l.style < rank_of m.style)
+    ⊎ ((l.style ≡ m.style) × (IsBefore d (of_spot l.a) (of_spot m.a) ⊎ (OnOneSight d (of_spot l.a) (of_spot m.a) × IsBefore d (of_spot l.b) (of_spot m.b))))
+
+-- the end a of each piece is before its end b, and each piece stands before the later ones
+pub record AreInOrder (d : Triple) (pieces : List Piece) : Type 0 where
+  pub ends : All (λ l. IsBefore d (of_spot l.a) (of_spot l.b)) pieces
+  pub order : AllPairs (StandsBefore d) pieces

@@ -37,12 +37,18 @@ IsEndOn d e = OnOneSight d (point_of e.a) (point_of e.b)
 abbrev pub IsDrawn : Triple → ℕ → {s : Part} → Edge s → Type 0
 IsDrawn d fraction e = (IsOutline d e ⊎ IsCrease fraction e) × ¬ IsEndOn d e
 
--- the numbers of the drawn edges, in order, where these halves list the edges
-pub record AreDrawnEdges (d : Triple) (fraction : ℕ) (s : Part) (halves numbers : List ℕ) : Type 0 where
+-- the numbers of the edges of which P holds, in order, where these halves list the edges
+pub record AreEdgesThat {s : Part} (P : Edge s → Type 0) (halves numbers : List ℕ) : Type 0 where
   pub edges : AreEdges s halves
   pub ascending : IsStrictlyIncreasing numbers
   pub within : All (λ i. i < length halves) numbers
-  pub exactly : (i : ℕ) (e : Edge s) → IsNumbered halves i e → Contains numbers i ↔ IsDrawn d fraction e
+  pub exactly : (i : ℕ) (e : Edge s) → IsNumbered halves i e → Contains numbers i ↔ P e
+
+abbrev pub AreOutlines : Triple → Part → List ℕ → List ℕ → Type 0
+AreOutlines d s halves numbers = AreEdgesThat {s = s} (IsOutline d) halves numbers
+
+abbrev pub AreDrawnEdges : Triple → ℕ → Part → List ℕ → List ℕ → Type 0
+AreDrawnEdges d fraction s halves numbers = AreEdgesThat {s = s} (IsDrawn d fraction) halves numbers
 
 -- hidden in a plain view (Appel 1967): some point of some closed face is on its line of sight and strictly nearer
 abbrev pub IsHidden : Triple → Part → Point → Type 0

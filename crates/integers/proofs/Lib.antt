@@ -1,3 +1,5 @@
+pub mod Chains
+pub mod Divisors
 pub mod Floors
 pub mod FloorSizes
 pub mod Orders
@@ -5,4 +7,5 @@ pub mod Passing
 pub mod Ring
 pub mod Signs
 pub mod Sizes
+pub mod Weighted
 pub mod Worth

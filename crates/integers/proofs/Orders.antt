@@ -1,5 +1,5 @@
--- A positive factor on both sides keeps an order.
-use Rattle.std.proofs.Common.{◌≡◌, [], ◌∷◌, refl, sym, ap}
+-- Orders of whole numbers: what they say, and that a positive factor on both sides keeps them.
+use Rattle.std.proofs.Common.{◌≡◌, [], ◌∷◌, refl, sym, ap, subst}
 use Rattle.std.specs.Prelude.{ℤ, pos, ◌-ℤ◌, ◌*ℤ◌, ◌<ℤ◌}
 use Rattle.std.specs.Cmp.{int_ranks, int_cmp_is}
 use Rattle.std.specs.Ordering.{int_cmp, MatchOrdering}
@@ -19,3 +19,10 @@ int_cmp-mul a b k hk = sym (int_cmp_is (a *ℤ k) (b *ℤ k) (int_cmp a b) (go (
     go Less h = mul_less a b k hk h
     go Equal h = ap (λ (z : ℤ). z *ℤ k) h
     go Greater h = mul_less b a k hk h
+
+-- what the order of two numbers says of them
+pub less_of_cmp : (a b : ℤ) → int_cmp a b ≡ Less → a <ℤ b
+less_of_cmp a b p = subst (λ (r : Ordering). MatchOrdering r (a <ℤ b) (a ≡ b) (b <ℤ a)) p (int_ranks a b)
+
+pub equal_of_cmp : (a b : ℤ) → int_cmp a b ≡ Equal → a ≡ b
+equal_of_cmp a b p = subst (λ (r : Ordering). MatchOrdering r (a <ℤ b) (a ≡ b) (b <ℤ a)) p (int_ranks a b)

@@ -1,7 +1,7 @@
 -- Signs of products of whole numbers.
-use Rattle.std.proofs.Common.{◌≡◌, zero, suc, ◌<◌, unsigned_abs, refl, arith}
+use Rattle.std.proofs.Common.{◌≡◌, ℕ, zero, suc, ◌*◌, ◌<◌, unsigned_abs, refl, sym, ap, ◌∙◌, arith}
 use Rattle.std.specs.Prelude.{ℤ, pos, negsuc, ◌*ℤ◌, ◌≤ℤ◌, ◌<ℤ◌}
-use Rattle.std.proofs.lemmas.Int.{ints, by_lt_z}
+use Rattle.std.proofs.lemmas.Int.{ints, by_lt_z, unsigned_abs-mul}
 
 pub mul_nonneg : (a b : ℤ) → pos 0 ≤ℤ a → pos 0 ≤ℤ b → pos 0 ≤ℤ (a *ℤ b)
 mul_nonneg (pos a) (pos b) p q = omega (arith, ints)
@@ -54,3 +54,21 @@ pub square_zero : (a : ℤ) → (a *ℤ a) ≤ℤ pos 0 → a ≡ pos 0
 square_zero (pos zero) h = refl
 square_zero (pos (suc a)) h = absurd (omega (arith, ints))
 square_zero (negsuc a) h = absurd (omega (arith, ints))
+
+-- a factor that isn't 0, and one of two that are not both 0
+pub zero_of_times : (k a : ℤ) → 0 < unsigned_abs k → k *ℤ a ≡ pos 0 → a ≡ pos 0
+zero_of_times k a h e = nothing a (product (unsigned_abs k) (unsigned_abs a) h (sym (unsigned_abs-mul k a) ∙ ap unsigned_abs e))
+  where
+    product : (m n : ℕ) → 0 < m → m * n ≡ 0 → n ≡ 0
+    product zero n h e = absurd (omega arith)
+    product (suc m) n h e = omega arith
+
+    nothing : (a : ℤ) → unsigned_abs a ≡ 0 → a ≡ pos 0
+    nothing a h = omega (arith, ints)
+
+pub zero_of_either : (k m a : ℤ) → (k ≡ pos 0 → m ≡ pos 0 → ⊥) → k *ℤ a ≡ pos 0 → m *ℤ a ≡ pos 0 → a ≡ pos 0
+zero_of_either (pos zero) (pos zero) a h e f = absurd (h refl refl)
+zero_of_either (pos zero) (pos (suc m)) a h e f = zero_of_times (pos (suc m)) a (omega arith) f
+zero_of_either (pos zero) (negsuc m) a h e f = zero_of_times (negsuc m) a (omega arith) f
+zero_of_either (pos (suc k)) m a h e f = zero_of_times (pos (suc k)) a (omega arith) e
+zero_of_either (negsuc k) m a h e f = zero_of_times (negsuc k) a (omega arith) e

@@ -1,3 +1,6 @@
+pub mod LowestTerms
+pub mod OnLines
+pub mod SameLines
 pub mod SightAxes
 pub mod SightLines
 pub mod VectorSizes

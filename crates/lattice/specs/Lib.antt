@@ -1,4 +1,7 @@
+pub mod Creases
 pub mod Faults
+pub mod Lines
+pub mod LowestTerms
 pub mod Points
 pub mod Triangles
 pub mod Triple

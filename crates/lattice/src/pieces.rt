@@ -1,11 +1,40 @@
 // What a drawing is made of.
+ghost use Rattle.std.specs.Prelude.{◌≡◌};
+ghost use Rattle.lattice.specs.Lines.{AreStripEndsSomehow};
+
+use crate::lines::Line;
 use crate::points::{Dir, Spot};
+
+/// From how far a turn on two faces meet in a crease: from about 5, 15 or 30 degrees.
+#[derive(Clone, Copy, PartialEq, Eq, Debug)]
+pub enum Crease {
+    Fine,
+    Normal,
+    Coarse,
+}
+
+impl Crease {
+    ghost use Rattle.lattice.specs.Creases.{fraction_of};
+
+    /// The square of the cosine of that turn, over 1,000,000.
+    pub fn fraction(self) -> u32
+        ensures { result ≡ fraction_of self }
+    {
+        match self {
+            Crease::Fine => 992_404,
+            Crease::Normal => 933_013,
+            Crease::Coarse => 750_000,
+        }
+    }
+}
 
 /// How a line is drawn.
 #[derive(Clone, Copy, PartialEq, Eq, Debug)]
 pub enum Style {
     /// A visible line.
     Solid,
+    /// A hidden line.
+    Dashed,
 }
 
 /// A straight piece of a drawing, from one spot to the other.
@@ -14,6 +43,17 @@ pub struct Piece {
     pub a: Spot,
     pub b: Spot,
     pub style: Style,
+}
+
+/// A part of a line that is drawn, before lines that coincide are put together. From some direction both spots are seen on
+/// the line, and not at one place.
+#[derive(Clone, Copy, Debug)]
+pub struct Strip {
+    pub line: Line,
+    pub a: Spot,
+    pub b: Spot,
+    pub hidden: bool,
+    ghost seen: { ∥ AreStripEndsSomehow line a b ∥₁ },
 }
 
 /// What a view shows.

@@ -99,6 +99,22 @@ pub struct Spot {
     ghost z_near: { unsigned_abs z ≤ 2 ^ 21 * unsigned_abs w },
 }
 
+impl Spot {
+    ghost use Rattle.lattice.specs.Points.{of_spot, point_of};
+
+    /// The spot of a corner.
+    pub fn at(corner: &Corner) -> Spot
+        ensures { of_spot result ≡ point_of corner.now }
+    {
+        Spot {
+            x: corner.x.into(),
+            y: corner.y.into(),
+            z: corner.z.into(),
+            w: 1,
+        }
+    }
+}
+
 /// Why three numbers are no direction.
 #[derive(Clone, Copy, PartialEq, Eq, Debug)]
 pub enum DirFault {

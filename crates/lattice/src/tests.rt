@@ -1,5 +1,7 @@
-// Worked rows: the axes of the six named directions, products of simple vectors, and lines of sight.
+// Worked rows: the axes of the six named directions, products of simple vectors, lines of sight, and lines through corners.
 use crate::*;
+use std::alloc::AllocError;
+use std::collections::HashSet;
 
 fn components(v: Vector) -> (i64, i64, i64) {
     (v.x, v.y, v.z)
@@ -88,4 +90,114 @@ fn places_in_the_front_view(rt: HostRuntime) {
     };
     assert!(rt; same_sight(&front, &p, &behind));
     assert!(rt; !same_sight(&front, &p, &beside));
+}
+
+/// The strip between two corners that are not seen at one place.
+fn strip(d: &Dir, p: &Corner, q: &Corner) -> Option<Strip> {
+    let (a, b) = (Spot::at(p), Spot::at(q));
+    if same_sight(d, &a, &b) {
+        return None;
+    }
+    let line = Line::through(d, p, q);
+    Some(Strip {
+        line,
+        a,
+        b,
+        hidden: false,
+    })
+}
+
+fn numbers(strip: Strip) -> (i128, i128, i128) {
+    (strip.line.a, strip.line.b, strip.line.c)
+}
+
+#[test]
+fn lines_through_corners(rt: HostRuntime) {
+    let rows = [
+        (
+            (0, -1, 0),
+            Corner { x: 0, y: 0, z: 0 },
+            Corner { x: 10, y: 0, z: 10 },
+            Some((1, -1, 0)),
+        ),
+        (
+            (0, -1, 0),
+            Corner { x: 2, y: 5, z: 0 },
+            Corner { x: 2, y: 7, z: 4 },
+            Some((1, 0, 2)),
+        ),
+        (
+            (0, -1, 0),
+            Corner { x: 0, y: 0, z: -3 },
+            Corner { x: 6, y: 9, z: -3 },
+            Some((0, 1, -3)),
+        ),
+        (
+            (0, -1, 0),
+            Corner { x: 0, y: 0, z: 0 },
+            Corner { x: 4, y: 0, z: 6 },
+            Some((3, -2, 0)),
+        ),
+        (
+            (0, -1, 0),
+            Corner { x: 3, y: 1, z: 4 },
+            Corner { x: 3, y: 8, z: 4 },
+            None,
+        ),
+        (
+            (9, 8, -9),
+            Corner {
+                x: 1048576,
+                y: -1048576,
+                z: -1048576,
+            },
+            Corner {
+                x: -1048575,
+                y: 1048576,
+                z: 1048576,
+            },
+            Some((285_212_753, -35_651_576, -2_584_739_840)),
+        ),
+    ];
+    for ((x, y, z), p, q, line) in rows {
+        let Ok(d) = Dir::new(x, y, z) else {
+            assert!(rt; false, "no direction");
+            return;
+        };
+        assert_eq!(rt; strip(&d, &p, &q).map(numbers), line, "{p:?} to {q:?}");
+        assert_eq!(rt; strip(&d, &q, &p).map(numbers), line, "{q:?} to {p:?}");
+    }
+}
+
+#[test]
+fn creases(rt: HostRuntime) {
+    let rows = [
+        (Crease::Fine, 992_404),
+        (Crease::Normal, 933_013),
+        (Crease::Coarse, 750_000),
+    ];
+    for (crease, fraction) in rows {
+        assert_eq!(rt; crease.fraction(), fraction, "{crease:?}");
+    }
+}
+
+#[test]
+fn equal_lines_in_a_set(rt: HostRuntime) -> Result<(), AllocError> {
+    let Ok(front) = Dir::new(0, -1, 0) else {
+        assert!(rt; false, "no direction");
+        return Ok(());
+    };
+    let (p, q, r) = (
+        Corner { x: 0, y: 0, z: 0 },
+        Corner { x: 4, y: 0, z: 6 },
+        Corner { x: 6, y: 1, z: 9 },
+    );
+    let mut lines = HashSet::new(rt.alloc());
+    for (from, to) in [(p, q), (q, p), (q, r)] {
+        if let Some(strip) = strip(&front, &from, &to) {
+            lines.insert(strip.line)?;
+        }
+    }
+    assert_eq!(rt; lines.len(), 1);
+    Ok(())
 }
