@@ -1,0 +1,4 @@
+pub mod Edges
+pub mod Labels
+pub mod Neighbours
+pub mod Picked
