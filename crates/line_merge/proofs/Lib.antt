@@ -1,0 +1,9 @@
+pub mod MarkOrders
+pub mod Sights
+pub mod Between
+pub mod Zips
+pub mod Courses
+pub mod Lists
+pub mod Given
+pub mod Drawn
+pub mod Merged

@@ -1,0 +1,30 @@
+-- Lists of which the elements at each place belong together.
+use Rattle.std.proofs.Common.{◌≡◌, ℕ, zero, suc, ◌+◌, ◌<◌, List, [], ◌∷◌, ◌++◌, Contains, length, take, get_or, refl, sym, subst, arith}
+use Rattle.std.specs.List.{AllZip, Any}
+use Rattle.std.proofs.lemmas.List.{take_more}
+
+module _ {A B : Type 0} (R : A → B → Type 0) where
+  zip_push : (xs : List A) (ys : List B) (x : A) (y : B) → AllZip R xs ys → R x y → AllZip R (xs ++ x ∷ []) (ys ++ y ∷ [])
+  zip_push [] [] x y h k = (k, tt)
+  zip_push [] (w ∷ ys) x y h k = absurd h
+  zip_push (w ∷ xs) [] x y h k = absurd h
+  zip_push (v ∷ xs) (w ∷ ys) x y (h, more) k = (h, zip_push xs ys x y more k)
+
+  -- one more of each
+  pub zip_more : (xs : List A) (ys : List B) (k : ℕ) (x : A) (y : B) → k < length xs → x ≡ get_or xs k x → AllZip R (take k xs) ys → R x y → AllZip R (take (k + 1) xs) (ys ++ y ∷ [])
+  zip_more xs ys k x y less is h r =
+      subst (λ (zs : List A). AllZip R zs (ys ++ y ∷ [])) (sym (take_more xs k x less))
+      (zip_push (take k xs) ys (get_or xs k x) y h (subst (λ (z : A). R z y) is r))
+
+  -- what belongs to an element
+  pub zip_left : (xs : List A) (ys : List B) → AllZip R xs ys → (x : A) → Contains xs x → Any (R x) ys
+  zip_left [] ys h x (k, less, is) = absurd (omega arith)
+  zip_left (v ∷ xs) [] h x there = absurd h
+  zip_left (v ∷ xs) (w ∷ ys) (r, more) x (zero, less, is) = (zero, w, omega arith, refl, subst (λ (z : A). R z w) is r)
+  zip_left (v ∷ xs) (w ∷ ys) (r, more) x (suc k, less, is) = let (j, y, within, at, s) = zip_left xs ys more x (k, omega arith, is) in (suc j, y, omega arith, at, s)
+
+  pub zip_right : (xs : List A) (ys : List B) → AllZip R xs ys → (y : B) → Contains ys y → (x : A) × Contains xs x × R x y
+  zip_right xs [] h y (k, less, is) = absurd (omega arith)
+  zip_right [] (w ∷ ys) h y there = absurd h
+  zip_right (v ∷ xs) (w ∷ ys) (r, more) y (zero, less, is) = (v, (zero, omega arith, refl), subst (λ (z : B). R v z) is r)
+  zip_right (v ∷ xs) (w ∷ ys) (r, more) y (suc k, less, is) = let (x, (j, within, at), s) = zip_right xs ys more y (k, omega arith, is) in (x, (suc j, omega arith, at), s)

@@ -1,0 +1,9 @@
+use Rattle.std.proofs.Common.{take}
+use Rattle.std.specs.List.{AllZip}
+use Rattle.lattice.specs.Points.{of_dir}
+use Rattle.line_merge.specs.Marks.{IsIntervalOf}
+use Rattle.line_merge.proofs.merging.intervals_of.Given as goal
+
+-- the intervals of the strips so far
+abbrev pub invariant-loop-strip : goal.invariant-loop-strip
+invariant-loop-strip l = AllZip (IsIntervalOf (of_dir l.d)) (take l.strip-index l.strips) l.intervals.items
