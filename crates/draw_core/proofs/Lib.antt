@@ -1,13 +1,10 @@
 pub mod Blocks
 pub mod Chains
-pub mod Creases
-pub mod DrawnLemmas
-pub mod EndOrder
 pub mod Extremes
 pub mod Front
-pub mod Numbered
-pub mod Shown
 pub mod SpanPlaces
 pub mod SpanSums
-pub mod VisibleRight
+pub mod StripLists
+pub mod StripPlaces
+pub mod ViewRight
 pub mod Warnings

@@ -10,12 +10,12 @@ use Rattle.lattice.specs.Triple.{Triple}
 use Rattle.geometry.specs.Faces.{share_point}
 use Rattle.geometry.specs.Parts.{Part, Edge}
 use Rattle.geometry.specs.Views.{IsOrdinary}
+use Rattle.line_merge.proofs.Lists.{contains_rest, contains_first}
 use Rattle.span_slow.specs.declared.span.Span.{Span}
 use Rattle.span_slow.specs.Places.{point_at, IsEarlier, IsBetween}
 use Rattle.span_slow.specs.Spans.{Follow, CoverEdge, HasNoOrdinaryEnd, AreSpans}
 use Rattle.geometry.proofs.Sights.{ordinary_along}
 use Rattle.geometry.proofs.Shares.{one_place}
-use Rattle.draw_core.proofs.Shown.{in_rest, in_first}
 
 -- ---- orders
 equal_of : (a b : ℤ) → b ≤ℤ a → a ≤ℤ b → a ≡ b
@@ -51,12 +51,12 @@ module _ (d : Triple) {s : Part} (e : Edge s) (n m : ℤ) (positive : pos 0 <ℤ
       by_lt_z (n *ℤ x.to.den) (x.to.num *ℤ m)
       (λ within. (
         x,
-        in_first x xs x refl,
+        contains_first xs x,
         (subst (λ (k : ℤ). (k *ℤ m) <ℤ (n *ℤ x.from.den)) (sym same.0) (subst (λ (k : ℤ). (from.num *ℤ m) <ℤ (n *ℤ k)) (sym same.1) after), within),
       ))
       (λ past. by_lt_z (x.to.num *ℤ m) (n *ℤ x.to.den)
-      (λ beyond. let (y, c, between) = find x.to to xs later (λ y c. apart y (in_rest x xs y c)) beyond before in (y, in_rest x xs y c, between))
-      (λ not_past. absurd (not_at x.to (apart x (in_first x xs x refl)).1 (equal_of (x.to.num *ℤ m) (n *ℤ x.to.den) not_past past))))
+      (λ beyond. let (y, c, between) = find x.to to xs later (λ y c. apart y (contains_rest x xs y c)) beyond before in (y, contains_rest x xs y c, between))
+      (λ not_past. absurd (not_at x.to (apart x (contains_first xs x)).1 (equal_of (x.to.num *ℤ m) (n *ℤ x.to.den) not_past past))))
 
   -- the share is at most 1
   before_end : (t : ℤ) → pos 0 <ℤ t → n ≤ℤ m → (n *ℤ t) ≤ℤ (t *ℤ m)
@@ -88,5 +88,5 @@ module _ (d : Triple) {s : Part} (e : Edge s) (n m : ℤ) (positive : pos 0 <ℤ
       go (x ∷ xs) (from, to, zero_is, one_is, follow) apart =
           by_lt_z (from.num *ℤ m) (n *ℤ from.den)
           (λ after. find from to (x ∷ xs) follow apart after (subst (λ (k : ℤ). (n *ℤ to.den) ≤ℤ (k *ℤ m)) (sym one_is) (before_end to.den to.positive most)))
-          (λ not_after. absurd (not_at x.from (apart x (in_first x xs x refl)).0
+          (λ not_after. absurd (not_at x.from (apart x (contains_first xs x)).0
           ((λ i. follow.0.0 i *ℤ m) ∙ at_start from.num from.den zero_is from.positive least not_after ∙ (λ i. n *ℤ sym follow.0.1 i))))

@@ -1,19 +1,19 @@
 -- What a drawing shows, and its text.
 use Rattle.std.specs.Prelude.{◌≡◌, ℕ, ℤ, pos, negsuc, List, [], ◌∷◌, Option}
+use Rattle.lattice.specs.Creases.{fraction_of}
 use Rattle.lattice.specs.Triple.{Triple}
 use Rattle.lattice.specs.Points.{of_dir}
+use Rattle.lattice.specs.declared.pieces.Crease.TheVariants.{Normal}
 use Rattle.lattice.specs.declared.pieces.ViewSpec.{ViewSpec}
 use Rattle.lattice.specs.declared.pieces.ViewSpec.TheVariants.{Plain}
-use Rattle.geometry.specs.Views.{AreDrawnEdges}
-use Rattle.geometry.specs.Pieces.{ShowVisible}
+use Rattle.geometry.specs.Pieces.{AreRight, AreInOrder}
 use Rattle.solid_mesh.specs.declared.solid.Solid.{Solid}
-use Rattle.solid_mesh.specs.Solids.{solid_part, edge_halves}
+use Rattle.solid_mesh.specs.Solids.{solid_part}
 use Rattle.desk.specs.Files.{Files}
 use Rattle.draw_core.specs.Run.{LeavesAfter}
 use Rattle.draw_core.specs.declared.fault.Fault.{Fault}
 use Rattle.draw_core.specs.Sheet.{IsPlaced}
 use Rattle.draw_core.specs.Svg.{svg_of}
-use Rattle.draw_core.specs.Visible.{ShowEdges}
 use Rattle.draw_core.specs.declared.drawing.Drawing.{Drawing}
 use Rattle.draw_core.specs.declared.drawing.ViewDrawing.{ViewDrawing}
 
@@ -24,13 +24,11 @@ front = record { x = pos 0; y = negsuc 0; z = pos 0 }
 abbrev pub IsPlainFrom : Triple → ViewSpec → Type 0
 IsPlainFrom d (Plain toward) = of_dir toward ≡ d
 
--- the view shows, from this direction, what is visible of the drawn edges of the solid, edge by edge in their order
-pub record ShowsVisible (d : Triple) (s : Solid) (view : ViewDrawing) : Type 0 where
+-- the view shows the solid from this direction: its pieces are right, with creases from about 15 degrees on, and in order
+pub record ShowsSolid (d : Triple) (s : Solid) (view : ViewDrawing) : Type 0 where
   pub from : IsPlainFrom d view.spec
-  pub right : ShowVisible d 0 (solid_part s) view.pieces.items
-  pub numbers : List ℕ
-  pub drawn : AreDrawnEdges d 0 (solid_part s) (edge_halves s) numbers
-  pub edges : ShowEdges d (solid_part s) (edge_halves s) numbers view.pieces.items
+  pub right : AreRight d (fraction_of Normal) (solid_part s) view.pieces.items
+  pub order : AreInOrder d view.pieces.items
 
 -- there is one view, of which this holds
 abbrev pub HasOneView : (ViewDrawing → Type 0) → List ViewDrawing → Type 0
@@ -40,7 +38,7 @@ HasOneView P (view ∷ other ∷ views) = ⊥
 
 -- a drawing of its solid: one front view
 abbrev pub IsFrontDrawing : Drawing → Type 0
-IsFrontDrawing d = HasOneView (ShowsVisible front d.solid) d.views.items
+IsFrontDrawing d = HasOneView (ShowsSolid front d.solid) d.views.items
 
 -- the text of the drawing: its pieces, placed so that the part stands at the upper left
 abbrev pub IsTextOf : Drawing → List ℕ → Type 0

@@ -1,13 +1,12 @@
 pub mod Desks
 pub mod Drawing
-pub mod Edges
 pub mod Fetch
 pub mod Lines
 pub mod Reading
 pub mod Run
 pub mod Sheet
+pub mod Strips
 pub mod Svg
 pub mod Texts
 pub mod Told
-pub mod Visible
 pub mod Words

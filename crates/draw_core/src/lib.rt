@@ -2,18 +2,16 @@
 #![tactic(auto)]
 
 mod drawing;
-mod ends;
 mod fault;
 mod fetch;
 mod lines;
 mod part;
-mod pick;
 mod run;
 mod sheet;
+mod strips;
 mod svg;
 #[cfg(test)]
 mod tests;
-mod visible;
 mod words;
 
 pub use drawing::{Drawing, Outcome, ViewDrawing};

@@ -13,14 +13,13 @@ use crate::fault::{Fault, Input, Target};
 use crate::fetch::{FetchFault, fetch_all};
 use crate::lines::{MEMORY_LINE, WRITE_LINE, line_of};
 use crate::part::solid_of;
-use crate::pick::drawn_edges;
 use crate::sheet::place_of;
+use crate::strips::view_pieces;
 use crate::svg::svg;
-use crate::visible::visible_pieces;
 use crate::words::part_word;
 use desk::{Desk, DeskFault};
 use exact_frac::OutOfMemory;
-use lattice::{Dir, ViewSpec};
+use lattice::{Crease, Dir, ViewSpec};
 use solid_mesh::Solid;
 use std::alloc::Global;
 
@@ -86,8 +85,7 @@ fn front_drawing(alloc: Global, solid: Solid) -> Result<(Drawing, String), OutOf
     ensures text { IfOk result (λ made. IsTextOf made.0 (string_bytes made.1)) }
 {
     let front = Dir::new(0, -1, 0).unwrap();
-    let numbers = drawn_edges(alloc, &solid, &front)?;
-    let pieces = visible_pieces(alloc, &solid, &front, &numbers)?;
+    let pieces = view_pieces(alloc, &solid, &front, Crease::Normal)?;
     let place = place_of(&solid, &front);
     let text = svg(alloc, &front, &place, &pieces)?;
     let view = ViewDrawing {
@@ -217,8 +215,8 @@ fn write_drawing<D: Desk>(alloc: Global, solid: Solid, desk: &mut D) -> Outcome
 /// The faults are looked for in this order: the words, the part's bytes, its text, whether it has a triangle, its
 /// surface, the drawing's file. Want of memory may be answered at any place; then no file has changed. Time is about
 /// linear in the bytes of the part; for the check that of sorting, and of one test for each pair of an edge and a triangle
-/// whose ranges of x meet, which for some parts is nearly every pair; and for the spans that of the product of the numbers of
-/// drawn edges and of triangles.
+/// whose ranges of x meet, which for some parts is nearly every pair; for the spans that of the product of the numbers of drawn
+/// edges and of triangles; and for the pieces that of sorting the spans.
 pub fn draw<D: Desk>(alloc: Global, words: &[String], desk: &mut D) -> Outcome
     // The answer is that of the run's steps, in their order.
     ensures status { result.status ≡ status_of result.fault }

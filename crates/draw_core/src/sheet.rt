@@ -4,7 +4,6 @@ ghost use Rattle.lattice.specs.Points.{of_dir, of_spot, point_of, across_of, upw
 ghost use Rattle.solid_mesh.specs.Solids.{solid_part};
 ghost use Rattle.draw_core.specs.Sheet.{sheet_length, sheet_x, sheet_y, IsLeast, IsGreatest, IsPlaced};
 
-use crate::ends::corner_spot;
 use exact_frac::{Frac, round_half_up};
 use lattice::{Corner, Dir, Spot, across, upward};
 use solid_mesh::Solid;
@@ -47,7 +46,7 @@ fn corner_across(d: &Dir, corner: &Corner) -> i128
     ensures value { result ≡ across_of (of_dir d.now) (point_of corner.now) }
     ensures size { unsigned_abs result ≤ 2 ^ 30 }
 {
-    across(d, &corner_spot(corner)).num
+    across(d, &Spot::at(corner)).num
 }
 
 /// V of a corner.
@@ -55,7 +54,7 @@ fn corner_upward(d: &Dir, corner: &Corner) -> i128
     ensures value { result ≡ upward_of (of_dir d.now) (point_of corner.now) }
     ensures size { unsigned_abs result ≤ 2 ^ 30 }
 {
-    upward(d, &corner_spot(corner)).num
+    upward(d, &Spot::at(corner)).num
 }
 
 /// The least U of the solid's corners.

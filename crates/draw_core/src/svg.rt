@@ -2,11 +2,11 @@
 ghost use Rattle.std.specs.Prelude.{◌≡◌, IfOk, string_bytes};
 ghost use Rattle.lattice.specs.Points.{of_dir, of_spot};
 ghost use Rattle.draw_core.specs.Sheet.{sheet_x, sheet_y};
-ghost use Rattle.draw_core.specs.Svg.{head, stroke_line, line_of, svg_of};
+ghost use Rattle.draw_core.specs.Svg.{head, pen_of, stroke_line, line_of, svg_of};
 
 use crate::sheet::{Place, sheet_x, sheet_y};
 use exact_frac::OutOfMemory;
-use lattice::{Dir, Piece, Spot};
+use lattice::{Dir, Piece, Spot, Style};
 use std::alloc::{AllocError, Global};
 
 /// A point of the sheet.
@@ -27,16 +27,32 @@ fn sheet_point(d: &Dir, place: &Place, p: &Spot) -> SheetPoint
     }
 }
 
-/// The line of a stroke between two points of the sheet.
-fn stroke_text(alloc: Global, a: SheetPoint, b: SheetPoint) -> Result<String, AllocError>
-    ensures { IfOk result (λ text. string_bytes text ≡ stroke_line a.x a.y b.x b.y) }
+/// How wide a stroke of this style is, and how it is dashed, in hundredths of a millimetre.
+fn pen_of(style: Style) -> &'static str
+    ensures { result.now ≡ pen_of style }
 {
+    match style {
+        Style::Solid => "stroke-width=\"50\"",
+        Style::Dashed => "stroke-width=\"35\" stroke-dasharray=\"300 150\"",
+    }
+}
+
+/// The line of a stroke between two points of the sheet.
+fn stroke_text(
+    alloc: Global,
+    style: Style,
+    a: SheetPoint,
+    b: SheetPoint,
+) -> Result<String, AllocError>
+    ensures { IfOk result (λ text. string_bytes text ≡ stroke_line style a.x a.y b.x b.y) }
+{
+    let pen = pen_of(style);
     let x1 = a.x;
     let y1 = a.y;
     let x2 = b.x;
     let y2 = b.y;
     format!(in alloc;
-        "<line x1=\"{x1}\" y1=\"{y1}\" x2=\"{x2}\" y2=\"{y2}\" stroke-width=\"50\"/>\n"
+        "<line x1=\"{x1}\" y1=\"{y1}\" x2=\"{x2}\" y2=\"{y2}\" {pen}/>\n"
     )
 }
 
@@ -47,6 +63,7 @@ fn line(alloc: Global, d: &Dir, place: &Place, piece: &Piece) -> Result<String, 
 {
     stroke_text(
         alloc,
+        piece.style,
         sheet_point(d, place, &piece.a),
         sheet_point(d, place, &piece.b),
     )

@@ -2,6 +2,7 @@
 use crate::{Drawing, Fault, OUT, draw};
 use dec_text::Name;
 use desk::MemoryDesk;
+use lattice::Style;
 use off_reader::read_off;
 use solid_mesh::{MeshFault, PairMeter, Solid};
 use std::alloc::{AllocError, Global};
@@ -27,13 +28,13 @@ const NO_FACE: &str = "OFF\n3 1 0\n0 0 0 1 0 0 0 1 0\n";
 const USHAPE: &str =
     "OFF\n8 1 8\n0 0 0\n30 0 0\n30 0 20\n20 0 20\n20 0 10\n10 0 10\n10 0 20\n0 0 20\n8 0 1 2 3 4 5 6 7\n";
 
-// The cube, and a second one behind it, moved to the right and up.
-const TWO_CUBES: &str =
-    "OFF\n16 24 0\n0 0 0\n10 0 0\n10 10 0\n0 10 0\n0 0 10\n10 0 10\n10 10 10\n0 10 10\n5 20 5\n15 20 5\n15 30 5\n5 30 5\n5 20 15\n15 20 15\n15 30 15\n5 30 15\n3 0 3 2\n3 0 2 1\n3 4 5 6\n3 4 6 7\n3 0 1 5\n3 0 5 4\n3 1 2 6\n3 1 6 5\n3 2 3 7\n3 2 7 6\n3 3 0 4\n3 3 4 7\n3 8 11 10\n3 8 10 9\n3 12 13 14\n3 12 14 15\n3 8 9 13\n3 8 13 12\n3 9 10 14\n3 9 14 13\n3 10 11 15\n3 10 15 14\n3 11 8 12\n3 11 12 15\n";
-
 // The cube, and a wedge behind it: its slanting edge passes below two corners of the cube.
 const WEDGE: &str =
     "OFF\n14 20 0\n0 0 0\n10 0 0\n10 10 0\n0 10 0\n0 0 10\n10 0 10\n10 10 10\n0 10 10\n-5 20 -5\n15 20 -5\n15 20 15\n-5 30 -5\n15 30 -5\n15 30 15\n3 0 3 2\n3 0 2 1\n3 4 5 6\n3 4 6 7\n3 0 1 5\n3 0 5 4\n3 1 2 6\n3 1 6 5\n3 2 3 7\n3 2 7 6\n3 3 0 4\n3 3 4 7\n3 8 9 10\n3 11 13 12\n3 9 8 11\n3 9 11 12\n3 10 9 12\n3 10 12 13\n3 8 10 13\n3 8 13 11\n";
+
+// An angle bracket, 20 mm deep.
+const BRACKET: &str =
+    "OFF\n14 9 21\n0 0 0\n30 0 0\n30 20 0\n0 20 0\n0 20 10\n30 20 10\n30 0 10\n10 0 10\n10 10 10\n0 10 10\n0 0 20\n10 0 20\n10 10 20\n0 10 20\n4 0 3 2 1\n4 2 3 4 5\n4 1 2 5 6\n6 0 1 6 7 11 10\n6 3 0 10 13 9 4\n6 7 6 5 4 9 8\n4 7 8 12 11\n4 8 9 13 12\n4 10 11 12 13\n";
 
 // A cube and a tetrahedron above it, up to the tetrahedron's lowest corner and behind it.
 const STANDING: [&str; 2] = [
@@ -86,19 +87,63 @@ const TAIL: &str = "</g>\n</svg>\n";
 // A line's ends: x and y of the first, and of the second.
 type Line = [u32; 4];
 
-// The front view of the cube: the square of the front face, which hides that of the back face.
+// The front view of the cube: the square of the front face, behind which that of the back face is hidden.
 const SQUARE: [Line; 4] = [
+    [2000, 3000, 2000, 2000],
     [2000, 3000, 3000, 3000],
     [2000, 2000, 3000, 2000],
     [3000, 3000, 3000, 2000],
-    [2000, 3000, 2000, 2000],
 ];
 
-fn text_of(alloc: Global, lines: &[Line]) -> Result<String, AllocError> {
+// The second cube is moved to the right and up, so that the first hides a part of it.
+const MOVED_LINES: [Line; 10] = [
+    [2000, 3500, 2000, 2500],
+    [2000, 3500, 3000, 3500],
+    [2000, 2500, 3000, 2500],
+    [2500, 2500, 2500, 2000],
+    [2500, 2000, 3500, 2000],
+    [3000, 3500, 3000, 2500],
+    [3000, 3000, 3500, 3000],
+    [3500, 3000, 3500, 2000],
+    [2500, 3000, 2500, 2500],
+    [2500, 3000, 3000, 3000],
+];
+
+// The wedge's slanting edge is hidden exactly between two corners of the cube.
+const WEDGE_LINES: [Line; 9] = [
+    [2000, 4000, 2500, 3500],
+    [2000, 4000, 4000, 4000],
+    [2500, 3500, 2500, 2500],
+    [2500, 3500, 3500, 3500],
+    [2500, 2500, 3500, 2500],
+    [3500, 3500, 3500, 2500],
+    [3500, 2500, 4000, 2000],
+    [4000, 4000, 4000, 2000],
+    [2500, 3500, 3500, 2500],
+];
+
+// The edge within the bracket is hidden.
+const BRACKET_LINES: [Line; 7] = [
+    [2000, 4000, 2000, 2000],
+    [2000, 4000, 5000, 4000],
+    [2000, 2000, 3000, 2000],
+    [3000, 3000, 3000, 2000],
+    [3000, 3000, 5000, 3000],
+    [5000, 4000, 5000, 3000],
+    [2000, 3000, 3000, 3000],
+];
+
+// The text of a drawing with these lines, the first of which are solid.
+fn text_of(alloc: Global, lines: &[Line], solid: usize) -> Result<String, AllocError> {
     let mut text = String::from_str(alloc, HEAD)?;
-    for [x1, y1, x2, y2] in lines {
+    for (i, [x1, y1, x2, y2]) in lines.iter().enumerate() {
+        let pen = if i < solid {
+            "stroke-width=\"50\""
+        } else {
+            "stroke-width=\"35\" stroke-dasharray=\"300 150\""
+        };
         text.push_str(&format!(in alloc;
-            "<line x1=\"{x1}\" y1=\"{y1}\" x2=\"{x2}\" y2=\"{y2}\" stroke-width=\"50\"/>\n"
+            "<line x1=\"{x1}\" y1=\"{y1}\" x2=\"{x2}\" y2=\"{y2}\" {pen}/>\n"
         )?)?;
     }
     text.push_str(TAIL)?;
@@ -120,49 +165,80 @@ fn desk_of(alloc: Global, part: &str, fail: u64) -> Result<MemoryDesk, Fail> {
     Ok(MemoryDesk::new(alloc, files, vec![in alloc; fail]?))
 }
 
-fn pieces_of(drawing: &Drawing) -> usize {
+// How many pieces of this style the drawing's one view has.
+fn count(drawing: &Drawing, style: Style) -> usize {
     drawing
         .views
         .iter()
-        .map(|view| view.pieces.len())
+        .map(|view| {
+            view.pieces
+                .iter()
+                .filter(|piece| piece.style == style)
+                .count()
+        })
         .max()
         .unwrap_or(0)
 }
 
+// A text of cubes of 10 mm, with their least corners at these places.
+fn cubes(alloc: Global, places: &[[u32; 3]]) -> Result<String, AllocError> {
+    let (corners, triangles) = (8 * places.len(), 12 * places.len());
+    let mut text = format!(in alloc; "OFF {corners} {triangles} 0\n")?;
+    for [x, y, z] in places {
+        for i in 0..8 {
+            let x = if matches!(i, 1 | 2 | 5 | 6) {
+                x + 10
+            } else {
+                *x
+            };
+            let y = if matches!(i, 2 | 3 | 6 | 7) {
+                y + 10
+            } else {
+                *y
+            };
+            let z = if i < 4 { *z } else { z + 10 };
+            text.push_str(&format!(in alloc; "{x} {y} {z}\n")?)?;
+        }
+    }
+    for cube in 0..places.len() {
+        // The last three bits of a corner's number tell which of the cube's it is.
+        let first = 8 * cube;
+        for [a, b, c, d] in [
+            [0, 3, 2, 1],
+            [4, 5, 6, 7],
+            [0, 1, 5, 4],
+            [1, 2, 6, 5],
+            [2, 3, 7, 6],
+            [3, 0, 4, 7],
+        ] {
+            let (a, b, c, d) = (first | a, first | b, first | c, first | d);
+            text.push_str(&format!(in alloc; "3 {a} {b} {c}\n3 {a} {c} {d}\n")?)?;
+        }
+    }
+    Ok(text)
+}
+
 #[test]
-fn scenes_show_what_is_visible(rt: HostRuntime) -> Result<(), Fail> {
+fn scenes_are_solid_and_dashed(rt: HostRuntime) -> Result<(), Fail> {
     let alloc = rt.alloc();
-    let two_cubes = [
-        [2000, 3500, 3000, 3500],
-        [2000, 2500, 3000, 2500],
-        [3000, 3500, 3000, 2500],
-        [2000, 3500, 2000, 2500],
-        [3000, 3000, 3500, 3000],
-        [2500, 2000, 3500, 2000],
-        [3500, 3000, 3500, 2000],
-        [2500, 2500, 2500, 2000],
-    ];
-    let wedge = [
-        [2500, 3500, 3500, 3500],
-        [2500, 2500, 3500, 2500],
-        [3500, 3500, 3500, 2500],
-        [2500, 3500, 2500, 2500],
-        [2000, 4000, 4000, 4000],
-        [4000, 4000, 4000, 2000],
-        [3500, 2500, 4000, 2000],
-        [2000, 4000, 2500, 3500],
-    ];
-    for (part, lines) in [
-        (CUBE, &SQUARE[..]),
-        (TWO_CUBES, &two_cubes[..]),
-        (WEDGE, &wedge[..]),
+    let behind = cubes(alloc, &[[0, 0, 0], [0, 20, 0]])?;
+    let moved = cubes(alloc, &[[0, 0, 0], [5, 20, 5]])?;
+    // Each part with its lines, so many of which are solid.
+    for (part, lines, solid) in [
+        (CUBE, &SQUARE[..], 4),
+        (behind.as_str(), &SQUARE[..], 4),
+        (moved.as_str(), &MOVED_LINES[..], 8),
+        (WEDGE, &WEDGE_LINES[..], 8),
+        (BRACKET, &BRACKET_LINES[..], 6),
     ] {
         let mut desk = desk_of(alloc, part, 9)?;
         let outcome = draw(alloc, &words_of(alloc, "p")?, &mut desk);
         assert_eq!(rt; (outcome.status, outcome.fault), (0, None));
-        assert_eq!(rt; outcome.drawing.as_ref().map(pieces_of), Some(lines.len()));
-        let text = desk.file(OUT).ok_or("no drawing")?;
-        assert_eq!(rt; text, text_of(alloc, lines)?.as_bytes());
+        let drawing = outcome.drawing.ok_or("no drawing")?;
+        assert_eq!(rt; count(&drawing, Style::Solid), solid);
+        assert_eq!(rt; count(&drawing, Style::Dashed), lines.len() - solid);
+        let text = desk.file(OUT).ok_or("no file")?;
+        assert_eq!(rt; text, text_of(alloc, lines, solid)?.as_bytes());
     }
     Ok(())
 }
@@ -285,42 +361,13 @@ fn a_tip_touches_a_face_or_not(rt: HostRuntime) -> Result<(), Fail> {
     Ok(())
 }
 
-// A text of 512 cubes of 10 mm, 20 mm apart.
+// A text of 512 cubes, 20 mm apart.
 fn grid(alloc: Global) -> Result<String, AllocError> {
-    let mut text = String::from_str(alloc, "OFF 4096 6144 0\n")?;
+    let mut places = Vec::new(alloc);
     for cube in 0u32..512 {
-        let (x, y, z) = (cube / 64 * 20, cube / 8 % 8 * 20, cube % 8 * 20);
-        for i in 0..8 {
-            let x = if matches!(i, 1 | 2 | 5 | 6) {
-                x + 10
-            } else {
-                x
-            };
-            let y = if matches!(i, 2 | 3 | 6 | 7) {
-                y + 10
-            } else {
-                y
-            };
-            let z = if i < 4 { z } else { z + 10 };
-            text.push_str(&format!(in alloc; "{x} {y} {z}\n")?)?;
-        }
+        places.push([cube / 64 * 20, cube / 8 % 8 * 20, cube % 8 * 20])?;
     }
-    for cube in 0u32..512 {
-        // The last three bits of a corner's number tell which of the cube's it is.
-        let first = 8 * cube;
-        for [a, b, c, d] in [
-            [0, 3, 2, 1],
-            [4, 5, 6, 7],
-            [0, 1, 5, 4],
-            [1, 2, 6, 5],
-            [2, 3, 7, 6],
-            [3, 0, 4, 7],
-        ] {
-            let (a, b, c, d) = (first | a, first | b, first | c, first | d);
-            text.push_str(&format!(in alloc; "3 {a} {b} {c}\n3 {a} {c} {d}\n")?)?;
-        }
-    }
-    Ok(text)
+    cubes(alloc, &places)
 }
 
 // As many boxes are tested as there are pairs of an edge and a triangle whose ranges of x meet; all pairs would be 56,623,104.
@@ -406,7 +453,7 @@ fn each_text_is_read_or_refused_on_its_line(rt: HostRuntime) -> Result<(), Fail>
         let outcome = draw(alloc, &words_of(alloc, "p")?, &mut desk);
         assert_eq!(rt; outcome.fault, fault, "{text}");
         let drawn = if fault.is_none() {
-            Some(text_of(alloc, &SQUARE)?)
+            Some(text_of(alloc, &SQUARE, SQUARE.len())?)
         } else {
             None
         };

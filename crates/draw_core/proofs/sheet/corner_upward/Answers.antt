@@ -8,5 +8,5 @@ pub returns-clause-size : goal.returns-clause-size
 returns-clause-size c =
     let fits : FitsSigned w128 c.upward.result.num = search rules in
     let near = c.upward.ensures.near in
-    let one : c.corner_spot.result.w ≡ pos 1 = ap (λ (p : Point). p.w) c.corner_spot.ensures in
+    let one : c.at.result.w ≡ pos 1 = ap (λ (p : Point). p.w) c.at.ensures in
     simp to_z-of_z (omega (arith, ints, near, ap unsigned_abs one))

@@ -9,4 +9,4 @@ returns c =
     let y1 : FitsSigned w64 c.args.a.y = search rules in
     let x2 : FitsSigned w64 c.args.b.x = search rules in
     let y2 : FitsSigned w64 c.args.b.y = search rules in
-    simp to_z-of_z at c.format.ensures.ok
+    simp (to_z-of_z, c.pen_of-pen.ensures) at c.format.ensures.ok

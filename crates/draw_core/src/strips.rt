@@ -1,0 +1,100 @@
+// The spans of the drawn edges as strips of lines, and the pieces that they are put together to.
+ghost use Rattle.std.specs.Prelude.{◌≡◌, ℕ, ◌<◌, List, ◌++◌, length, IfOk, OnOk};
+ghost use Rattle.lattice.specs.Creases.{fraction_of};
+ghost use Rattle.lattice.specs.declared.pieces.Strip.{Strip};
+ghost use Rattle.lattice.specs.Points.{of_dir};
+ghost use Rattle.geometry.specs.Pieces.{AreRight, AreInOrder};
+ghost use Rattle.geometry.specs.Views.{IsEndOn, AreDrawnEdges};
+ghost use Rattle.solid_mesh.specs.Solids.{solid_part, edge_halves};
+ghost use Rattle.span_slow.specs.Places.{IsEarlier};
+ghost use Rattle.edge_pick.specs.Edges.{OfEdge};
+ghost use Rattle.draw_core.specs.Strips.{IsEdgeLine, IsStripOf, AreStripsOf, AreEdgeStrips};
+
+use edge_pick::{Crease, pick};
+use exact_frac::OutOfMemory;
+use lattice::{Dir, Line, Piece, Strip};
+use line_merge::merge;
+use solid_mesh::Solid;
+use span_slow::{Span, spans_slow};
+use std::alloc::Global;
+
+/// The line that the edge is seen on.
+fn edge_line(solid: &Solid, d: &Dir, edge: u32) -> Line
+    requires in_range { edge < length (edge_halves solid.now) }
+    requires seen { OfEdge solid.now edge (λ e. ¬ IsEndOn (of_dir d.now) e) }
+    ensures { OfEdge solid.now edge (λ e. IsEdgeLine (of_dir d.now) e result) }
+{
+    let numbers = solid.edge(edge);
+    Line::through(d, &solid.corner(numbers.a), &solid.corner(numbers.b))
+}
+
+/// The span as a strip of the edge's line.
+fn strip_of(solid: &Solid, d: &Dir, edge: u32, line: &Line, span: &Span) -> Strip
+    requires in_range { edge < length (edge_halves solid.now) }
+    requires seen { OfEdge solid.now edge (λ e. ¬ IsEndOn (of_dir d.now) e) }
+    requires on_line { OfEdge solid.now edge (λ e. IsEdgeLine (of_dir d.now) e line.now) }
+    requires ordered { IsEarlier span.now.from span.now.to }
+    ensures { OfEdge solid.now edge (λ e. IsStripOf (of_dir d.now) e span.now result) }
+{
+    Strip {
+        line: *line,
+        a: solid.spot(edge, &span.from),
+        b: solid.spot(edge, &span.to),
+        hidden: span.hidden,
+    }
+}
+
+/// Adds the strips of an edge.
+fn add_strips(
+    alloc: Global,
+    strips: &mut Vec<Strip>,
+    solid: &Solid,
+    d: &Dir,
+    edge: u32,
+) -> Result<(), OutOfMemory>
+    requires in_range { edge < length (edge_halves solid.now) }
+    requires seen { OfEdge solid.now edge (λ e. ¬ IsEndOn (of_dir d.now) e) }
+    ensures { OnOk result ((here : List Strip) × (strips.new.items ≡ strips.old.items ++ here) ×
+        OfEdge solid.now edge (λ e. AreStripsOf (of_dir d.now) e here)) }
+{
+    let line = edge_line(solid, d, edge);
+    let spans = spans_slow(alloc, solid, d, edge)?;
+    for span in &spans {
+        strips.push(strip_of(solid, d, edge, &line, span))?;
+    }
+    Ok(())
+}
+
+/// The strips of the drawn edges, edge by edge. Finds the spans of each edge over all triangles.
+fn edge_strips(
+    alloc: Global,
+    solid: &Solid,
+    d: &Dir,
+    numbers: &[u32],
+) -> Result<Vec<Strip>, OutOfMemory>
+    requires { (fraction : ℕ) × AreDrawnEdges (of_dir d.now) fraction (solid_part solid.now) (edge_halves solid.now) numbers.now }
+    ensures { IfOk result (λ strips. AreEdgeStrips (of_dir d.now) (solid_part solid.now) (edge_halves solid.now) numbers.now strips.items) }
+{
+    let mut strips = Vec::new(alloc);
+    for edge in numbers {
+        add_strips(alloc, &mut strips, solid, d, *edge)?;
+    }
+    Ok(strips)
+}
+
+/// The pieces of a view, visible lines solid and hidden ones dashed, in their order.
+///
+/// Finds the spans of each drawn edge over all triangles, and then sorts them along their lines.
+pub(crate) fn view_pieces(
+    alloc: Global,
+    solid: &Solid,
+    d: &Dir,
+    crease: Crease,
+) -> Result<Vec<Piece>, OutOfMemory>
+    ensures right { IfOk result (λ pieces. AreRight (of_dir d.now) (fraction_of crease) (solid_part solid.now) pieces.items) }
+    ensures order { IfOk result (λ pieces. AreInOrder (of_dir d.now) pieces.items) }
+{
+    let picked = pick(alloc, solid, d, crease)?;
+    let strips = edge_strips(alloc, solid, d, &picked.drawn)?;
+    merge(alloc, d, &strips)
+}
