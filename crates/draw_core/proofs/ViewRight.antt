@@ -94,7 +94,7 @@ module _ (d : Triple) (fraction : ℕ) (s : Part) (p : Point) (positive : IsPoin
       let f = u.edge in
       let parallel = ordinary.off_crossings e f (share_point e.a e.b h.n h.m, on_edge y o h, h.sight) (share_point f.a f.b k.n k.m, on_edge z u k, k.sight) in
       same_of_parallel d y.line z.line (point_of e.a) (point_of e.b) (point_of f.a) (point_of f.b) p (omega (arith, ints)) (omega (arith, ints)) (omega (arith, ints)) (omega (arith, ints)) positive
-          o.drawn.1 u.drawn.1 o.is.line.first o.is.line.second u.is.line.first u.is.line.second (parallel_steps d e f parallel) (on_its_line y o on_y) (on_its_line z u on_z)
+      o.drawn.1 u.drawn.1 o.is.line.first o.is.line.second u.is.line.first u.is.line.second (parallel_steps d e f parallel) (on_its_line y o on_y) (on_its_line z u on_z)
 
 -- ---- all drawn edges
 module _ (d : Triple) (fraction : ℕ) (s : Part) (halves numbers : List ℕ) (strips : List Strip) (closed : IsClosed s)

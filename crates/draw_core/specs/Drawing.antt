@@ -24,7 +24,7 @@ front = record { x = pos 0; y = negsuc 0; z = pos 0 }
 abbrev pub IsPlainFrom : Triple → ViewSpec → Type 0
 IsPlainFrom d (Plain toward) = of_dir toward ≡ d
 
--- the view shows the solid from this direction: its pieces are right, with creases from about 15 degrees on, and in order
+-- the view shows the solid from this direction: its pieces are right, with creases at turns of more than about 15 degrees, and in order
 pub record ShowsSolid (d : Triple) (s : Solid) (view : ViewDrawing) : Type 0 where
   pub from : IsPlainFrom d view.spec
   pub right : AreRight d (fraction_of Normal) (solid_part s) view.pieces.items

@@ -51,9 +51,7 @@ fn stroke_text(
     let y1 = a.y;
     let x2 = b.x;
     let y2 = b.y;
-    format!(in alloc;
-        "<line x1=\"{x1}\" y1=\"{y1}\" x2=\"{x2}\" y2=\"{y2}\" {pen}/>\n"
-    )
+    format!(in alloc; "<line x1=\"{x1}\" y1=\"{y1}\" x2=\"{x2}\" y2=\"{y2}\" {pen}/>\n")
 }
 
 /// The line of a piece.

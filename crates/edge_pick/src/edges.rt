@@ -40,8 +40,9 @@ fn triangle_normal(solid: &Solid, triangle: u32) -> Normal
     cross(&Vector::between(&a, &b), &Vector::between(&a, &c))
 }
 
-/// Two normals turn further than the cosine whose square is `fraction` over 1,000,000, or by a right angle: by their scalar product
-/// and their squared lengths. The cross products would have 200 bits; two fractions are compared in their place.
+/// Two normals are further apart than the angle whose squared cosine is `fraction` over 1,000,000, or by a right angle or more:
+/// from their scalar product and their squared lengths. Multiplied out, both sides have about 200 bits, so two fractions are
+/// compared in their place.
 fn turns(product: i128, left: i128, right: i128, fraction: u32) -> bool
     requires product_in_range { unsigned_abs product < 2 ^ 88 }
     requires right_in_range { unsigned_abs right < 2 ^ 88 }

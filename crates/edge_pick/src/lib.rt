@@ -1,7 +1,7 @@
-//! Which edges of a solid are drawn, which are outlines, and which hang together.
+//! Which edges of a solid are drawn, which are outlines, and which drawn edges are connected.
 //!
-//! An edge is drawn where it is an outline or a crease and isn't seen end-on. Drawn edges that hang together are a run: the
-//! connected parts of the graph of corners and drawn edges are found by depth-first search, with a stack of its own.
+//! An edge is drawn where it is an outline or a crease and isn't seen end-on. The runs are the connected parts of the graph of
+//! corners and drawn edges; they are found by depth-first search, with a stack of its own.
 #![tactic(auto)]
 
 ghost use Rattle.std.specs.Prelude.{IfOk};
@@ -36,8 +36,9 @@ pub struct Picked {
 
 /// The drawn edges, the outlines, and the runs of the drawn edges. Fails only where memory runs out.
 ///
-/// Cost: two passes over the edges with a few products each, and then time and memory that are linear in the corners and the
-/// drawn edges: each corner enters the stack at most once, and each drawn edge is passed at most twice.
+/// Cost: two passes over the edges, with a few products and at most three comparisons of fractions each, and then time and
+/// memory that are linear in the corners and the drawn edges: each corner enters the stack at most once, and each drawn edge
+/// is passed at most twice.
 pub fn pick(alloc: Global, solid: &Solid, d: &Dir, crease: Crease) -> Result<Picked, OutOfMemory>
     ensures { IfOk result (IsPicked (of_dir d.now) (fraction_of crease) (solid_part solid.now) (edge_halves solid.now)) }
 {

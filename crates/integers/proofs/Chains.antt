@@ -1,4 +1,4 @@
--- How the orders of three values hang together, also where they go by one thing after another.
+-- What two orders among three values say of the third, also where values are compared by one key after another.
 use Rattle.std.proofs.Common.{◌≡◌, [], ◌∷◌, true, refl, sym, ap, subst, ◌∙◌}
 use Rattle.std.specs.Prelude.{ℤ, pos, ◌*ℤ◌, ◌<ℤ◌}
 use Rattle.std.specs.Cmp.{int_cmp_total, alike_right}

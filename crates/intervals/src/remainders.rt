@@ -12,7 +12,7 @@ use std::alloc::Global;
 /// What the parts leave of the whole ones. In both lists, and in the answer, each ends before the next begins. A part
 /// may lie within several whole ones, or in none.
 ///
-/// Cost: one pass over both lists.
+/// Fails only where memory runs out. Cost: one pass over both lists.
 pub fn rest<T: Ord + Copy>(
     alloc: Global,
     whole: &[Interval<T>],

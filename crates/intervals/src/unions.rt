@@ -11,7 +11,7 @@ use std::alloc::Global;
 /// Intervals that overlap or touch, put together. The given ones stand in any order, and each has an inside; the united
 /// ones ascend, and each ends before the next begins.
 ///
-/// Cost: a sort, and one pass over them.
+/// Fails only where memory runs out. Cost: a sort, and one pass over them.
 pub fn united<T: Ord + Copy>(
     alloc: Global,
     intervals: Vec<Interval<T>>,

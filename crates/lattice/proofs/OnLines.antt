@@ -11,7 +11,7 @@ use Rattle.lattice.specs.declared.lines.Line.{Line}
 use Rattle.lattice.specs.declared.points.Corner.{Corner}
 use Rattle.lattice.specs.declared.points.Spot.{Spot}
 use Rattle.lattice.specs.declared.points.Dir.{Dir}
-use Rattle.lattice.specs.Lines.{IsOnLine, IsLineOf, AreStripEndsSomehow}
+use Rattle.lattice.specs.Lines.{IsOnLine, IsLineOf, AreStripEndsInSomeView}
 use Rattle.lattice.proofs.Vectors.{letters, dots}
 
 -- what is seen at one place is on the same lines
@@ -58,7 +58,7 @@ on_line_of_sum d l i j p q first second =
 
 -- what a strip keeps
 pub strip_seen : (d : Dir) (l : Line) (a b : Spot) → IsOnLine (of_dir d) l (of_spot a) → IsOnLine (of_dir d) l (of_spot b)
-    → ¬ OnOneSight (of_dir d) (of_spot a) (of_spot b) → ∥ AreStripEndsSomehow l a b ∥₁
+    → ¬ OnOneSight (of_dir d) (of_spot a) (of_spot b) → ∥ AreStripEndsInSomeView l a b ∥₁
 strip_seen d l a b first second apart = merely (d, record { first = first; second = second; apart = apart })
 
 -- ---- the line through two corners

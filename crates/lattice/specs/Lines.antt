@@ -37,6 +37,6 @@ pub record AreStripEnds (d : Triple) (l : Line) (a b : Spot) : Type 0 where
   pub second : IsOnLine d l (of_spot b)
   pub apart : ¬ OnOneSight d (of_spot a) (of_spot b)
 
--- they are so from some direction
-abbrev pub AreStripEndsSomehow : Line → Spot → Spot → Type 0
-AreStripEndsSomehow l a b = (d : Dir) × AreStripEnds (of_dir d) l a b
+-- they are so from some direction, since a strip has none of its own
+abbrev pub AreStripEndsInSomeView : Line → Spot → Spot → Type 0
+AreStripEndsInSomeView l a b = (d : Dir) × AreStripEnds (of_dir d) l a b

@@ -1,11 +1,11 @@
 // What a drawing is made of.
 ghost use Rattle.std.specs.Prelude.{◌≡◌};
-ghost use Rattle.lattice.specs.Lines.{AreStripEndsSomehow};
+ghost use Rattle.lattice.specs.Lines.{AreStripEndsInSomeView};
 
 use crate::lines::Line;
 use crate::points::{Dir, Spot};
 
-/// From how far a turn on two faces meet in a crease: from about 5, 15 or 30 degrees.
+/// How far two faces turn where they meet in a crease: by more than about 5, 15 or 30 degrees.
 #[derive(Clone, Copy, PartialEq, Eq, Debug)]
 pub enum Crease {
     Fine,
@@ -53,7 +53,7 @@ pub struct Strip {
     pub a: Spot,
     pub b: Spot,
     pub hidden: bool,
-    ghost seen: { ∥ AreStripEndsSomehow line a b ∥₁ },
+    ghost seen: { ∥ AreStripEndsInSomeView line a b ∥₁ },
 }
 
 /// What a view shows.

@@ -38,7 +38,7 @@ returns-clause-right c =
     let drawn = subst (λ (ns : List ℕ). AreDrawnEdges d fraction (solid_part solid) (edge_halves solid) ns) (sym c.deref.ensures.value) c.in_ok-picked.ensures.drawn in
     IfOk-weaker c.merge.result (λ pieces. AreMerged d c.deref-2.result.now pieces.items) (λ pieces. AreRight d fraction (solid_part solid) pieces.items)
     (λ pieces merged. right_of_merged d fraction (solid_part solid) (edge_halves solid) numbers strips (closed solid) (edge_there solid) drawn c.in_ok-strips.ensures pieces.items
-        (subst (λ (ys : List Strip). AreMerged d ys pieces.items) c.deref-2.ensures.value merged)) c.merge.ensures
+    (subst (λ (ys : List Strip). AreMerged d ys pieces.items) c.deref-2.ensures.value merged)) c.merge.ensures
 
 pub returns-clause-order : goal.returns-clause-order
 returns-clause-order c =
