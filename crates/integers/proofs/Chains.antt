@@ -1,7 +1,7 @@
 -- What two orders among three values say of the third, also where values are compared by one key after another.
 use Rattle.std.proofs.Common.{◌≡◌, [], ◌∷◌, true, refl, sym, ap, subst, ◌∙◌}
 use Rattle.std.specs.Prelude.{ℤ, pos, ◌*ℤ◌, ◌<ℤ◌}
-use Rattle.std.specs.Cmp.{int_cmp_total, alike_right}
+use Rattle.std.specs.Cmp.{IsTotalOrder, int_cmp_total, alike_right}
 use Rattle.std.specs.Ordering.{int_cmp, ordering_then, is_lt}
 use Rattle.std.specs.declared.cmp.Ordering.{Ordering}
 use Rattle.std.specs.declared.cmp.Ordering.TheVariants.{Less, Equal, Greater}
@@ -48,11 +48,11 @@ module _ (r s t r' s' t' : Ordering) (h : Chains r s t) (k : Chains r' s' t') wh
   pub chained : Chains (ordering_then r r') (ordering_then s s') (ordering_then t t')
   chained = record { less = less_then; first = first_then; second = second_then }
 
-pub chained_ints : (x y z : ℤ) → Chains (int_cmp x y) (int_cmp y z) (int_cmp x z)
-chained_ints x y z = record {
-  less = int_cmp_total.trans x y z;
-  first = λ p. int_cmp_total.congr x y z p;
-  second = λ p. sym (alike_right int_cmp_total y z x p);
+pub chained_total : {K : Type 0} {R : K → K → Ordering} → IsTotalOrder R → (x y z : K) → Chains (R x y) (R y z) (R x z)
+chained_total total x y z = record {
+  less = total.trans x y z;
+  first = λ p. total.congr x y z p;
+  second = λ p. sym (alike_right total y z x p);
 }
 
 turned : (a b c : ℤ) → (a *ℤ b) *ℤ c ≡ (a *ℤ c) *ℤ b
@@ -79,7 +79,7 @@ module _ (k l m n p q : ℤ) (hl : pos 0 <ℤ l) (hn : pos 0 <ℤ n) (hq : pos 0
   chained_ratios =
       subst (λ (o : Ordering). Chains (int_cmp (k *ℤ n) (m *ℤ l)) (int_cmp (m *ℤ q) (p *ℤ n)) o) x-z
       (subst (λ (o : Ordering). Chains (int_cmp (k *ℤ n) (m *ℤ l)) o (int_cmp x z)) y-z
-      (subst (λ (o : Ordering). Chains o (int_cmp y z) (int_cmp x z)) (int_cmp-mul (k *ℤ n) (m *ℤ l) q hq) (chained_ints x y z)))
+      (subst (λ (o : Ordering). Chains o (int_cmp y z) (int_cmp x z)) (int_cmp-mul (k *ℤ n) (m *ℤ l) q hq) (chained_total int_cmp_total x y z)))
 
 -- what isn't greater than something less is less
 pub before_less : (r s t : Ordering) → Chains r s t → is_lt s ≡ true → ¬ (r ≡ Greater) → is_lt t ≡ true

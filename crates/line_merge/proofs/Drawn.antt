@@ -1,8 +1,9 @@
 -- Stretches along lines: which stands first, and that two of one style neither overlap nor touch.
-use Rattle.std.proofs.Common.{◌≡◌, ◌⊎◌, inl, inr, ◌<◌, List, refl, sym, ◌∙◌, arith}
+use Rattle.std.proofs.Common.{◌≡◌, ℕ, ◌⊎◌, inl, inr, ◌<◌, List, refl, sym, ◌∙◌, arith}
 use Rattle.std.specs.Ordering.{nat_cmp, ordering_then}
 use Rattle.std.specs.declared.cmp.Ordering.{Ordering}
 use Rattle.std.specs.declared.cmp.Ordering.TheVariants.{Less, Equal, Greater}
+use Rattle.lattice.specs.declared.lines.Line.{Line}
 use Rattle.lattice.specs.declared.pieces.Style.{Style}
 use Rattle.lattice.specs.declared.pieces.Style.TheVariants.{Solid, Dashed}
 use Rattle.lattice.specs.declared.pieces.Strip.{Strip}
@@ -16,11 +17,10 @@ use Rattle.geometry.proofs.Sights.{sight_back}
 use Rattle.line_merge.specs.declared.marks.Mark.{Mark}
 use Rattle.line_merge.specs.declared.stretches.Stretch.{Stretch}
 use Rattle.line_merge.specs.Marks.{seen_order, mark_order, IsMark}
-use Rattle.line_merge.specs.Merging.{AreStrips}
 use Rattle.line_merge.specs.Stretches.{stretch_order, piece_of}
 use Rattle.line_merge.proofs.Sights.{before, sight, not_seen, before_on}
-use Rattle.line_merge.proofs.MarkOrders.{seen_is, same_lines, same_back, order_on_line}
-use Rattle.line_merge.proofs.Courses.{IsCourse, end_on_line, to_on_line}
+use Rattle.line_merge.proofs.MarkOrders.{seen_is, order_on_line}
+use Rattle.line_merge.proofs.Courses.{AreNumberedStrips, IsCourse, first_on, second_on}
 
 -- ---- the order
 then_less : (r s : Ordering) → ordering_then r s ≡ Less → (r ≡ Less) ⊎ ((r ≡ Equal) × (s ≡ Less))
@@ -91,18 +91,18 @@ pub separate_back : (x y : Stretch) → AreSeparate x y → AreSeparate y x
 separate_back x y h same = clear_back x y (h (sym same))
 
 -- a stretch along a line
-abbrev pub IsAlong : Triple → List Strip → Stretch → Type 0
-IsAlong d strips x = IsCourse d strips (record { from = x.from; to = x.to })
+abbrev pub IsAlong : Triple → List Strip → (Line → ℕ) → Stretch → Type 0
+IsAlong d strips number x = IsCourse d strips number (record { from = x.from; to = x.to })
 
-module _ (d : Triple) (strips : List Strip) (are : AreStrips d strips) (x y : Stretch) (along_x : IsAlong d strips x) (along_y : IsAlong d strips y) where
+module _ (d : Triple) (strips : List Strip) (number : Line → ℕ) (are : AreNumberedStrips d strips number) (x y : Stretch) (along_x : IsAlong d strips number x) (along_y : IsAlong d strips number y) where
   -- of one line, and the first ends before the second begins: so each end of the first is before each of the second
-  all_before : IsSameLine x.from.line y.from.line → mark_order x.to y.from ≡ Less → ShareAnEnd d (piece_of x) (piece_of y) → ⊥
+  all_before : x.from.line ≡ y.from.line → mark_order x.to y.from ≡ Less → ShareAnEnd d (piece_of x) (piece_of y) → ⊥
   all_before same less = by
     where
       middle : IsBefore d (of_spot x.to.spot) (of_spot y.from.spot)
       middle =
           before d (of_spot x.to.spot) (of_spot y.from.spot)
-          (sym (order_on_line d x.to y.from along_x.to.mark along_y.from.mark (same_lines x.to.line x.from.line y.from.line (same_back x.from.line x.to.line along_x.one_line) same)) ∙ less)
+          (sym (order_on_line d x.to y.from along_x.to.mark along_y.from.mark (sym along_x.one_line ∙ same)) ∙ less)
 
       start : IsBefore d (of_spot x.from.spot) (of_spot y.from.spot)
       start = before_on d (of_spot x.from.spot) (of_spot x.to.spot) (of_spot y.from.spot) x.from.spot.positive x.to.spot.positive y.from.spot.positive along_x.before middle
@@ -122,41 +122,52 @@ shared_back d x y (inr (inl k)) = inr (inr (inl (sight_back d (of_spot x.from.sp
 shared_back d x y (inr (inr (inl k))) = inr (inl (sight_back d (of_spot x.to.spot) (of_spot y.from.spot) k))
 shared_back d x y (inr (inr (inr k))) = inr (inr (inr (sight_back d (of_spot x.to.spot) (of_spot y.to.spot) k)))
 
-module _ (d : Triple) (strips : List Strip) (are : AreStrips d strips) (x y : Stretch) (along_x : IsAlong d strips x) (along_y : IsAlong d strips y) where
+module _ (d : Triple) (strips : List Strip) (number : Line → ℕ) (are : AreNumberedStrips d strips number) (x y : Stretch) (along_x : IsAlong d strips number x) (along_y : IsAlong d strips number y) where
   -- clear stretches of one line share no end
-  none_shared : IsSameLine x.from.line y.from.line → AreClear x y → ShareAnEnd d (piece_of x) (piece_of y) → ⊥
-  none_shared same (inl less) shared = all_before d strips are x y along_x along_y same less shared
-  none_shared same (inr less) shared = all_before d strips are y x along_y along_x (same_back x.from.line y.from.line same) less (shared_back d x y shared)
+  none_shared : x.from.line ≡ y.from.line → AreClear x y → ShareAnEnd d (piece_of x) (piece_of y) → ⊥
+  none_shared same (inl less) shared = all_before d strips number are x y along_x along_y same less shared
+  none_shared same (inr less) shared = all_before d strips number are y x along_y along_x (sym same) less (shared_back d x y shared)
 
-  on_x : IsOnLine d x.from.line (of_spot x.from.spot)
-  on_x = end_on_line d strips are x.from along_x.from
+  abbrev line_x : Line
+  line_x = along_x.from.strip.line
 
-  on_y : IsOnLine d y.from.line (of_spot y.from.spot)
-  on_y = end_on_line d strips are y.from along_y.from
+  abbrev line_y : Line
+  line_y = along_y.from.strip.line
 
-  on_x_too : IsOnLine d x.from.line (of_spot x.to.spot)
-  on_x_too = to_on_line d strips are (record { from = x.from; to = x.to }) along_x
+  -- stretches of one line have one number
+  one_number : IsSameLine line_x line_y → x.from.line ≡ y.from.line
+  one_number same = along_x.from.line ∙ (are.numbering along_x.from.strip along_y.from.strip along_x.from.listed along_y.from.listed).1 same ∙ sym along_y.from.line
 
-  on_y_too : IsOnLine d y.from.line (of_spot y.to.spot)
-  on_y_too = to_on_line d strips are (record { from = y.from; to = y.to }) along_y
+  on_x : IsOnLine d line_x (of_spot x.from.spot)
+  on_x = first_on d strips number are (record { from = x.from; to = x.to }) along_x
+
+  on_y : IsOnLine d line_y (of_spot y.from.spot)
+  on_y = first_on d strips number are (record { from = y.from; to = y.to }) along_y
+
+  on_x_too : IsOnLine d line_x (of_spot x.to.spot)
+  on_x_too = second_on d strips number are (record { from = x.from; to = x.to }) along_x
+
+  on_y_too : IsOnLine d line_y (of_spot y.to.spot)
+  on_y_too = second_on d strips number are (record { from = y.from; to = y.to }) along_y
 
   apart_x : ¬ OnOneSight d (of_spot x.from.spot) (of_spot x.to.spot)
   apart_x = not_seen d (of_spot x.from.spot) (of_spot x.to.spot) along_x.before
 
   -- parallel stretches with a shared end are of one line
-  shared_line : ArePiecesParallel d (piece_of x) (piece_of y) → (s t : Mark) → IsOnLine d x.from.line (of_spot s.spot) → IsOnLine d y.from.line (of_spot t.spot)
-      → OnOneSight d (of_spot s.spot) (of_spot t.spot) → IsSameLine x.from.line y.from.line
+  shared_line : ArePiecesParallel d (piece_of x) (piece_of y) → (s t : Mark) → IsOnLine d line_x (of_spot s.spot) → IsOnLine d line_y (of_spot t.spot)
+      → OnOneSight d (of_spot s.spot) (of_spot t.spot) → x.from.line ≡ y.from.line
   shared_line parallel s t on_s on_t k =
-      same_of_parallel d x.from.line y.from.line (of_spot x.from.spot) (of_spot x.to.spot) (of_spot y.from.spot) (of_spot y.to.spot) (of_spot s.spot)
+      one_number
+      (same_of_parallel d line_x line_y (of_spot x.from.spot) (of_spot x.to.spot) (of_spot y.from.spot) (of_spot y.to.spot) (of_spot s.spot)
       x.from.spot.positive x.to.spot.positive y.from.spot.positive y.to.spot.positive s.spot.positive
       apart_x (not_seen d (of_spot y.from.spot) (of_spot y.to.spot) along_y.before) on_x on_x_too on_y on_y_too parallel on_s
-      (on_line_of_sight d y.from.line (of_spot t.spot) (of_spot s.spot) t.spot.positive (sight_back d (of_spot s.spot) (of_spot t.spot) k) on_t)
+      (on_line_of_sight d line_y (of_spot t.spot) (of_spot s.spot) t.spot.positive (sight_back d (of_spot s.spot) (of_spot t.spot) k) on_t))
 
   -- clear stretches are whole
   pub not_going_on : AreClear x y → ArePiecesParallel d (piece_of x) (piece_of y) → ¬ ShareAnEnd d (piece_of x) (piece_of y)
   not_going_on clear parallel shared = none_shared (by shared) clear shared
     where
-      by : ShareAnEnd d (piece_of x) (piece_of y) → IsSameLine x.from.line y.from.line
+      by : ShareAnEnd d (piece_of x) (piece_of y) → x.from.line ≡ y.from.line
       by (inl k) = shared_line parallel x.from y.from on_x on_y k
       by (inr (inl k)) = shared_line parallel x.from y.to on_x on_y_too k
       by (inr (inr (inl k))) = shared_line parallel x.to y.from on_x_too on_y k
@@ -166,9 +177,10 @@ module _ (d : Triple) (strips : List Strip) (are : AreStrips d strips) (x y : St
   not_level : AreClear x y → OnOneSight d (of_spot x.from.spot) (of_spot y.from.spot) → OnOneSight d (of_spot x.to.spot) (of_spot y.to.spot) → ⊥
   not_level clear k l =
       none_shared
-      (same_line d x.from.line y.from.line (of_spot x.from.spot) (of_spot x.to.spot) x.from.spot.positive x.to.spot.positive apart_x on_x on_x_too
-      (on_line_of_sight d y.from.line (of_spot y.from.spot) (of_spot x.from.spot) y.from.spot.positive (sight_back d (of_spot x.from.spot) (of_spot y.from.spot) k) on_y)
-      (on_line_of_sight d y.from.line (of_spot y.to.spot) (of_spot x.to.spot) y.to.spot.positive (sight_back d (of_spot x.to.spot) (of_spot y.to.spot) l) on_y_too))
+      (one_number
+      (same_line d line_x line_y (of_spot x.from.spot) (of_spot x.to.spot) x.from.spot.positive x.to.spot.positive apart_x on_x on_x_too
+      (on_line_of_sight d line_y (of_spot y.from.spot) (of_spot x.from.spot) y.from.spot.positive (sight_back d (of_spot x.from.spot) (of_spot y.from.spot) k) on_y)
+      (on_line_of_sight d line_y (of_spot y.to.spot) (of_spot x.to.spot) y.to.spot.positive (sight_back d (of_spot x.to.spot) (of_spot y.to.spot) l) on_y_too)))
       clear (inl k)
 
   -- the one that doesn't come after the other stands before it

@@ -1,9 +1,10 @@
+pub mod Lists
+pub mod Zips
+pub mod Numbers
 pub mod MarkOrders
 pub mod Sights
 pub mod Between
-pub mod Zips
 pub mod Courses
-pub mod Lists
 pub mod Given
 pub mod Drawn
 pub mod Merged

@@ -27,6 +27,14 @@ module _ {A B : Type 0} (f : A → B) where
   contains_map (w ∷ xs) y (suc k, less, is) = let (x, there, same) = contains_map xs y (k, omega arith, is) in (x, contains_rest w xs x there, same)
 
 -- ---- filter
+pub filter_map : {A B : Type 0} (f : A → B) (test : B → Bool) (xs : List A) → filter test (map f xs) ≡ map f (filter (λ x. test (f x)) xs)
+filter_map f test [] = refl
+filter_map f test (w ∷ xs) = by (test (f w)) (filter_map f test xs)
+  where
+    by : (b : Bool) → filter test (map f xs) ≡ map f (filter (λ x. test (f x)) xs) → cond b (f w ∷ filter test (map f xs)) (filter test (map f xs)) ≡ map f (cond b (w ∷ filter (λ x. test (f x)) xs) (filter (λ x. test (f x)) xs))
+    by true e = ap (λ ys. f w ∷ ys) e
+    by false e = e
+
 module _ {A : Type 0} (test : A → Bool) where
   pub filter_contains : (xs : List A) (x : A) → Contains xs x → test x ≡ true → Contains (filter test xs) x
   filter_contains [] x (k, less, is) e = absurd (omega arith)

@@ -1,8 +1,8 @@
 -- The pieces of united and left intervals are the strips put together.
-use Rattle.std.proofs.Common.{◌≡◌, ◌⊎◌, inl, inr, Bool, true, false, not, true≢false, List, ◌++◌, Contains, map, get_or, refl, sym, ap, subst, ◌∙◌, arith}
+use Rattle.std.proofs.Common.{◌≡◌, ℕ, ◌⊎◌, inl, inr, Bool, true, false, not, true≢false, List, ◌++◌, Contains, map, get_or, refl, sym, ap, subst, ◌∙◌, arith}
 use Rattle.std.specs.List.{All, AllPairs, AllZip, filter}
 use Rattle.std.specs.List.Sorted.{IsPermutation, IsSorted}
-use Rattle.std.specs.Ordering.{int_cmp, ordering_then, ordering_reverse, is_lt}
+use Rattle.std.specs.Ordering.{ordering_reverse, is_lt}
 use Rattle.std.specs.declared.cmp.Ordering.TheVariants.{Less, Greater}
 use Rattle.std.proofs.lemmas.List.Elements.{All-contains, All-map, All-weaker, Contains-append_left, Contains-append_right, Contains-append_cases, Contains-get_or}
 use Rattle.std.proofs.lemmas.List.Sorted.{Contains-permutation, IsPermutation-sym, ranks_by, sorted_far}
@@ -16,18 +16,17 @@ use Rattle.lattice.specs.declared.pieces.Style.{Style}
 use Rattle.lattice.specs.declared.pieces.Style.TheVariants.{Solid, Dashed}
 use Rattle.lattice.specs.Triple.{Triple}
 use Rattle.lattice.specs.Points.{Point, IsPoint, of_spot, OnOneSight}
-use Rattle.lattice.specs.Lines.{IsOnLine, IsSameLine}
 use Rattle.geometry.specs.Pieces.{LiesBetween, LiesOn, LiesOnStyle, StandsBefore, ArePiecesParallel, ShareAnEnd, IsBefore}
 use Rattle.line_merge.specs.declared.marks.Mark.{Mark}
 use Rattle.line_merge.specs.declared.stretches.Stretch.{Stretch}
 use Rattle.line_merge.specs.Laws.{stretch_order_total}
 use Rattle.line_merge.specs.Marks.{mark_order, IsIntervalOf}
-use Rattle.line_merge.specs.Merging.{AreStrips, LiesOnStrip, IsClear, LiesOnVisible, LiesOnHiddenOnly, AreMerged}
+use Rattle.line_merge.specs.Merging.{LiesOnStrip, IsClear, LiesOnVisible, LiesOnHiddenOnly, AreMerged}
+use Rattle.line_merge.specs.Numbering.{numbered_by}
 use Rattle.line_merge.specs.Stretches.{stretch_order, stretch_of, piece_of}
 use Rattle.line_merge.proofs.Sights.{not_seen}
-use Rattle.line_merge.proofs.MarkOrders.{same_lines, same_back}
 use Rattle.line_merge.proofs.Lists.{map_contains, contains_map, filter_contains, contains_filter, pairs_map, pairs_from, pairs_permuted}
-use Rattle.line_merge.proofs.Courses.{cut_at, is_cut, point_order, IsOffEnds, IsCourse, meets}
+use Rattle.line_merge.proofs.Courses.{cut_at, is_cut, AreNumberedStrips, IsOnNumber, IsOffEnds, IsCourse, meets}
 use Rattle.line_merge.proofs.Given.{given_courses, hit, strip_at, united_courses, rest_courses, lies_of_any, any_of_lies}
 use Rattle.line_merge.proofs.Drawn.{AreSeparate, separate_back, IsAlong, not_going_on, stands_first}
 
@@ -41,40 +40,36 @@ seen_means false h = refl
 styles_differ : Solid ≡ Dashed → ⊥
 styles_differ e = cc
 
--- the cut of a line is that of its numbers
-cut_same : (d : Triple) (l m : Line) (p : Point) → IsSameLine l m → cut_at d l p ≡ cut_at d m p
-cut_same d l m p same = λ i t. is_lt (ordering_then (ordering_then (int_cmp t.line.a (same.a i)) (ordering_then (int_cmp t.line.b (same.b i)) (int_cmp t.line.c (same.c i)))) (point_order d l p t))
-
 -- what the steps of the merging give
-pub record AreSteps (d : Triple) (strips : List Strip) (all seen whole visible hidden : List (Interval Mark)) : Type 0 where
-  pub are : AreStrips d strips
-  pub each : AllZip (IsIntervalOf d) strips all
-  pub each_seen : AllZip (IsIntervalOf d) (filter is_seen strips) seen
+pub record AreSteps (d : Triple) (strips : List Strip) (number : Line → ℕ) (all seen whole visible hidden : List (Interval Mark)) : Type 0 where
+  pub are : AreNumberedStrips d strips number
+  pub each : AllZip (λ x i. IsIntervalOf d (numbered_by number x) i) strips all
+  pub each_seen : AllZip (λ x i. IsIntervalOf d (numbered_by number x) i) (filter is_seen strips) seen
   pub whole_united : AreUnited mark_order all whole
   pub visible_united : AreUnited mark_order seen visible
   pub left : AreRest mark_order whole visible hidden
 
-module _ (d : Triple) (strips : List Strip) (all seen whole visible hidden : List (Interval Mark)) (steps : AreSteps d strips all seen whole visible hidden) where
+module _ (d : Triple) (strips : List Strip) (number : Line → ℕ) (all seen whole visible hidden : List (Interval Mark)) (steps : AreSteps d strips number all seen whole visible hidden) where
   among_itself : (x : Strip) → Contains strips x → Contains strips x
   among_itself x there = there
 
   among_seen : (x : Strip) → Contains (filter is_seen strips) x → Contains strips x
   among_seen x there = (contains_filter is_seen strips x there).0
 
-  courses_all : All (IsCourse d strips) all
-  courses_all = given_courses d strips steps.are strips among_itself all steps.each
+  courses_all : All (IsCourse d strips number) all
+  courses_all = given_courses d strips number steps.are strips among_itself all steps.each
 
-  courses_seen : All (IsCourse d strips) seen
-  courses_seen = given_courses d strips steps.are (filter is_seen strips) among_seen seen steps.each_seen
+  courses_seen : All (IsCourse d strips number) seen
+  courses_seen = given_courses d strips number steps.are (filter is_seen strips) among_seen seen steps.each_seen
 
-  courses_whole : All (IsCourse d strips) whole
-  courses_whole = united_courses d strips steps.are all whole steps.whole_united courses_all
+  courses_whole : All (IsCourse d strips number) whole
+  courses_whole = united_courses d strips number steps.are all whole steps.whole_united courses_all
 
-  courses_visible : All (IsCourse d strips) visible
-  courses_visible = united_courses d strips steps.are seen visible steps.visible_united courses_seen
+  courses_visible : All (IsCourse d strips number) visible
+  courses_visible = united_courses d strips number steps.are seen visible steps.visible_united courses_seen
 
-  courses_hidden : All (IsCourse d strips) hidden
-  courses_hidden = rest_courses d strips steps.are whole visible hidden steps.left courses_whole courses_visible
+  courses_hidden : All (IsCourse d strips number) hidden
+  courses_hidden = rest_courses d strips number steps.are whole visible hidden steps.left courses_whole courses_visible
 
   -- ---- the stretches, before they are sorted
   abbrev drawn : List Stretch
@@ -93,9 +88,9 @@ module _ (d : Triple) (strips : List Strip) (all seen whole visible hidden : Lis
       by (inl c) = inl (contains_map (stretch_of Solid) visible s c)
       by (inr c) = inr (contains_map (stretch_of Dashed) hidden s c)
 
-  along : (s : Stretch) → IsDrawn s → IsAlong d strips s
-  along s (inl (u, there, e)) = subst (IsAlong d strips) e (All-contains (IsCourse d strips) visible u courses_visible there)
-  along s (inr (u, there, e)) = subst (IsAlong d strips) e (All-contains (IsCourse d strips) hidden u courses_hidden there)
+  along : (s : Stretch) → IsDrawn s → IsAlong d strips number s
+  along s (inl (u, there, e)) = subst (IsAlong d strips number) e (All-contains (IsCourse d strips number) visible u courses_visible there)
+  along s (inr (u, there, e)) = subst (IsAlong d strips number) e (All-contains (IsCourse d strips number) hidden u courses_hidden there)
 
   separate_drawn : AllPairs AreSeparate drawn
   separate_drawn =
@@ -114,31 +109,34 @@ module _ (d : Triple) (strips : List Strip) (all seen whole visible hidden : Lis
     abbrev off : IsOffEnds d strips p
     off = clear.off_ends
 
+    one_number : (x y : Strip) → Contains strips x → Contains strips y → LiesOnStrip d x p → LiesOnStrip d y p → number x.line ≡ number y.line
+    one_number x y there_x there_y on_x on_y = (steps.are.numbering x y there_x there_y).1 (clear.one_line x y there_x there_y on_x on_y)
+
     -- the strip and the line of a united or left interval on which it lies
     visible_at : (u : Interval Mark) → Contains visible u → LiesBetween d u.from.spot u.to.spot p
-        → CrossesAny (cut_at d u.from.line p) visible × ((x : Strip) × Contains (filter is_seen strips) x × LiesOnStrip d x p × IsSameLine x.line u.from.line)
+        → CrossesAny (cut_at d u.from.line p) visible × ((x : Strip) × Contains (filter is_seen strips) x × LiesOnStrip d x p × (number x.line ≡ u.from.line))
     visible_at u there on =
-        let (on_line, c) = any_of_lies d strips steps.are visible courses_visible p positive off u there on in (
+        let (on_line, c) = any_of_lies d strips number steps.are visible courses_visible p positive off u there on in (
           c,
-          strip_at d strips steps.are (filter is_seen strips) among_seen seen steps.each_seen p positive off u.from.line on_line
+          strip_at d strips number steps.are (filter is_seen strips) among_seen seen steps.each_seen p positive off u.from.line on_line
               ((steps.visible_united.within (cut_at d u.from.line p) (is_cut d u.from.line p positive)).0 c),
         )
 
     hidden_at : (u : Interval Mark) → Contains hidden u → LiesBetween d u.from.spot u.to.spot p
-        → CrossesAny (cut_at d u.from.line p) hidden × ((x : Strip) × Contains strips x × LiesOnStrip d x p × IsSameLine x.line u.from.line)
+        → CrossesAny (cut_at d u.from.line p) hidden × ((x : Strip) × Contains strips x × LiesOnStrip d x p × (number x.line ≡ u.from.line))
     hidden_at u there on =
-        let (on_line, c) = any_of_lies d strips steps.are hidden courses_hidden p positive off u there on in (
+        let (on_line, c) = any_of_lies d strips number steps.are hidden courses_hidden p positive off u there on in (
           c,
-          strip_at d strips steps.are strips among_itself all steps.each p positive off u.from.line on_line
+          strip_at d strips number steps.are strips among_itself all steps.each p positive off u.from.line on_line
               ((steps.whole_united.within (cut_at d u.from.line p) (is_cut d u.from.line p positive)).0
               ((steps.left.within (cut_at d u.from.line p) (is_cut d u.from.line p positive)).0 c).0),
         )
 
     -- the cut at a point of a visible strip goes through what is visible
-    seen_through : (x : Strip) → Contains strips x → x.hidden ≡ false → LiesOnStrip d x p → IsOnLine d x.line p × CrossesAny (cut_at d x.line p) visible
+    seen_through : (x : Strip) → Contains strips x → x.hidden ≡ false → LiesOnStrip d x p → IsOnNumber d strips number (number x.line) p × CrossesAny (cut_at d (number x.line) p) visible
     seen_through x there not_hidden on =
-        let (on_line, c) = hit d strips steps.are (filter is_seen strips) among_seen seen steps.each_seen p positive off x (filter_contains is_seen strips x there (ap not not_hidden)) on in
-        (on_line, (steps.visible_united.within (cut_at d x.line p) (is_cut d x.line p positive)).1 c)
+        let (on_line, c) = hit d strips number steps.are (filter is_seen strips) among_seen seen steps.each_seen p positive off x (filter_contains is_seen strips x there (ap not not_hidden)) on in
+        (on_line, (steps.visible_united.within (cut_at d (number x.line) p) (is_cut d (number x.line) p positive)).1 c)
 
     -- ---- visible and hidden
     visible_to : (u : Interval Mark) → Contains visible u → LiesBetween d u.from.spot u.to.spot p → LiesOnVisible d strips p
@@ -150,57 +148,57 @@ module _ (d : Triple) (strips : List Strip) (all seen whole visible hidden : Lis
     visible_from : LiesOnVisible d strips p → (u : Interval Mark) × Contains visible u × LiesBetween d u.from.spot u.to.spot p
     visible_from (x, there, not_hidden, on) =
         let (on_line, c) = seen_through x there not_hidden on in
-        lies_of_any d strips steps.are visible courses_visible p positive off x.line on_line c
+        lies_of_any d strips number steps.are visible courses_visible p positive off (number x.line) on_line c
 
     hidden_to : (u : Interval Mark) → Contains hidden u → LiesBetween d u.from.spot u.to.spot p → LiesOnHiddenOnly d strips p
     hidden_to u there on = go (hidden_at u there on)
       where
-        go : CrossesAny (cut_at d u.from.line p) hidden × ((x : Strip) × Contains strips x × LiesOnStrip d x p × IsSameLine x.line u.from.line) → LiesOnHiddenOnly d strips p
+        go : CrossesAny (cut_at d u.from.line p) hidden × ((x : Strip) × Contains strips x × LiesOnStrip d x p × (number x.line ≡ u.from.line)) → LiesOnHiddenOnly d strips p
         go (c, (x, there_x, on_x, same)) = record { some = (x, there_x, on_x); hidden = λ y there_y on_y. by y there_y on_y y.hidden refl }
           where
             by : (y : Strip) → Contains strips y → LiesOnStrip d y p → (b : Bool) → y.hidden ≡ b → y.hidden ≡ true
             by y there_y on_y true e = e
             by y there_y on_y false e =
                 absurd (((steps.left.within (cut_at d u.from.line p) (is_cut d u.from.line p positive)).0 c).1
-                (subst (λ (cut : Mark → Bool). CrossesAny cut visible) (cut_same d y.line u.from.line p (same_lines y.line x.line u.from.line (clear.one_line y x there_y there_x on_y on_x) same)) (seen_through y there_y e on_y).1))
+                (subst (λ n. CrossesAny (cut_at d n p) visible) (one_number y x there_y there_x on_y on_x ∙ same) (seen_through y there_y e on_y).1))
 
     hidden_from : LiesOnHiddenOnly d strips p → (u : Interval Mark) × Contains hidden u × LiesBetween d u.from.spot u.to.spot p
     hidden_from h =
         let (x, there, on) = h.some in
-        let (on_line, c) = hit d strips steps.are strips among_itself all steps.each p positive off x there on in
-        let cut = is_cut d x.line p positive in
-        lies_of_any d strips steps.are hidden courses_hidden p positive off x.line on_line
-        ((steps.left.within (cut_at d x.line p) cut).1
-        ((steps.whole_united.within (cut_at d x.line p) cut).1 c, λ k. none x on_line ((steps.visible_united.within (cut_at d x.line p) cut).0 k)))
+        let (on_line, c) = hit d strips number steps.are strips among_itself all steps.each p positive off x there on in
+        let cut = is_cut d (number x.line) p positive in
+        lies_of_any d strips number steps.are hidden courses_hidden p positive off (number x.line) on_line
+        ((steps.left.within (cut_at d (number x.line) p) cut).1
+        ((steps.whole_united.within (cut_at d (number x.line) p) cut).1 c, λ k. none x on_line ((steps.visible_united.within (cut_at d (number x.line) p) cut).0 k)))
       where
-        none : (x : Strip) → IsOnLine d x.line p → CrossesAny (cut_at d x.line p) seen → ⊥
+        none : (x : Strip) → IsOnNumber d strips number (number x.line) p → CrossesAny (cut_at d (number x.line) p) seen → ⊥
         none x on_line k =
-            let (z, there_z, on_z, same) = strip_at d strips steps.are (filter is_seen strips) among_seen seen steps.each_seen p positive off x.line on_line k in
+            let (z, there_z, on_z, same) = strip_at d strips number steps.are (filter is_seen strips) among_seen seen steps.each_seen p positive off (number x.line) on_line k in
             let kept = contains_filter is_seen strips z there_z in
             true≢false (sym (h.hidden z kept.0 on_z) ∙ seen_means z.hidden kept.1)
 
     -- ---- on one stretch only
     -- the line of a stretch on which it lies is that of a strip on which it lies
-    line_at : (s : Stretch) → IsDrawn s → LiesOn d (piece_of s) p → (x : Strip) × Contains strips x × LiesOnStrip d x p × IsSameLine x.line s.from.line
+    line_at : (s : Stretch) → IsDrawn s → LiesOn d (piece_of s) p → (x : Strip) × Contains strips x × LiesOnStrip d x p × (number x.line ≡ s.from.line)
     line_at s (inl (u, there, e)) on =
         let (c, (x, there_x, on_x, same)) = visible_at u there (subst (λ (t : Stretch). LiesBetween d t.from.spot t.to.spot p) (sym e) on) in
-        (x, among_seen x there_x, on_x, subst (λ (t : Stretch). IsSameLine x.line t.from.line) e same)
+        (x, among_seen x there_x, on_x, subst (λ (t : Stretch). number x.line ≡ t.from.line) e same)
     line_at s (inr (u, there, e)) on =
         let (c, (x, there_x, on_x, same)) = hidden_at u there (subst (λ (t : Stretch). LiesBetween d t.from.spot t.to.spot p) (sym e) on) in
-        (x, there_x, on_x, subst (λ (t : Stretch). IsSameLine x.line t.from.line) e same)
+        (x, there_x, on_x, subst (λ (t : Stretch). number x.line ≡ t.from.line) e same)
 
-    one_line_at : (s t : Stretch) → IsDrawn s → IsDrawn t → LiesOn d (piece_of s) p → LiesOn d (piece_of t) p → IsSameLine s.from.line t.from.line
+    one_line_at : (s t : Stretch) → IsDrawn s → IsDrawn t → LiesOn d (piece_of s) p → LiesOn d (piece_of t) p → s.from.line ≡ t.from.line
     one_line_at s t drawn_s drawn_t on_s on_t =
         let (x, there_x, on_x, same_x) = line_at s drawn_s on_s in
         let (y, there_y, on_y, same_y) = line_at t drawn_t on_t in
-        same_lines s.from.line x.line t.from.line (same_back x.line s.from.line same_x) (same_lines x.line y.line t.from.line (clear.one_line x y there_x there_y on_x on_y) same_y)
+        sym same_x ∙ one_number x y there_x there_y on_x on_y ∙ same_y
 
     -- no cut goes through two that are clear of each other
-    not_both : (l : Line) (s t : Stretch) → Crosses (cut_at d l p) (record { from = s.from; to = s.to }) → Crosses (cut_at d l p) (record { from = t.from; to = t.to }) → mark_order s.to t.from ≡ Less → ⊥
-    not_both l s t (in_s, out_s) (in_t, out_t) less = true≢false (sym (is_cut d l p positive s.to t.from in_t (λ k. cc)) ∙ out_s)
+    not_both : (n : ℕ) (s t : Stretch) → Crosses (cut_at d n p) (record { from = s.from; to = s.to }) → Crosses (cut_at d n p) (record { from = t.from; to = t.to }) → mark_order s.to t.from ≡ Less → ⊥
+    not_both n s t (in_s, out_s) (in_t, out_t) less = true≢false (sym (is_cut d n p positive s.to t.from in_t (λ k. cc)) ∙ out_s)
 
     through : (s : Stretch) → IsDrawn s → LiesOn d (piece_of s) p → Crosses (cut_at d s.from.line p) (record { from = s.from; to = s.to })
-    through s drawn_s on = (meets d strips steps.are (record { from = s.from; to = s.to }) (along s drawn_s) p positive off on).1
+    through s drawn_s on = (meets d strips number steps.are (record { from = s.from; to = s.to }) (along s drawn_s) p positive off on).1
 
     through_any : (style : Style) (us : List (Interval Mark)) (cut : Mark → Bool) (s : Stretch) (u : Interval Mark) → Contains us u → stretch_of style u ≡ s → Crosses cut (record { from = s.from; to = s.to }) → CrossesAny cut us
     through_any style us cut s u (k, within, at) e c = (k, u, within, at, subst (λ (t : Stretch). Crosses cut (record { from = t.from; to = t.to })) (sym e) c)
@@ -213,8 +211,8 @@ module _ (d : Triple) (strips : List Strip) (all seen whole visible hidden : Lis
 
         in_t : Crosses (cut_at d s.from.line p) (record { from = t.from; to = t.to })
         in_t =
-            subst (λ (cut : Mark → Bool). Crosses cut (record { from = t.from; to = t.to }))
-            (cut_same d t.from.line s.from.line p (one_line_at t s drawn_t drawn_s on_t on_s)) (through t drawn_t on_t)
+            subst (λ n. Crosses (cut_at d n p) (record { from = t.from; to = t.to }))
+            (one_line_at t s drawn_t drawn_s on_t on_s) (through t drawn_t on_t)
 
         clear_of : mark_order s.to t.from ≡ Less ⊎ mark_order t.to s.from ≡ Less → ⊥
         clear_of (inl less) = not_both s.from.line s t in_s in_t less
@@ -311,11 +309,11 @@ module _ (d : Triple) (strips : List Strip) (all seen whole visible hidden : Lis
       whole =
           pairs_map (λ (l m : Piece). l.style ≡ m.style → ArePiecesParallel d l m → ¬ ShareAnEnd d l m) piece_of sorted
           (pairs_of (λ x y. x.style ≡ y.style → ArePiecesParallel d (piece_of x) (piece_of y) → ¬ ShareAnEnd d (piece_of x) (piece_of y))
-          (λ x y drawn_x drawn_y apart h same. not_going_on d strips steps.are x y (along x drawn_x) (along y drawn_y) (apart same)));
+          (λ x y drawn_x drawn_y apart h same. not_going_on d strips number steps.are x y (along x drawn_x) (along y drawn_y) (apart same)));
       order = record {
         ends = all_ascend;
         order =
             pairs_map (StandsBefore d) piece_of sorted
-            (pairs_of (λ x y. StandsBefore d (piece_of x) (piece_of y)) (λ x y drawn_x drawn_y apart h. stands_first d strips steps.are x y (along x drawn_x) (along y drawn_y) apart h));
+            (pairs_of (λ x y. StandsBefore d (piece_of x) (piece_of y)) (λ x y drawn_x drawn_y apart h. stands_first d strips number steps.are x y (along x drawn_x) (along y drawn_y) apart h));
       };
     }

@@ -1,5 +1,5 @@
 -- Lists of which the elements at each place belong together.
-use Rattle.std.proofs.Common.{◌≡◌, ℕ, zero, suc, ◌+◌, ◌<◌, List, [], ◌∷◌, ◌++◌, Contains, length, take, get_or, refl, sym, subst, arith}
+use Rattle.std.proofs.Common.{◌≡◌, ℕ, zero, suc, ◌+◌, ◌<◌, List, [], ◌∷◌, ◌++◌, Contains, length, map, take, get_or, refl, sym, subst, arith}
 use Rattle.std.specs.List.{AllZip, Any}
 use Rattle.std.proofs.lemmas.List.{take_more}
 
@@ -15,6 +15,19 @@ module _ {A B : Type 0} (R : A → B → Type 0) where
   zip_more xs ys k x y less is h r =
       subst (λ (zs : List A). AllZip R zs (ys ++ y ∷ [])) (sym (take_more xs k x less))
       (zip_push (take k xs) ys (get_or xs k x) y h (subst (λ (z : A). R z y) is r))
+
+  -- of images
+  pub zip_map : {C : Type 0} (f : C → A) (xs : List C) (ys : List B) → AllZip R (map f xs) ys → AllZip (λ x y. R (f x) y) xs ys
+  zip_map f [] [] h = h
+  zip_map f [] (w ∷ ys) h = absurd h
+  zip_map f (v ∷ xs) [] h = absurd h
+  zip_map f (v ∷ xs) (w ∷ ys) (h, more) = (h, zip_map f xs ys more)
+
+  pub zip_weaker : (S : A → B → Type 0) → ((x : A) (y : B) → R x y → S x y) → (xs : List A) (ys : List B) → AllZip R xs ys → AllZip S xs ys
+  zip_weaker S holds [] [] h = h
+  zip_weaker S holds [] (w ∷ ys) h = absurd h
+  zip_weaker S holds (v ∷ xs) [] h = absurd h
+  zip_weaker S holds (v ∷ xs) (w ∷ ys) (h, more) = (holds v w h, zip_weaker S holds xs ys more)
 
   -- what belongs to an element
   pub zip_left : (xs : List A) (ys : List B) → AllZip R xs ys → (x : A) → Contains xs x → Any (R x) ys

@@ -1,23 +1,17 @@
 -- Marks are in one total order, and so are stretches.
-use Rattle.std.specs.Cmp.{IsTotalOrder, int_cmp_total, nat_cmp_total, on_total, then_total}
+use Rattle.std.specs.Cmp.{IsTotalOrder, nat_cmp_total, on_total, then_total}
 use Rattle.exact_frac.specs.Laws.{order_of_total}
-use Rattle.lattice.specs.declared.lines.Line.{Line}
 use Rattle.line_merge.specs.declared.marks.Mark.{Mark}
 use Rattle.line_merge.specs.declared.stretches.Stretch.{Stretch}
-use Rattle.line_merge.specs.Marks.{line_order, seen_order, mark_order}
+use Rattle.line_merge.specs.Marks.{seen_order, mark_order}
 use Rattle.line_merge.specs.Stretches.{stretch_order}
 use Rattle.geometry.specs.Pieces.{rank_of}
-
-line_order_total : IsTotalOrder line_order
-line_order_total =
-    then_total (on_total (λ (l : Line). l.a) int_cmp_total)
-    (then_total (on_total (λ (l : Line). l.b) int_cmp_total) (on_total (λ (l : Line). l.c) int_cmp_total))
 
 seen_order_total : IsTotalOrder seen_order
 seen_order_total = then_total (on_total (λ (t : Mark). t.across) order_of_total) (on_total (λ (t : Mark). t.upward) order_of_total)
 
 pub mark_order_total : IsTotalOrder mark_order
-mark_order_total = then_total (on_total (λ (t : Mark). t.line) line_order_total) seen_order_total
+mark_order_total = then_total (on_total (λ (t : Mark). t.line) nat_cmp_total) seen_order_total
 
 pub stretch_order_total : IsTotalOrder stretch_order
 stretch_order_total =

@@ -1,4 +1,5 @@
 pub mod Laws
 pub mod Marks
 pub mod Merging
+pub mod Numbering
 pub mod Stretches

@@ -1,40 +1,35 @@
 -- Marks: where spots are seen on lines, their order, and the intervals of strips.
-use Rattle.std.specs.Prelude.{◌≡◌, ◌⊎◌}
-use Rattle.std.specs.Ordering.{int_cmp, ordering_then}
+use Rattle.std.specs.Prelude.{◌≡◌, ℕ, ◌⊎◌}
+use Rattle.std.specs.Ordering.{nat_cmp, ordering_then}
 use Rattle.std.specs.declared.cmp.Ordering.{Ordering}
 use Rattle.std.specs.declared.cmp.Ordering.TheVariants.{Less}
 use Rattle.exact_frac.specs.Frac.{order_of}
 use Rattle.intervals.specs.declared.interval.Interval.{Interval}
-use Rattle.lattice.specs.declared.lines.Line.{Line}
-use Rattle.lattice.specs.declared.pieces.Strip.{Strip}
 use Rattle.lattice.specs.declared.points.Spot.{Spot}
 use Rattle.lattice.specs.Triple.{Triple}
 use Rattle.lattice.specs.Points.{of_spot, across_of, upward_of, IsRatio}
 use Rattle.line_merge.specs.declared.marks.Mark.{Mark}
-
--- by the numbers of the lines
-abbrev pub line_order : Line → Line → Ordering
-line_order l m = ordering_then (int_cmp l.a m.a) (ordering_then (int_cmp l.b m.b) (int_cmp l.c m.c))
+use Rattle.line_merge.specs.declared.numbering.Numbered.{Numbered}
 
 -- by U, and then by V
 abbrev pub seen_order : Mark → Mark → Ordering
 seen_order s t = ordering_then (order_of s.across t.across) (order_of s.upward t.upward)
 
--- by the line, and then by the place on it
+-- by the number of the line, and then by the place on it
 abbrev pub mark_order : Mark → Mark → Ordering
-mark_order s t = ordering_then (line_order s.line t.line) (seen_order s t)
+mark_order s t = ordering_then (nat_cmp s.line t.line) (seen_order s t)
 
 -- U and V of the mark are those of its spot
 pub record IsMark (d : Triple) (t : Mark) : Type 0 where
   pub across : IsRatio t.across (across_of d (of_spot t.spot)) t.spot.w
   pub upward : IsRatio t.upward (upward_of d (of_spot t.spot)) t.spot.w
 
-pub record IsMarkOf (d : Triple) (l : Line) (p : Spot) (t : Mark) : Type 0 where
+pub record IsMarkOf (d : Triple) (n : ℕ) (p : Spot) (t : Mark) : Type 0 where
   pub mark : IsMark d t
-  pub line : t.line ≡ l
+  pub line : t.line ≡ n
   pub spot : t.spot ≡ p
 
 -- from the one end of the strip to the other, the lesser first
-pub record IsIntervalOf (d : Triple) (x : Strip) (i : Interval Mark) : Type 0 where
+pub record IsIntervalOf (d : Triple) (x : Numbered) (i : Interval Mark) : Type 0 where
   pub proper : mark_order i.from i.to ≡ Less
-  pub ends : (IsMarkOf d x.line x.a i.from × IsMarkOf d x.line x.b i.to) ⊎ (IsMarkOf d x.line x.b i.from × IsMarkOf d x.line x.a i.to)
+  pub ends : (IsMarkOf d x.line x.strip.a i.from × IsMarkOf d x.line x.strip.b i.to) ⊎ (IsMarkOf d x.line x.strip.b i.from × IsMarkOf d x.line x.strip.a i.to)

@@ -5,25 +5,26 @@ ghost use Rattle.std.specs.Cmp.{partial_order_from_total, partial_equiv_from_equ
 ghost use Rattle.std.proofs.Common.{refl};
 ghost use Rattle.lattice.specs.Points.{of_dir};
 ghost use Rattle.lattice.specs.Lines.{AreStripEnds};
-ghost use Rattle.line_merge.specs.Marks.{line_order, seen_order, IsMarkOf, IsIntervalOf};
+ghost use Rattle.line_merge.specs.Marks.{seen_order, IsMarkOf, IsIntervalOf};
 
+use crate::numbering::Numbered;
 use exact_frac::Frac;
 use intervals::Interval;
-use lattice::{Dir, Line, Spot, Strip, across, upward};
+use lattice::{Dir, Spot, across, upward};
 use std::cmp::Ordering;
 
 /// Where a spot is seen on a line. Marks are in the order of the numbers of their lines, and on one line of U and then of V.
 #[derive(Clone, Copy)]
 pub(crate) struct Mark {
-    pub line: Line,
+    pub line: usize,
     pub across: Frac,
     pub upward: Frac,
     pub spot: Spot,
 }
 
 impl Mark {
-    /// The mark of a spot on a line.
-    fn new(d: &Dir, line: Line, spot: Spot) -> Mark
+    /// The mark of a spot on the line with this number.
+    fn new(d: &Dir, line: usize, spot: Spot) -> Mark
         ensures { IsMarkOf (of_dir d.now) line spot result }
     {
         Mark {
@@ -36,29 +37,16 @@ impl Mark {
 }
 
 /// What is between the two ends of the strip.
-pub(crate) fn interval_of(d: &Dir, strip: &Strip) -> Interval<Mark>
-    requires { AreStripEnds (of_dir d.now) strip.now.line strip.now.a strip.now.b }
-    ensures { IsIntervalOf (of_dir d.now) strip.now result }
+pub(crate) fn interval_of(d: &Dir, numbered: &Numbered) -> Interval<Mark>
+    requires { AreStripEnds (of_dir d.now) numbered.now.strip.line numbered.now.strip.a numbered.now.strip.b }
+    ensures { IsIntervalOf (of_dir d.now) numbered.now result }
 {
-    let a = Mark::new(d, strip.line, strip.a);
-    let b = Mark::new(d, strip.line, strip.b);
+    let a = Mark::new(d, numbered.line, numbered.strip.a);
+    let b = Mark::new(d, numbered.line, numbered.strip.b);
     if a < b {
         Interval { from: a, to: b }
     } else {
         Interval { from: b, to: a }
-    }
-}
-
-/// The order of two lines, by their numbers.
-fn compare_lines(l: &Line, m: &Line) -> Ordering
-    ensures { result ≡ line_order l.now m.now }
-{
-    match l.a.cmp(&m.a) {
-        Ordering::Equal => match l.b.cmp(&m.b) {
-            Ordering::Equal => l.c.cmp(&m.c),
-            different => different,
-        },
-        different => different,
     }
 }
 
@@ -84,9 +72,9 @@ impl Ord for Mark {
 
     ghost matches_eq = { λ x y. refl };
 
-    /// The order of the lines, and on one line that of the places.
+    /// The order of the lines' numbers, and on one line that of the places.
     fn cmp(&self, other: &Mark) -> Ordering {
-        match compare_lines(&self.line, &other.line) {
+        match self.line.cmp(&other.line) {
             Ordering::Equal => compare_seen(self, other),
             different => different,
         }

@@ -6,5 +6,5 @@ use Rattle.line_merge.proofs.marks.interval_of.Goals as goal
 
 pub returns-else-lt : goal.returns-else-lt
 returns-else-lt c =
-    turned_interval (of_dir c.args.d.now) c.args.strip.now c.new-a.result c.new-b.result c.requires c.new-a.ensures c.new-b.ensures
+    turned_interval (of_dir c.args.d.now) c.args.numbered.now c.new-a.result c.new-b.result c.requires c.new-a.ensures c.new-b.ensures
     (λ e. true≢false (sym (ap is_lt e) ∙ sym c.lt.ensures ∙ c.if-lt.false))

@@ -5,5 +5,5 @@ use Rattle.line_merge.specs.Marks.{IsIntervalOf}
 use Rattle.line_merge.proofs.merging.intervals_of.Given as goal
 
 -- the intervals of the strips so far
-abbrev pub invariant-loop-strip : goal.invariant-loop-strip
-invariant-loop-strip l = AllZip (IsIntervalOf (of_dir l.d)) (take l.strip-index l.strips) l.intervals.items
+abbrev pub invariant-loop-x : goal.invariant-loop-x
+invariant-loop-x l = AllZip (IsIntervalOf (of_dir l.d)) (take l.x-index l.numbered) l.intervals.items

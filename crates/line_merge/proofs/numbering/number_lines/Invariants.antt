@@ -1,0 +1,7 @@
+use Rattle.std.proofs.Common.{take}
+use Rattle.line_merge.proofs.Numbers.{AreNumberedIn}
+use Rattle.line_merge.proofs.numbering.number_lines.Given as goal
+
+-- the strips so far have the numbers of their lines
+abbrev pub invariant-loop-strip : goal.invariant-loop-strip
+invariant-loop-strip l = AreNumberedIn l.lines.keys (take l.strip-index l.strips) l.numbered.items
