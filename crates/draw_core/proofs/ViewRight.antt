@@ -1,6 +1,6 @@
 -- Strips of the drawn edges, put together, are right for the view.
 use Rattle.std.proofs.Common.{◌≡◌, ℕ, ◌+◌, ◌<◌, Bool, true, false, List, length, Contains, get_or, ◌↔◌, refl, sym, subst, ◌∙◌, IsTrue, arith}
-use Rattle.std.specs.Prelude.{ℤ, pos, ◌<ℤ◌, ◌≤ℤ◌}
+use Rattle.std.specs.Prelude.{pos, ◌<ℤ◌, ◌≤ℤ◌}
 use Rattle.std.proofs.lemmas.Int.{ints}
 use Rattle.std.proofs.lemmas.List.Elements.{All-contains, Contains-get_or}
 use Rattle.lattice.specs.declared.pieces.Piece.{Piece}

@@ -182,27 +182,28 @@ fn count(drawing: &Drawing, style: Style) -> usize {
 
 // A text of cubes of 10 mm, with their least corners at these places.
 fn cubes(alloc: Global, places: &[[u32; 3]]) -> Result<String, AllocError> {
-    let (corners, triangles) = (8 * places.len(), 12 * places.len());
+    let corners = places.len().saturating_mul(8);
+    let triangles = places.len().saturating_mul(12);
     let mut text = format!(in alloc; "OFF {corners} {triangles} 0\n")?;
     for [x, y, z] in places {
         for i in 0..8 {
             let x = if matches!(i, 1 | 2 | 5 | 6) {
-                x + 10
+                x.saturating_add(10)
             } else {
                 *x
             };
             let y = if matches!(i, 2 | 3 | 6 | 7) {
-                y + 10
+                y.saturating_add(10)
             } else {
                 *y
             };
-            let z = if i < 4 { *z } else { z + 10 };
+            let z = if i < 4 { *z } else { z.saturating_add(10) };
             text.push_str(&format!(in alloc; "{x} {y} {z}\n")?)?;
         }
     }
     for cube in 0..places.len() {
         // The last three bits of a corner's number tell which of the cube's it is.
-        let first = 8 * cube;
+        let first = cube.saturating_mul(8);
         for [a, b, c, d] in [
             [0, 3, 2, 1],
             [4, 5, 6, 7],

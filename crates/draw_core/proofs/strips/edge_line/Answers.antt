@@ -1,9 +1,7 @@
-use Rattle.std.proofs.Common.{◌≡◌, refl, subst}
-use Rattle.lattice.specs.declared.points.Corner.{Corner}
+use Rattle.std.proofs.Common.{refl, subst}
 use Rattle.lattice.specs.Lines.{IsOnLine}
 use Rattle.lattice.specs.Points.{Point, of_dir, point_of, OnOneSight}
-use Rattle.geometry.specs.Parts.{Edge, IsNumbered}
-use Rattle.solid_mesh.specs.Solids.{solid_part, edge_halves}
+use Rattle.solid_mesh.specs.Solids.{solid_part}
 use Rattle.solid_mesh.proofs.Facts.{edge_there}
 use Rattle.edge_pick.proofs.Numbered.{ends_of}
 use Rattle.draw_core.proofs.strips.edge_line.Goals as goal

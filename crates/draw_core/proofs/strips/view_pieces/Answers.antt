@@ -1,7 +1,6 @@
 use Rattle.std.proofs.Common.{ℕ, List, sym, subst}
 use Rattle.std.proofs.lemmas.Result.{IfOk-weaker}
 use Rattle.lattice.specs.Creases.{fraction_of}
-use Rattle.lattice.specs.declared.pieces.Piece.{Piece}
 use Rattle.lattice.specs.declared.pieces.Strip.{Strip}
 use Rattle.lattice.specs.Points.{of_dir}
 use Rattle.geometry.specs.Pieces.{AreRight, AreInOrder}
