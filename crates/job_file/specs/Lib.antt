@@ -1,0 +1,11 @@
+pub mod Arrays
+pub mod Documents
+pub mod Keys
+pub mod Names
+pub mod Scales
+pub mod Seen
+pub mod Steps
+pub mod Texts
+pub mod Triples
+pub mod ViewKeys
+pub mod Views

@@ -1,0 +1,52 @@
+// What a job says.
+ghost use Rattle.std.specs.Prelude.{◌≤◌, IsTrue, length};
+ghost use Rattle.std.specs.List.{AllPairs};
+ghost use Rattle.job_file.specs.Scales.{is_scale};
+ghost use Rattle.job_file.specs.Texts.{is_title, are_outputs};
+ghost use Rattle.job_file.specs.Views.{AreNamedApart};
+
+use crate::view::JobView;
+use dec_text::Name;
+use lattice::Crease;
+
+/// A sheet of paper, lying landscape.
+#[derive(Clone, Copy, PartialEq, Eq, Debug)]
+pub enum Paper {
+    A0,
+    A1,
+    A2,
+    A3,
+    A4,
+}
+
+/// A length on the sheet, and the length of the part that it stands for: 50:1, 20:1, 10:1, 5:1, 2:1, 1:1, 1:2, 1:5, 1:10,
+/// 1:20, 1:50 or 1:100.
+#[derive(Clone, Copy, PartialEq, Eq, Debug)]
+pub struct Scale {
+    pub num: u32,
+    pub den: u32,
+    ghost listed: { IsTrue (is_scale num den) },
+}
+
+/// What a drawing shows, and how. A unit is 10^-`decimals` mm. The title has at most 120 bytes, without control characters
+/// and what XML doesn't allow. There are at most 8 outputs, all different, each of 1 to 16 bytes from `a` to `z` and `0` to
+/// `9`, and none is `svg`. There are 1 to 12 views, and no two have one name.
+#[derive(Drop)]
+pub struct Job {
+    pub decimals: u8,
+    /// The views are arranged by third-angle projection, and else by first-angle projection.
+    pub third: bool,
+    pub paper: Paper,
+    /// None for the greatest scale up to 1:1 at which the views fit the sheet.
+    pub scale: Option<Scale>,
+    pub crease: Crease,
+    pub title: Name,
+    pub outputs: Vec<Name>,
+    pub views: Vec<JobView>,
+    ghost few_decimals: { decimals ≤ 6 },
+    ghost proper_title: { IsTrue (is_title title) },
+    ghost proper_outputs: { IsTrue (are_outputs outputs.items) },
+    ghost some_views: { 1 ≤ length views.items },
+    ghost few_views: { length views.items ≤ 12 },
+    ghost named_apart: { AllPairs (λ v w. AreNamedApart v.named w.named) views.items },
+}

@@ -1,0 +1,166 @@
+// The keys of a job with one number or one of a few texts.
+ghost use Rattle.std.specs.Prelude.{◌≡◌, ◌≤◌, false, None, IfOk, codes, option_map};
+ghost use Rattle.toml.specs.Data.{get_member, as_integer};
+ghost use Rattle.toml.specs.View.{table_view};
+ghost use Rattle.job_file.specs.Documents.{version_fault, version_at, decimals_of, choice, angles, papers, fits, creases};
+ghost use Rattle.job_file.specs.Seen.{scale_seen};
+ghost use Rattle.job_file.specs.Steps.{look_up, value_or, GivesExactly};
+
+use crate::fault::{JobFault, Key};
+use crate::job::{Paper, Scale};
+use crate::table::value_at;
+use lattice::Crease;
+use toml::Table;
+
+/// Why this isn't version 1.
+fn version_fault(value: Option<i64>) -> Option<JobFault>
+    ensures { result ≡ version_fault value }
+{
+    match value {
+        None => Some(JobFault::Wrong(Key::Version)),
+        Some(1) => None,
+        Some(n) => Some(JobFault::Version(n)),
+    }
+}
+
+/// Why the job's version isn't 1.
+pub fn version(table: &Table) -> Option<JobFault>
+    ensures { result ≡ version_at (get_member (codes "version") (table_view table.now)) }
+{
+    match value_at(table, "version") {
+        None => None,
+        Some(value) => version_fault(value.as_integer()),
+    }
+}
+
+/// The number of decimals, 0 to 6.
+fn decimals_of(value: Option<i64>) -> Option<u8>
+    ensures { result ≡ decimals_of value }
+{
+    match value {
+        Some(n) if 0 <= n && n <= 6 => Some(n as u8),
+        _ => None,
+    }
+}
+
+/// The job's number of decimals.
+pub fn decimals(table: &Table) -> Result<u8, JobFault>
+    ensures value { result ≡ value_or 3 Key.Decimals (λ d. decimals_of (as_integer d)) (get_member (codes "decimals") (table_view table.now)) }
+    ensures few { IfOk result (λ n. n ≤ 6) }
+{
+    match value_at(table, "decimals") {
+        None => Ok(3),
+        Some(value) => decimals_of(value.as_integer()).ok_or(JobFault::Wrong(Key::Decimals)),
+    }
+}
+
+/// Third-angle projection, or not.
+fn angle_of(text: &str) -> Option<bool>
+    ensures { result ≡ look_up angles text.now }
+{
+    match text {
+        "first" => Some(false),
+        "third" => Some(true),
+        _ => None,
+    }
+}
+
+/// The job's projection.
+pub fn angle(table: &Table) -> Result<bool, JobFault>
+    ensures { result ≡ value_or false Key.Angle (choice angles) (get_member (codes "angle") (table_view table.now)) }
+{
+    match value_at(table, "angle") {
+        None => Ok(false),
+        Some(value) => value
+            .as_str()
+            .and_then(angle_of)
+            .ok_or(JobFault::Wrong(Key::Angle)),
+    }
+}
+
+/// A size of paper.
+fn paper_of(text: &str) -> Option<Paper>
+    ensures { result ≡ look_up papers text.now }
+{
+    match text {
+        "A0" => Some(Paper::A0),
+        "A1" => Some(Paper::A1),
+        "A2" => Some(Paper::A2),
+        "A3" => Some(Paper::A3),
+        "A4" => Some(Paper::A4),
+        _ => None,
+    }
+}
+
+/// The job's paper.
+pub fn paper(table: &Table) -> Result<Paper, JobFault>
+    ensures { result ≡ value_or Paper.A3 Key.Sheet (choice papers) (get_member (codes "sheet") (table_view table.now)) }
+{
+    match value_at(table, "sheet") {
+        None => Ok(Paper::A3),
+        Some(value) => value
+            .as_str()
+            .and_then(paper_of)
+            .ok_or(JobFault::Wrong(Key::Sheet)),
+    }
+}
+
+/// A scale, or none for one that fits.
+fn scale_of(text: &str) -> Option<Option<Scale>>
+    ensures { option_map (option_map scale_seen) result ≡ look_up fits text.now }
+{
+    match text {
+        "fit" => Some(None),
+        "50:1" => Some(Some(Scale { num: 50, den: 1 })),
+        "20:1" => Some(Some(Scale { num: 20, den: 1 })),
+        "10:1" => Some(Some(Scale { num: 10, den: 1 })),
+        "5:1" => Some(Some(Scale { num: 5, den: 1 })),
+        "2:1" => Some(Some(Scale { num: 2, den: 1 })),
+        "1:1" => Some(Some(Scale { num: 1, den: 1 })),
+        "1:2" => Some(Some(Scale { num: 1, den: 2 })),
+        "1:5" => Some(Some(Scale { num: 1, den: 5 })),
+        "1:10" => Some(Some(Scale { num: 1, den: 10 })),
+        "1:20" => Some(Some(Scale { num: 1, den: 20 })),
+        "1:50" => Some(Some(Scale { num: 1, den: 50 })),
+        "1:100" => Some(Some(Scale { num: 1, den: 100 })),
+        _ => None,
+    }
+}
+
+/// The job's scale.
+pub fn scale(table: &Table) -> Result<Option<Scale>, JobFault>
+    ensures { GivesExactly (option_map scale_seen) result (value_or None Key.Scale (choice fits) (get_member (codes "scale") (table_view table.now))) }
+{
+    match value_at(table, "scale") {
+        None => Ok(None),
+        Some(value) => value
+            .as_str()
+            .and_then(scale_of)
+            .ok_or(JobFault::Wrong(Key::Scale)),
+    }
+}
+
+/// A kind of creases.
+fn crease_of(text: &str) -> Option<Crease>
+    ensures { result ≡ look_up creases text.now }
+{
+    match text {
+        "fine" => Some(Crease::Fine),
+        "normal" => Some(Crease::Normal),
+        "coarse" => Some(Crease::Coarse),
+        _ => None,
+    }
+}
+
+/// The job's creases.
+pub fn crease(table: &Table) -> Result<Crease, JobFault>
+    ensures { result ≡ value_or Crease.Normal Key.Crease (choice creases) (get_member (codes "crease") (table_view table.now)) }
+{
+    match value_at(table, "crease") {
+        None => Ok(Crease::Normal),
+        Some(value) => value
+            .as_str()
+            .and_then(crease_of)
+            .ok_or(JobFault::Wrong(Key::Crease)),
+    }
+}

@@ -1,0 +1,42 @@
+// A view of a job.
+ghost use Rattle.std.specs.Prelude.{◌≡◌, Some};
+ghost use Rattle.std.specs.Option.{ForSome};
+ghost use Rattle.job_file.specs.Names.{direction_of};
+ghost use Rattle.job_file.specs.Views.{plain_direction};
+
+use lattice::{Dir, ViewSpec};
+
+/// One of the six views along an axis of the part.
+#[derive(Clone, Copy, PartialEq, Eq, Debug)]
+pub enum Principal {
+    Front,
+    Back,
+    Left,
+    Right,
+    Above,
+    Below,
+}
+
+/// A view of a job. A named one shows the whole part from its name's direction.
+#[derive(Clone, Copy)]
+pub struct JobView {
+    pub spec: ViewSpec,
+    pub named: Option<Principal>,
+    ghost directed: { ForSome named (λ p. plain_direction spec ≡ Some (direction_of p)) },
+}
+
+impl JobView {
+    ghost use Rattle.lattice.specs.Points.{of_dir};
+    ghost use Rattle.job_file.specs.Seen.{direction_seen};
+
+    /// From where the part is seen.
+    pub fn dir(&self) -> Dir
+        ensures { of_dir result ≡ direction_seen self.now.spec }
+    {
+        // The prover doesn't take an enum of one variant apart, but it does so within an `Option`.
+        match Some(self.spec) {
+            Some(ViewSpec::Plain(direction)) => direction,
+            None => unreachable!(),
+        }
+    }
+}
