@@ -39,7 +39,11 @@ pub fn merge(alloc: Global, d: &Dir, strips: &[Strip]) -> Result<Vec<Piece>, Out
 fn not_hidden(alloc: Global, numbered: &[Numbered]) -> Result<Vec<Numbered>, OutOfMemory>
     ensures { IfOk result (λ seen. seen.items ≡ filter (λ x. not x.strip.hidden) numbered.now) }
 {
-    let seen = numbered.iter().filter(|x| !x.strip.hidden).copied().collect(alloc)?;
+    let seen = numbered
+        .iter()
+        .filter(|x| !x.strip.hidden)
+        .copied()
+        .collect(alloc)?;
     Ok(seen)
 }
 

@@ -37,7 +37,7 @@ united-requires-2 c = given_proper (of_dir c.args.d.now) c.deref-3.result.now c.
 
 steps : (c : goal.After-drop-numbered-2)
     → AreSteps (of_dir c.args.d.now) c.args.strips.now c.in_ok-numbered.ensures.number c.in_ok-intervals_of.field-0.items c.in_ok-intervals_of-2.field-0.items c.in_ok-all.all.items c.in_ok-visible.visible.items
-        c.in_ok-hidden.hidden.items
+    c.in_ok-hidden.hidden.items
 steps c =
     let number = c.in_ok-numbered.ensures.number in
     let same = c.deref-2.ensures.value ∙ c.in_ok-numbered.ensures.same in

@@ -1,0 +1,9 @@
+pub mod Axes
+pub mod Extremes
+pub mod Listed
+pub mod Ordered
+pub mod Rooms
+pub mod Roots
+pub mod Rounding
+pub mod Scales
+pub mod Sums

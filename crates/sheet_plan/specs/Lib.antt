@@ -1,0 +1,6 @@
+pub mod Extents
+pub mod Layout
+pub mod Numbers
+pub mod Plans
+pub mod Sheets
+pub mod Sizes

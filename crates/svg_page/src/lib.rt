@@ -1,0 +1,8 @@
+//! The text of a sheet, in the SVG format (version 1.1): a frame, a title, and a group of lines for each view.
+#![tactic(auto)]
+
+mod page;
+#[cfg(test)]
+mod tests;
+
+pub use page::svg;
