@@ -66,7 +66,7 @@ pub record AreNumberedStrips (d : Triple) (strips : List Strip) (number : Line �
   pub numbering : IsNumbering strips number
 
 -- p is on the line with this number
-pub record IsOnNumber (d : Triple) (strips : List Strip) (number : Line → ℕ) (n : ℕ) (p : Point) : Type 0 where
+pub record IsOnNumbered (d : Triple) (strips : List Strip) (number : Line → ℕ) (n : ℕ) (p : Point) : Type 0 where
   pub strip : Strip
   pub listed : Contains strips strip
   pub line : n ≡ number strip.line
@@ -76,7 +76,7 @@ on_same : (d : Triple) (l m : Line) (p : Point) → IsSameLine l m → IsOnLine 
 on_same d l m p same h = (λ i. (same.a i *ℤ across_of d p) +ℤ (same.b i *ℤ upward_of d p)) ∙ h ∙ (λ i. sym same.c i *ℤ p.w)
 
 -- so it is on the line of each strip of that number
-pub on_line_of : (d : Triple) (strips : List Strip) (number : Line → ℕ) (are : AreNumberedStrips d strips number) (n : ℕ) (p : Point) → IsOnNumber d strips number n p
+pub on_line_of : (d : Triple) (strips : List Strip) (number : Line → ℕ) (are : AreNumberedStrips d strips number) (n : ℕ) (p : Point) → IsOnNumbered d strips number n p
     → (x : Strip) → Contains strips x → n ≡ number x.line → IsOnLine d x.line p
 on_line_of d strips number are n p h x there e = on_same d x.line h.strip.line p ((are.numbering x h.strip there h.listed).0 (sym e ∙ h.line)) h.on
 
@@ -89,7 +89,7 @@ pub record IsEnd (d : Triple) (strips : List Strip) (number : Line → ℕ) (t :
   pub spot : (t.spot ≡ strip.a) ⊎ (t.spot ≡ strip.b)
 
 module _ (d : Triple) (strips : List Strip) (number : Line → ℕ) (are : AreNumberedStrips d strips number) (t : Mark) (h : IsEnd d strips number t) where
-  pub end_on_line : IsOnNumber d strips number t.line (of_spot t.spot)
+  pub end_on_line : IsOnNumbered d strips number t.line (of_spot t.spot)
   end_on_line = record { strip = h.strip; listed = h.listed; line = h.line; on = by h.spot }
     where
       ends : AreStripEnds d h.strip.line h.strip.a h.strip.b
@@ -136,14 +136,14 @@ module _ (d : Triple) (strips : List Strip) (number : Line → ℕ) (are : AreNu
   abbrev pub line_of : Line
   line_of = h.from.strip.line
 
-  on_it : (p : Point) → IsOnNumber d strips number u.from.line p → IsOnLine d line_of p
+  on_it : (p : Point) → IsOnNumbered d strips number u.from.line p → IsOnLine d line_of p
   on_it p on = on_line_of d strips number are u.from.line p on h.from.strip h.from.listed h.from.line
 
   pub first_on : IsOnLine d line_of (of_spot u.from.spot)
   first_on = on_it (of_spot u.from.spot) (end_on_line d strips number are u.from h.from)
 
   pub second_on : IsOnLine d line_of (of_spot u.to.spot)
-  second_on = on_it (of_spot u.to.spot) (subst (λ n. IsOnNumber d strips number n (of_spot u.to.spot)) (sym h.one_line) (end_on_line d strips number are u.to h.to))
+  second_on = on_it (of_spot u.to.spot) (subst (λ n. IsOnNumbered d strips number n (of_spot u.to.spot)) (sym h.one_line) (end_on_line d strips number are u.to h.to))
 
   -- both ends have one order to a number
   one_order : (n : ℕ) → nat_cmp u.from.line n ≡ nat_cmp u.to.line n
@@ -183,13 +183,13 @@ module _ (d : Triple) (strips : List Strip) (number : Line → ℕ) (are : AreNu
     )
 
     -- a point of the line whose cut goes through the course lies on it
-    pub lies : (n : ℕ) → IsOnNumber d strips number n p → Crosses (cut_at d n p) u → LiesBetween d u.from.spot u.to.spot p
+    pub lies : (n : ℕ) → IsOnNumbered d strips number n p → Crosses (cut_at d n p) u → LiesBetween d u.from.spot u.to.spot p
     lies n on c =
         let (same, after, earlier) = crossed n c in
-        between d line_of u.from.spot u.to.spot p first_on second_on (on_it p (subst (λ m. IsOnNumber d strips number m p) (sym same) on)) after earlier
+        between d line_of u.from.spot u.to.spot p first_on second_on (on_it p (subst (λ m. IsOnNumbered d strips number m p) (sym same) on)) after earlier
 
     -- and what lies on the course is a point of its line, whose cut goes through it
-    pub meets : LiesBetween d u.from.spot u.to.spot p → IsOnNumber d strips number u.from.line p × Crosses (cut_at d u.from.line p) u
+    pub meets : LiesBetween d u.from.spot u.to.spot p → IsOnNumbered d strips number u.from.line p × Crosses (cut_at d u.from.line p) u
     meets on = (
       record { strip = h.from.strip; listed = h.from.listed; line = h.from.line; on = on_line_between d line_of u.from.spot u.to.spot p first_on second_on on },
       let seen = seen_between d u.from.spot u.to.spot p positive h.before (end_off d strips number p off u.from h.from) (end_off d strips number p off u.to h.to) on in

@@ -17,7 +17,7 @@ use Rattle.line_merge.specs.declared.numbering.Numbered.{Numbered}
 use Rattle.line_merge.specs.Marks.{mark_order, IsMarkOf, IsIntervalOf}
 use Rattle.line_merge.specs.Merging.{AreStrips, LiesOnStrip}
 use Rattle.line_merge.specs.Numbering.{numbered_by}
-use Rattle.line_merge.proofs.Courses.{cut_at, line_cut, is_line_cut, AreNumberedStrips, IsOnNumber, IsEnd, IsOffEnds, IsCourse, crossed, lies, meets, one_line_of, course_of}
+use Rattle.line_merge.proofs.Courses.{cut_at, line_cut, is_line_cut, AreNumberedStrips, IsOnNumbered, IsEnd, IsOffEnds, IsCourse, crossed, lies, meets, one_line_of, course_of}
 use Rattle.line_merge.proofs.Lists.{filter_map}
 use Rattle.line_merge.proofs.Zips.{zip_left, zip_right, zip_map}
 
@@ -75,17 +75,17 @@ module _ (d : Triple) (strips : List Strip) (number : Line → ℕ) (are : AreNu
 
   module _ (p : Point) (positive : IsPoint p) (off : IsOffEnds d strips p) where
     -- the cut at a point of a strip goes through an interval
-    pub hit : (x : Strip) → Contains given x → LiesOnStrip d x p → IsOnNumber d strips number (number x.line) p × CrossesAny (cut_at d (number x.line) p) xs
+    pub hit : (x : Strip) → Contains given x → LiesOnStrip d x p → IsOnNumbered d strips number (number x.line) p × CrossesAny (cut_at d (number x.line) p) xs
     hit x there on =
         let (k, i, within, at, is) = zip_left Belongs given xs each x there in
         let (on_line, c) = meets d strips number are i (strip_course d strips number x (among x there) i is) p positive off (interval_of_strip d strips number x (among x there) i is p on) in
         let same = strip_line d strips number x (among x there) i is in (
-          subst (λ n. IsOnNumber d strips number n p) same on_line,
+          subst (λ n. IsOnNumbered d strips number n p) same on_line,
           (k, i, within, at, subst (λ n. Crosses (cut_at d n p) i) same c),
         )
 
     -- where the cut at a point of a line goes through an interval, the point lies on a strip of that line
-    pub strip_at : (n : ℕ) → IsOnNumber d strips number n p → CrossesAny (cut_at d n p) xs → (x : Strip) × Contains given x × LiesOnStrip d x p × (number x.line ≡ n)
+    pub strip_at : (n : ℕ) → IsOnNumbered d strips number n p → CrossesAny (cut_at d n p) xs → (x : Strip) × Contains given x × LiesOnStrip d x p × (number x.line ≡ n)
     strip_at n on (k, i, within, at, c) =
         let (x, there, is) = zip_right Belongs given xs each i (k, within, at) in
         let course = strip_course d strips number x (among x there) i is in (
@@ -134,11 +134,11 @@ module _ (d : Triple) (strips : List Strip) (number : Line → ℕ) (are : AreNu
 
   module _ (us : List (Interval Mark)) (courses : All (IsCourse d strips number) us) (p : Point) (positive : IsPoint p) (off : IsOffEnds d strips p) where
     -- where the cut at a point of a line goes through one of them, the point lies on it
-    pub lies_of_any : (n : ℕ) → IsOnNumber d strips number n p → CrossesAny (cut_at d n p) us → (u : Interval Mark) × Contains us u × LiesBetween d u.from.spot u.to.spot p
+    pub lies_of_any : (n : ℕ) → IsOnNumbered d strips number n p → CrossesAny (cut_at d n p) us → (u : Interval Mark) × Contains us u × LiesBetween d u.from.spot u.to.spot p
     lies_of_any n on (k, u, within, at, c) =
         (u, (k, within, at), lies d strips number are u (All-contains (IsCourse d strips number) us u courses (k, within, at)) p positive off n on c)
 
-    pub any_of_lies : (u : Interval Mark) → Contains us u → LiesBetween d u.from.spot u.to.spot p → IsOnNumber d strips number u.from.line p × CrossesAny (cut_at d u.from.line p) us
+    pub any_of_lies : (u : Interval Mark) → Contains us u → LiesBetween d u.from.spot u.to.spot p → IsOnNumbered d strips number u.from.line p × CrossesAny (cut_at d u.from.line p) us
     any_of_lies u (k, within, at) on =
         let h = meets d strips number are u (All-contains (IsCourse d strips number) us u courses (k, within, at)) p positive off on in
         (h.0, (k, u, within, at, h.1))

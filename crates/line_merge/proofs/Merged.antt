@@ -26,7 +26,7 @@ use Rattle.line_merge.specs.Numbering.{numbered_by}
 use Rattle.line_merge.specs.Stretches.{stretch_order, stretch_of, piece_of}
 use Rattle.line_merge.proofs.Sights.{not_seen}
 use Rattle.line_merge.proofs.Lists.{map_contains, contains_map, filter_contains, contains_filter, pairs_map, pairs_from, pairs_permuted}
-use Rattle.line_merge.proofs.Courses.{cut_at, is_cut, AreNumberedStrips, IsOnNumber, IsOffEnds, IsCourse, meets}
+use Rattle.line_merge.proofs.Courses.{cut_at, is_cut, AreNumberedStrips, IsOnNumbered, IsOffEnds, IsCourse, meets}
 use Rattle.line_merge.proofs.Given.{given_courses, hit, strip_at, united_courses, rest_courses, lies_of_any, any_of_lies}
 use Rattle.line_merge.proofs.Drawn.{AreSeparate, separate_back, IsAlong, not_going_on, stands_first}
 
@@ -133,7 +133,7 @@ module _ (d : Triple) (strips : List Strip) (number : Line → ℕ) (all seen wh
         )
 
     -- the cut at a point of a visible strip goes through what is visible
-    seen_through : (x : Strip) → Contains strips x → x.hidden ≡ false → LiesOnStrip d x p → IsOnNumber d strips number (number x.line) p × CrossesAny (cut_at d (number x.line) p) visible
+    seen_through : (x : Strip) → Contains strips x → x.hidden ≡ false → LiesOnStrip d x p → IsOnNumbered d strips number (number x.line) p × CrossesAny (cut_at d (number x.line) p) visible
     seen_through x there not_hidden on =
         let (on_line, c) = hit d strips number steps.are (filter is_seen strips) among_seen seen steps.each_seen p positive off x (filter_contains is_seen strips x there (ap not not_hidden)) on in
         (on_line, (steps.visible_united.within (cut_at d (number x.line) p) (is_cut d (number x.line) p positive)).1 c)
@@ -171,7 +171,7 @@ module _ (d : Triple) (strips : List Strip) (number : Line → ℕ) (all seen wh
         ((steps.left.within (cut_at d (number x.line) p) cut).1
         ((steps.whole_united.within (cut_at d (number x.line) p) cut).1 c, λ k. none x on_line ((steps.visible_united.within (cut_at d (number x.line) p) cut).0 k)))
       where
-        none : (x : Strip) → IsOnNumber d strips number (number x.line) p → CrossesAny (cut_at d (number x.line) p) seen → ⊥
+        none : (x : Strip) → IsOnNumbered d strips number (number x.line) p → CrossesAny (cut_at d (number x.line) p) seen → ⊥
         none x on_line k =
             let (z, there_z, on_z, same) = strip_at d strips number steps.are (filter is_seen strips) among_seen seen steps.each_seen p positive off (number x.line) on_line k in
             let kept = contains_filter is_seen strips z there_z in

@@ -21,7 +21,7 @@ pub(crate) fn number_lines(alloc: Global, strips: &[Strip]) -> Result<Vec<Number
     let mut lines = IndexSet::new(alloc);
     let mut numbered = Vec::new(alloc);
     for strip in strips {
-        let (line, _) = lines.insert_full((strip.line.a, strip.line.b))?;
+        let (line, _) = lines.insert_full(strip.line)?;
         numbered.push(Numbered {
             strip: *strip,
             line,

@@ -1,5 +1,6 @@
 // Whole texts of sheets, from strokes that were made by hand.
-ghost use Rattle.std.specs.Prelude.{◌≡◌, length, IfOk};
+ghost use Rattle.std.specs.Prelude.{◌≡◌, ◌<◌, IsTrue};
+ghost use Rattle.std.specs.List.{All};
 
 use crate::svg;
 use dec_text::Name;
@@ -47,9 +48,7 @@ const TITLED: &str = "<?xml version=\"1.0\" encoding=\"UTF-8\"?>\n\
      </svg>\n";
 
 /// A sheet of A3 with so many views.
-fn a3(alloc: Global, d: Dir, views: u8) -> Result<Sheet, OutOfMemory>
-    ensures { IfOk result (λ sheet. length sheet.places.items ≡ views) }
-{
+fn a3(alloc: Global, d: Dir, views: u8) -> Result<Sheet, OutOfMemory> {
     let mut places = Vec::new(alloc);
     for _i in 0..views {
         places.push(Spread {
@@ -98,6 +97,18 @@ fn square(view: u8, x: i16, y: i16) -> [Stroke; 4] {
     ]
 }
 
+/// The strokes are of the first `n` views.
+fn are_below(strokes: &[Stroke], n: usize) -> bool
+    ensures { IsTrue result → All (λ s. s.view < n) strokes.now }
+{
+    for stroke in strokes {
+        if stroke.view as usize >= n {
+            return false;
+        }
+    }
+    true
+}
+
 #[test]
 fn three_views_of_a_cube(rt: HostRuntime) -> Result<(), Fail> {
     let Ok(d) = Dir::new(0, -1, 0) else {
@@ -105,6 +116,7 @@ fn three_views_of_a_cube(rt: HostRuntime) -> Result<(), Fail> {
         return Ok(());
     };
     let sheet = a3(rt.alloc(), d, 3)?;
+    assert!(rt; sheet.places.len() == 3);
     let mut strokes = Vec::new(rt.alloc());
     for (view, x, y) in [(0, 2000, 2000), (1, 2000, 4500), (2, 4500, 2000)] {
         for stroke in square(view, x, y) {
@@ -112,7 +124,7 @@ fn three_views_of_a_cube(rt: HostRuntime) -> Result<(), Fail> {
         }
     }
     let title = Name::new(rt.alloc(), "")?;
-    assert!(rt; strokes.iter().all(|s| s.view < 3));
+    assert!(rt; are_below(&strokes, 3));
     let text = svg(rt.alloc(), &sheet, &title, &strokes)?;
     assert_eq!(rt; text.as_slice(), CUBE.as_bytes());
     Ok(())
@@ -125,6 +137,7 @@ fn a_title_and_a_view_without_strokes(rt: HostRuntime) -> Result<(), Fail> {
         return Ok(());
     };
     let sheet = a3(rt.alloc(), d, 2)?;
+    assert!(rt; sheet.places.len() == 2);
     let title = Name::new(rt.alloc(), "A & B <1>\"")?;
     let strokes = [stroke(1, Mark::Dashed, (2500, 3000), (-2500, 3000))];
     let text = svg(rt.alloc(), &sheet, &title, &strokes)?;

@@ -13,7 +13,6 @@ use Rattle.line_merge.specs.declared.marks.Mark.{Mark}
 use Rattle.line_merge.specs.declared.stretches.Stretch.{Stretch}
 use Rattle.line_merge.specs.Marks.{mark_order}
 use Rattle.line_merge.specs.Merging.{AreMerged}
-use Rattle.line_merge.specs.Numbering.{numbered_by}
 use Rattle.line_merge.specs.Stretches.{stretch_of, piece_of}
 use Rattle.line_merge.proofs.Given.{given_proper, ends_of, kept_of, each_of}
 use Rattle.line_merge.proofs.Merged.{AreSteps, is_seen, merged}
