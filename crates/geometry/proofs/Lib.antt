@@ -4,3 +4,7 @@ pub mod Shares
 pub mod EachEdge
 pub mod EdgeLines
 pub mod OnLines
+pub mod Scenes
+pub mod Counts
+pub mod Borders
+pub mod BorderSteps

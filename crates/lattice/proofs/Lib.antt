@@ -1,3 +1,4 @@
+pub mod CutSides
 pub mod LowestTerms
 pub mod OnLines
 pub mod SameLines

@@ -110,7 +110,7 @@ pub record Quotients (a b c g : ℤ) : Type 0 where
   pub leads : pos 0 <ℤ leading_of (int_div a g) (int_div b g)
   pub lowest : HaveNoCommonDivisor (int_div a g) (int_div b g) (int_div c g)
 
-pub quotients : (a b c g : ℤ) → unsigned_abs a < 2 ^ 30 → unsigned_abs b < 2 ^ 30 → unsigned_abs c < 2 ^ 62 → IsLeadingDivisor a b c g → Quotients a b c g
+pub quotients : (a b c g : ℤ) → unsigned_abs a ≤ 2 ^ 44 → unsigned_abs b ≤ 2 ^ 44 → unsigned_abs c < 2 ^ 67 → IsLeadingDivisor a b c g → Quotients a b c g
 quotients a b c g ha hb hc d =
     let some : 0 < unsigned_abs g = counts (leading_of a b) g d.leads in
     let ea = exact a g d.first in
@@ -137,7 +137,7 @@ quotients a b c g ha hb hc d =
           eq-one_of_dvd-one (dvd_of_mul-dvd-mul_right n some (subst (λ v. n * unsigned_abs g ∣ v) (sym (one-mul (unsigned_abs g))) all));
     }
   where
-    fits : (q z : ℤ) → unsigned_abs q ≤ unsigned_abs z → unsigned_abs z < 2 ^ 62 → FitsSigned w128 q
+    fits : (q z : ℤ) → unsigned_abs q ≤ unsigned_abs z → unsigned_abs z < 2 ^ 67 → FitsSigned w128 q
     fits q z h k = omega (arith, ints)
 
     counts : (z g : ℤ) → pos 0 <ℤ (z *ℤ g) → 0 < unsigned_abs g

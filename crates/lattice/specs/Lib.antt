@@ -1,4 +1,5 @@
 pub mod Creases
+pub mod Cuts
 pub mod Faults
 pub mod Lines
 pub mod LowestTerms

@@ -4,9 +4,10 @@
 //! direction are a right-handed system, as the viewer sees them. U and V of a point are its scalar products with the
 //! right and the up axis, and its height is that with the direction. All lengths are in units. Sizes are kept in the
 //! types, so that no product overflows. No call takes memory, and each takes constant time, but for `same_sight`, which
-//! compares two pairs of fractions, and `Line::through`, which takes two greatest common divisors.
+//! compares two pairs of fractions, and `Line::lowest` and `Line::through`, which take two greatest common divisors.
 #![tactic(auto)]
 
+mod cuts;
 mod lines;
 mod normals;
 mod pieces;
@@ -16,9 +17,10 @@ mod soup;
 #[cfg(test)]
 mod tests;
 
+pub use cuts::{Cut, CutFault};
 pub use lines::Line;
 pub use normals::Normal;
-pub use pieces::{Crease, Piece, Strip, Style, ViewSpec};
+pub use pieces::{Crease, HatchLine, Piece, Strip, Style, ViewSpec};
 pub use points::{Axis, Corner, Dir, DirFault, Spot, Vector};
 pub use products::{across, cross, det3, height, same_sight, upward, view_cross};
 pub use soup::{Soup, Tri};

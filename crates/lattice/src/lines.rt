@@ -27,7 +27,7 @@ impl Line {
 
     /// The line on which both corners are seen, the same for either order. They may not be seen at one place.
     ///
-    /// It takes two greatest common divisors, by at most 184 divisions each, and three divisions.
+    /// It takes what `lowest` takes.
     pub fn through(d: &Dir, p: &Corner, q: &Corner) -> Line
         requires { ¬ OnOneSight (of_dir d.now) (point_of p.now) (point_of q.now) }
         ensures first { IsOnLine (of_dir d.now) result (point_of p.now) }
@@ -41,10 +41,12 @@ impl Line {
     }
 
     /// The line `a * U + b * V = c`. `a` and `b` may not both be 0.
-    fn lowest(a: i128, b: i128, c: i128) -> Line
-        requires first { unsigned_abs a < 2 ^ 30 }
-        requires second { unsigned_abs b < 2 ^ 30 }
-        requires third { unsigned_abs c < 2 ^ 62 }
+    ///
+    /// It takes two greatest common divisors, by at most 184 divisions each, and three divisions.
+    pub fn lowest(a: i128, b: i128, c: i128) -> Line
+        requires first { unsigned_abs a ≤ 2 ^ 44 }
+        requires second { unsigned_abs b ≤ 2 ^ 44 }
+        requires third { unsigned_abs c < 2 ^ 67 }
         requires somewhere { 0 < unsigned_abs a + unsigned_abs b }
         ensures { IsLineOf result a b c }
     {
@@ -59,9 +61,9 @@ impl Line {
 
 /// The greatest common divisor, with the sign of the first of `a` and `b` that isn't 0. They may not both be 0.
 fn leading_divisor(a: i128, b: i128, c: i128) -> i128
-    requires first { unsigned_abs a < 2 ^ 30 }
-    requires second { unsigned_abs b < 2 ^ 30 }
-    requires third { unsigned_abs c < 2 ^ 62 }
+    requires first { unsigned_abs a ≤ 2 ^ 44 }
+    requires second { unsigned_abs b ≤ 2 ^ 44 }
+    requires third { unsigned_abs c < 2 ^ 67 }
     requires somewhere { 0 < unsigned_abs a + unsigned_abs b }
     ensures { IsLeadingDivisor a b c result }
 {

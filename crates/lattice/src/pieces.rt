@@ -45,6 +45,13 @@ pub struct Piece {
     pub style: Style,
 }
 
+/// A straight line of the hatching of a section, from one spot to the other.
+#[derive(Clone, Copy, Debug)]
+pub struct HatchLine {
+    pub a: Spot,
+    pub b: Spot,
+}
+
 /// A part of a line that is drawn, before lines that coincide are put together. From some direction both spots are seen on
 /// the line, and not at one place.
 #[derive(Clone, Copy, Debug)]

@@ -138,6 +138,7 @@ pub struct Dir {
 
 impl Dir {
     ghost use Rattle.lattice.specs.Points.{of_dir, of_vector};
+    ghost use Rattle.lattice.specs.Cuts.{side_of};
 
     /// The direction with these components. Three zeros are `ZeroDirection`; a component outside -9 to 9 is
     /// `DirectionRange`, with the first such axis.
@@ -152,6 +153,30 @@ impl Dir {
         match first_outside(x, y, z) {
             Some(axis) => Err(DirFault::DirectionRange(axis)),
             None => Ok(Dir { x, y, z }),
+        }
+    }
+
+    /// The direction along an axis to its high side, or against it to its low side.
+    pub(crate) fn along(axis: Axis, from_high: bool) -> Dir
+        ensures { of_dir result ≡ side_of axis from_high }
+    {
+        let step = if from_high { 1 } else { -1 };
+        match axis {
+            Axis::X => Dir {
+                x: step,
+                y: 0,
+                z: 0,
+            },
+            Axis::Y => Dir {
+                x: 0,
+                y: step,
+                z: 0,
+            },
+            Axis::Z => Dir {
+                x: 0,
+                y: 0,
+                z: step,
+            },
         }
     }
 

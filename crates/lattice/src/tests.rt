@@ -201,3 +201,31 @@ fn equal_lines_in_a_set(rt: HostRuntime) -> Result<(), AllocError> {
     assert_eq!(rt; lines.len(), 1);
     Ok(())
 }
+
+#[test]
+fn planes_of_cuts(rt: HostRuntime) {
+    let rows = [
+        (Axis::X, 1_048_576, true, (1, 0, 0)),
+        (Axis::X, -7, false, (-1, 0, 0)),
+        (Axis::Y, 0, true, (0, 1, 0)),
+        (Axis::Y, 15_000, false, (0, -1, 0)),
+        (Axis::Z, 10_000, true, (0, 0, 1)),
+        (Axis::Z, -1_048_576, false, (0, 0, -1)),
+    ];
+    for (axis, at, from_high, toward) in rows {
+        let Ok(cut) = Cut::new(axis, at, from_high) else {
+            assert!(rt; false, "no cut at {at}");
+            return;
+        };
+        assert_eq!(rt; (cut.at(), cut.from_high()), (at, from_high));
+        assert_eq!(rt; cut.axis(), axis, "axis at {at}");
+        assert_eq!(rt; components(cut.dir().vector()), toward, "direction at {at}");
+    }
+    for at in [1_048_577, -1_048_577] {
+        assert_eq!(rt;
+            Cut::new(Axis::Y, at, true).err(),
+            Some(CutFault::CutRange),
+            "{at}"
+        );
+    }
+}

@@ -1,4 +1,4 @@
-use Rattle.std.proofs.Common.{rules, ◌∙◌, ◌+ℤ◌, ◌*ℤ◌, FitsSigned}
+use Rattle.std.proofs.Common.{rules, arith, ◌∙◌, ◌+ℤ◌, ◌*ℤ◌, FitsSigned}
 use Rattle.std.specs.Int.{w128}
 use Rattle.std.proofs.lemmas.Int.{to_z-of_z}
 use Rattle.lattice.specs.Triple.{dot}
@@ -20,12 +20,12 @@ constant-c-requires-clause-second c =
 pub lowest-requires-clause-first : goal.lowest-requires-clause-first
 lowest-requires-clause-first c =
     let fits : FitsSigned w128 c.dot-a.result = search rules in
-    simp to_z-of_z (c.dot-a.ensures.small c.up-up.ensures.size)
+    simp to_z-of_z (omega (arith, c.dot-a.ensures.small c.up-up.ensures.size))
 
 pub lowest-requires-clause-second : goal.lowest-requires-clause-second
 lowest-requires-clause-second c =
     let fits : FitsSigned w128 c.dot-b.result = search rules in
-    simp to_z-of_z (c.dot-b.ensures.small (wider _ c.right-right.ensures.size))
+    simp to_z-of_z (omega (arith, c.dot-b.ensures.small (wider _ c.right-right.ensures.size)))
 
 pub lowest-requires-clause-somewhere : goal.lowest-requires-clause-somewhere
 lowest-requires-clause-somewhere c =
