@@ -1,10 +1,11 @@
 pub mod Blocks
 pub mod Chains
-pub mod Extremes
-pub mod Front
+pub mod Drawings
+pub mod SheetFacts
 pub mod SpanPlaces
 pub mod SpanSums
 pub mod StripLists
 pub mod StripPlaces
+pub mod StrokeLists
 pub mod ViewRight
 pub mod Warnings

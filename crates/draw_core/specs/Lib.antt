@@ -2,11 +2,12 @@ pub mod Desks
 pub mod Drawing
 pub mod Fetch
 pub mod Lines
+pub mod Named
 pub mod Reading
 pub mod Run
-pub mod Sheet
+pub mod Sheets
 pub mod Strips
-pub mod Svg
-pub mod Texts
+pub mod Strokes
+pub mod Taken
 pub mod Told
 pub mod Words

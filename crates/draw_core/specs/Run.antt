@@ -1,22 +1,32 @@
 -- What a run answers, from its words and the files at entry: steps in order, each with what it gives and what it refuses.
-use Rattle.std.specs.Prelude.{◌≡◌, ◌⊎◌, ◌<◌, ◌≤◌, ℕ, List, [], length, Option, Some, None, IsSome, IsSomeAnd, Result, Ok, Err, Bool, false, IsTrue, codes}
-use Rattle.desk.specs.Files.{Files, Keeps, MayKeepFront}
+use Rattle.std.specs.Prelude.{◌≡◌, ◌⊎◌, ◌<◌, ◌≤◌, ℕ, List, [], ◌∷◌, length, Option, Some, None, IsSome, IsSomeAnd, Result, Ok, Err, Bool, false, IsTrue, codes}
+use Rattle.desk.specs.Files.{Files, Keeps, MayKeepFront, Rose}
 use Rattle.geometry.specs.Parts.{Part}
 use Rattle.geometry.specs.Sound.{IsSound}
+use Rattle.job_file.specs.Documents.{JobValues, job_of_bytes}
+use Rattle.job_file.specs.declared.fault.JobFault.{JobFault}
 use Rattle.weld.specs.Raw.{Raw}
 use Rattle.weld.specs.Welds.{IsWeldOf, proper_of}
 use Rattle.weld.specs.declared.fault.PartFault.{PartFault}
 use Rattle.solid_mesh.specs.Faults.{HasFault}
 use Rattle.solid_mesh.specs.declared.faults.MeshFault.{MeshFault}
 use Rattle.draw_core.specs.Reading.{ReadsPartText}
-use Rattle.draw_core.specs.Words.{part_name}
-use Rattle.draw_core.specs.declared.fault.Input.TheVariants.{Part as ThePart}
+use Rattle.draw_core.specs.Sheets.{HasSheet, HasNoSheet}
+use Rattle.draw_core.specs.Words.{Named, named_by}
+use Rattle.draw_core.specs.declared.fault.Input.{Input}
+use Rattle.draw_core.specs.declared.fault.Input.TheVariants.{Job as TheJob, Part as ThePart}
 use Rattle.draw_core.specs.declared.fault.Fault.{Fault}
-use Rattle.draw_core.specs.declared.fault.Fault.TheVariants.{Usage, ReadFault, PartTooLong, Part as PartUnread, Nothing, Mesh, WriteFault, Memory}
+use Rattle.draw_core.specs.declared.fault.Fault.TheVariants.{Usage, ReadFault, JobTooLong, Job as JobUnread, NoPlotter, PartTooLong, Part as PartUnread, Nothing, Mesh, DoesNotFit, WriteFault, Memory}
 
--- the most bytes that a part may have
-abbrev pub part_limit : ℕ
-part_limit = 16777216
+-- the most bytes that a file may have
+abbrev pub limit_of : Input → ℕ
+limit_of TheJob = 65536
+limit_of ThePart = 16777216
+
+-- the fault of a file that has more
+abbrev pub too_long : Input → Fault
+too_long TheJob = JobTooLong
+too_long ThePart = PartTooLong
 
 -- the name that the drawing is written under
 abbrev pub out_name : List ℕ
@@ -29,21 +39,37 @@ abbrev pub ◌and_then◌ : {A B : Type 0} → (Result A Fault → Type 0) → (
 ◌and_then◌ {A} first next (Ok y) = (x : A) × first (Ok x) × next x (Ok y)
 ◌and_then◌ {A} first next (Err e) = first (Err e) ⊎ ((x : A) × first (Ok x) × next x (Err e))
 
--- the words name a part
-abbrev pub NamesPart : List (List ℕ) → Result (List ℕ) Fault → Type 0
-NamesPart words (Ok name) = part_name words ≡ Some name
-NamesPart words (Err e) = (e ≡ Usage) × (part_name words ≡ None)
+-- the words name files
+abbrev pub NamesFiles : List (List ℕ) → Result Named Fault → Type 0
+NamesFiles words (Ok named) = named_by words ≡ Some named
+NamesFiles words (Err e) = (e ≡ Usage) × (named_by words ≡ None)
 
--- its file is there, within the limit
-abbrev pub TakesPart : Files → List ℕ → Result (List ℕ) Fault → Type 0
-TakesPart files name (Ok bytes) = (files name ≡ Some bytes) × (length bytes ≤ part_limit)
-TakesPart files name (Err e) =
-    ((e ≡ ReadFault ThePart) × (files name ≡ None)) ⊎ ((e ≡ PartTooLong) × IsSomeAnd (files name) (λ bytes. part_limit < length bytes))
+-- the file is there, within the limit
+abbrev pub TakesFile : Input → Files → List ℕ → Result (List ℕ) Fault → Type 0
+TakesFile input files name (Ok bytes) = (files name ≡ Some bytes) × (length bytes ≤ limit_of input)
+TakesFile input files name (Err e) =
+    ((e ≡ ReadFault input) × (files name ≡ None)) ⊎ ((e ≡ too_long input) × IsSomeAnd (files name) (λ bytes. limit_of input < length bytes))
 
--- what its text says, in thousandths
-abbrev pub ReadsText : (bytes : List ℕ) → Result Raw Fault → Type 0
-ReadsText bytes (Ok raw) = ReadsPartText 3 bytes (Ok raw)
-ReadsText bytes (Err e) = (cause : PartFault) × (e ≡ PartUnread cause) × ReadsPartText 3 bytes (Err cause)
+-- the bytes of the job: with no name, none
+abbrev pub TakesJob : Files → Option (List ℕ) → Result (List ℕ) Fault → Type 0
+TakesJob files None (Ok bytes) = bytes ≡ []
+TakesJob files None (Err e) = ⊥
+TakesJob files (Some name) answer = TakesFile TheJob files name answer
+
+-- what they say as a job
+abbrev pub ReadsJob : List ℕ → Result JobValues Fault → Type 0
+ReadsJob bytes (Ok job) = job_of_bytes bytes ≡ Ok job
+ReadsJob bytes (Err e) = (cause : JobFault) × (e ≡ JobUnread cause) × (job_of_bytes bytes ≡ Err cause)
+
+-- it asks for no output besides the drawing, since there is no plotter
+abbrev pub NeedsNoPlotter : JobValues → Result JobValues Fault → Type 0
+NeedsNoPlotter job (Ok same) = (same ≡ job) × (job.outputs ≡ [])
+NeedsNoPlotter job (Err e) = (name : List ℕ) × (others : List (List ℕ)) × (e ≡ NoPlotter name) × (job.outputs ≡ name ∷ others)
+
+-- what the part's text says, in units of 10^-decimals mm
+abbrev pub ReadsText : ℕ → (bytes : List ℕ) → Result Raw Fault → Type 0
+ReadsText decimals bytes (Ok raw) = ReadsPartText decimals bytes (Ok raw)
+ReadsText decimals bytes (Err e) = (cause : PartFault) × (e ≡ PartUnread cause) × ReadsPartText decimals bytes (Err cause)
 
 -- its weld has a triangle
 abbrev pub WeldsPart : Raw → Result Part Fault → Type 0
@@ -51,17 +77,45 @@ WeldsPart raw (Ok part) = IsWeldOf raw part.corners part.triangles × (0 < lengt
 WeldsPart raw (Err e) = (e ≡ Nothing) × (proper_of raw ≡ [])
 
 -- its text is read, and welded
-abbrev pub ReadsPart : List ℕ → Result Part Fault → Type 0
-ReadsPart bytes = ReadsText bytes and_then WeldsPart
+abbrev pub ReadsPart : ℕ → List ℕ → Result Part Fault → Type 0
+ReadsPart decimals bytes = ReadsText decimals bytes and_then WeldsPart
 
 -- its surface is sound: it is closed, no two triangles have the same corners, and edges meet faces in shared corners only
 abbrev pub ChecksPart : Part → Result Part Fault → Type 0
 ChecksPart part (Ok solid) = (solid ≡ part) × IsSound part
 ChecksPart part (Err e) = (fault : MeshFault) × (e ≡ Mesh fault) × HasFault part fault
 
--- a run: the part that is drawn, or the refusal
-abbrev pub Runs : List (List ℕ) → Files → Result Part Fault → Type 0
-Runs words files = NamesPart words and_then TakesPart files and_then ReadsPart and_then ChecksPart
+-- its text is that of a sound solid
+abbrev pub ReadsSolid : ℕ → List ℕ → Result Part Fault → Type 0
+ReadsSolid decimals bytes = ReadsPart decimals bytes and_then ChecksPart
+
+-- the job is taken, read, and needs no plotter
+abbrev pub TakesReadJob : Files → Option (List ℕ) → Result JobValues Fault → Type 0
+TakesReadJob files name = TakesJob files name and_then ReadsJob and_then NeedsNoPlotter
+
+-- the part is taken, read with the job's decimals, and sound
+abbrev pub TakesSolid : Files → List ℕ → ℕ → Result Part Fault → Type 0
+TakesSolid files name decimals = TakesFile ThePart files name and_then ReadsSolid decimals
+
+-- what is drawn
+pub record Drawn : Type 0 where
+  pub job : JobValues
+  pub part : Part
+
+-- the part is drawn by the job, whose views of it fit the sheet
+abbrev pub PlansSheet : JobValues → Part → Result Drawn Fault → Type 0
+PlansSheet job part (Ok drawn) = (drawn ≡ record { job = job; part = part }) × HasSheet job part.corners
+PlansSheet job part (Err (DoesNotFit need_w need_h have_w have_h)) = HasNoSheet job part.corners need_w need_h have_w have_h
+PlansSheet job part (Err e) = ⊥
+
+-- the files that were named give the job, and then the part
+abbrev pub DrawsFiles : Files → Named → Result Drawn Fault → Type 0
+DrawsFiles files named =
+    TakesReadJob files named.job and_then λ job. (TakesSolid files named.part job.decimals and_then PlansSheet job)
+
+-- a run: what is drawn, or the refusal
+abbrev pub Runs : List (List ℕ) → Files → Result Drawn Fault → Type 0
+Runs words files = NamesFiles words and_then DrawsFiles files
 
 -- ---- answers
 -- Want of memory is free, and a fault of reading or writing has its count; each other refusal is that of the steps.
@@ -70,29 +124,87 @@ Refuses steps Memory = Unit {0}
 Refuses steps (ReadFault input) = Unit {0}
 Refuses steps (WriteFault target) = Unit {0}
 Refuses steps Usage = steps (Err Usage)
+Refuses steps JobTooLong = steps (Err JobTooLong)
+Refuses steps (JobUnread cause) = steps (Err (JobUnread cause))
+Refuses steps (NoPlotter name) = steps (Err (NoPlotter name))
 Refuses steps PartTooLong = steps (Err PartTooLong)
 Refuses steps (PartUnread cause) = steps (Err (PartUnread cause))
 Refuses steps Nothing = steps (Err Nothing)
 Refuses steps (Mesh fault) = steps (Err (Mesh fault))
+Refuses steps (DoesNotFit need_w need_h have_w have_h) = steps (Err (DoesNotFit need_w need_h have_w have_h))
 
 -- a step's result, seen by view
 abbrev pub Gives : {X Y : Type 0} → (X → Y) → (Result Y Fault → Type 0) → Result X Fault → Type 0
 Gives view steps (Ok x) = steps (Ok (view x))
 Gives view steps (Err e) = Refuses steps e
 
--- the words are refused exactly so on every desk, unless memory ran out
-abbrev pub AnswersWords : Option (List ℕ) → Option Fault → Type 0
-AnswersWords name (Some Usage) = name ≡ None
-AnswersWords name (Some Memory) = Unit {0}
-AnswersWords name fault = IsSome name
+-- the faults of the usual job, and those of a named one
+abbrev pub IsOfUsualJob : Fault → Type 0
+IsOfUsualJob (NoPlotter output) = Unit {0}
+IsOfUsualJob Memory = Unit {0}
+IsOfUsualJob fault = ⊥
+
+abbrev pub IsOfNamedJob : Fault → Type 0
+IsOfNamedJob (ReadFault TheJob) = Unit {0}
+IsOfNamedJob JobTooLong = Unit {0}
+IsOfNamedJob (JobUnread cause) = Unit {0}
+IsOfNamedJob (NoPlotter output) = Unit {0}
+IsOfNamedJob Memory = Unit {0}
+IsOfNamedJob fault = ⊥
+
+abbrev pub IsOfJob : Option (List ℕ) → Fault → Type 0
+IsOfJob None fault = IsOfUsualJob fault
+IsOfJob (Some name) fault = IsOfNamedJob fault
+
+-- the faults of a part
+abbrev pub IsOfPart : Fault → Type 0
+IsOfPart (ReadFault ThePart) = Unit {0}
+IsOfPart PartTooLong = Unit {0}
+IsOfPart (PartUnread cause) = Unit {0}
+IsOfPart Nothing = Unit {0}
+IsOfPart (Mesh fault) = Unit {0}
+IsOfPart Memory = Unit {0}
+IsOfPart fault = ⊥
+
+-- the fault of a sheet
+abbrev pub IsOfSheet : Fault → Type 0
+IsOfSheet (DoesNotFit need_w need_h have_w have_h) = Unit {0}
+IsOfSheet Memory = Unit {0}
+IsOfSheet fault = ⊥
+
+-- the faults of the files that were named: of the job, of the part, or of the sheet
+abbrev pub IsOfFiles : Named → Fault → Type 0
+IsOfFiles named fault = IsOfJob named.job fault ⊎ IsOfPart fault ⊎ IsOfSheet fault
+
+-- on every desk the words are refused exactly so, unless memory ran out, and the job is at fault only as it may be
+abbrev pub AnswersWords : Option Named → Option Fault → Type 0
+AnswersWords named (Some Usage) = named ≡ None
+AnswersWords named (Some Memory) = Unit {0}
+AnswersWords named (Some (WriteFault target)) = IsSome named
+AnswersWords named (Some fault) = IsSomeAnd named (λ names. IsOfFiles names fault)
+AnswersWords named None = IsSome named
+
+-- the count of the faults of reading rose where one is answered, and else it stands
+abbrev pub CountsReads : Option Fault → ℕ → ℕ → Type 0
+CountsReads (Some (ReadFault input)) old new = Rose old new
+CountsReads fault old new = new ≡ old
+
+-- a fault of reading is that of the steps, as on a steady desk: the file is missing
+abbrev pub IsMissing : {A : Type 0} → (Result A Fault → Type 0) → Fault → Type 0
+IsMissing steps (ReadFault input) = steps (Err (ReadFault input))
+IsMissing steps fault = Unit {0}
 
 abbrev pub status_of : Option Fault → ℕ
 status_of None = 0
 status_of (Some Usage) = 2
+status_of (Some JobTooLong) = 3
+status_of (Some (JobUnread cause)) = 3
+status_of (Some (NoPlotter name)) = 3
 status_of (Some PartTooLong) = 4
 status_of (Some (PartUnread cause)) = 4
 status_of (Some Nothing) = 4
 status_of (Some (Mesh fault)) = 5
+status_of (Some (DoesNotFit need_w need_h have_w have_h)) = 6
 status_of (Some (ReadFault input)) = 7
 status_of (Some (WriteFault target)) = 8
 status_of (Some Memory) = 9

@@ -1,6 +1,8 @@
 // What a run makes.
 use crate::fault::Fault;
+use job_file::Job;
 use lattice::{Piece, ViewSpec};
+use sheet_plan::Sheet;
 use solid_mesh::Solid;
 
 /// One view and its pieces, in their order.
@@ -10,10 +12,12 @@ pub struct ViewDrawing {
     pub pieces: Vec<Piece>,
 }
 
-/// A part and its views.
+/// A part, the job that it is drawn by, the sheet, and the job's views in their order.
 #[derive(Drop)]
 pub struct Drawing {
     pub solid: Solid,
+    pub job: Job,
+    pub sheet: Sheet,
     pub views: Vec<ViewDrawing>,
 }
 

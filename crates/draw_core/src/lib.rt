@@ -7,11 +7,13 @@ mod fetch;
 mod lines;
 mod part;
 mod run;
-mod sheet;
+mod sheets;
 mod strips;
-mod svg;
+mod strokes;
+mod take;
 #[cfg(test)]
 mod tests;
+mod views;
 mod words;
 
 pub use drawing::{Drawing, Outcome, ViewDrawing};

@@ -1,9 +1,12 @@
 // The line that a fault is told by.
-ghost use Rattle.std.specs.Prelude.{◌≡◌, IfOk, IsOk, string_bytes};
-ghost use Rattle.draw_core.specs.Lines.{word_text, want_text, kind_text, part_line, mesh_line, fault_line, NamesNoNumber};
+ghost use Rattle.std.specs.Prelude.{◌≡◌, ◌<◌, IfOk, IsOk, codes, string_bytes};
+ghost use Rattle.draw_core.specs.Lines.{shown_byte, shown, key_text, axis_text, job_line, read_line, HasNoNumberOrName, word_text, want_text, kind_text, part_line, mesh_line, sheet_line, fault_line, NamesNothing};
+ghost use Rattle.svg_page.specs.Texts.{◌⊕◌};
 ghost use Rattle.draw_core.specs.Told.{text_of};
 
-use crate::fault::Fault;
+use crate::fault::{Fault, Input};
+use job_file::{JobFault, Key};
+use lattice::Axis;
 use solid_mesh::MeshFault;
 use std::alloc::{AllocError, Global};
 use weld::{PartFault, PartKind, Want, Word};
@@ -34,20 +37,141 @@ impl Line {
     }
 }
 
-/// The line of a fault. It takes memory only where the fault names a number.
+/// The line of a fault. It takes memory only where the fault has a number or a name.
 pub(crate) fn line_of(alloc: Global, fault: &Fault) -> Result<Line, AllocError>
     ensures line { IfOk result (λ line. text_of line ≡ fault_line fault.now) }
-    ensures fixed { NamesNoNumber fault.now → IsOk result }
+    ensures fixed { NamesNothing fault.now → IsOk result }
 {
     match fault {
         Fault::Part(fault) => Ok(Line::Made(part_line(alloc, fault)?)),
         Fault::Mesh(fault) => Ok(Line::Made(mesh_line(alloc, fault)?)),
         Fault::Usage => Ok(Line::Fixed("draw: usage: draw PART [--job JOB] [--out OUT]\n")),
-        Fault::ReadFault(_) => Ok(Line::Fixed("draw: cannot read the part\n")),
+        Fault::ReadFault(input) => Ok(Line::Fixed(read_line(input))),
+        Fault::JobTooLong => Ok(Line::Fixed("draw: job: more than 65536 bytes\n")),
+        Fault::Job(fault) => job_line(alloc, fault),
+        Fault::NoPlotter(name) => Ok(Line::Made(plotter_line(alloc, name.as_str())?)),
         Fault::PartTooLong => Ok(Line::Fixed("draw: part: more than 16777216 bytes\n")),
         Fault::Nothing => Ok(Line::Fixed("draw: part: no triangle\n")),
+        Fault::DoesNotFit {
+            need_w,
+            need_h,
+            have_w,
+            have_h,
+        } => Ok(Line::Made(sheet_line(alloc, *need_w, *need_h, *have_w, *have_h)?)),
         Fault::WriteFault(_) => Ok(Line::Fixed(WRITE_LINE)),
         Fault::Memory => Ok(Line::Fixed(MEMORY_LINE)),
+    }
+}
+
+fn read_line(input: &Input) -> &'static str
+    ensures { result.now ≡ read_line input.now }
+{
+    match input {
+        Input::Job => "draw: cannot read the job\n",
+        Input::Part => "draw: cannot read the part\n",
+    }
+}
+
+// The character that a byte of a name is told by.
+fn shown_char(byte: u8) -> char
+    ensures value { result ≡ shown_byte byte }
+    ensures ascii { result < 128 }
+{
+    if 32 <= byte && byte <= 126 {
+        byte as char
+    } else {
+        '?'
+    }
+}
+
+// A name as it is told.
+fn shown(alloc: Global, name: &str) -> Result<String, AllocError>
+    ensures { IfOk result (λ text. string_bytes text ≡ shown name.now) }
+{
+    let mut text = String::new(alloc);
+    for byte in name.as_bytes() {
+        text.push(shown_char(*byte))?;
+    }
+    Ok(text)
+}
+
+fn plotter_line(alloc: Global, name: &str) -> Result<String, AllocError>
+    ensures { IfOk result (λ line. string_bytes line ≡ codes "draw: no plotter " ⊕ shown name.now ⊕ codes "\n") }
+{
+    let name = shown(alloc, name)?;
+    format!(in alloc; "draw: no plotter {name}\n")
+}
+
+fn key_line(key: &Key) -> &'static str
+    ensures { result.now ≡ codes "draw: job: wrong " ⊕ key_text key.now ⊕ codes "\n" }
+{
+    match key {
+        Key::Version => "draw: job: wrong version\n",
+        Key::Decimals => "draw: job: wrong decimals\n",
+        Key::Angle => "draw: job: wrong angle\n",
+        Key::Sheet => "draw: job: wrong sheet\n",
+        Key::Scale => "draw: job: wrong scale\n",
+        Key::Crease => "draw: job: wrong crease\n",
+        Key::Title => "draw: job: wrong title\n",
+        Key::Outputs => "draw: job: wrong outputs\n",
+        Key::View => "draw: job: wrong view\n",
+        Key::Name => "draw: job: wrong name\n",
+        Key::Toward => "draw: job: wrong toward\n",
+        Key::Cut => "draw: job: wrong cut\n",
+        Key::At => "draw: job: wrong at\n",
+        Key::From => "draw: job: wrong from\n",
+    }
+}
+
+fn axis_text(axis: &Axis) -> &'static str
+    ensures { result.now ≡ axis_text axis.now }
+{
+    match axis {
+        Axis::X => "x",
+        Axis::Y => "y",
+        Axis::Z => "z",
+    }
+}
+
+fn unknown_line(alloc: Global, name: &str) -> Result<String, AllocError>
+    ensures { IfOk result (λ line. string_bytes line ≡ codes "draw: job: unknown key " ⊕ shown name.now ⊕ codes "\n") }
+{
+    let name = shown(alloc, name)?;
+    format!(in alloc; "draw: job: unknown key {name}\n")
+}
+
+fn version_line(alloc: Global, n: i64) -> Result<String, AllocError>
+    ensures { IfOk result (λ line. string_bytes line ≡ job_line (JobFault.Version n)) }
+{
+    format!(in alloc; "draw: job: version {n}\n")
+}
+
+fn zero_line(alloc: Global, view: u32) -> Result<String, AllocError>
+    ensures { IfOk result (λ line. string_bytes line ≡ job_line (JobFault.ZeroDirection view)) }
+{
+    format!(in alloc; "draw: job: view {view}: zero direction\n")
+}
+
+fn range_line(alloc: Global, view: u32, axis: &Axis) -> Result<String, AllocError>
+    ensures { IfOk result (λ line. string_bytes line ≡ job_line (JobFault.DirectionRange view axis.now)) }
+{
+    let axis = axis_text(axis);
+    format!(in alloc; "draw: job: view {view}: direction {axis} outside -9 to 9\n")
+}
+
+// The line of a fault of a job. It takes memory only where the fault has a number or a name.
+fn job_line(alloc: Global, fault: &JobFault) -> Result<Line, AllocError>
+    ensures line { IfOk result (λ line. text_of line ≡ job_line fault.now) }
+    ensures fixed { HasNoNumberOrName fault.now → IsOk result }
+{
+    match fault {
+        JobFault::NotToml => Ok(Line::Fixed("draw: job: not TOML\n")),
+        JobFault::Wrong(key) => Ok(Line::Fixed(key_line(key))),
+        JobFault::TooManyViews => Ok(Line::Fixed("draw: job: more than 12 views\n")),
+        JobFault::Version(n) => Ok(Line::Made(version_line(alloc, *n)?)),
+        JobFault::UnknownKey(name) => Ok(Line::Made(unknown_line(alloc, name.as_str())?)),
+        JobFault::ZeroDirection(view) => Ok(Line::Made(zero_line(alloc, *view)?)),
+        JobFault::DirectionRange(view, axis) => Ok(Line::Made(range_line(alloc, *view, axis)?)),
     }
 }
 
@@ -77,6 +201,18 @@ fn mesh_line(alloc: Global, fault: &MeshFault) -> Result<String, AllocError>
             format!(in alloc; "draw: solid: edge {edge} meets triangle {t}\n")
         }
     }
+}
+
+fn sheet_line(
+    alloc: Global,
+    need_w: i64,
+    need_h: i64,
+    have_w: i64,
+    have_h: i64,
+) -> Result<String, AllocError>
+    ensures { IfOk result (λ line. string_bytes line ≡ sheet_line need_w need_h have_w have_h) }
+{
+    format!(in alloc; "draw: sheet: needs {need_w} by {need_h}, has {have_w} by {have_h}\n")
 }
 
 fn kind_text(alloc: Global, kind: &PartKind) -> Result<String, AllocError>
@@ -134,14 +270,41 @@ fn word_text(word: &Word) -> &'static str
 #[cfg(test)]
 mod tests {
     use super::*;
-    use crate::fault::Input;
+    use dec_text::Name;
     use std::test::Fail;
 
     #[test]
     fn each_fault_has_its_line(rt: HostRuntime) -> Result<(), Fail> {
         let part = |kind| Fault::Part(PartFault { line: 7, kind });
+        // Bytes that aren't printable ASCII, and the ones beside them.
+        let name = "\u{1f} a~\u{7f}\u{e9}";
         for (fault, line) in [
+            (Fault::ReadFault(Input::Job), "cannot read the job"),
             (Fault::ReadFault(Input::Part), "cannot read the part"),
+            (Fault::JobTooLong, "job: more than 65536 bytes"),
+            (Fault::Job(JobFault::NotToml), "job: not TOML"),
+            (Fault::Job(JobFault::Version(i64::MIN)), "job: version -9223372036854775808"),
+            (Fault::Job(JobFault::UnknownKey(Name::new(rt.alloc(), name)?)), "job: unknown key ? a~???"),
+            (Fault::Job(JobFault::Wrong(Key::Version)), "job: wrong version"),
+            (Fault::Job(JobFault::Wrong(Key::Decimals)), "job: wrong decimals"),
+            (Fault::Job(JobFault::Wrong(Key::Angle)), "job: wrong angle"),
+            (Fault::Job(JobFault::Wrong(Key::Sheet)), "job: wrong sheet"),
+            (Fault::Job(JobFault::Wrong(Key::Scale)), "job: wrong scale"),
+            (Fault::Job(JobFault::Wrong(Key::Crease)), "job: wrong crease"),
+            (Fault::Job(JobFault::Wrong(Key::Title)), "job: wrong title"),
+            (Fault::Job(JobFault::Wrong(Key::Outputs)), "job: wrong outputs"),
+            (Fault::Job(JobFault::Wrong(Key::View)), "job: wrong view"),
+            (Fault::Job(JobFault::Wrong(Key::Name)), "job: wrong name"),
+            (Fault::Job(JobFault::Wrong(Key::Toward)), "job: wrong toward"),
+            (Fault::Job(JobFault::Wrong(Key::Cut)), "job: wrong cut"),
+            (Fault::Job(JobFault::Wrong(Key::At)), "job: wrong at"),
+            (Fault::Job(JobFault::Wrong(Key::From)), "job: wrong from"),
+            (Fault::Job(JobFault::TooManyViews), "job: more than 12 views"),
+            (Fault::Job(JobFault::ZeroDirection(11)), "job: view 11: zero direction"),
+            (Fault::Job(JobFault::DirectionRange(0, Axis::X)), "job: view 0: direction x outside -9 to 9"),
+            (Fault::Job(JobFault::DirectionRange(1, Axis::Y)), "job: view 1: direction y outside -9 to 9"),
+            (Fault::Job(JobFault::DirectionRange(2, Axis::Z)), "job: view 2: direction z outside -9 to 9"),
+            (Fault::NoPlotter(Name::new(rt.alloc(), "mill")?), "no plotter mill"),
             (Fault::PartTooLong, "part: more than 16777216 bytes"),
             (part(PartKind::Binary), "part: line 7: binary"),
             (part(PartKind::Prefixed), "part: line 7: prefixed OFF"),
@@ -209,6 +372,15 @@ mod tests {
             (
                 Fault::Mesh(MeshFault::Meet(7, 13)),
                 "solid: edge 7 meets triangle 13",
+            ),
+            (
+                Fault::DoesNotFit {
+                    need_w: 100_000,
+                    need_h: 80_000,
+                    have_w: -1,
+                    have_h: 15_000,
+                },
+                "sheet: needs 100000 by 80000, has -1 by 15000",
             ),
             (Fault::Memory, "out of memory"),
         ] {

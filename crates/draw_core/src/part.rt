@@ -1,12 +1,12 @@
 // From the text of a part to its solid.
-ghost use Rattle.std.specs.Prelude.{◌≡◌, ◌≤◌, false, List, length, IsErrOf};
+ghost use Rattle.std.specs.Prelude.{◌≡◌, ◌≤◌, false, List, length, IfErr, IsErrOf};
 ghost use Rattle.lex_lines.specs.declared.token.Token.{Token};
 ghost use Rattle.lex_lines.specs.Places.{AreTokens};
 ghost use Rattle.solid_mesh.specs.Solids.{solid_part};
 ghost use Rattle.draw_core.specs.Reading.{begins_solid, AnswersPart};
-ghost use Rattle.draw_core.specs.Run.{◌and_then◌, ReadsPart, ChecksPart, Gives};
+ghost use Rattle.draw_core.specs.Run.{ReadsSolid, Gives, IsOfPart};
 
-use crate::fault::{Fault, Input, Target};
+use crate::fault::{Fault, Input};
 use lex_lines::Tokens;
 use off_reader::read_off;
 use part_text::{bytes_of, is_word};
@@ -14,9 +14,6 @@ use solid_mesh::{MeshError, Solid};
 use std::alloc::Global;
 use stl_reader::read_stl;
 use weld::{PartError, RawPart, WeldError};
-
-/// How many decimals a millimetre has: a unit of the part is a thousandth of one.
-const DECIMALS: u8 = 3;
 
 /// The text's first token is the word `solid`, in any case of its letters.
 fn is_stl(bytes: &[u8]) -> bool
@@ -29,27 +26,28 @@ fn is_stl(bytes: &[u8]) -> bool
     }
 }
 
-/// What the text of a part says.
-fn read_part(alloc: Global, bytes: &[u8]) -> Result<RawPart, PartError>
-    requires { length bytes.now ≤ 16777216 }
-    ensures { AnswersPart DECIMALS bytes.now result }
+/// What the text of a part says, in units of 10^-`decimals` mm.
+fn read_part(alloc: Global, bytes: &[u8], decimals: u8) -> Result<RawPart, PartError>
+    requires short { length bytes.now ≤ 16777216 }
+    requires few { decimals ≤ 6 }
+    ensures { AnswersPart decimals bytes.now result }
 {
     if is_stl(bytes) {
-        read_stl(alloc, bytes, DECIMALS)
+        read_stl(alloc, bytes, decimals)
     } else {
-        read_off(alloc, bytes, DECIMALS)
+        read_off(alloc, bytes, decimals)
     }
 }
 
-/// The sound solid of a part's text.
-pub(crate) fn solid_of(alloc: Global, bytes: &[u8]) -> Result<Solid, Fault>
+/// The sound solid of a part's text, in units of 10^-`decimals` mm.
+pub(crate) fn solid_of(alloc: Global, bytes: &[u8], decimals: u8) -> Result<Solid, Fault>
     requires short { length bytes.now ≤ 16777216 }
-    ensures answer { Gives solid_part (ReadsPart bytes.now and_then ChecksPart) result }
+    requires few { decimals ≤ 6 }
+    ensures answer { Gives solid_part (ReadsSolid decimals bytes.now) result }
+    ensures of_part { IfErr result IsOfPart }
     ensures no_read { IsErrOf result (Fault.ReadFault Input.Part) → ⊥ }
-    ensures no_usage { IsErrOf result Fault.Usage → ⊥ }
-    ensures no_write { IsErrOf result (Fault.WriteFault Target.Out) → ⊥ }
 {
-    let raw = match read_part(alloc, bytes) {
+    let raw = match read_part(alloc, bytes, decimals) {
         Ok(raw) => raw,
         Err(PartError::Part(fault)) => return Err(Fault::Part(fault)),
         Err(PartError::Memory(_)) => return Err(Fault::Memory),

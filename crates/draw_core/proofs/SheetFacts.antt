@@ -1,0 +1,40 @@
+-- What a job's sheet has, and what its lack refuses.
+use Rattle.std.proofs.Common.{◌≡◌, length, refl, sym, ◌∙◌}
+use Rattle.std.proofs.lemmas.Slice.Zip.{AllZip-long}
+use Rattle.lattice.specs.declared.points.Corner.{Corner}
+use Rattle.std.specs.Prelude.{List}
+use Rattle.geometry.specs.Parts.{Part}
+use Rattle.job_file.specs.Seen.{direction_seen, job_seen}
+use Rattle.job_file.specs.declared.job.Job.{Job}
+use Rattle.job_file.specs.declared.view.JobView.{JobView}
+use Rattle.sheet_plan.specs.declared.bounds.Extent.{Extent}
+use Rattle.sheet_plan.specs.declared.sheet.Sheet.{Sheet}
+use Rattle.sheet_plan.specs.Extents.{IsExtent, AreExtents}
+use Rattle.sheet_plan.proofs.Rooms.{length_shapes_of}
+use Rattle.draw_core.specs.Run.{PlansSheet, Refuses}
+use Rattle.draw_core.specs.Sheets.{IsSheetOf, IsNoSheetOf}
+use Rattle.draw_core.specs.declared.fault.Fault.{Fault}
+use Rattle.draw_core.specs.declared.fault.Fault.TheVariants.{Usage, ReadFault, JobTooLong, Job as JobUnread, NoPlotter, PartTooLong, Part as PartUnread, Nothing, Mesh, DoesNotFit, WriteFault, Memory}
+
+-- there is an extent for each view
+pub as_many_extents : (corners : List Corner) (views : List JobView) (extents : List Extent) → AreExtents corners views extents → length extents ≡ length views
+as_many_extents corners views extents reach = AllZip-long (λ (v : JobView) (e : Extent). IsExtent (direction_seen v.spec) corners e) views extents reach
+
+-- the sheet has a place for each view
+pub as_many_places : (job : Job) (corners : List Corner) (sheet : Sheet) → IsSheetOf job corners sheet → length sheet.places.items ≡ length job.views.items
+as_many_places job corners sheet is =
+    is.planned.sheet_at.in_place.count ∙ length_shapes_of job.third _ job.views.items is.extents (sym (as_many_extents corners job.views.items is.extents is.reach))
+
+pub refused_sheet : (job : Job) (part : Part) (e : Fault) → IsNoSheetOf job part.corners e → Refuses (PlansSheet (job_seen job) part) e
+refused_sheet job part (DoesNotFit need_w need_h have_w have_h) none = (job, refl, none)
+refused_sheet job part Memory none = tt
+refused_sheet job part Usage none = absurd none
+refused_sheet job part (ReadFault input) none = absurd none
+refused_sheet job part JobTooLong none = absurd none
+refused_sheet job part (JobUnread cause) none = absurd none
+refused_sheet job part (NoPlotter name) none = absurd none
+refused_sheet job part PartTooLong none = absurd none
+refused_sheet job part (PartUnread cause) none = absurd none
+refused_sheet job part Nothing none = absurd none
+refused_sheet job part (Mesh fault) none = absurd none
+refused_sheet job part (WriteFault target) none = absurd none

@@ -1,0 +1,29 @@
+use Rattle.std.proofs.Common.{◌≡◌, ◌+◌, ◌++◌, ℕ, List, take, get_or, length, sym, subst, arith}
+use Rattle.std.specs.List.{AllZip}
+use Rattle.std.proofs.lemmas.List.{take_all, take_more, length-take-le}
+use Rattle.lattice.specs.declared.pieces.Piece.{Piece}
+use Rattle.sheet_plan.specs.declared.sheet.Stroke.{Stroke}
+use Rattle.draw_core.specs.Strokes.{IsStrokeOn, AreStrokes}
+use Rattle.draw_core.specs.declared.drawing.ViewDrawing.{ViewDrawing}
+use Rattle.draw_core.proofs.StrokeLists.{view_more, all_in_place}
+use Rattle.draw_core.proofs.strokes.strokes_of.Goals as goal
+
+pub loop-number-preserved : goal.loop-number-preserved
+loop-number-preserved c =
+    let sheet = c.args.sheet.now in
+    let views = c.args.views.now in
+    let i = c.loop-number.number in
+    let view = get_or views i c.index-views-number.result in
+    let (here, added, zip) = c.in_ok-add_strokes.ensures in
+    let of_view = subst (λ (ps : List Piece). AllZip (IsStrokeOn sheet i) ps here) c.deref.ensures.value zip in
+    let at : i ≡ 0 + length (take i views) = omega (arith, length-take-le i views (omega arith)) in
+    let more = view_more sheet 0 i (take i views) c.loop-number.strokes.items view here at c.loop-number.invariant of_view in
+    subst (λ (ys : List Stroke). AreStrokes sheet (take (i + 1) views) ys) (sym added)
+    (subst (λ (vs : List ViewDrawing). AreStrokes sheet vs (c.loop-number.strokes.items ++ here)) (sym (take_more views i c.index-views-number.result c.loop-number-test.true)) more)
+
+pub returns-clause-strokes : goal.returns-clause-strokes
+returns-clause-strokes c =
+    subst (λ (vs : List ViewDrawing). AreStrokes c.args.sheet.now vs c.loop-number.strokes.items) (take_all c.loop-number.number c.args.views.now c.loop-number-test.false) c.loop-number.invariant
+
+pub returns-clause-in_range : goal.returns-clause-in_range
+returns-clause-in_range c = all_in_place c.args.sheet.now 0 _ _ c.loop-number.invariant

@@ -1,0 +1,39 @@
+use Rattle.std.proofs.Common.{◌≡◌, ap, subst, inl, inr, ◌∙◌}
+use Rattle.desk.specs.Files.{Files, DeskState}
+use Rattle.job_file.specs.Seen.{job_seen}
+use Rattle.draw_core.specs.Named.{named_seen}
+use Rattle.solid_mesh.specs.Solids.{solid_part}
+use Rattle.geometry.specs.Parts.{Part}
+use Rattle.std.specs.Prelude.{Result, Ok}
+use Rattle.draw_core.specs.Run.{◌and_then◌, DrawsFiles, TakesReadJob, TakesSolid, PlansSheet, Refuses}
+use Rattle.draw_core.specs.Taken.{drawn_of}
+use Rattle.draw_core.specs.declared.fault.Fault.{Fault}
+use Rattle.draw_core.proofs.Chains.{refuses_as, gives_next}
+use Rattle.draw_core.proofs.take.take_files.Goals as goal
+
+-- the job was taken, and the part of the same files is refused
+pub returns-in-Err-take_solid-clause-answer : goal.returns-in-Err-take_solid-clause-answer
+returns-in-Err-take_solid-clause-answer g c =
+    λ told.
+    let old = g.D.Desk.state c.args.desk.now in
+    let named = named_seen c.args.words in
+    let job = job_seen c.in-Ok.job in
+    let fault = c.in-Err-take_solid.fault in
+    let tells = ap (λ (s : DeskState). s.tells) c.in-Ok.ensures.changes ∙ told in
+    let P : Files → Type 0 = λ files. Refuses (TakesSolid files named.part job.decimals) fault in
+    let refused : P old.files = subst P (ap (λ (s : DeskState). s.files) c.in-Ok.ensures.changes) (c.in-Err-take_solid.ensures.answer tells) in
+    refuses_as (TakesSolid old.files named.part job.decimals) (DrawsFiles old.files named) (λ e h. inr (job, c.in-Ok.ensures.answer told, inl h)) fault refused
+
+-- both were taken, and the sheet is planned
+pub returns-in-Ok-take_solid-clause-answer : goal.returns-in-Ok-take_solid-clause-answer
+returns-in-Ok-take_solid-clause-answer g c =
+    λ told.
+    let old = g.D.Desk.state c.args.desk.now in
+    let named = named_seen c.args.words in
+    let job = job_seen c.in-Ok.job in
+    let part = solid_part c.in-Ok-take_solid.solid in
+    let tells = ap (λ (s : DeskState). s.tells) c.in-Ok.ensures.changes ∙ told in
+    let P : Files → Type 0 = λ files. TakesSolid files named.part job.decimals (Ok part) in
+    let taken : P old.files = subst P (ap (λ (s : DeskState). s.files) c.in-Ok.ensures.changes) (c.in-Ok-take_solid.ensures.answer tells) in
+    let from_part = gives_next (TakesSolid old.files named.part job.decimals) (PlansSheet job) part taken drawn_of c.take_sheet.result c.take_sheet.ensures.answer in
+    gives_next (TakesReadJob old.files named.job) (λ job. TakesSolid old.files named.part job.decimals and_then PlansSheet job) job (c.in-Ok.ensures.answer told) drawn_of c.take_sheet.result from_part

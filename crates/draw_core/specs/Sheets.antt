@@ -1,0 +1,38 @@
+-- The sheet on which the views of a job stand, as far as a part reaches in them.
+use Rattle.std.specs.Prelude.{◌≡◌, ℤ, List}
+use Rattle.lattice.specs.declared.points.Corner.{Corner}
+use Rattle.job_file.specs.Documents.{JobValues}
+use Rattle.job_file.specs.Seen.{job_seen}
+use Rattle.job_file.specs.declared.job.Job.{Job}
+use Rattle.sheet_plan.specs.declared.bounds.Extent.{Extent}
+use Rattle.sheet_plan.specs.declared.errors.PlanError.TheVariants.{DoesNotFit as NotFitting}
+use Rattle.sheet_plan.specs.declared.sheet.Sheet.{Sheet}
+use Rattle.sheet_plan.specs.Extents.{AreExtents}
+use Rattle.sheet_plan.specs.Plans.{IsPlanned, IsRefused}
+use Rattle.draw_core.specs.declared.fault.Fault.{Fault}
+use Rattle.draw_core.specs.declared.fault.Fault.TheVariants.{DoesNotFit, Memory}
+
+-- the job's sheet for a part with these corners
+pub record IsSheetOf (job : Job) (corners : List Corner) (sheet : Sheet) : Type 0 where
+  pub extents : List Extent
+  pub reach : AreExtents corners job.views.items extents
+  pub planned : IsPlanned job extents sheet
+
+-- the job's views of such a part don't fit their sheet: they need so much, and have so much
+pub record HasNoRoomFor (job : Job) (corners : List Corner) (need_w need_h have_w have_h : ℤ) : Type 0 where
+  pub extents : List Extent
+  pub reach : AreExtents corners job.views.items extents
+  pub refused : IsRefused job extents (NotFitting need_w need_h have_w have_h)
+
+-- why there is no sheet: the views don't fit, or memory ran out
+abbrev pub IsNoSheetOf : Job → List Corner → Fault → Type 0
+IsNoSheetOf job corners (DoesNotFit need_w need_h have_w have_h) = HasNoRoomFor job corners need_w need_h have_w have_h
+IsNoSheetOf job corners Memory = Unit {0}
+IsNoSheetOf job corners fault = ⊥
+
+-- the same of a job with these values
+abbrev pub HasSheet : JobValues → List Corner → Type 0
+HasSheet values corners = (job : Job) × (job_seen job ≡ values) × (sheet : Sheet) × IsSheetOf job corners sheet
+
+abbrev pub HasNoSheet : JobValues → List Corner → ℤ → ℤ → ℤ → ℤ → Type 0
+HasNoSheet values corners need_w need_h have_w have_h = (job : Job) × (job_seen job ≡ values) × HasNoRoomFor job corners need_w need_h have_w have_h
