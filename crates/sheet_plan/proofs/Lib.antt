@@ -1,5 +1,10 @@
+pub mod Apart
 pub mod Axes
+pub mod Bands
+pub mod BoxPlaces
+pub mod CellNames
 pub mod Extremes
+pub mod InLine
 pub mod Listed
 pub mod Ordered
 pub mod Rooms

@@ -1,6 +1,7 @@
 -- Facts on each element of a list that grows by one, and the shapes of the views that are left.
 use Rattle.std.proofs.Common.{◌≡◌, ℕ, zero, suc, ◌+◌, ◌<◌, ◌≤◌, ◌⊎◌, inl, inr, Bool, List, [], ◌∷◌, ◌++◌, length, drop, get_or, slice_get, Some, refl, sym, ap, ◌∙◌, subst, append_assoc}
 use Rattle.std.proofs.lemmas.List.{drop_more, drop_all, append-nil}
+use Rattle.std.specs.List.{AllZip}
 use Rattle.job_file.specs.declared.view.JobView.{JobView}
 use Rattle.sheet_plan.specs.declared.bounds.Extent.{Extent}
 use Rattle.sheet_plan.specs.declared.cells.Shape.{Shape}
@@ -28,6 +29,16 @@ module _ {X Y : Type 0} (P : ℕ → Y → X → Type 0) (ys : List Y) (xs new :
       by_cases (inr e) =
           let here : i ≡ j = sym count ∙ sym e.0 in
           subst (λ (w : X). P j y w) e.1 (subst (λ (k : ℕ). P k y x) here (last y (ap (λ (k : ℕ). slice_get ys k) here ∙ at)))
+
+-- what relates two lists place by place relates the elements at one place
+pub zip_at : {X Y : Type 0} (R : X → Y → Type 0) (xs : List X) (ys : List Y) → AllZip R xs ys → (i : ℕ) (x : X) (y : Y) → slice_get xs i ≡ Some x → slice_get ys i ≡ Some y → R x y
+zip_at R [] ys h i x y at_x at_y = absurd (cc)
+zip_at R (v ∷ xs) [] h i x y at_x at_y = absurd (cc)
+zip_at {X} {Y} R (v ∷ xs) (w ∷ ys) h zero x y at_x at_y =
+    let left : v ≡ x = cc in
+    let right : w ≡ y = cc in
+    subst (λ (z : X). R z y) left (subst (λ (z : Y). R v z) right h.0)
+zip_at R (v ∷ xs) (w ∷ ys) h (suc i) x y at_x at_y = zip_at R xs ys h.1 i x y at_x at_y
 
 -- ---- the shapes of the views that are left
 module _ (third : Bool) (m : Measure) (vs : List JobView) (es : List Extent) where

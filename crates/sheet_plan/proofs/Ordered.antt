@@ -1,5 +1,5 @@
 -- Greater products stand for lengths on the sheet that are at least as great.
-use Rattle.std.proofs.Common.{◌≡◌, [], ◌∷◌, refl, ℕ, ◌*◌, ◌+◌, ◌≤◌, ◌^◌, arith, subst, sym}
+use Rattle.std.proofs.Common.{[], ◌∷◌, refl, ℕ, ◌*◌, ◌+◌, ◌≤◌, ◌^◌, arith, subst}
 use Rattle.std.specs.Prelude.{ℤ, pos, ◌+ℤ◌, ◌-ℤ◌, ◌*ℤ◌, ◌<ℤ◌, ◌≤ℤ◌}
 use Rattle.std.proofs.lemmas.Int.{ints}
 use Rattle.integers.proofs.Floors.{floor_of-ordered}
@@ -8,7 +8,7 @@ use Rattle.integers.proofs.Signs.{mul_nonneg}
 use Rattle.sheet_plan.specs.Numbers.{Measure, nearest, shortening_of, sheet_length}
 use Rattle.sheet_plan.proofs.Rounding.{power_bounds, divisor_bounds}
 
-gap_of : (a b : ℤ) → a ≤ℤ b → pos 0 ≤ℤ (b -ℤ a)
+pub gap_of : (a b : ℤ) → a ≤ℤ b → pos 0 ≤ℤ (b -ℤ a)
 gap_of a b h = omega (arith, ints)
 
 of_gap : (a b : ℤ) → pos 0 ≤ℤ (b -ℤ a) → a ≤ℤ b

@@ -1,5 +1,5 @@
 -- What a sheet at one scale is, and why there is none.
-use Rattle.std.proofs.Common.{◌≡◌, ℕ, zero, suc, ◌<◌, ◌≤◌, List, [], ◌∷◌, length, slice_get, None, Some, Option, sym, ap, ◌∙◌, subst, arith, Bool}
+use Rattle.std.proofs.Common.{◌≡◌, ℕ, zero, suc, ◌≤◌, List, [], ◌∷◌, length, slice_get, None, Some, Option, sym, ap, ◌∙◌, subst, arith, Bool}
 use Rattle.std.specs.Prelude.{ℤ, ◌≤ℤ◌, IfErr}
 use Rattle.std.specs.declared.result.Result.{Result}
 use Rattle.std.specs.declared.result.Result.TheVariants.{Ok, Err}

@@ -1,5 +1,5 @@
 -- The layout of a sheet: named views stand in a grid, all others in one row beneath it.
-use Rattle.std.specs.Prelude.{◌≡◌, ℕ, zero, suc, ◌+◌, ◌==◌, Bool, true, false, if◌then◌else◌, ℤ, pos, ◌+ℤ◌, ◌-ℤ◌, ◌≤ℤ◌, List, [], ◌∷◌, length, take, Option, None, Some, slice_get}
+use Rattle.std.specs.Prelude.{◌≡◌, ℕ, zero, suc, ◌==◌, Bool, true, false, if◌then◌else◌, ℤ, pos, ◌+ℤ◌, ◌-ℤ◌, ◌≤ℤ◌, List, [], ◌∷◌, length, take, Option, None, Some, slice_get}
 use Rattle.std.specs.Int.{int_max}
 use Rattle.lattice.specs.Points.{of_dir}
 use Rattle.lattice.specs.Triple.{Triple, right_axis, up_axis}

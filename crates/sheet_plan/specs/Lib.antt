@@ -1,3 +1,4 @@
+pub mod Boxes
 pub mod Extents
 pub mod Layout
 pub mod Numbers

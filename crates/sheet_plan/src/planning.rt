@@ -1,5 +1,6 @@
 // How the sheet of a job is planned: at the scale that it asks for, or at the first that fits.
 ghost use Rattle.std.specs.Prelude.{◌≡◌, ◌↔◌, ◌<◌, IsTrue, length, IfOk, IfErr, slice_get, None, Some};
+ghost use Rattle.sheet_plan.specs.Boxes.{ViewsAreApart, ViewsAreWithinMargins, StandInColumn, StandInRow};
 ghost use Rattle.sheet_plan.specs.Layout.{HaveRoom};
 ghost use Rattle.sheet_plan.specs.Numbers.{measure_of};
 ghost use Rattle.sheet_plan.specs.Sizes.{AreShapes};
@@ -21,11 +22,19 @@ use std::alloc::Global;
 /// one row beneath it. Where the job asks for no scale, it is the first of 1:1, 1:2, 1:5, 1:10, 1:20, 1:50 and 1:100 at which
 /// the views fit. They don't fit where they need more than the sheet has, beside its margins and its title.
 ///
+/// Of the boxes of two views one is at least 15 mm to the left of the other, or so far above it. All are at least 20 mm from
+/// the sheet's edges, and 40 mm from the lower one. The front view and those above and below it have equal `x0`, and the
+/// front view and those beside it equal `y0`.
+///
 /// Takes time that grows with the square of the number of views.
 pub fn plan(alloc: Global, job: &Job, extents: &[Extent]) -> Result<Sheet, PlanError>
     requires { length job.now.views.items ≡ length extents.now }
     ensures planned { IfOk result (IsPlanned job.now extents.now) }
     ensures refused { IfErr result (IsRefused job.now extents.now) }
+    ensures apart { IfOk result (ViewsAreApart extents.now) }
+    ensures within_margins { IfOk result (ViewsAreWithinMargins extents.now) }
+    ensures columns { IfOk result (StandInColumn job.now extents.now) }
+    ensures rows { IfOk result (StandInRow job.now extents.now) }
 {
     match job.scale {
         Some(scale) => plan_at(alloc, job, extents, scale),

@@ -1,4 +1,4 @@
-use Rattle.std.proofs.Common.{◌≡◌, ◌≤◌, List, rules, arith, ◌∙◌, refl, subst, true, false, pos, ◌-ℤ◌, FitsSigned}
+use Rattle.std.proofs.Common.{◌≡◌, List, rules, arith, ◌∙◌, refl, subst, true, false, pos, ◌-ℤ◌, FitsSigned}
 use Rattle.std.specs.Int.{w64}
 use Rattle.std.proofs.lemmas.Int.{ints, to_z-of_z}
 use Rattle.sheet_plan.specs.declared.cells.Shape.{Shape}

@@ -1,4 +1,4 @@
-use Rattle.std.proofs.Common.{◌≡◌, ◌≤◌, ◌^◌, rules, arith, ◌+ℤ◌, ◌-ℤ◌, ◌≤ℤ◌, sym, subst, ℤ, unsigned_abs, FitsSigned}
+use Rattle.std.proofs.Common.{◌≡◌, rules, arith, ◌-ℤ◌, ◌≤ℤ◌, ℤ, FitsSigned}
 use Rattle.std.specs.Int.{w64}
 use Rattle.std.proofs.lemmas.Int.{ints, to_z-of_z}
 use Rattle.lattice.specs.Points.{of_dir}
