@@ -1,0 +1,11 @@
+//! The words behind the program's name: `PART [--job JOB] [--out OUT]`.
+#![tactic(auto)]
+
+mod command;
+mod errors;
+#[cfg(test)]
+mod tests;
+mod words;
+
+pub use errors::WordsError;
+pub use words::{Words, read_words};
