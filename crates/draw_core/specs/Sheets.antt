@@ -7,16 +7,21 @@ use Rattle.job_file.specs.declared.job.Job.{Job}
 use Rattle.sheet_plan.specs.declared.bounds.Extent.{Extent}
 use Rattle.sheet_plan.specs.declared.errors.PlanError.TheVariants.{DoesNotFit as NotFitting}
 use Rattle.sheet_plan.specs.declared.sheet.Sheet.{Sheet}
+use Rattle.sheet_plan.specs.Boxes.{ViewsAreApart, ViewsAreWithinMargins, StandInColumn, StandInRow}
 use Rattle.sheet_plan.specs.Extents.{AreExtents}
 use Rattle.sheet_plan.specs.Plans.{IsPlanned, IsRefused}
 use Rattle.draw_core.specs.declared.fault.Fault.{Fault}
 use Rattle.draw_core.specs.declared.fault.Fault.TheVariants.{DoesNotFit, Memory}
 
--- the job's sheet for a part with these corners
+-- the job's sheet for a part with these corners: its views stand apart, within the margins and in line
 pub record IsSheetOf (job : Job) (corners : List Corner) (sheet : Sheet) : Type 0 where
   pub extents : List Extent
   pub reach : AreExtents corners job.views.items extents
   pub planned : IsPlanned job extents sheet
+  pub apart : ViewsAreApart extents sheet
+  pub within_margins : ViewsAreWithinMargins extents sheet
+  pub columns : StandInColumn job extents sheet
+  pub rows : StandInRow job extents sheet
 
 -- the job's views of such a part don't fit their sheet: they need so much, and have so much
 pub record HasNoRoomFor (job : Job) (corners : List Corner) (need_w need_h have_w have_h : ℤ) : Type 0 where
