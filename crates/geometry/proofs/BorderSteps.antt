@@ -58,7 +58,7 @@ level_step k x y h v w positive e g =
     ((((var 0 ⊗ var 2) ⊖ (var 3 ⊗ var 5)) ⊗ var 4) ⊕ (((var 0 ⊗ var 1) ⊖ (var 3 ⊗ var 4)) ⊗ (con (pos 0) ⊖ var 5))) refl) g e)
 
 -- a point of a face is as far along the normal as its corners
-along_normal : (a b c : Corner) (p : Point) → IsPointOfFace a b c p → pos 1 *ℤ dot (normal a b c) (scaled p) ≡ dot (normal a b c) (scaled (point_of a)) *ℤ p.w
+pub along_normal : (a b c : Corner) (p : Point) → IsPointOfFace a b c p → pos 1 *ℤ dot (normal a b c) (scaled p) ≡ dot (normal a b c) (scaled (point_of a)) *ℤ p.w
 along_normal a b c p (i, j, k, some, is) =
     let P : Point → Type 0 = λ q. pos 1 *ℤ dot (normal a b c) (scaled q) ≡ dot (normal a b c) (scaled (point_of a)) *ℤ q.w in
     subst P (sym is) (sum (pos i) (pos j) (pos k) (pos (i + j + k)) (whole i j k))
