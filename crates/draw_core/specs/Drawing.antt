@@ -1,10 +1,11 @@
 -- What a drawing shows, and its text.
-use Rattle.std.specs.Prelude.{◌≡◌, ℕ, List, Option}
+use Rattle.std.specs.Prelude.{◌≡◌, ℕ, List, Option, IsSomeAnd}
 use Rattle.std.specs.List.{AllZip}
 use Rattle.lattice.specs.Creases.{fraction_of}
 use Rattle.lattice.specs.declared.pieces.Crease.{Crease}
 use Rattle.geometry.specs.Pieces.{AreRight, AreInOrder}
 use Rattle.desk.specs.Files.{Files}
+use Rattle.draw_words.specs.Grammar.{Named}
 use Rattle.job_file.specs.Seen.{direction_seen, job_seen}
 use Rattle.job_file.specs.declared.view.JobView.{JobView}
 use Rattle.solid_mesh.specs.declared.solid.Solid.{Solid}
@@ -42,3 +43,7 @@ pub record Writes (fault : Option Fault) (old new : Files) (name : List ℕ) (d 
   pub text : List ℕ
   pub is_text : IsTextOf d text
   pub leaves : LeavesAfter fault old new name text
+
+-- and the words name it
+abbrev pub WritesNamed : Option Named → Option Fault → Files → Files → Drawing → Type 0
+WritesNamed named fault old new d = IsSomeAnd named (λ names. Writes fault old new names.out d)

@@ -2,7 +2,6 @@ pub mod Desks
 pub mod Drawing
 pub mod Fetch
 pub mod Lines
-pub mod Named
 pub mod Reading
 pub mod Run
 pub mod Sheets
@@ -10,4 +9,3 @@ pub mod Strips
 pub mod Strokes
 pub mod Taken
 pub mod Told
-pub mod Words

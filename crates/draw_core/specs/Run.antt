@@ -1,6 +1,7 @@
 -- What a run answers, from its words and the files at entry: steps in order, each with what it gives and what it refuses.
-use Rattle.std.specs.Prelude.{◌≡◌, ◌⊎◌, ◌<◌, ◌≤◌, ℕ, List, [], ◌∷◌, length, Option, Some, None, IsSome, IsSomeAnd, Result, Ok, Err, Bool, false, IsTrue, codes}
+use Rattle.std.specs.Prelude.{◌≡◌, ◌⊎◌, ◌<◌, ◌≤◌, ℕ, List, [], ◌∷◌, length, Option, Some, None, IsSome, IsSomeAnd, Result, Ok, Err, Bool, false, IsTrue}
 use Rattle.desk.specs.Files.{Files, Keeps, MayKeepFront, Rose}
+use Rattle.draw_words.specs.Grammar.{Named, named_by}
 use Rattle.geometry.specs.Parts.{Part}
 use Rattle.geometry.specs.Sound.{IsSound}
 use Rattle.job_file.specs.Documents.{JobValues, job_of_bytes}
@@ -12,7 +13,6 @@ use Rattle.solid_mesh.specs.Faults.{HasFault}
 use Rattle.solid_mesh.specs.declared.faults.MeshFault.{MeshFault}
 use Rattle.draw_core.specs.Reading.{ReadsPartText}
 use Rattle.draw_core.specs.Sheets.{HasSheet, HasNoSheet}
-use Rattle.draw_core.specs.Words.{Named, named_by}
 use Rattle.draw_core.specs.declared.fault.Input.{Input}
 use Rattle.draw_core.specs.declared.fault.Input.TheVariants.{Job as TheJob, Part as ThePart}
 use Rattle.draw_core.specs.declared.fault.Fault.{Fault}
@@ -27,10 +27,6 @@ limit_of ThePart = 16777216
 abbrev pub too_long : Input → Fault
 too_long TheJob = JobTooLong
 too_long ThePart = PartTooLong
-
--- the name that the drawing is written under
-abbrev pub out_name : List ℕ
-out_name = codes "drawing.svg"
 
 -- ---- the steps of a run
 -- what the first step gives goes to the next; the first refusal is the answer

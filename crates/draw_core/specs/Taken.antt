@@ -1,4 +1,6 @@
 -- What contracts see of what a run has taken.
+use Rattle.std.specs.Prelude.{◌≡◌, Option, IsSomeAnd}
+use Rattle.draw_words.specs.Grammar.{Named}
 use Rattle.job_file.specs.Seen.{job_seen}
 use Rattle.solid_mesh.specs.Solids.{solid_part}
 use Rattle.draw_core.specs.Run.{Drawn}
@@ -11,3 +13,7 @@ drawn_of taken = record { job = job_seen taken.job; part = solid_part taken.soli
 -- its sheet is the job's for its solid
 abbrev pub HasItsSheet : Taken → Type 0
 HasItsSheet taken = IsSheetOf taken.job (solid_part taken.solid).corners taken.sheet
+
+-- the words name where its drawing goes
+abbrev pub GoesWhereNamed : Option Named → Taken → Type 0
+GoesWhereNamed named taken = IsSomeAnd named (λ names. taken.out ≡ names.out)

@@ -14,9 +14,8 @@ mod take;
 #[cfg(test)]
 mod tests;
 mod views;
-mod words;
 
 pub use drawing::{Drawing, Outcome, ViewDrawing};
 pub use fault::{Fault, Input, Target};
 pub use lines::MEMORY_LINE;
-pub use run::{OUT, draw};
+pub use run::draw;

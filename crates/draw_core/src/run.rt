@@ -1,12 +1,13 @@
 // The top call: from the words and a desk to a drawing.
 ghost use Rattle.std.specs.Prelude.{◌≡◌, ◌⊎◌, ◌++◌, true, false, length, None, Some, Ok, Err, IfOk, IfErr, IfSome, IfNone, IsSome, IsErrOf, OnOk, is_some, string_bytes, vec_len, ◌<◌, ◌≤◌};
 ghost use Rattle.desk.specs.Files.{OnlyReads, OnlyWarns, Rose, AppendsFront};
+ghost use Rattle.draw_words.specs.Grammar.{named_by};
+ghost use Rattle.draw_words.specs.Seen.{texts};
 ghost use Rattle.draw_core.specs.Taken.{drawn_of, HasItsSheet};
-ghost use Rattle.draw_core.specs.Words.{texts, named_by};
-ghost use Rattle.draw_core.specs.Run.{Runs, Refuses, AnswersWords, CountsReads, IsMissing, HasDrawing, LeavesAfter, IsWriteOutcome, status_of, out_name};
+ghost use Rattle.draw_core.specs.Run.{Runs, Refuses, AnswersWords, CountsReads, IsMissing, HasDrawing, LeavesAfter, IsWriteOutcome, status_of};
 ghost use Rattle.draw_core.specs.Desks.{OnlyWrites, OnlyRuns, HearsAll};
 ghost use Rattle.draw_core.specs.Lines.{NamesNothing, Warns, WarnsWhole};
-ghost use Rattle.draw_core.specs.Drawing.{drawn_in, IsDrawing, IsTextOf, Writes};
+ghost use Rattle.draw_core.specs.Drawing.{drawn_in, IsDrawing, IsTextOf, Writes, WritesNamed};
 
 use crate::drawing::{Drawing, Outcome};
 use crate::fault::{Fault, Target};
@@ -14,22 +15,34 @@ use crate::lines::{MEMORY_LINE, WRITE_LINE, line_of};
 use crate::strokes::strokes_of;
 use crate::take::{Taken, take};
 use crate::views::views_of;
+use dec_text::Name;
 use desk::{Desk, DeskFault};
 use exact_frac::OutOfMemory;
 use std::alloc::Global;
 use svg_page::svg;
 
-/// The name that the drawing is written under.
-pub const OUT: &str = "drawing.svg";
+/// A drawing, its text, and the name that it is written under.
+#[derive(Drop)]
+struct Made {
+    drawing: Drawing,
+    text: Vec<u8>,
+    out: Name,
+}
 
-/// The drawing of what was taken, and its text.
-fn drawing_of(alloc: Global, taken: Taken) -> Result<(Drawing, Vec<u8>), OutOfMemory>
+/// The drawing of what was taken.
+fn drawing_of(alloc: Global, taken: Taken) -> Result<Made, OutOfMemory>
     requires { HasItsSheet taken }
-    ensures drawn { IfOk result (λ made. drawn_in made.0 ≡ drawn_of taken) }
-    ensures shows { IfOk result (λ made. IsDrawing made.0) }
-    ensures text { IfOk result (λ made. IsTextOf made.0 made.1.items) }
+    ensures drawn { IfOk result (λ made. drawn_in made.drawing ≡ drawn_of taken) }
+    ensures shows { IfOk result (λ made. IsDrawing made.drawing) }
+    ensures text { IfOk result (λ made. IsTextOf made.drawing made.text.items) }
+    ensures out { IfOk result (λ made. made.out ≡ taken.out) }
 {
-    let Taken { job, solid, sheet } = taken;
+    let Taken {
+        out,
+        job,
+        solid,
+        sheet,
+    } = taken;
     let views = views_of(alloc, &solid, job.crease, &job.views)?;
     let strokes = strokes_of(alloc, &sheet, &views)?;
     let text = svg(alloc, &sheet, &job.title, &strokes)?;
@@ -39,7 +52,7 @@ fn drawing_of(alloc: Global, taken: Taken) -> Result<(Drawing, Vec<u8>), OutOfMe
         sheet,
         views,
     };
-    Ok((drawing, text))
+    Ok(Made { drawing, text, out })
 }
 
 /// An end without a drawing.
@@ -90,11 +103,11 @@ fn refuse<D: Desk>(alloc: Global, fault: Fault, desk: &mut D) -> Outcome
     }
 }
 
-/// Writes a drawing's text, and tells why it couldn't, of which it warns.
-fn keep_text<D: Desk>(text: &[u8], desk: &mut D) -> Option<Fault>
+/// Writes a drawing's text under a name, and tells why it couldn't, of which it warns.
+fn keep_text<D: Desk>(out: &str, text: &[u8], desk: &mut D) -> Option<Fault>
     ensures fault { IfSome result IsWriteOutcome }
     ensures files { (D.state desk.old).tells ≡ true →
-        LeavesAfter result (D.state desk.old).files (D.state desk.new).files out_name text.now }
+        LeavesAfter result (D.state desk.old).files (D.state desk.new).files out.now text.now }
     ensures write_fault { result ≡ Some (Fault.WriteFault Target.Out) →
         Rose (D.state desk.old).write_faults (D.state desk.new).write_faults }
     ensures no_write_fault { (result ≡ Some (Fault.WriteFault Target.Out) → ⊥) →
@@ -107,7 +120,7 @@ fn keep_text<D: Desk>(text: &[u8], desk: &mut D) -> Option<Fault>
         WarnsWhole result (D.state desk.old).warned (D.state desk.new).warned }
     ensures changes { OnlyWrites (D.state desk.old) (D.state desk.new) }
 {
-    match desk.keep(OUT, text) {
+    match desk.keep(out, text) {
         Ok(()) => None,
         Err(DeskFault::Failed) => {
             warn(WRITE_LINE, desk);
@@ -139,7 +152,7 @@ fn write_drawing<D: Desk>(alloc: Global, taken: Taken, desk: &mut D) -> Outcome
     ensures made { IfSome result.drawing (λ d. drawn_in d ≡ drawn_of taken) }
     ensures shows { IfSome result.drawing IsDrawing }
     ensures files { (D.state desk.old).tells ≡ true →
-        IfSome result.drawing (Writes result.fault (D.state desk.old).files (D.state desk.new).files out_name) }
+        IfSome result.drawing (Writes result.fault (D.state desk.old).files (D.state desk.new).files taken.out) }
     ensures untouched { IfNone result.drawing ((D.state desk.new).files ≡ (D.state desk.old).files) }
     ensures firm { (D.state desk.old).firm ≡ true → result.fault ≡ Some Fault.Memory → result.drawing ≡ None }
     ensures write_fault { result.fault ≡ Some (Fault.WriteFault Target.Out) →
@@ -153,20 +166,20 @@ fn write_drawing<D: Desk>(alloc: Global, taken: Taken, desk: &mut D) -> Outcome
         WarnsWhole result.fault (D.state desk.old).warned (D.state desk.new).warned }
     ensures changes { OnlyWrites (D.state desk.old) (D.state desk.new) }
 {
-    let (drawing, text) = match drawing_of(alloc, taken) {
+    let made = match drawing_of(alloc, taken) {
         Ok(made) => made,
         Err(_) => return refuse(alloc, Fault::Memory, desk),
     };
-    let fault = keep_text(&text, desk);
+    let fault = keep_text(made.out.as_str(), &made.text, desk);
     Outcome {
         status: end_status(&fault),
         fault,
-        drawing: Some(drawing),
+        drawing: Some(made.drawing),
     }
 }
 
-/// Reads the job and the part that the words name, draws the job's views on their sheet and writes it under `drawing.svg`.
-/// Without a job it is the usual one: front, above and left. Of a fault it warns once, by one line.
+/// Reads the job and the part that the words name, draws the job's views on their sheet and writes it under
+/// the name that they give, or `drawing.svg`. Without a job it is the usual one: front, above and left. Of a fault it warns once, by one line.
 ///
 /// The faults are looked for in this order: the words, the job's bytes, its text, its outputs, the part's bytes, its text,
 /// whether it has a triangle, its surface, whether the views fit the sheet, the drawing's file. Want of memory may be
@@ -199,7 +212,7 @@ pub fn draw<D: Desk>(alloc: Global, words: &[String], desk: &mut D) -> Outcome
         IfSome result.drawing (λ d. Runs (texts words.now) (D.state desk.old).files (Ok (drawn_in d))) }
     ensures shows { IfSome result.drawing IsDrawing }
     ensures files { (D.state desk.old).tells ≡ true →
-        IfSome result.drawing (Writes result.fault (D.state desk.old).files (D.state desk.new).files out_name) }
+        IfSome result.drawing (WritesNamed (named_by (texts words.now)) result.fault (D.state desk.old).files (D.state desk.new).files) }
     ensures untouched { IfNone result.drawing ((D.state desk.new).files ≡ (D.state desk.old).files) }
     ensures firm { (D.state desk.old).firm ≡ true → result.fault ≡ Some Fault.Memory → result.drawing ≡ None }
 

@@ -1,21 +1,21 @@
 // Takes what the words name from a desk, the job and the part, and plans the sheet that it is drawn on.
-ghost use Rattle.std.specs.Prelude.{◌≡◌, ◌≤◌, true, Some, None, IfOk, IfErr, IsErrOf, option_map};
+ghost use Rattle.std.specs.Prelude.{◌≡◌, ◌≤◌, true, Some, None, IfOk, IfErr, IsErrOf};
 ghost use Rattle.std.specs.Result.{result_err};
 ghost use Rattle.desk.specs.Files.{Files, OnlyReads};
+ghost use Rattle.draw_words.specs.Grammar.{named_by};
+ghost use Rattle.draw_words.specs.Seen.{named_seen, texts};
 ghost use Rattle.job_file.specs.Seen.{job_seen};
 ghost use Rattle.solid_mesh.specs.Solids.{solid_part};
-ghost use Rattle.draw_core.specs.Named.{named_seen};
-ghost use Rattle.draw_core.specs.Taken.{drawn_of, HasItsSheet};
-ghost use Rattle.draw_core.specs.Words.{texts, named_by};
+ghost use Rattle.draw_core.specs.Taken.{drawn_of, HasItsSheet, GoesWhereNamed};
 ghost use Rattle.draw_core.specs.Run.{◌and_then◌, ReadsJob, NeedsNoPlotter, TakesReadJob, TakesSolid, PlansSheet, DrawsFiles, Runs, Gives, AnswersWords, IsOfUsualJob, IsOfNamedJob, IsOfJob, IsOfPart, IsOfSheet, IsOfFiles, CountsReads, IsMissing};
 
 use crate::fault::{Fault, Input, Target};
 use crate::fetch::{FetchFault, fetch_all};
 use crate::part::solid_of;
 use crate::sheets::sheet_of;
-use crate::words::{Words, named_by};
 use dec_text::Name;
 use desk::Desk;
+use draw_words::{Words, WordsError, read_words};
 use job_file::{Job, JobError};
 use sheet_plan::Sheet;
 use solid_mesh::Solid;
@@ -27,9 +27,10 @@ const JOB_LIMIT: usize = 65_536;
 /// The most bytes that a part may have.
 const PART_LIMIT: usize = 16_777_216;
 
-/// The part to draw, the job that says how, and the sheet that it is drawn on.
+/// The part to draw, the job that says how, the sheet that it is drawn on, and the name that the drawing is written under.
 #[derive(Drop)]
 pub(crate) struct Taken {
+    pub(crate) out: Name,
     pub(crate) job: Job,
     pub(crate) solid: Solid,
     pub(crate) sheet: Sheet,
@@ -63,7 +64,7 @@ fn job_of(alloc: Global, bytes: &[u8]) -> Result<Job, Fault>
 }
 
 /// The job of the file with this name.
-fn named_job<D: Desk>(alloc: Global, name: &str, desk: &mut D) -> Result<Job, Fault>
+fn named_job<D: Desk>(alloc: Global, name: &Name, desk: &mut D) -> Result<Job, Fault>
     ensures answer { (D.state desk.old).tells ≡ true →
         Gives job_seen (TakesReadJob (D.state desk.old).files (Some name.now)) result }
     ensures of_job { IfErr result IsOfNamedJob }
@@ -72,7 +73,7 @@ fn named_job<D: Desk>(alloc: Global, name: &str, desk: &mut D) -> Result<Job, Fa
         IfErr result (IsMissing (TakesReadJob (D.state desk.old).files (Some name.now))) }
     ensures changes { OnlyReads (D.state desk.old) (D.state desk.new) }
 {
-    match fetch_all(alloc, desk, name, JOB_LIMIT) {
+    match fetch_all(alloc, desk, name.as_str(), JOB_LIMIT) {
         Ok(bytes) => job_of(alloc, &bytes),
         Err(FetchFault::Failed) => Err(Fault::ReadFault(Input::Job)),
         Err(FetchFault::TooLong) => Err(Fault::JobTooLong),
@@ -92,13 +93,13 @@ fn usual_job(alloc: Global) -> Result<Job, Fault>
 }
 
 /// The job of the file with this name, or with no name the usual one.
-fn take_job<D: Desk>(alloc: Global, name: Option<&str>, desk: &mut D) -> Result<Job, Fault>
+fn take_job<D: Desk>(alloc: Global, name: &Option<Name>, desk: &mut D) -> Result<Job, Fault>
     ensures answer { (D.state desk.old).tells ≡ true →
-        Gives job_seen (TakesReadJob (D.state desk.old).files (option_map (λ n. n.now) name.entry)) result }
-    ensures of_job { IfErr result (IsOfJob (option_map (λ n. n.now) name.entry)) }
+        Gives job_seen (TakesReadJob (D.state desk.old).files name.now) result }
+    ensures of_job { IfErr result (IsOfJob name.now) }
     ensures reads { CountsReads (result_err result) (D.state desk.old).read_faults (D.state desk.new).read_faults }
     ensures missing { (D.state desk.old).steady ≡ true →
-        IfErr result (IsMissing (TakesReadJob (D.state desk.old).files (option_map (λ n. n.now) name.entry))) }
+        IfErr result (IsMissing (TakesReadJob (D.state desk.old).files name.now)) }
     ensures changes { OnlyReads (D.state desk.old) (D.state desk.new) }
 {
     match name {
@@ -108,7 +109,7 @@ fn take_job<D: Desk>(alloc: Global, name: Option<&str>, desk: &mut D) -> Result<
 }
 
 /// The solid of the file with this name, in units of 10^-`decimals` mm.
-fn take_solid<D: Desk>(alloc: Global, name: &str, decimals: u8, desk: &mut D) -> Result<Solid, Fault>
+fn take_solid<D: Desk>(alloc: Global, name: &Name, decimals: u8, desk: &mut D) -> Result<Solid, Fault>
     requires { decimals ≤ 6 }
     ensures answer { (D.state desk.old).tells ≡ true →
         Gives solid_part (TakesSolid (D.state desk.old).files name.now decimals) result }
@@ -118,7 +119,7 @@ fn take_solid<D: Desk>(alloc: Global, name: &str, decimals: u8, desk: &mut D) ->
         IfErr result (IsMissing (TakesSolid (D.state desk.old).files name.now decimals)) }
     ensures changes { OnlyReads (D.state desk.old) (D.state desk.new) }
 {
-    match fetch_all(alloc, desk, name, PART_LIMIT) {
+    match fetch_all(alloc, desk, name.as_str(), PART_LIMIT) {
         Ok(bytes) => solid_of(alloc, &bytes, decimals),
         Err(FetchFault::Failed) => Err(Fault::ReadFault(Input::Part)),
         Err(FetchFault::TooLong) => Err(Fault::PartTooLong),
@@ -127,34 +128,41 @@ fn take_solid<D: Desk>(alloc: Global, name: &str, decimals: u8, desk: &mut D) ->
 }
 
 /// The sheet on which the job's views of the solid stand.
-fn take_sheet(alloc: Global, job: Job, solid: Solid) -> Result<Taken, Fault>
+fn take_sheet(alloc: Global, out: Name, job: Job, solid: Solid) -> Result<Taken, Fault>
     ensures answer { Gives drawn_of (PlansSheet (job_seen job) (solid_part solid)) result }
     ensures of_sheet { IfErr result IsOfSheet }
     ensures sheet { IfOk result HasItsSheet }
+    ensures out { IfOk result (λ taken. taken.out ≡ out) }
 {
     match sheet_of(alloc, &job, &solid) {
-        Ok(sheet) => Ok(Taken { job, solid, sheet }),
+        Ok(sheet) => Ok(Taken {
+            out,
+            job,
+            solid,
+            sheet,
+        }),
         Err(fault) => Err(fault),
     }
 }
 
 /// The job of the files that were named, then the part, and the sheet.
-fn take_files<D: Desk>(alloc: Global, words: Words, desk: &mut D) -> Result<Taken, Fault>
+fn take_files<D: Desk>(alloc: Global, named: Words, desk: &mut D) -> Result<Taken, Fault>
     ensures answer { (D.state desk.old).tells ≡ true →
-        Gives drawn_of (DrawsFiles (D.state desk.old).files (named_seen words.entry)) result }
-    ensures of_files { IfErr result (IsOfFiles (named_seen words.entry)) }
+        Gives drawn_of (DrawsFiles (D.state desk.old).files (named_seen named)) result }
+    ensures of_files { IfErr result (IsOfFiles (named_seen named)) }
     ensures sheet { IfOk result HasItsSheet }
+    ensures out { IfOk result (λ taken. taken.out ≡ (named_seen named).out) }
     ensures reads { CountsReads (result_err result) (D.state desk.old).read_faults (D.state desk.new).read_faults }
     ensures missing { (D.state desk.old).steady ≡ true →
-        IfErr result (IsMissing (DrawsFiles (D.state desk.old).files (named_seen words.entry))) }
+        IfErr result (IsMissing (DrawsFiles (D.state desk.old).files (named_seen named))) }
     ensures changes { OnlyReads (D.state desk.old) (D.state desk.new) }
 {
-    let job = match take_job(alloc, words.job, desk) {
+    let job = match take_job(alloc, &named.job, desk) {
         Ok(job) => job,
         Err(fault) => return Err(fault),
     };
-    match take_solid(alloc, words.part, job.decimals, desk) {
-        Ok(solid) => take_sheet(alloc, job, solid),
+    match take_solid(alloc, &named.part, job.decimals, desk) {
+        Ok(solid) => take_sheet(alloc, named.out, job, solid),
         Err(fault) => Err(fault),
     }
 }
@@ -165,14 +173,16 @@ pub(crate) fn take<D: Desk>(alloc: Global, words: &[String], desk: &mut D) -> Re
         Gives drawn_of (Runs (texts words.now) (D.state desk.old).files) result }
     ensures words { AnswersWords (named_by (texts words.now)) (result_err result) }
     ensures sheet { IfOk result HasItsSheet }
+    ensures out { IfOk result (GoesWhereNamed (named_by (texts words.now))) }
     ensures no_write { IsErrOf result (Fault.WriteFault Target.Out) → ⊥ }
     ensures reads { CountsReads (result_err result) (D.state desk.old).read_faults (D.state desk.new).read_faults }
     ensures missing { (D.state desk.old).steady ≡ true →
         IfErr result (IsMissing (Runs (texts words.now) (D.state desk.old).files)) }
     ensures changes { OnlyReads (D.state desk.old) (D.state desk.new) }
 {
-    match named_by(words) {
-        Some(named) => take_files(alloc, named, desk),
-        None => Err(Fault::Usage),
+    match read_words(alloc, words) {
+        Ok(named) => take_files(alloc, named, desk),
+        Err(WordsError::Usage) => Err(Fault::Usage),
+        Err(WordsError::Memory(_)) => Err(Fault::Memory),
     }
 }

@@ -1,5 +1,5 @@
 // The top call over files in memory: each public function once.
-use crate::{Fault, OUT, draw};
+use crate::{Fault, draw};
 use dec_text::Name;
 use desk::MemoryDesk;
 use std::alloc::{AllocError, Global};
@@ -24,7 +24,7 @@ fn a_part_is_drawn_and_a_missing_one_is_refused(rt: HostRuntime) -> Result<(), F
     assert_eq!(rt; missing.fault.map(|fault| fault.status()), Some(7));
     let outcome = draw(alloc, &words_of(alloc, "p")?, &mut desk);
     assert_eq!(rt; outcome.status, 0);
-    assert!(rt; desk.file(OUT).is_some());
+    assert!(rt; desk.file("drawing.svg").is_some());
     assert_eq!(rt; Fault::Memory.status(), 9);
     Ok(())
 }

@@ -1,7 +1,7 @@
 // Refusals by their statuses and lines, and texts that are no parts.
 use crate::parts::{CUBE, FIVE_FACES, NO_FACE, OPEN_CUBE, PLATE, STANDING, TETRA, USHAPE};
 use crate::runs::{desk_of, warned, words_of};
-use draw_core::{OUT, draw};
+use draw_core::draw;
 use std::alloc::{AllocError, Global};
 use std::test::Fail;
 
@@ -40,7 +40,7 @@ fn each_refusal_has_its_status_and_its_line(rt: HostRuntime) -> Result<(), Fail>
             "{words}, call {fail} fails"
         );
         assert_eq!(rt;
-            desk.file(OUT).is_some(),
+            desk.file("drawing.svg").is_some(),
             status == 0,
             "{words}, call {fail} fails"
         );
@@ -96,7 +96,7 @@ fn each_job_is_drawn_or_refused_by_its_line(rt: HostRuntime) -> Result<(), Fail>
         let outcome = draw(alloc, &words_of(alloc, words)?, &mut desk);
         assert_eq!(rt; outcome.status, status, "{words}: {job}");
         assert_eq!(rt; desk.warned_bytes(), warned(alloc, fault)?.as_bytes(), "{words}: {job}");
-        assert_eq!(rt; desk.file(OUT).is_some(), status == 0, "{words}: {job}");
+        assert_eq!(rt; desk.file("drawing.svg").is_some(), status == 0, "{words}: {job}");
     }
     Ok(())
 }
@@ -142,7 +142,7 @@ fn views_may_not_fit(rt: HostRuntime) -> Result<(), Fail> {
         let outcome = draw(alloc, &words_of(alloc, "--job j p")?, &mut desk);
         assert_eq!(rt; outcome.status, if fault.is_empty() { 0 } else { 6 });
         assert_eq!(rt; desk.warned_bytes(), warned(alloc, fault)?.as_bytes());
-        assert_eq!(rt; desk.file(OUT).is_some(), fault.is_empty());
+        assert_eq!(rt; desk.file("drawing.svg").is_some(), fault.is_empty());
     }
     Ok(())
 }
@@ -273,7 +273,7 @@ fn each_text_is_read_or_refused_on_its_line(rt: HostRuntime) -> Result<(), Fail>
         let mut desk = desk_of(alloc, text.as_bytes(), b"", 99)?;
         let _outcome = draw(alloc, &words_of(alloc, "p")?, &mut desk);
         assert_eq!(rt; desk.warned_bytes(), warned(alloc, fault)?.as_bytes(), "{text}");
-        assert_eq!(rt; desk.file(OUT).is_some(), fault.is_empty(), "{text}");
+        assert_eq!(rt; desk.file("drawing.svg").is_some(), fault.is_empty(), "{text}");
     }
     Ok(())
 }

@@ -5,7 +5,7 @@ use crate::strokes::{
     BRACKET_SHEET, BRACKET_THIRD, CUBE_ISOMETRIC, CUBE_SHEET, MOVED_FRONT, PLATE_TENTH, SQUARE,
     THIRDS_FRONT, WEDGE_FRONT,
 };
-use draw_core::{OUT, draw};
+use draw_core::draw;
 use lattice::Style;
 use off_reader::read_off;
 use solid_mesh::{PairMeter, Solid};
@@ -75,7 +75,7 @@ fn parts_are_drawn_by_their_jobs(rt: HostRuntime) -> Result<(), Fail> {
         let mut desk = desk_of(alloc, part.as_bytes(), job.as_bytes(), 99)?;
         let outcome = draw(alloc, &words_of(alloc, "--job j p")?, &mut desk);
         assert_eq!(rt; outcome.status, 0, "{job}");
-        let text = desk.file(OUT).ok_or("no file")?;
+        let text = desk.file("drawing.svg").ok_or("no file")?;
         assert_eq!(rt; text, sheet_of(alloc, head, strokes)?.as_bytes(), "{job}");
     }
     Ok(())

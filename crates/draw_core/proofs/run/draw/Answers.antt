@@ -1,8 +1,8 @@
 use Rattle.std.proofs.Common.{Ok, ℕ, ap, subst}
 use Rattle.desk.specs.Files.{DeskState, Rose}
+use Rattle.draw_words.specs.Seen.{texts}
 use Rattle.draw_core.specs.Run.{Runs}
 use Rattle.draw_core.specs.Taken.{drawn_of}
-use Rattle.draw_core.specs.Words.{texts}
 use Rattle.draw_core.proofs.Drawings.{made_of}
 use Rattle.draw_core.proofs.run.draw.Goals as goal
 

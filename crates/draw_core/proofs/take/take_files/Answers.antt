@@ -1,7 +1,7 @@
 use Rattle.std.proofs.Common.{◌≡◌, ap, subst, inl, inr, ◌∙◌}
 use Rattle.desk.specs.Files.{Files, DeskState}
+use Rattle.draw_words.specs.Seen.{named_seen}
 use Rattle.job_file.specs.Seen.{job_seen}
-use Rattle.draw_core.specs.Named.{named_seen}
 use Rattle.solid_mesh.specs.Solids.{solid_part}
 use Rattle.geometry.specs.Parts.{Part}
 use Rattle.std.specs.Prelude.{Result, Ok}
@@ -16,7 +16,7 @@ pub returns-in-Err-take_solid-clause-answer : goal.returns-in-Err-take_solid-cla
 returns-in-Err-take_solid-clause-answer g c =
     λ told.
     let old = g.D.Desk.state c.args.desk.now in
-    let named = named_seen c.args.words in
+    let named = named_seen c.args.named in
     let job = job_seen c.in-Ok.job in
     let fault = c.in-Err-take_solid.fault in
     let tells = ap (λ (s : DeskState). s.tells) c.in-Ok.ensures.changes ∙ told in
@@ -29,7 +29,7 @@ pub returns-in-Ok-take_solid-clause-answer : goal.returns-in-Ok-take_solid-claus
 returns-in-Ok-take_solid-clause-answer g c =
     λ told.
     let old = g.D.Desk.state c.args.desk.now in
-    let named = named_seen c.args.words in
+    let named = named_seen c.args.named in
     let job = job_seen c.in-Ok.job in
     let part = solid_part c.in-Ok-take_solid.solid in
     let tells = ap (λ (s : DeskState). s.tells) c.in-Ok.ensures.changes ∙ told in
