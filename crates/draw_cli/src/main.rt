@@ -1,4 +1,4 @@
-//! Draws one part: `draw PART` writes `drawing.svg`.
+//! Draws one part: `draw PART [--job JOB] [--out OUT]`.
 #![tactic(auto)]
 
 mod disk;
