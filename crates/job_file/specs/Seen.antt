@@ -1,9 +1,10 @@
 -- What contracts see of a job.
 use Rattle.std.specs.Prelude.{ℕ, map, option_map}
+use Rattle.lattice.specs.Cuts.{plane_of, toward_of}
 use Rattle.lattice.specs.Points.{of_dir}
 use Rattle.lattice.specs.Triple.{Triple}
 use Rattle.lattice.specs.declared.pieces.ViewSpec.{ViewSpec}
-use Rattle.lattice.specs.declared.pieces.ViewSpec.TheVariants.{Plain}
+use Rattle.lattice.specs.declared.pieces.ViewSpec.TheVariants.{Plain, Section}
 use Rattle.job_file.specs.declared.job.Job.{Job}
 use Rattle.job_file.specs.declared.job.Scale.{Scale}
 use Rattle.job_file.specs.declared.view.JobView.{JobView}
@@ -13,6 +14,7 @@ use Rattle.job_file.specs.ViewKeys.{ViewValues}
 -- the direction that the part is seen from
 abbrev pub direction_seen : ViewSpec → Triple
 direction_seen (Plain d) = of_dir d
+direction_seen (Section c) = toward_of (plane_of c)
 
 abbrev pub view_seen : JobView → ViewValues
 view_seen v = record { direction = direction_seen v.spec; named = v.named }

@@ -1,5 +1,5 @@
 // A view of a job.
-ghost use Rattle.std.specs.Prelude.{◌≡◌, Some};
+ghost use Rattle.std.specs.Prelude.{◌≡◌, Some, IsSome};
 ghost use Rattle.std.specs.Option.{ForSome};
 ghost use Rattle.job_file.specs.Names.{direction_of};
 ghost use Rattle.job_file.specs.Views.{plain_direction};
@@ -17,11 +17,12 @@ pub enum Principal {
     Below,
 }
 
-/// A view of a job. A named one shows the whole part from its name's direction.
+/// A view of a job. It shows the whole part, a named one from its name's direction. Cut views are still to come.
 #[derive(Clone, Copy)]
 pub struct JobView {
     pub spec: ViewSpec,
     pub named: Option<Principal>,
+    ghost whole: { IsSome (plain_direction spec) },
     ghost directed: { ForSome named (λ p. plain_direction spec ≡ Some (direction_of p)) },
 }
 
@@ -33,10 +34,9 @@ impl JobView {
     pub fn dir(&self) -> Dir
         ensures { of_dir result ≡ direction_seen self.now.spec }
     {
-        // The prover doesn't take an enum of one variant apart, but it does so within an `Option`.
-        match Some(self.spec) {
-            Some(ViewSpec::Plain(direction)) => direction,
-            None => unreachable!(),
+        match self.spec {
+            ViewSpec::Plain(direction) => direction,
+            ViewSpec::Section(cut) => cut.dir(),
         }
     }
 }

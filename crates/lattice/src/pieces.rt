@@ -2,6 +2,7 @@
 ghost use Rattle.std.specs.Prelude.{◌≡◌};
 ghost use Rattle.lattice.specs.Lines.{AreStripEndsInSomeView};
 
+use crate::cuts::Cut;
 use crate::lines::Line;
 use crate::points::{Dir, Spot};
 
@@ -68,4 +69,6 @@ pub struct Strip {
 pub enum ViewSpec {
     /// The whole part, seen from this direction.
     Plain(Dir),
+    /// What is left of the part beyond this cut, with its section.
+    Section(Cut),
 }
