@@ -9,7 +9,8 @@ use Rattle.clap.specs.Walk.{Row, Text, at_row, first_of, has_row, more_values, r
 use Rattle.clap.specs.declared.builder.value_parser.Reading.{Reading}
 use Rattle.clap.specs.declared.error.kind.ErrorKind.TheVariants.{ArgumentConflict, InvalidValue}
 use Rattle.clap.specs.declared.parser.matches.ValueSource.TheVariants.{CommandLine}
-use Rattle.draw_words.specs.Grammar.{Given, Read, Role, as_job, as_out, as_part, at_most_one, given, is_role, read_by, read_given, texts_as}
+use Rattle.draw_words.specs.Grammar.{Given, Role, as_job, as_out, as_part, given}
+use Rattle.draw_words.specs.Names.{Read, at_most_one, is_role, read_by, read_given, texts_as}
 use Rattle.draw_words.proofs.WordLemmas.{id_of, rule_as}
 
 -- ---- rows

@@ -10,7 +10,8 @@ use Rattle.clap.specs.Simple.{built, entered, matches_of}
 use Rattle.clap.specs.Walk.{Held, Row, Text, Waiting, Walk, finished, first_of, has_row, idle, nothing_held, option, settled, used, walk}
 use Rattle.clap.specs.declared.error.kind.ErrorKind.TheVariants.{ArgumentConflict, MissingRequiredArgument, UnknownArgument}
 use Rattle.draw_words.specs.App.{draw_app}
-use Rattle.draw_words.specs.Grammar.{Given, Kind, Read, Role, as_job, as_out, as_part, before, ends, given, given_at, given_by, gives, is_marked, is_role, kind_of, opens, plain, read_given, read_of, stranger, texts_as}
+use Rattle.draw_words.specs.Grammar.{Given, Kind, Role, as_job, as_out, as_part, before, ends, given, given_at, given_by, gives, is_marked, kind_of, opens, plain, stranger}
+use Rattle.draw_words.specs.Names.{Read, is_role, read_given, read_of, texts_as}
 use Rattle.draw_words.specs.Seen.{texts}
 use Rattle.draw_words.proofs.WordLemmas.{IsFault, Reads, id_of, reads, rule_as, rules, top}
 use Rattle.draw_words.proofs.RowLemmas.{IsSparse, first, first_of-first, given_twice, has_row-first, is_given-first, read_missing, read_whole, row, sparse_more, texts_as-append, use_again, used_first}

@@ -1,5 +1,5 @@
 -- What `clap` sees of one word, by its kind in the grammar.
-use Rattle.std.proofs.Common.{◌≡◌, ◌∙◌, ◌+◌, ◌==◌, ◌<◌, ℕ, zero, suc, length, Bool, true, false, refl, sym, ap, ap₂, subst, arith, List, [], ◌∷◌, drop, codes, Option, Some, None, eqb-true, true≢false}
+use Rattle.std.proofs.Common.{◌≡◌, ◌∙◌, ◌+◌, ◌==◌, ◌<◌, ℕ, zero, suc, length, Bool, true, false, refl, sym, ap, subst, arith, List, [], ◌∷◌, get_or, codes, Option, Some, None, eqb-true, true≢false}
 use Rattle.std.specs.Prelude.{if◌then◌else◌, slice_get}
 use Rattle.std.specs.Char.{encode_utf8}
 use Rattle.std.specs.List.{after_first, before_first, position_or_len}
@@ -11,8 +11,9 @@ use Rattle.clap.specs.Kinds.{Kinds}
 use Rattle.clap.specs.Lexer.{has_byte, long_of, short_of}
 use Rattle.clap.specs.Simple.{Shape, built}
 use Rattle.clap.specs.Walk.{Held, Rule, Text, arg_by_long}
-use Rattle.draw_words.specs.App.{draw_app}
-use Rattle.draw_words.specs.Grammar.{Kind, Role, as_job, as_out, as_part, ends, gives, is_marked, is_role, kind_by, kind_of, opens, plain, stranger, value_at}
+use Rattle.draw_words.specs.App.{draw_app, part_rule}
+use Rattle.draw_words.specs.Grammar.{Kind, Role, as_job, as_out, as_part, ends, gives, is_marked, kind_of, opens, option_or, plain, stranger}
+use Rattle.draw_words.specs.Names.{is_role}
 
 -- ---- the command as it is built
 abbrev pub top : Shape
@@ -26,14 +27,11 @@ id_of as_part = codes "part"
 id_of as_job = codes "job"
 id_of as_out = codes "out"
 
-abbrev first_rule : List Rule → Rule → Rule
-first_rule [] d = d
-first_rule (r ∷ rs) d = r
-
+-- the argument for a role
 abbrev pub rule_as : Role → Rule
-rule_as as_part = first_rule rules Rattle.draw_words.specs.App.part_rule
-rule_as as_job = first_rule (drop 1 rules) Rattle.draw_words.specs.App.part_rule
-rule_as as_out = first_rule (drop 2 rules) Rattle.draw_words.specs.App.part_rule
+rule_as as_part = get_or rules 0 part_rule
+rule_as as_job = get_or rules 1 part_rule
+rule_as as_out = get_or rules 2 part_rule
 
 -- some fault
 abbrev pub IsFault : Kinds → Type 0
@@ -47,8 +45,12 @@ is_equals b = b == 61
 abbrev cut : Text → Option Text
 cut word = if has_byte 61 word then Some (after_first is_equals word) else None
 
-abbrev cut_at : Text → Text → Option (Option Text)
-cut_at name word = if bytes_eq name (before_first is_equals word) then Some (cut word) else None
+abbrev named_kind : Role → Option Text → Kind
+named_kind role None = opens role
+named_kind role (Some value) = gives role value
+
+abbrev cut_or : Role → Text → Text → Kind → Kind
+cut_or role name word other = if bytes_eq name (before_first is_equals word) then named_kind role (cut word) else other
 
 -- a name without `=`
 abbrev IsName : Text → Type 0
@@ -56,32 +58,34 @@ IsName [] = Unit {0}
 IsName (c ∷ name) = (is_equals c ≡ false) × IsName name
 
 -- the grammar's reading of a word without its two minus signs is that of the cut
-pub value_at-cut : (name word : Text) → IsName name → value_at name word ≡ cut_at name word
-value_at-cut [] [] h = refl
-value_at-cut [] (b ∷ word) h = go (is_equals b) refl
-  where
-    go : (t : Bool) → is_equals b ≡ t → value_at [] (b ∷ word) ≡ cut_at [] (b ∷ word)
-    go true e = rw e refl
-    go false e =
-        let next : 1 + position_or_len is_equals word ≡ suc (position_or_len is_equals word) = omega arith in
-        rw (e, next) refl
-value_at-cut (c ∷ name) [] h = refl
-value_at-cut (c ∷ name) (b ∷ word) h = go (is_equals b) refl (b == c) refl (value_at-cut name word h.1)
-  where
-    go : (t : Bool) → is_equals b ≡ t → (s : Bool) → (b == c) ≡ s → value_at name word ≡ cut_at name word → value_at (c ∷ name) (b ∷ word) ≡ cut_at (c ∷ name) (b ∷ word)
-    go true e true same shorter =
-        let other : is_equals b ≡ false = rw (eqb-true b c same) h.0 in
-        absurd (true≢false (sym e ∙ other))
-    go true e false differ shorter = rw (e, differ) refl
-    go false e true same shorter =
-        let next : 1 + position_or_len is_equals word ≡ suc (position_or_len is_equals word) = omega arith in
-        let later : suc (position_or_len is_equals word) + 1 ≡ suc (position_or_len is_equals word + 1) = omega arith in
-        let turned : (c == b) ≡ true = grind (arith, nat_tests) in
-        rw (e, next, later, same, turned) shorter
-    go false e false differ shorter =
-        let next : 1 + position_or_len is_equals word ≡ suc (position_or_len is_equals word) = omega arith in
-        let turned : (c == b) ≡ false = grind (arith, nat_tests) in
-        rw (e, next, differ, turned) refl
+module _ (role : Role) (other : Kind) where
+  option_or-cut : (name word : Text) → IsName name → option_or role name word other ≡ cut_or role name word other
+  option_or-cut [] [] h = refl
+  option_or-cut [] (b ∷ word) h = go (is_equals b) refl
+    where
+      go : (t : Bool) → is_equals b ≡ t → option_or role [] (b ∷ word) other ≡ cut_or role [] (b ∷ word) other
+      go true e = rw e refl
+      go false e =
+          let next : 1 + position_or_len is_equals word ≡ suc (position_or_len is_equals word) = omega arith in
+          rw (e, next) refl
+  option_or-cut (c ∷ name) [] h = refl
+  option_or-cut (c ∷ name) (b ∷ word) h = go (is_equals b) refl (b == c) refl (option_or-cut name word h.1)
+    where
+      go : (t : Bool) → is_equals b ≡ t → (s : Bool) → (b == c) ≡ s → option_or role name word other ≡ cut_or role name word other
+          → option_or role (c ∷ name) (b ∷ word) other ≡ cut_or role (c ∷ name) (b ∷ word) other
+      go true e true same shorter =
+          let no : is_equals b ≡ false = rw (eqb-true b c same) h.0 in
+          absurd (true≢false (sym e ∙ no))
+      go true e false differ shorter = rw (e, differ) refl
+      go false e true same shorter =
+          let next : 1 + position_or_len is_equals word ≡ suc (position_or_len is_equals word) = omega arith in
+          let later : suc (position_or_len is_equals word) + 1 ≡ suc (position_or_len is_equals word + 1) = omega arith in
+          let turned : (c == b) ≡ true = grind (arith, nat_tests) in
+          rw (e, next, later, same, turned) shorter
+      go false e false differ shorter =
+          let next : 1 + position_or_len is_equals word ≡ suc (position_or_len is_equals word) = omega arith in
+          let turned : (c == b) ≡ false = grind (arith, nat_tests) in
+          rw (e, next, differ, turned) refl
 
 -- ---- a word by its kind
 abbrev pub is_end : Text → Bool
@@ -137,7 +141,7 @@ bundle_faults x xs h utf8 none =
 -- two minus signs, and a name
 marked : (rest n : Text) (value : Option Text) (d : ℕ) (ds : Text) → rest ≡ d ∷ ds → long_of (45 ∷ 45 ∷ rest) ≡ Some (n, value)
     → (j o : Bool) → bytes_eq (codes "job") n ≡ j → bytes_eq (codes "out") n ≡ o
-    → Reads (kind_by (if j then Some value else None) (if o then Some value else None) true) (45 ∷ 45 ∷ rest)
+    → Reads (if j then named_kind as_job value else (if o then named_kind as_out value else stranger)) (45 ∷ 45 ∷ rest)
 marked rest n None d ds is long true o e f = record { name = n; option = refl; marked = refl; no_end = rw is refl; long = long; rule = rw e refl }
 marked rest n (Some v) d ds is long true o e f = record { name = n; option = refl; marked = refl; no_end = rw is refl; long = long; rule = rw e refl }
 marked rest n None d ds is long false true e f = record { name = n; option = refl; marked = refl; no_end = rw is refl; long = long; rule = rw (e, f) refl }
@@ -147,11 +151,12 @@ marked rest n value d ds is long false false e f = record { marked = refl; no_en
 two_marks : (word : Text) → Reads (kind_of (45 ∷ 45 ∷ word)) (45 ∷ 45 ∷ word)
 two_marks [] = (refl, refl)
 two_marks (d ∷ ds) =
-    let rest = d ∷ ds in
-    let job : value_at (codes "--job") (45 ∷ 45 ∷ d ∷ ds) ≡ cut_at (codes "job") (d ∷ ds) = value_at-cut (codes "job") (d ∷ ds) (refl, (refl, (refl, tt))) in
-    let out : value_at (codes "--out") (45 ∷ 45 ∷ d ∷ ds) ≡ cut_at (codes "out") (d ∷ ds) = value_at-cut (codes "out") (d ∷ ds) (refl, (refl, (refl, tt))) in
-    subst (λ (k : Kind). Reads k (45 ∷ 45 ∷ d ∷ ds)) (sym (ap₂ (λ j o. kind_by j o true) job out))
-    (marked (d ∷ ds) (before_first is_equals (d ∷ ds)) (cut (d ∷ ds)) d ds refl refl (bytes_eq (codes "job") (before_first is_equals (d ∷ ds))) (bytes_eq (codes "out") (before_first is_equals (d ∷ ds))) refl refl)
+    let name = before_first is_equals (d ∷ ds) in
+    let out : option_or as_out (codes "out") (d ∷ ds) stranger ≡ cut_or as_out (codes "out") (d ∷ ds) stranger = option_or-cut as_out stranger (codes "out") (d ∷ ds) (refl, (refl, (refl, tt))) in
+    let both : kind_of (45 ∷ 45 ∷ d ∷ ds) ≡ cut_or as_job (codes "job") (d ∷ ds) (cut_or as_out (codes "out") (d ∷ ds) stranger) =
+    ap (option_or as_job (codes "job") (d ∷ ds)) out ∙ option_or-cut as_job (cut_or as_out (codes "out") (d ∷ ds) stranger) (codes "job") (d ∷ ds) (refl, (refl, (refl, tt))) in
+    subst (λ (k : Kind). Reads k (45 ∷ 45 ∷ d ∷ ds)) (sym both)
+    (marked (d ∷ ds) name (cut (d ∷ ds)) d ds refl refl (bytes_eq (codes "job") name) (bytes_eq (codes "out") name) refl refl)
 
 one_mark : (c : ℕ) (word : Text) → IsUtf8 (45 ∷ c ∷ word) → Reads (kind_of (45 ∷ c ∷ word)) (45 ∷ c ∷ word)
 one_mark c word utf8 = go (c == 45) refl

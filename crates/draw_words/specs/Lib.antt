@@ -1,3 +1,4 @@
 pub mod App
 pub mod Grammar
+pub mod Names
 pub mod Seen

@@ -1,7 +1,7 @@
 -- What contracts see of words, and of what they name.
 use Rattle.std.specs.Prelude.{ℕ, List, map, option_copied, string_bytes, String}
 use Rattle.std.specs.declared.alloc.Global.{Global}
-use Rattle.draw_words.specs.Grammar.{Named, Read}
+use Rattle.draw_words.specs.Names.{Named, Read}
 use Rattle.draw_words.specs.declared.command.Found.{Found}
 use Rattle.draw_words.specs.declared.words.Words.{Words}
 

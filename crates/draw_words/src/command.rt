@@ -5,7 +5,7 @@ ghost use Rattle.clap.specs.Matches.{found_of};
 ghost use Rattle.clap.specs.Simple.{app_of, matches_of};
 ghost use Rattle.clap.specs.Walk.{first_of, rows_of, rule_of};
 ghost use Rattle.draw_words.specs.App.{bare_app, draw_app, option_rule, part_rule};
-ghost use Rattle.draw_words.specs.Grammar.{read_of};
+ghost use Rattle.draw_words.specs.Names.{read_of};
 ghost use Rattle.draw_words.specs.Seen.{found_seen, texts};
 
 use crate::errors::WordsError;

@@ -1,6 +1,6 @@
 // What the words of a run name.
 ghost use Rattle.std.specs.Prelude.{◌≡◌, IfOk, IsErrOf, Some, None, option_copied};
-ghost use Rattle.draw_words.specs.Grammar.{is_empty, named, named_by};
+ghost use Rattle.draw_words.specs.Names.{is_empty, named, named_by};
 ghost use Rattle.draw_words.specs.Seen.{found_seen, named_seen, texts};
 
 use crate::command::{Found, read};
