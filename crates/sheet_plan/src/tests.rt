@@ -1,16 +1,16 @@
-// The cube of 10 mm: how far it reaches, where its corners stand on a sheet, and strokes; and a plate that needs a small scale.
-ghost use Rattle.std.specs.Prelude.{◌≡◌, ◌≤◌, ◌^◌, unsigned_abs, length, IfOk};
+// The cube of 10 mm: how far it reaches, where its corners stand on a sheet, and strokes; and where the views of jobs stand.
+ghost use Rattle.std.specs.Prelude.{◌≡◌, ◌<◌, ◌≤ℤ◌, ◌^◌, unsigned_abs, length, IfOk};
 ghost use Rattle.std.specs.List.{All};
 ghost use Rattle.lattice.specs.Triangles.{IsBelow};
 ghost use Rattle.geometry.specs.Parts.{part_of};
 
-use crate::{Mark, PlanError, Sheet, Spread, extent, plan};
-use dec_text::Name;
+use crate::{Extent, Mark, PlanError, Sheet, Spread, extent, plan};
 use exact_frac::{Frac, OutOfMemory};
-use job_file::{Job, JobView, Paper, Principal, Scale};
-use lattice::{Corner, Crease, Dir, Piece, Soup, Spot, Style, Tri, ViewSpec};
+use job_file::{Job, JobView, Scale};
+use lattice::{Corner, Dir, Piece, Soup, Spot, Style, Tri};
 use solid_mesh::Solid;
 use std::alloc::{AllocError, Global};
+use std::process::Abort;
 use std::test::Fail;
 
 const CUBE: [[u32; 3]; 12] = [
@@ -28,56 +28,39 @@ const CUBE: [[u32; 3]; 12] = [
     [3, 4, 7],
 ];
 
-/// How far to the right a corner stands, of the cube or of a plate of 1 m by 10 mm by 0.8 m.
-fn right(i: u32, plate: bool) -> i32
-    ensures { unsigned_abs result ≤ 2 ^ 20 }
-{
-    match (i, plate) {
-        (1 | 2 | 5 | 6, true) => 1_000_000,
-        (1 | 2 | 5 | 6, false) => 10_000,
-        _ => 0,
-    }
-}
-
-/// How far up it stands.
-fn up(i: u32, plate: bool) -> i32
-    ensures { unsigned_abs result ≤ 2 ^ 20 }
-{
-    match (i, plate) {
-        (4 | 5 | 6 | 7, true) => 800_000,
-        (4 | 5 | 6 | 7, false) => 10_000,
-        _ => 0,
-    }
-}
-
-/// A corner of the cube or of the plate, around the bottom and around the top.
-fn corner(i: u32, plate: bool) -> Corner {
+/// A corner of the cube, around the bottom and around the top.
+fn corner(i: u32) -> Corner {
     Corner {
-        x: right(i, plate),
+        x: match i {
+            1 | 2 | 5 | 6 => 10_000,
+            _ => 0,
+        },
         y: match i {
             2 | 3 | 6 | 7 => 10_000,
             _ => 0,
         },
-        z: up(i, plate),
+        z: match i {
+            4 | 5 | 6 | 7 => 10_000,
+            _ => 0,
+        },
     }
 }
 
-/// The cube or the plate.
-fn box_of(alloc: Global, plate: bool) -> Result<Soup, AllocError>
+fn cube(alloc: Global) -> Result<Soup, AllocError>
     ensures corners { IfOk result (λ s. length (part_of s).corners ≡ 8) }
     ensures triangles { IfOk result (λ s. length (part_of s).triangles ≡ 12) }
 {
-    let corners = corners(alloc, plate)?;
+    let corners = corners(alloc)?;
     let triangles = triangles(alloc, &CUBE)?;
     Ok(Soup { corners, triangles })
 }
 
-fn corners(alloc: Global, plate: bool) -> Result<Vec<Corner>, AllocError>
+fn corners(alloc: Global) -> Result<Vec<Corner>, AllocError>
     ensures { IfOk result (λ v. length v.items ≡ 8) }
 {
     let mut corners = Vec::new(alloc);
     for i in 0..8 {
-        corners.push(corner(i, plate))?;
+        corners.push(corner(i))?;
     }
     Ok(corners)
 }
@@ -118,7 +101,7 @@ fn a3(alloc: Global, d: Dir, y0: i16, scale: Scale) -> Result<Sheet, OutOfMemory
 
 #[test]
 fn extents_of_the_cube(rt: HostRuntime) -> Result<(), Fail> {
-    let Ok(solid) = Solid::check(rt.alloc(), box_of(rt.alloc(), false)?) else {
+    let Ok(solid) = Solid::check(rt.alloc(), cube(rt.alloc())?) else {
         assert!(rt; false, "the cube is sound");
         return Ok(());
     };
@@ -155,7 +138,7 @@ fn corners_of_the_cube_seen_from_above_a_corner(rt: HostRuntime) -> Result<(), F
         (6, (3414, 2409)),
         (7, (2707, 2000)),
     ] {
-        let spot = Spot::at(&corner(number, false));
+        let spot = Spot::at(&corner(number));
         assert_eq!(rt; sheet.point(0, &spot), place, "corner {number}");
     }
     Ok(())
@@ -236,62 +219,190 @@ fn a_stroke_in_lowest_terms(rt: HostRuntime) -> Result<(), Fail> {
     Ok(())
 }
 
-/// A job of one view from the front, with units of 0.001 mm and without a title.
-fn front_job(
+/// From where a view reaches and how far, to the right and upward, in hundreds of units.
+type Reach = (i16, u16, i16, u16);
+
+/// The bracket of 30 by 20 by 20 mm, from the front, from above and from the left.
+const BRACKET: [Reach; 3] = [(0, 300, 0, 200), (0, 300, 0, 200), (-200, 200, 0, 200)];
+
+/// A box of 30 by 20 by 10 mm, from the front, from behind, from the left, from the right, from above and from below.
+const FLAT_BOX: [Reach; 6] = [
+    (0, 300, 0, 100),
+    (-300, 300, 0, 100),
+    (-200, 200, 0, 100),
+    (0, 200, 0, 100),
+    (0, 300, 0, 200),
+    (0, 300, -200, 200),
+];
+
+/// The cube from (1, -1, 1).
+const CUBE_FROM_A_CORNER: Reach = (0, 200, -100, 400);
+
+const SIX_VIEWS: &str = "[[view]]
+name = \"front\"
+[[view]]
+name = \"back\"
+[[view]]
+name = \"left\"
+[[view]]
+name = \"right\"
+[[view]]
+name = \"above\"
+[[view]]
+name = \"below\"
+";
+
+/// From where to where a view reaches, in units.
+fn ends(least: i16, length: u16) -> (i64, i64)
+    ensures ordered { result.0 ≤ℤ result.1 }
+    ensures least_size { unsigned_abs result.0 < 2 ^ 29 }
+    ensures greatest_size { unsigned_abs result.1 < 2 ^ 29 }
+{
+    let from = 100 * i64::from(least);
+    (from, from + 100 * i64::from(length))
+}
+
+fn extent_of(d: Dir, reach: &Reach) -> Extent {
+    let (left, width, bottom, height) = *reach;
+    let (u_min, u_max) = ends(left, width);
+    let (v_min, v_max) = ends(bottom, height);
+    Extent {
+        d,
+        u_min,
+        u_max,
+        v_min,
+        v_max,
+    }
+}
+
+fn extents_of(
     alloc: Global,
-    paper: Paper,
-    scale: Option<Scale>,
-) -> Result<Option<Job>, OutOfMemory> {
-    let Ok(d) = Dir::new(0, -1, 0) else {
-        return Ok(None);
+    views: &[JobView],
+    reaches: &[Reach],
+) -> Result<Vec<Extent>, OutOfMemory> {
+    let mut extents = Vec::new(alloc);
+    for (view, reach) in views.iter().zip(reaches) {
+        extents.push(extent_of(view.dir(), reach))?;
+    }
+    Ok(extents)
+}
+
+/// The sheet of a job, whose views reach so far.
+fn planned(
+    rt: &impl Abort,
+    alloc: Global,
+    text: &str,
+    reaches: &[Reach],
+) -> Result<Sheet, PlanError> {
+    let Ok(job) = Job::read(alloc, text.as_bytes()) else {
+        assert!(rt; false, "no job: {text}");
+        return Err(PlanError::Memory(OutOfMemory));
     };
-    let mut views = Vec::new(alloc);
-    views.push(JobView {
-        spec: ViewSpec::Plain(d),
-        named: Some(Principal::Front),
-    })?;
-    Ok(Some(Job {
-        decimals: 3,
-        third: false,
-        paper,
-        scale,
-        crease: Crease::Normal,
-        title: Name::new(alloc, "")?,
-        outputs: Vec::new(alloc),
-        views,
-    }))
+    let extents = extents_of(alloc, &job.views, reaches)?;
+    assert!(rt; job.views.len() == extents.len());
+    plan(alloc, &job, &extents)
+}
+
+/// The views stand at these x0 and y0.
+fn check(rt: &impl Abort, alloc: Global, text: &str, reaches: &[Reach], want: &[(i64, i64)]) {
+    match planned(rt, alloc, text, reaches) {
+        Ok(sheet) => {
+            assert_eq!(rt; sheet.places.len(), want.len(), "{text}");
+            for (place, (x0, y0)) in sheet.places.iter().zip(want) {
+                assert_eq!(rt; (place.x0, place.y0), (*x0, *y0), "{text}");
+            }
+        }
+        Err(error) => assert!(rt; false, "{text}{error:?}"),
+    }
+}
+
+#[test]
+fn places_of_named_views(rt: HostRuntime) -> Result<(), Fail> {
+    let alloc = rt.alloc();
+    check(
+        &rt,
+        alloc,
+        "",
+        &BRACKET,
+        &[(2000, 4000), (2000, 7500), (8500, 4000)],
+    );
+    check(
+        &rt,
+        alloc,
+        SIX_VIEWS,
+        &FLAT_BOX,
+        &[
+            (5500, 6500),
+            (16500, 6500),
+            (12000, 6500),
+            (2000, 6500),
+            (5500, 10000),
+            (5500, 2000),
+        ],
+    );
+    let third = format!(in alloc; "angle = \"third\"\n{SIX_VIEWS}")?;
+    check(
+        &rt,
+        alloc,
+        &third,
+        &FLAT_BOX,
+        &[
+            (5500, 6500),
+            (16500, 6500),
+            (4000, 6500),
+            (10000, 6500),
+            (5500, 4000),
+            (5500, 8000),
+        ],
+    );
+    Ok(())
+}
+
+#[test]
+fn places_of_other_views(rt: HostRuntime) {
+    check(
+        &rt,
+        rt.alloc(),
+        "[[view]]\ntoward = [1, -1, 1]\n",
+        &[CUBE_FROM_A_CORNER],
+        &[(2000, 3225)],
+    );
+    check(
+        &rt,
+        rt.alloc(),
+        "[[view]]\ntoward = [1, -1, 1]\n[[view]]\nname = \"front\"\n[[view]]\ntoward = [1, -1, 1]\n",
+        &[CUBE_FROM_A_CORNER, (0, 100, 0, 100), CUBE_FROM_A_CORNER],
+        &[(2000, 5725), (2000, 3000), (4914, 5725)],
+    );
 }
 
 #[test]
 fn a_plate_that_does_not_fit(rt: HostRuntime) -> Result<(), Fail> {
-    let Ok(solid) = Solid::check(rt.alloc(), box_of(rt.alloc(), true)?) else {
-        assert!(rt; false, "the plate is sound");
-        return Ok(());
-    };
-    for (scale, planned) in [
-        (None, Ok(10)),
-        (Some(Scale { num: 1, den: 10 }), Ok(10)),
+    for (text, want) in [
+        ("", Ok(10)),
+        ("scale = \"1:10\"\n", Ok(10)),
         (
-            Some(Scale { num: 1, den: 1 }),
+            "scale = \"1:1\"\n",
             Err(PlanError::DoesNotFit {
-                need_w: 100000,
-                need_h: 80000,
-                have_w: 25700,
-                have_h: 15000,
+                need_w: 100_000,
+                need_h: 80_000,
+                have_w: 25_700,
+                have_h: 15_000,
+            }),
+        ),
+        (
+            "decimals = 0\n",
+            Err(PlanError::DoesNotFit {
+                need_w: 1_000_000,
+                need_h: 800_000,
+                have_w: 25_700,
+                have_h: 15_000,
             }),
         ),
     ] {
-        let Some(job) = front_job(rt.alloc(), Paper::A4, scale)? else {
-            assert!(rt; false, "no direction");
-            return Ok(());
-        };
-        let Ok(d) = Dir::new(0, -1, 0) else {
-            assert!(rt; false, "no direction");
-            return Ok(());
-        };
-        assert!(rt; job.views.len() == 1);
-        let sheet = plan(rt.alloc(), &job, &[extent(&solid, &d)]);
-        assert_eq!(rt; sheet.map(|s| s.scale.den), planned);
+        let text = format!(in rt.alloc(); "sheet = \"A4\"\n{text}[[view]]\nname = \"front\"\n")?;
+        let sheet = planned(&rt, rt.alloc(), &text, &[(0, 10_000, 0, 8_000)]);
+        assert_eq!(rt; sheet.map(|s| s.scale.den), want, "{text}");
     }
     Ok(())
 }
