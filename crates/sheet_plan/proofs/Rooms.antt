@@ -1,8 +1,6 @@
 -- What a sheet at one scale is, and why there is none.
 use Rattle.std.proofs.Common.{◌≡◌, ℕ, zero, suc, ◌≤◌, List, [], ◌∷◌, length, slice_get, None, Some, Option, sym, ap, ◌∙◌, subst, arith, Bool}
-use Rattle.std.specs.Prelude.{ℤ, ◌≤ℤ◌, IfErr}
-use Rattle.std.specs.declared.result.Result.{Result}
-use Rattle.std.specs.declared.result.Result.TheVariants.{Ok, Err}
+use Rattle.std.specs.Prelude.{ℤ, ◌≤ℤ◌}
 use Rattle.job_file.specs.declared.job.Job.{Job}
 use Rattle.job_file.specs.declared.job.Scale.{Scale}
 use Rattle.job_file.specs.declared.view.JobView.{JobView}
@@ -49,10 +47,6 @@ module _ (job : Job) (extents : List Extent) (num den : ℕ) (shapes : List Shap
   }
 
 -- ---- no scale fits
-pub err_weaker : {T : Type 0} (r : Result T PlanError) (P Q : PlanError → Type 0) → ((e : PlanError) → P e → Q e) → IfErr r P → IfErr r Q
-err_weaker (Ok x) P Q f h = h
-err_weaker (Err e) P Q f h = f e h
-
 module _ (job : Job) (extents : List Extent) (num den : ℕ) (none : job.scale ≡ None) (one : num ≡ 1) (last : slice_get fit_dens 6 ≡ Some den) (before : NoneFits job extents 6) where
   hundred : den ≡ 100
   hundred = sym (cc)

@@ -1,6 +1,7 @@
 use Rattle.std.proofs.Common.{arith}
+use Rattle.std.proofs.lemmas.Result.{IfErr-weaker}
 use Rattle.sheet_plan.specs.Plans.{IsRefusedAt, IsRefused}
-use Rattle.sheet_plan.proofs.Rooms.{err_weaker, refused_last}
+use Rattle.sheet_plan.proofs.Rooms.{refused_last}
 use Rattle.sheet_plan.proofs.planning.fit.Goals as goal
 
 pub returns-clause-refused : goal.returns-clause-refused
@@ -8,6 +9,6 @@ returns-clause-refused c =
     let job = c.args.job.now in
     let extents = c.args.extents.now in
     let scale = c.fit_scale-2.result in
-    err_weaker c.plan_at-2.result (IsRefusedAt job extents scale.num scale.den) (IsRefused job extents)
+    IfErr-weaker c.plan_at-2.result (IsRefusedAt job extents scale.num scale.den) (IsRefused job extents)
     (refused_last job extents scale.num scale.den c.requires.none c.fit_scale-2.ensures.num c.fit_scale-2.ensures.den (λ j d below at. c.loop-i.invariant j d (omega (arith, below, c.loop-i-test.false)) at))
     c.plan_at-2.ensures.refused
