@@ -5,7 +5,7 @@ use Rattle.lattice.specs.Creases.{fraction_of}
 use Rattle.lattice.specs.declared.pieces.Crease.{Crease}
 use Rattle.geometry.specs.Pieces.{AreRight, AreInOrder}
 use Rattle.desk.specs.Files.{Files}
-use Rattle.draw_words.specs.Grammar.{Named}
+use Rattle.draw_words.specs.Names.{Named}
 use Rattle.job_file.specs.Seen.{direction_seen, job_seen}
 use Rattle.job_file.specs.declared.view.JobView.{JobView}
 use Rattle.solid_mesh.specs.declared.solid.Solid.{Solid}

@@ -1,6 +1,6 @@
 -- What contracts see of what a run has taken.
 use Rattle.std.specs.Prelude.{◌≡◌, Option, IsSomeAnd}
-use Rattle.draw_words.specs.Grammar.{Named}
+use Rattle.draw_words.specs.Names.{Named}
 use Rattle.job_file.specs.Seen.{job_seen}
 use Rattle.solid_mesh.specs.Solids.{solid_part}
 use Rattle.draw_core.specs.Run.{Drawn}

@@ -1,7 +1,7 @@
 // The top call: from the words and a desk to a drawing.
 ghost use Rattle.std.specs.Prelude.{◌≡◌, ◌⊎◌, ◌++◌, true, false, length, None, Some, Ok, Err, IfOk, IfErr, IfSome, IfNone, IsSome, IsErrOf, OnOk, is_some, string_bytes, vec_len, ◌<◌, ◌≤◌};
 ghost use Rattle.desk.specs.Files.{OnlyReads, OnlyWarns, Rose, AppendsFront};
-ghost use Rattle.draw_words.specs.Grammar.{named_by};
+ghost use Rattle.draw_words.specs.Names.{named_by};
 ghost use Rattle.draw_words.specs.Seen.{texts};
 ghost use Rattle.draw_core.specs.Taken.{drawn_of, HasItsSheet};
 ghost use Rattle.draw_core.specs.Run.{Runs, Refuses, AnswersWords, CountsReads, IsMissing, HasDrawing, LeavesAfter, IsWriteOutcome, status_of};

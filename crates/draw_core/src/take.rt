@@ -2,7 +2,7 @@
 ghost use Rattle.std.specs.Prelude.{◌≡◌, ◌≤◌, true, Some, None, IfOk, IfErr, IsErrOf};
 ghost use Rattle.std.specs.Result.{result_err};
 ghost use Rattle.desk.specs.Files.{Files, OnlyReads};
-ghost use Rattle.draw_words.specs.Grammar.{named_by};
+ghost use Rattle.draw_words.specs.Names.{named_by};
 ghost use Rattle.draw_words.specs.Seen.{named_seen, texts};
 ghost use Rattle.job_file.specs.Seen.{job_seen};
 ghost use Rattle.solid_mesh.specs.Solids.{solid_part};

@@ -3,7 +3,7 @@ use Rattle.std.proofs.Common.{◌≡◌, ℕ, Bool, true, false, List, Some, ref
 use Rattle.std.specs.Prelude.{ℤ, pos, ◌+ℤ◌, ◌-ℤ◌, ◌≤ℤ◌, IsTrue}
 use Rattle.std.proofs.lemmas.Int.{ints}
 use Rattle.lattice.specs.declared.pieces.ViewSpec.{ViewSpec}
-use Rattle.lattice.specs.declared.pieces.ViewSpec.TheVariants.{Plain}
+use Rattle.lattice.specs.declared.pieces.ViewSpec.TheVariants.{Plain, Section}
 use Rattle.lattice.specs.declared.points.Corner.{Corner}
 use Rattle.lattice.specs.Points.{of_dir, point_of, scaled}
 use Rattle.lattice.specs.Triple.{Triple, dot, right_axis, up_axis}
@@ -91,6 +91,7 @@ row_begins shapes third Below h = absurd (cc)
 -- ---- a named view is seen from its name's direction
 seen_from : (spec : ViewSpec) (t : Triple) → plain_direction spec ≡ Some t → direction_seen spec ≡ t
 seen_from (Plain d) t h = cc
+seen_from (Section c) t h = cc
 
 named_direction : (v : JobView) (name : Principal) → v.named ≡ Some name → direction_seen v.spec ≡ direction_of name
 named_direction v name h = seen_from v.spec (direction_of name) (v.directed name h)
