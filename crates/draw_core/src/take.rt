@@ -109,7 +109,12 @@ fn take_job<D: Desk>(alloc: Global, name: &Option<Name>, desk: &mut D) -> Result
 }
 
 /// The solid of the file with this name, in units of 10^-`decimals` mm.
-fn take_solid<D: Desk>(alloc: Global, name: &Name, decimals: u8, desk: &mut D) -> Result<Solid, Fault>
+fn take_solid<D: Desk>(
+    alloc: Global,
+    name: &Name,
+    decimals: u8,
+    desk: &mut D,
+) -> Result<Solid, Fault>
     requires { decimals ≤ 6 }
     ensures answer { (D.state desk.old).tells ≡ true →
         Gives solid_part (TakesSolid (D.state desk.old).files name.now decimals) result }

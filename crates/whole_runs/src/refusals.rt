@@ -57,7 +57,10 @@ fn a_part_may_be_too_long(rt: HostRuntime) -> Result<(), Fail> {
     let mut desk = desk_of(alloc, &blanks, b"", 9999)?;
     let outcome = draw(alloc, &words_of(alloc, "p")?, &mut desk);
     assert_eq!(rt; outcome.status, 4);
-    assert_eq!(rt; desk.warned_bytes(), b"draw: part: more than 16777216 bytes\n".as_slice());
+    assert_eq!(rt;
+        desk.warned_bytes(),
+        b"draw: part: more than 16777216 bytes\n".as_slice()
+    );
     Ok(())
 }
 
@@ -74,11 +77,29 @@ fn each_job_is_drawn_or_refused_by_its_line(rt: HostRuntime) -> Result<(), Fail>
         ("--job j p", "", 1, 7, "cannot read the part"),
         ("--job j p", "version =", 9, 3, "job: not TOML"),
         ("--job j p", "version = -2", 9, 3, "job: version -2"),
-        ("--job j p", "version = 3\ncolour = 1", 9, 3, "job: version 3"),
-        ("--job j p", "\"W\u{fc}rfel\" = 1", 9, 3, "job: unknown key W??rfel"),
+        (
+            "--job j p",
+            "version = 3\ncolour = 1",
+            9,
+            3,
+            "job: version 3",
+        ),
+        (
+            "--job j p",
+            "\"W\u{fc}rfel\" = 1",
+            9,
+            3,
+            "job: unknown key W??rfel",
+        ),
         ("--job j p", "decimals = 7", 9, 3, "job: wrong decimals"),
         ("--job j p", "view = []", 9, 3, "job: wrong view"),
-        ("--job j p", "[[view]]\ntoward = [0, 0, 0]", 9, 3, "job: view 0: zero direction"),
+        (
+            "--job j p",
+            "[[view]]\ntoward = [0, 0, 0]",
+            9,
+            3,
+            "job: view 0: zero direction",
+        ),
         (
             "--job j p",
             "[[view]]\nname = \"left\"\n[[view]]\ntoward = [1, 0, 10]",
@@ -86,17 +107,43 @@ fn each_job_is_drawn_or_refused_by_its_line(rt: HostRuntime) -> Result<(), Fail>
             3,
             "job: view 1: direction z outside -9 to 9",
         ),
-        ("--job j p", "outputs = [\"mill\", \"pieces\"]", 9, 3, "no plotter mill"),
+        (
+            "--job j p",
+            "outputs = [\"mill\", \"pieces\"]",
+            9,
+            3,
+            "no plotter mill",
+        ),
         // The job is refused before the part is taken.
         ("--job j q", "colour = 1", 9, 3, "job: unknown key colour"),
-        ("--job j", "", 9, 2, "usage: draw PART [--job JOB] [--out OUT]"),
-        ("p --job j", "", 9, 2, "usage: draw PART [--job JOB] [--out OUT]"),
+        (
+            "--job j",
+            "",
+            9,
+            2,
+            "usage: draw PART [--job JOB] [--out OUT]",
+        ),
+        (
+            "p --job j",
+            "",
+            9,
+            2,
+            "usage: draw PART [--job JOB] [--out OUT]",
+        ),
     ] {
         let mut desk = desk_of(alloc, CUBE.as_bytes(), job.as_bytes(), fail)?;
         let outcome = draw(alloc, &words_of(alloc, words)?, &mut desk);
         assert_eq!(rt; outcome.status, status, "{words}: {job}");
-        assert_eq!(rt; desk.warned_bytes(), warned(alloc, fault)?.as_bytes(), "{words}: {job}");
-        assert_eq!(rt; desk.file("drawing.svg").is_some(), status == 0, "{words}: {job}");
+        assert_eq!(rt;
+            desk.warned_bytes(),
+            warned(alloc, fault)?.as_bytes(),
+            "{words}: {job}"
+        );
+        assert_eq!(rt;
+            desk.file("drawing.svg").is_some(),
+            status == 0,
+            "{words}: {job}"
+        );
     }
     Ok(())
 }
@@ -186,7 +233,11 @@ fn each_surface_is_closed_or_refused_by_its_fault(rt: HostRuntime) -> Result<(),
     ] {
         let mut desk = desk_of(alloc, stl_of(alloc, facets)?.as_bytes(), b"", 99)?;
         let _outcome = draw(alloc, &words_of(alloc, "p")?, &mut desk);
-        assert_eq!(rt; desk.warned_bytes(), warned(alloc, fault)?.as_bytes(), "{facets}");
+        assert_eq!(rt;
+            desk.warned_bytes(),
+            warned(alloc, fault)?.as_bytes(),
+            "{facets}"
+        );
     }
     Ok(())
 }
@@ -204,7 +255,11 @@ fn a_tip_touches_a_face_or_not(rt: HostRuntime) -> Result<(), Fail> {
         let text = format!(in alloc; "{before}{tip}{behind}")?;
         let mut desk = desk_of(alloc, text.as_bytes(), b"", 99)?;
         let _outcome = draw(alloc, &words_of(alloc, "p")?, &mut desk);
-        assert_eq!(rt; desk.warned_bytes(), warned(alloc, fault)?.as_bytes(), "{tip}");
+        assert_eq!(rt;
+            desk.warned_bytes(),
+            warned(alloc, fault)?.as_bytes(),
+            "{tip}"
+        );
     }
     Ok(())
 }
@@ -216,16 +271,20 @@ fn each_text_is_read_or_refused_on_its_line(rt: HostRuntime) -> Result<(), Fail>
         ("", "", "part: line 1: missing count"),
         ("# a\n# b\n", "", "part: line 3: missing count"),
         ("OFF", "", "part: line 1: missing count"),
-        (
-            "OFF\n8 6 12\n0 0",
-            "",
-            "part: line 3: missing coordinate",
-        ),
+        ("OFF\n8 6 12\n0 0", "", "part: line 3: missing coordinate"),
         ("OFF\n\0", "", "part: line 2: binary"),
         ("OFF BINARY", "", "part: line 1: binary"),
         ("COFF", "", "part: line 1: prefixed OFF"),
-        ("OFF 60001 0 0", "", "part: line 1: too many vertices or triangles"),
-        ("OFF 4 20001 0", "", "part: line 1: too many vertices or triangles"),
+        (
+            "OFF 60001 0 0",
+            "",
+            "part: line 1: too many vertices or triangles",
+        ),
+        (
+            "OFF 4 20001 0",
+            "",
+            "part: line 1: too many vertices or triangles",
+        ),
         ("OFF 0 0 0", "", "part: no triangle"),
         (FIVE_FACES, "4 3 0 4 7\n", ""),
         (FIVE_FACES, "4 3 0 4 7 0.5 0.5 0.5 red\n", ""),
@@ -236,27 +295,23 @@ fn each_text_is_read_or_refused_on_its_line(rt: HostRuntime) -> Result<(), Fail>
             "4 3 0 4 7\n7\n",
             "part: line 17: text after the last face",
         ),
-        (USHAPE, "", "part: line 11: face 0 is not seen whole from a corner"),
+        (
+            USHAPE,
+            "",
+            "part: line 11: face 0 is not seen whole from a corner",
+        ),
         (
             "solid\nfacet normal 0 0 1\nouter lop",
             "",
             "part: line 3: expected loop",
         ),
-        (
-            "solid",
-            "",
-            "part: line 1: missing facet or endsolid",
-        ),
+        ("solid", "", "part: line 1: missing facet or endsolid"),
         ("\n\tSoLiD a b\r\n\nendSOLID", " a", "part: no triangle"),
         ("OFF\n3 x 0", "", "part: line 2: bad number"),
         ("OFF\n1 0 0\n0 1e9 0", "", "part: line 3: number too large"),
         (NO_FACE, "-3 0 1 2", "part: line 4: bad number"),
         (NO_FACE, "", "part: line 4: missing face size"),
-        (
-            NO_FACE,
-            "3 0\n1",
-            "part: line 5: missing index",
-        ),
+        (NO_FACE, "3 0\n1", "part: line 5: missing index"),
         (
             NO_FACE,
             "3 0 1 99999999999999999999",
@@ -272,8 +327,16 @@ fn each_text_is_read_or_refused_on_its_line(rt: HostRuntime) -> Result<(), Fail>
         text.push_str(more)?;
         let mut desk = desk_of(alloc, text.as_bytes(), b"", 99)?;
         let _outcome = draw(alloc, &words_of(alloc, "p")?, &mut desk);
-        assert_eq!(rt; desk.warned_bytes(), warned(alloc, fault)?.as_bytes(), "{text}");
-        assert_eq!(rt; desk.file("drawing.svg").is_some(), fault.is_empty(), "{text}");
+        assert_eq!(rt;
+            desk.warned_bytes(),
+            warned(alloc, fault)?.as_bytes(),
+            "{text}"
+        );
+        assert_eq!(rt;
+            desk.file("drawing.svg").is_some(),
+            fault.is_empty(),
+            "{text}"
+        );
     }
     Ok(())
 }

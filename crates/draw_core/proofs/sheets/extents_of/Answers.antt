@@ -1,5 +1,4 @@
 use Rattle.std.proofs.Common.{List, sym, subst, take, ◌+◌}
-use Rattle.std.specs.List.{AllZip}
 use Rattle.job_file.specs.Seen.{direction_seen}
 use Rattle.job_file.specs.declared.view.JobView.{JobView}
 use Rattle.lattice.specs.Triple.{Triple}

@@ -1,4 +1,4 @@
-use Rattle.std.proofs.Common.{◌≡◌, length, ap, sym, ◌∙◌}
+use Rattle.std.proofs.Common.{length, ap, sym, ◌∙◌}
 use Rattle.solid_mesh.specs.Solids.{solid_part}
 use Rattle.job_file.specs.declared.view.JobView.{JobView}
 use Rattle.sheet_plan.specs.declared.bounds.Extent.{Extent}

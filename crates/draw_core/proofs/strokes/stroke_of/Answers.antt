@@ -1,6 +1,3 @@
-use Rattle.std.proofs.Common.{◌≡◌, Some, slice_get, get_or}
-use Rattle.std.proofs.lemmas.Option.{slice_get_cases}
-use Rattle.sheet_plan.specs.declared.sheet.Spread.{Spread}
 use Rattle.draw_core.proofs.StrokeLists.{place_there}
 use Rattle.draw_core.proofs.strokes.stroke_of.Goals as goal
 

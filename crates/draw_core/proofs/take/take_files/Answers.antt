@@ -1,13 +1,11 @@
-use Rattle.std.proofs.Common.{◌≡◌, ap, subst, inl, inr, ◌∙◌}
+use Rattle.std.proofs.Common.{ap, subst, inl, inr, ◌∙◌}
 use Rattle.desk.specs.Files.{Files, DeskState}
 use Rattle.draw_words.specs.Seen.{named_seen}
 use Rattle.job_file.specs.Seen.{job_seen}
 use Rattle.solid_mesh.specs.Solids.{solid_part}
-use Rattle.geometry.specs.Parts.{Part}
-use Rattle.std.specs.Prelude.{Result, Ok}
+use Rattle.std.specs.Prelude.{Ok}
 use Rattle.draw_core.specs.Run.{◌and_then◌, DrawsFiles, TakesReadJob, TakesSolid, PlansSheet, Refuses}
 use Rattle.draw_core.specs.Taken.{drawn_of}
-use Rattle.draw_core.specs.declared.fault.Fault.{Fault}
 use Rattle.draw_core.proofs.Chains.{refuses_as, gives_next}
 use Rattle.draw_core.proofs.take.take_files.Goals as goal
 

@@ -1,4 +1,4 @@
-use Rattle.std.proofs.Common.{◌≡◌, [], refl}
+use Rattle.std.proofs.Common.{[], refl}
 use Rattle.std.specs.Prelude.{None}
 use Rattle.job_file.specs.Seen.{job_seen}
 use Rattle.draw_core.specs.Run.{◌and_then◌, TakesJob, ReadsJob, NeedsNoPlotter}
