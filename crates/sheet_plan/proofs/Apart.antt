@@ -1,5 +1,6 @@
 -- The boxes of two views of a sheet are apart, and each is within the margins.
 use Rattle.std.proofs.Common.{◌≡◌, ◌≢◌, ◌⊎◌, inl, inr, ℕ, ◌<◌, ◌≤◌, List, slice_get, get_or, Some, refl, sym, ap, ◌∙◌, subst, arith}
+use Rattle.std.specs.Int.Signed.{≤ℤ_refl}
 use Rattle.std.specs.Prelude.{ℤ, pos, ◌+ℤ◌, ◌-ℤ◌, ◌≤ℤ◌}
 use Rattle.std.proofs.lemmas.Bool.{cases_lt}
 use Rattle.std.proofs.lemmas.Int.{ints, clamps}
@@ -41,9 +42,6 @@ within_width right need width paper a b c = omega (arith, ints)
 within_height : (bottom need height paper : ℤ) → bottom ≤ℤ (margin +ℤ need) → need ≤ℤ (paper -ℤ pos 6000) → height ≡ paper → bottom ≤ℤ (height -ℤ pos 4000)
 within_height bottom need height paper a b c = omega (arith, ints)
 
-itself : (a : ℤ) → a ≤ℤ a
-itself a = omega (arith, ints)
-
 -- ---- views of one sheet
 module _ (job : Job) (shapes : List Shape) (lower_parts_least : NoneIsNegative lower_part_of shapes) where
   rows_least : (row : ℕ) → pos 0 ≤ℤ row_stride shapes row
@@ -66,9 +64,9 @@ module _ (job : Job) (shapes : List Shape) (lower_parts_least : NoneIsNegative l
   after : (i j : ℕ) (a b : Box) (v : IsBoxInCell job shapes i a) (w : IsBoxInCell job shapes j b) → v.shape.cell ≡ Lower → w.shape.cell ≡ Lower → i < j → (a.right +ℤ gap) ≤ℤ b.left
   after i j a b v w e f less =
       behind _ _ _ _ _ _ _ _ v.right (ap (cell_x shapes i) e) (w.left ∙ ap (cell_x shapes j) f) (lower_part v.shape e)
-      (itself (lower_part_of v.shape)) (total_behind lower_part_of shapes lower_parts_least i j v.shape less v.at)
+      (≤ℤ_refl (lower_part_of v.shape)) (total_behind lower_part_of shapes lower_parts_least i j v.shape less v.at)
 
-  -- two views of the grid don't have one cell
+  -- two different views are named apart
   names_differ : (i j : ℕ) (v w : JobView) → i ≢ j → slice_get job.views.items i ≡ Some v → slice_get job.views.items j ≡ Some w → AreNamedApart v.named w.named
   names_differ i j v w differ at_v at_w = by_order (cases_lt i j)
     where
@@ -134,15 +132,15 @@ module _ (job : Job) (shapes : List Shape) (lower_parts_least : NoneIsNegative l
       )
       by_cell Lower e = (
         from_margin _ _ _ v.left (ap (cell_x shapes i) e) (total_not_negative lower_part_of shapes i lower_parts_least),
-        up_to _ _ _ _ _ _ _ _ v.right (ap (cell_x shapes i) e) (lower_part v.shape e) (itself (lower_part_of v.shape))
-            (total_whole lower_part_of shapes lower_parts_least i v.shape v.at) (max_second (without_gap (sum_below (column_stride shapes) 4)) (without_gap (lower_strides shapes)) _ (itself (without_gap (lower_strides shapes)))),
+        up_to _ _ _ _ _ _ _ _ v.right (ap (cell_x shapes i) e) (lower_part v.shape e) (≤ℤ_refl (lower_part_of v.shape))
+            (total_whole lower_part_of shapes lower_parts_least i v.shape v.at) (max_second (without_gap (sum_below (column_stride shapes) 4)) (without_gap (lower_strides shapes)) _ (≤ℤ_refl (without_gap (lower_strides shapes)))),
       )
 
   within_height_of : (i : ℕ) (a : Box) → IsBoxInCell job shapes i a → (margin ≤ℤ a.top) × (a.bottom ≤ℤ (margin +ℤ need_h shapes))
   within_height_of i a v = (
     from_margin _ _ _ v.top (cell_y-is shapes v.shape.cell) (sum_not_negative (row_stride shapes) rows_least (row_of v.shape.cell)),
     up_to _ _ _ _ _ _ _ _ v.bottom (cell_y-is shapes v.shape.cell) (row_part v.shape) (greatest_each (part_of (Row (row_of v.shape.cell))) shapes i v.shape v.at)
-        (sum_behind (row_stride shapes) rows_least (row_of v.shape.cell) 4 (omega (arith, row_least v.shape.cell v.inside))) (itself (need_h shapes)),
+        (sum_behind (row_stride shapes) rows_least (row_of v.shape.cell) 4 (omega (arith, row_least v.shape.cell v.inside))) (≤ℤ_refl (need_h shapes)),
   )
 
 module _ (job : Job) (extents : List Extent) (num den : ℕ) (sheet : Sheet) (h : IsSheetAt job extents num den sheet) where

@@ -1,5 +1,6 @@
 -- A band is as long as each view in it with its gap, and later bands begin behind earlier ones.
 use Rattle.std.proofs.Common.{◌≡◌, ◌⊎◌, inl, inr, ℕ, zero, suc, ◌<◌, List, [], ◌∷◌, length, take, slice_get, Some, refl, subst, arith}
+use Rattle.std.specs.Int.Signed.{≤ℤ_refl}
 use Rattle.std.specs.Prelude.{ℤ, pos, ◌+ℤ◌, ◌≤ℤ◌}
 use Rattle.std.specs.Int.{int_max}
 use Rattle.std.proofs.lemmas.Int.{ints, clamps}
@@ -27,9 +28,6 @@ greatest_each f (y ∷ ys) (suc i) x at = max_second (f y) (greatest f ys) (f x)
 longer : (s v m : ℤ) → m ≤ℤ s → pos 0 ≤ℤ v → m ≤ℤ (s +ℤ v)
 longer s v m h p = omega (arith, ints)
 
-same_size : (a : ℤ) → a ≤ℤ a
-same_size a = omega (arith, ints)
-
 module _ (f : ℕ → ℤ) (each : (k : ℕ) → pos 0 ≤ℤ f k) where
   pub sum_not_negative : (n : ℕ) → pos 0 ≤ℤ sum_below f n
   sum_not_negative zero = omega (arith, ints)
@@ -40,7 +38,7 @@ module _ (f : ℕ → ℤ) (each : (k : ℕ) → pos 0 ≤ℤ f k) where
   sum_behind m (suc n) h = by_cases (sum_behind m n) (eq-or-lt_of_le (omega arith))
     where
       by_cases : (m < n → (sum_below f m +ℤ f m) ≤ℤ sum_below f n) → ((m ≡ n) ⊎ (m < n)) → (sum_below f m +ℤ f m) ≤ℤ (sum_below f n +ℤ f n)
-      by_cases rest (inl e) = subst (λ (k : ℕ). (sum_below f m +ℤ f m) ≤ℤ (sum_below f k +ℤ f k)) e (same_size (sum_below f m +ℤ f m))
+      by_cases rest (inl e) = subst (λ (k : ℕ). (sum_below f m +ℤ f m) ≤ℤ (sum_below f k +ℤ f k)) e (≤ℤ_refl (sum_below f m +ℤ f m))
       by_cases rest (inr l) = longer (sum_below f n) (f n) (sum_below f m +ℤ f m) (rest l) (each n)
 
 -- ---- totals of views, one after the other

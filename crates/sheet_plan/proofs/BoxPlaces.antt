@@ -57,7 +57,7 @@ at_bottom : (a y0 b s c l v w : ℤ) → a ≡ y0 -ℤ b → b ≡ s → y0 ≡ 
 at_bottom a y0 b s c l v w e f g h k = omega (arith, ints)
 
 -- the view with this number, its shape and its place
-pub record IsViewAt (job : Job) (extents : List Extent) (shapes : List Shape) (sheet : Sheet) (m : Measure) (i : ℕ) (place : Spread) : Type 0 where
+pub record IsViewAt (job : Job) (extents : List Extent) (shapes : List Shape) (m : Measure) (i : ℕ) (place : Spread) : Type 0 where
   pub shape : Shape
   pub at : slice_get shapes i ≡ Some shape
   pub shape_is : IsShapeOf job.third m job.views.items extents i shape
@@ -96,10 +96,10 @@ module _ (job : Job) (extents : List Extent) (num den : ℕ) (sheet : Sheet) (h 
       gap_of _ _ (length_ordered (measure_at job num den) q u v
       (subst (λ (n : ℕ). 1 ≤ n) h.den_is bounds.den_least) (subst (λ (n : ℕ). n ≤ 100) h.den_is bounds.den_greatest) job.few_decimals ordered)
 
-  pub width_least : (third : Bool) (v : JobView) (e : Extent) → pos 0 ≤ℤ (shape_of third (measure_at job num den) v e).width
+  width_least : (third : Bool) (v : JobView) (e : Extent) → pos 0 ≤ℤ (shape_of third (measure_at job num den) v e).width
   width_least third v e = reach (square_of (right_axis (of_dir e.d))) e.u_min e.u_max e.across
 
-  pub height_least : (third : Bool) (v : JobView) (e : Extent) → pos 0 ≤ℤ (shape_of third (measure_at job num den) v e).height
+  height_least : (third : Bool) (v : JobView) (e : Extent) → pos 0 ≤ℤ (shape_of third (measure_at job num den) v e).height
   height_least third v e = reach (square_of (up_axis (of_dir e.d))) e.v_min e.v_max e.upward
 
   pub lower_parts : NoneIsNegative lower_part_of (job_shapes job extents num den)
@@ -107,7 +107,7 @@ module _ (job : Job) (extents : List Extent) (num den : ℕ) (sheet : Sheet) (h 
       let r = shape_from job.third (measure_at job num den) job.views.items extents i s at in
       lower_part_least s (subst (λ (z : Shape). pos 0 ≤ℤ z.width) (sym r.is) (width_least job.third r.view r.extent))
 
-  pub view_at : (i : ℕ) (place : Spread) → IsPlaceOf sheet i place → IsViewAt job extents (job_shapes job extents num den) sheet (measure_at job num den) i place
+  pub view_at : (i : ℕ) (place : Spread) → IsPlaceOf sheet i place → IsViewAt job extents (job_shapes job extents num den) (measure_at job num den) i place
   view_at i place stands =
       let found = some_element (job_shapes job extents num den) i (omega (arith, slice_get_within sheet.places.items i place stands, h.in_place.count)) in
       let s = shape_from job.third (measure_at job num den) job.views.items extents i found.0 found.1 in
