@@ -1,6 +1,7 @@
 pub mod Blocks
 pub mod Chains
 pub mod Drawings
+pub mod Orders
 pub mod SheetFacts
 pub mod SpanPlaces
 pub mod SpanSums

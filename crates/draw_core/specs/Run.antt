@@ -134,9 +134,14 @@ abbrev pub Gives : {X Y : Type 0} → (X → Y) → (Result Y Fault → Type 0) 
 Gives view steps (Ok x) = steps (Ok (view x))
 Gives view steps (Err e) = Refuses steps e
 
+-- the faults of a job that was read
+abbrev pub IsOfOutputs : Fault → Type 0
+IsOfOutputs (NoPlotter output) = Unit {0}
+IsOfOutputs Memory = Unit {0}
+IsOfOutputs fault = ⊥
+
 -- the faults of the usual job, and those of a named one
 abbrev pub IsOfUsualJob : Fault → Type 0
-IsOfUsualJob (NoPlotter output) = Unit {0}
 IsOfUsualJob Memory = Unit {0}
 IsOfUsualJob fault = ⊥
 
@@ -179,6 +184,20 @@ AnswersWords named (Some Memory) = Unit {0}
 AnswersWords named (Some (WriteFault target)) = IsSome named
 AnswersWords named (Some fault) = IsSomeAnd named (λ names. IsOfFiles names fault)
 AnswersWords named None = IsSome named
+
+-- the run comes to reading the job where it is named, and to the part once the job was taken
+abbrev pub ComesTo : Files → Named → Input → Type 0
+ComesTo files named TheJob = IsSome named.job
+ComesTo files named ThePart = (job : JobValues) × TakesReadJob files named.job (Ok job)
+
+-- a fault of reading is answered only where the run comes to that
+abbrev pub ReadsInOrder : Files → Named → Fault → Type 0
+ReadsInOrder files named (ReadFault input) = ComesTo files named input
+ReadsInOrder files named fault = Unit {0}
+
+abbrev pub RunsInOrder : List (List ℕ) → Files → Fault → Type 0
+RunsInOrder words files (ReadFault input) = IsSomeAnd (named_by words) (λ named. ComesTo files named input)
+RunsInOrder words files fault = Unit {0}
 
 -- the count of the faults of reading rose where one is answered, and else it stands
 abbrev pub CountsReads : Option Fault → ℕ → ℕ → Type 0

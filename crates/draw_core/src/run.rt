@@ -4,7 +4,7 @@ ghost use Rattle.desk.specs.Files.{OnlyReads, OnlyWarns, Rose, AppendsFront};
 ghost use Rattle.draw_words.specs.Names.{named_by};
 ghost use Rattle.draw_words.specs.Seen.{texts};
 ghost use Rattle.draw_core.specs.Taken.{drawn_of, HasItsSheet};
-ghost use Rattle.draw_core.specs.Run.{Runs, Refuses, AnswersWords, CountsReads, IsMissing, HasDrawing, LeavesAfter, IsWriteOutcome, status_of};
+ghost use Rattle.draw_core.specs.Run.{Runs, Refuses, AnswersWords, RunsInOrder, CountsReads, IsMissing, HasDrawing, LeavesAfter, IsWriteOutcome, status_of};
 ghost use Rattle.draw_core.specs.Desks.{OnlyWrites, OnlyRuns, HearsAll};
 ghost use Rattle.draw_core.specs.Lines.{NamesNothing, Warns, WarnsWhole};
 ghost use Rattle.draw_core.specs.Drawing.{drawn_in, IsDrawing, IsTextOf, Writes, WritesNamed};
@@ -178,8 +178,9 @@ fn write_drawing<D: Desk>(alloc: Global, taken: Taken, desk: &mut D) -> Outcome
     }
 }
 
-/// Reads the job and the part that the words name, draws the job's views on their sheet and writes it under
-/// the name that they give, or `drawing.svg`. Without a job it is the usual one: front, above and left. Of a fault it warns once, by one line.
+/// Reads the job and the part that the words name, draws the job's views on their sheet and writes it under the name that
+/// they give, or `drawing.svg`. Without a job it is the usual one: front, above and left. Of a fault it warns once, by one
+/// line.
 ///
 /// The faults are looked for in this order: the words, the job's bytes, its text, its outputs, the part's bytes, its text,
 /// whether it has a triangle, its surface, whether the views fit the sheet, the drawing's file. Want of memory may be
@@ -193,6 +194,8 @@ pub fn draw<D: Desk>(alloc: Global, words: &[String], desk: &mut D) -> Outcome
     ensures answer { (D.state desk.old).tells ≡ true →
         IfSome result.fault (Refuses (Runs (texts words.now) (D.state desk.old).files)) }
     ensures words { AnswersWords (named_by (texts words.now)) result.fault }
+    ensures order { (D.state desk.old).tells ≡ true →
+        IfSome result.fault (RunsInOrder (texts words.now) (D.state desk.old).files) }
 
     // A fault of the desk is answered exactly where it counted one.
     ensures reads { CountsReads result.fault (D.state desk.old).read_faults (D.state desk.new).read_faults }

@@ -7,7 +7,7 @@ ghost use Rattle.draw_words.specs.Seen.{named_seen, texts};
 ghost use Rattle.job_file.specs.Seen.{job_seen};
 ghost use Rattle.solid_mesh.specs.Solids.{solid_part};
 ghost use Rattle.draw_core.specs.Taken.{drawn_of, HasItsSheet, GoesWhereNamed};
-ghost use Rattle.draw_core.specs.Run.{◌and_then◌, ReadsJob, NeedsNoPlotter, TakesReadJob, TakesSolid, PlansSheet, DrawsFiles, Runs, Gives, AnswersWords, IsOfUsualJob, IsOfNamedJob, IsOfJob, IsOfPart, IsOfSheet, IsOfFiles, CountsReads, IsMissing};
+ghost use Rattle.draw_core.specs.Run.{◌and_then◌, ReadsJob, NeedsNoPlotter, TakesReadJob, TakesSolid, PlansSheet, DrawsFiles, Runs, Gives, AnswersWords, IsOfOutputs, IsOfUsualJob, IsOfNamedJob, IsOfJob, IsOfPart, IsOfSheet, IsOfFiles, ReadsInOrder, RunsInOrder, CountsReads, IsMissing};
 
 use crate::fault::{Fault, Input, Target};
 use crate::fetch::{FetchFault, fetch_all};
@@ -39,7 +39,7 @@ pub(crate) struct Taken {
 /// The job, if it asks for no output. There is no plotter for one.
 fn plotless(alloc: Global, job: Job) -> Result<Job, Fault>
     ensures answer { Gives job_seen (NeedsNoPlotter (job_seen job)) result }
-    ensures of_job { IfErr result IsOfUsualJob }
+    ensures of_outputs { IfErr result IsOfOutputs }
 {
     if job.outputs.is_empty() {
         return Ok(job);
@@ -87,7 +87,7 @@ fn usual_job(alloc: Global) -> Result<Job, Fault>
     ensures of_job { IfErr result IsOfUsualJob }
 {
     match Job::usual(alloc) {
-        Ok(job) => plotless(alloc, job),
+        Ok(job) => Ok(job),
         Err(_) => Err(Fault::Memory),
     }
 }
@@ -157,6 +157,8 @@ fn take_files<D: Desk>(alloc: Global, named: Words, desk: &mut D) -> Result<Take
     ensures of_files { IfErr result (IsOfFiles (named_seen named)) }
     ensures sheet { IfOk result HasItsSheet }
     ensures out { IfOk result (λ taken. taken.out ≡ (named_seen named).out) }
+    ensures order { (D.state desk.old).tells ≡ true →
+        IfErr result (ReadsInOrder (D.state desk.old).files (named_seen named)) }
     ensures reads { CountsReads (result_err result) (D.state desk.old).read_faults (D.state desk.new).read_faults }
     ensures missing { (D.state desk.old).steady ≡ true →
         IfErr result (IsMissing (DrawsFiles (D.state desk.old).files (named_seen named))) }
@@ -179,6 +181,8 @@ pub(crate) fn take<D: Desk>(alloc: Global, words: &[String], desk: &mut D) -> Re
     ensures words { AnswersWords (named_by (texts words.now)) (result_err result) }
     ensures sheet { IfOk result HasItsSheet }
     ensures out { IfOk result (GoesWhereNamed (named_by (texts words.now))) }
+    ensures order { (D.state desk.old).tells ≡ true →
+        IfErr result (RunsInOrder (texts words.now) (D.state desk.old).files) }
     ensures no_write { IsErrOf result (Fault.WriteFault Target.Out) → ⊥ }
     ensures reads { CountsReads (result_err result) (D.state desk.old).read_faults (D.state desk.new).read_faults }
     ensures missing { (D.state desk.old).steady ≡ true →

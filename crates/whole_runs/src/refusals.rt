@@ -124,7 +124,7 @@ fn each_job_is_drawn_or_refused_by_its_line(rt: HostRuntime) -> Result<(), Fail>
             "usage: draw PART [--job JOB] [--out OUT]",
         ),
         (
-            "p --job j",
+            "p q --job j",
             "",
             9,
             2,
@@ -171,7 +171,7 @@ fn a_job_may_be_too_long(rt: HostRuntime) -> Result<(), Fail> {
     Ok(())
 }
 
-// What the plate needs, and what a sheet has; with no scale that is stated, at 1:100.
+// What the plate needs at 1:1, and what a sheet has.
 #[test]
 fn views_may_not_fit(rt: HostRuntime) -> Result<(), Fail> {
     let alloc = rt.alloc();

@@ -7,6 +7,7 @@ use Rattle.std.specs.Prelude.{Ok}
 use Rattle.draw_core.specs.Run.{◌and_then◌, DrawsFiles, TakesReadJob, TakesSolid, PlansSheet, Refuses}
 use Rattle.draw_core.specs.Taken.{drawn_of}
 use Rattle.draw_core.proofs.Chains.{refuses_as, gives_next}
+use Rattle.draw_core.proofs.Orders.{job_in_order, part_in_order, sheet_in_order}
 use Rattle.draw_core.proofs.take.take_files.Goals as goal
 
 -- the job was taken, and the part of the same files is refused
@@ -35,3 +36,11 @@ returns-in-Ok-take_solid-clause-answer g c =
     let taken : P old.files = subst P (ap (λ (s : DeskState). s.files) c.in-Ok.ensures.changes) (c.in-Ok-take_solid.ensures.answer tells) in
     let from_part = gives_next (TakesSolid old.files named.part job.decimals) (PlansSheet job) part taken drawn_of c.take_sheet.result c.take_sheet.ensures.answer in
     gives_next (TakesReadJob old.files named.job) (λ job. TakesSolid old.files named.part job.decimals and_then PlansSheet job) job (c.in-Ok.ensures.answer told) drawn_of c.take_sheet.result from_part
+
+pub returns-in-Err-clause-order : goal.returns-in-Err-clause-order
+returns-in-Err-clause-order g c = λ told.
+    job_in_order (g.D.Desk.state c.args.desk.now).files (named_seen c.args.named) c.in-Err.fault c.in-Err.ensures.of_job
+
+pub returns-in-Err-take_solid-clause-order : goal.returns-in-Err-take_solid-clause-order
+returns-in-Err-take_solid-clause-order g c = λ told.
+    part_in_order (g.D.Desk.state c.args.desk.now).files (named_seen c.args.named) (job_seen c.in-Ok.job) (c.in-Ok.ensures.answer told) c.in-Err-take_solid.fault c.in-Err-take_solid.ensures.of_part
