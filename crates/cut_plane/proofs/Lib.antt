@@ -1,0 +1,14 @@
+pub mod BorderLines
+pub mod FaceCorners
+pub mod Following
+pub mod Lists
+pub mod Rounds
+pub mod Sweeps
+pub mod Floors
+pub mod Beside
+pub mod BorderPoints
+pub mod RightOf
+pub mod Counting
+pub mod Parities
+pub mod Odd
+pub mod Apart

@@ -1,0 +1,4 @@
+pub mod Borders
+pub mod Loops
+pub mod Walks
+pub mod Sides

@@ -1,0 +1,19 @@
+//! Where a plane cuts a solid: the border of the section, in closed loops, and what is inside.
+//!
+//! A triangle with corners on both sides of the plane has one border segment, between the two of its sides that cross the
+//! plane. From the end of a segment the loop goes on in the triangle on the other side. A point is in the section where an
+//! odd number of segments are to its right (Foley and van Dam, the rule of even and odd), so it plays no part which way the
+//! triangles' normals point.
+#![tactic(auto)]
+
+mod crossings;
+mod loops;
+mod parity;
+mod seen;
+mod segments;
+#[cfg(test)]
+mod tests;
+
+pub use loops::{Section, borders};
+pub use parity::inside;
+pub use segments::Segment;
