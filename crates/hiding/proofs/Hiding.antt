@@ -27,16 +27,8 @@ use Rattle.hiding.proofs.OnScreens.{seen, covers_of_hides, hides_of_covers, side
 use Rattle.hiding.proofs.Flatness.{together_flat}
 
 -- the order of the corners does not count
-pub hides-turned : (d : Triple) (a b c : Corner) (p : Point) → FaceHides d a b c p → FaceHides d a c b p
-hides-turned d a b c p h =
-    let f = h.on_face in
-    let same = turned f.0 f.1 f.2 in
-    record {
-      point = h.point;
-      on_face = (f.0, f.2, f.1, some f.0 f.1 f.2 f.3, f.4 ∙ same);
-      same_sight = h.same_sight;
-      nearer = h.nearer;
-    }
+pub face-turned : (a b c : Corner) (q : Point) → IsPointOfFace a b c q → IsPointOfFace a c b q
+face-turned a b c q f = (f.0, f.2, f.1, some f.0 f.1 f.2 f.3, f.4 ∙ turned f.0 f.1 f.2)
   where
     some : (i j k : ℕ) → 0 < i + j + k → 0 < i + k + j
     some i j k h = omega arith
@@ -49,6 +41,14 @@ hides-turned d a b c p h =
 
     turned : (i j k : ℕ) → face_sum a b c i j k ≡ face_sum a c b i k j
     turned i j k = λ t. record { x = exchanged i j k a.x b.x c.x t; y = exchanged i j k a.y b.y c.y t; z = exchanged i j k a.z b.z c.z t; w = pos (sums i j k t) }
+
+pub hides-turned : (d : Triple) (a b c : Corner) (p : Point) → FaceHides d a b c p → FaceHides d a c b p
+hides-turned d a b c p h = record {
+  point = h.point;
+  on_face = face-turned a b c h.point h.on_face;
+  same_sight = h.same_sight;
+  nearer = h.nearer;
+}
 
 less_none : (x : ℤ) → x ≡ pos 0 → pos 0 <ℤ x → ⊥
 less_none x e h = omega (arith, ints)
@@ -102,7 +102,7 @@ hides-front d a b c p point front = (behind_of d a b c p point front, hides_of d
 
 -- ---- an edge-on face
 -- corners that are seen apart are not on one line of sight
-wide : (d : Triple) (k l : Corner) → AreApart (seen d (point_of k)) (seen d (point_of l)) → ¬ OnOneSight d (point_of k) (point_of l)
+pub wide : (d : Triple) (k l : Corner) → AreApart (seen d (point_of k)) (seen d (point_of l)) → ¬ OnOneSight d (point_of k) (point_of l)
 wide d k l apart same = apart (once _ _ same.across, once _ _ same.upward)
   where
     once : (x y : ℤ) → x *ℤ pos 1 ≡ y *ℤ pos 1 → x ≡ y
@@ -126,8 +126,8 @@ wide-side-hides d a b c p point somewhere solid flat h =
     times_zero x = omega (arith, ints)
 
 -- a point of the side is a point of the face
-side_point : (a b c : Corner) (q : Point) → IsPointOfEdge a b q → IsPointOfFace a b c q
-side_point a b c q f = (f.0, f.1, 0, some f.0 f.1 f.2, f.3 ∙ last_left f.0 f.1)
+pub side-point : (a b c : Corner) (q : Point) → IsPointOfEdge a b q → IsPointOfFace a b c q
+side-point a b c q f = (f.0, f.1, 0, some f.0 f.1 f.2, f.3 ∙ last_left f.0 f.1)
   where
     some : (i j : ℕ) → 0 < i + j → 0 < i + j + 0
     some i j h = omega arith
@@ -142,18 +142,11 @@ side_point a b c q f = (f.0, f.1, 0, some f.0 f.1 f.2, f.3 ∙ last_left f.0 f.1
     last_left i j = λ t. record { x = left_out i j a.x b.x c.x t; y = left_out i j a.y b.y c.y t; z = left_out i j a.z b.z c.z t; w = pos (sums i j t) }
 
 first_side : (d : Triple) (a b c : Corner) (p : Point) → SideHides d a b p → FaceHides d a b c p
-first_side d a b c p h = record { point = h.point; on_face = side_point a b c h.point h.on_side; same_sight = h.same_sight; nearer = h.nearer }
+first_side d a b c p h = record { point = h.point; on_face = side-point a b c h.point h.on_side; same_sight = h.same_sight; nearer = h.nearer }
 
 -- the corners in turn
-hides_around : (d : Triple) (a b c : Corner) (p : Point) → FaceHides d a b c p → FaceHides d b c a p
-hides_around d a b c p h =
-    let f = h.on_face in
-    record {
-      point = h.point;
-      on_face = (f.1, f.2, f.0, some f.0 f.1 f.2 f.3, f.4 ∙ around f.0 f.1 f.2);
-      same_sight = h.same_sight;
-      nearer = h.nearer;
-    }
+pub face-around : (a b c : Corner) (q : Point) → IsPointOfFace a b c q → IsPointOfFace b c a q
+face-around a b c q f = (f.1, f.2, f.0, some f.0 f.1 f.2 f.3, f.4 ∙ around f.0 f.1 f.2)
   where
     some : (i j k : ℕ) → 0 < i + j + k → 0 < j + k + i
     some i j k h = omega arith
@@ -166,6 +159,14 @@ hides_around d a b c p h =
 
     around : (i j k : ℕ) → face_sum a b c i j k ≡ face_sum b c a j k i
     around i j k = λ t. record { x = moved i j k a.x b.x c.x t; y = moved i j k a.y b.y c.y t; z = moved i j k a.z b.z c.z t; w = pos (sums i j k t) }
+
+hides_around : (d : Triple) (a b c : Corner) (p : Point) → FaceHides d a b c p → FaceHides d b c a p
+hides_around d a b c p h = record {
+  point = h.point;
+  on_face = face-around a b c h.point h.on_face;
+  same_sight = h.same_sight;
+  nearer = h.nearer;
+}
 
 pub face-hides : (d : Triple) (a b c : Corner) (p : Point) → SideHides d a b p ⊎ SideHides d b c p ⊎ SideHides d c a p → FaceHides d a b c p
 face-hides d a b c p h = elim h [

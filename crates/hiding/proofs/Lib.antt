@@ -15,3 +15,7 @@ pub mod FrontEnds
 pub mod Readings
 pub mod SidePoints
 pub mod SideEnds
+pub mod CutPlanes
+pub mod CutFronts
+pub mod CutEdgeOn
+pub mod CutSides

@@ -23,7 +23,7 @@ unpack P (pos i) (negsuc j) k p q r h = absurd (omega (arith, ints))
 unpack P (pos i) (pos j) (negsuc k) p q r h = absurd (omega (arith, ints))
 
 -- a product with an axis is a sum with the same weights
-dot_sum : (s : Triple) (a b c : Corner) (i j k : ℕ)
+pub dot_sum : (s : Triple) (a b c : Corner) (i j k : ℕ)
     → dot s (scaled (face_sum a b c i j k)) ≡ ((pos i *ℤ dot s (scaled (point_of a))) +ℤ (pos j *ℤ dot s (scaled (point_of b)))) +ℤ (pos k *ℤ dot s (scaled (point_of c)))
 dot_sum s a b c i j k =
     let sum = λ (x y z : Expr). ((var 0 ⊗ x) ⊕ (var 1 ⊗ y)) ⊕ (var 2 ⊗ z) in
@@ -32,7 +32,7 @@ dot_sum s a b c i j k =
     (on (record { x = sum (var 6) (var 9) (var 12); y = sum (var 7) (var 10) (var 13); z = sum (var 8) (var 11) (var 14) }))
     (sum (on (letters 6)) (on (letters 9)) (on (letters 12))) refl
 
-dot_edge_sum : (s : Triple) (a b : Corner) (i j : ℕ)
+pub dot_edge_sum : (s : Triple) (a b : Corner) (i j : ℕ)
     → dot s (scaled (edge_sum a b i j)) ≡ (pos i *ℤ dot s (scaled (point_of a))) +ℤ (pos j *ℤ dot s (scaled (point_of b)))
 dot_edge_sum s a b i j =
     let sum = λ (x y : Expr). (var 0 ⊗ x) ⊕ (var 1 ⊗ y) in

@@ -10,7 +10,7 @@ use Rattle.lattice.specs.Triangles.{IsBelow}
 use Rattle.lattice.specs.Triple.{Triple, dot, cross, det, IsZero}
 use Rattle.lattice.specs.Points.{Point, point_of, of_corner, scaled, difference, OnOneSight, IsNearer, AreOnePoint}
 use Rattle.lattice.proofs.SightAxes.{agree_of_sight, sight_of_agreement, one_point_of_agreement, sight_of_one_point}
-use Rattle.geometry.specs.Faces.{share_point, edge_sum}
+use Rattle.geometry.specs.Faces.{share_point, edge_sum, IsPointOfEdge}
 use Rattle.geometry.specs.Parts.{Part, Face, Edge}
 use Rattle.geometry.specs.Views.{IsOrdinary, PassesOver}
 use Rattle.geometry.specs.Sound.{IsSound}
@@ -19,7 +19,7 @@ use Rattle.hiding.proofs.Values.{behind-share}
 use Rattle.hiding.proofs.Ordinary.{not-at-corner, not-at-crossing, not-at-meeting}
 use Rattle.hiding.proofs.FrontEnds.{not-at-start, not-at-finish}
 use Rattle.hiding.proofs.Readings.{dot-offset, dot-difference, dot-share, dot-sum, det-reads, cross-first, cross-second, pos-sum, short-is, behind-is, past-nonneg, short-nonneg, behind-positive, weights-sum, weights-meet, weights-behind, level-meet, end-meets, level-end, level-by-meeting, behind-at-first, behind-at-second, only-at-start, only-at-finish}
-use Rattle.hiding.proofs.SidePoints.{natural, edge-turned, share-sum, one-sum, scaled-one, face-of-side, side-listed, HaveCommonEnd, common-end, own-side}
+use Rattle.hiding.proofs.SidePoints.{natural, edge-turned, share-of-edge, one-sum, scaled-one, face-of-side, side-listed, HaveCommonEnd, common-end, own-side}
 
 -- ---- along the product of d and the edge's way an edge reads the same all along
 module _ (d : Triple) (p q : Corner) where
@@ -61,29 +61,48 @@ one-sight d axis p q k l somewhere ahead in_line same =
 
 -- ---- what a side hides is under it
 module _ (d axis : Triple) (k l : Corner) (p : Point) (somewhere : ¬ IsZero d) (positive : pos 0 <ℤ p.w) (level : dot axis d ≡ pos 0) (forward : pos 0 <ℤ dot axis (difference k l)) where
-  sum-under : (i j : ℕ) → 0 < i + j → OnOneSight d (edge_sum k l i j) p → IsNearer d (edge_sum k l i j) p → IsBehindSide d axis k l p
-  sum-under i j some same nearer =
-      let ak = dot axis (of_corner k) in
-      let al = dot axis (of_corner l) in
-      let at = dot axis (scaled p) in
-      let whole : pos 0 <ℤ (pos i +ℤ pos j) = some-sum i j some in
-      let ahead : pos 0 <ℤ (al -ℤ ak) = subst (λ (v : ℤ). pos 0 <ℤ v) (dot-difference axis k l) forward in
-      let meets : (pos i *ℤ ak +ℤ pos j *ℤ al) *ℤ p.w ≡ at *ℤ (pos i +ℤ pos j) =
-      ap (λ (v : ℤ). v *ℤ p.w) (sym (dot-sum axis k l i j)) ∙ agree_of_sight d axis (edge_sum k l i j) p somewhere level same ∙ ap (λ (v : ℤ). at *ℤ v) (pos-sum i j) in
-      let higher : (dot d (scaled p) *ℤ (pos i +ℤ pos j)) <ℤ ((pos i *ℤ dot d (of_corner k) +ℤ pos j *ℤ dot d (of_corner l)) *ℤ p.w) =
-      subst (λ (v : ℤ). (dot d (scaled p) *ℤ (pos i +ℤ pos j)) <ℤ (v *ℤ p.w)) (dot-sum d k l i j)
-      (subst (λ (v : ℤ). (dot d (scaled p) *ℤ v) <ℤ (dot d (scaled (edge_sum k l i j)) *ℤ p.w)) (pos-sum i j) nearer) in
-      record {
-        past = subst (λ (v : ℤ). pos 0 ≤ℤ v) (sym (dot-offset axis k p)) (past-nonneg p.w ak al at (pos i) (pos j) positive whole ahead meets (counted j));
-        short = subst (λ (v : ℤ). pos 0 ≤ℤ v) (sym (short-is axis l p)) (short-nonneg p.w ak al at (pos i) (pos j) positive whole ahead meets (counted i));
-        behind = subst (λ (v : ℤ). pos 0 <ℤ v) (sym (behind-is d axis k l p)) (behind-positive p.w ak al at (pos i) (pos j) positive whole ahead meets _ _ _ higher);
-      }
-    where
-      some-sum : (i j : ℕ) → 0 < i + j → pos 0 <ℤ (pos i +ℤ pos j)
-      some-sum i j h = omega (arith, ints)
+  -- a point of the side on the line of sight of p
+  module _ (i j : ℕ) (some : 0 < i + j) (same : OnOneSight d (edge_sum k l i j) p) where
+    abbrev ak : ℤ
+    ak = dot axis (of_corner k)
 
-      counted : (i : ℕ) → pos 0 ≤ℤ pos i
-      counted i = omega (arith, ints)
+    abbrev al : ℤ
+    al = dot axis (of_corner l)
+
+    abbrev at : ℤ
+    at = dot axis (scaled p)
+
+    whole : pos 0 <ℤ (pos i +ℤ pos j)
+    whole = some-sum i j some
+      where
+        some-sum : (i j : ℕ) → 0 < i + j → pos 0 <ℤ (pos i +ℤ pos j)
+        some-sum i j h = omega (arith, ints)
+
+    ahead : pos 0 <ℤ (al -ℤ ak)
+    ahead = subst (λ (v : ℤ). pos 0 <ℤ v) (dot-difference axis k l) forward
+
+    pub sum-meets : (pos i *ℤ dot axis (of_corner k) +ℤ pos j *ℤ dot axis (of_corner l)) *ℤ p.w ≡ dot axis (scaled p) *ℤ (pos i +ℤ pos j)
+    sum-meets = ap (λ (v : ℤ). v *ℤ p.w) (sym (dot-sum axis k l i j)) ∙ agree_of_sight d axis (edge_sum k l i j) p somewhere level same ∙ ap (λ (v : ℤ). at *ℤ v) (pos-sum i j)
+
+    counted : (i : ℕ) → pos 0 ≤ℤ pos i
+    counted i = omega (arith, ints)
+
+    pub sum-past : pos 0 ≤ℤ past_of axis k p
+    sum-past = subst (λ (v : ℤ). pos 0 ≤ℤ v) (sym (dot-offset axis k p)) (past-nonneg p.w ak al at (pos i) (pos j) positive whole ahead sum-meets (counted j))
+
+    pub sum-short : pos 0 ≤ℤ short_of axis l p
+    sum-short = subst (λ (v : ℤ). pos 0 ≤ℤ v) (sym (short-is axis l p)) (short-nonneg p.w ak al at (pos i) (pos j) positive whole ahead sum-meets (counted i))
+
+    sum-under : IsNearer d (edge_sum k l i j) p → IsBehindSide d axis k l p
+    sum-under nearer =
+        let higher : (dot d (scaled p) *ℤ (pos i +ℤ pos j)) <ℤ ((pos i *ℤ dot d (of_corner k) +ℤ pos j *ℤ dot d (of_corner l)) *ℤ p.w) =
+        subst (λ (v : ℤ). (dot d (scaled p) *ℤ (pos i +ℤ pos j)) <ℤ (v *ℤ p.w)) (dot-sum d k l i j)
+        (subst (λ (v : ℤ). (dot d (scaled p) *ℤ v) <ℤ (dot d (scaled (edge_sum k l i j)) *ℤ p.w)) (pos-sum i j) nearer) in
+        record {
+          past = sum-past;
+          short = sum-short;
+          behind = subst (λ (v : ℤ). pos 0 <ℤ v) (sym (behind-is d axis k l p)) (behind-positive p.w ak al at (pos i) (pos j) positive whole ahead sum-meets _ _ _ higher);
+        }
 
   under : SideHides d k l p → IsBehindSide d axis k l p
   under h =
@@ -127,7 +146,7 @@ module _ (d axis : Triple) (p q k l : Corner) (n m : ℤ) (somewhere : ¬ IsZero
         (dot d (of_corner k)) (dot d (of_corner l)) (dot d (scaled here))
         ∙ ap (λ (v : ℤ). m *ℤ v) (sym (behind-is d axis k l here))
 
-    some-there : pos 0 <ℤ dot axis (difference k l) → 0 < i + j
+    pub some-there : pos 0 <ℤ dot axis (difference k l) → 0 < i + j
     some-there forward =
         counted (i + j) (subst (λ (v : ℤ). pos 0 <ℤ v) (sym whole) (mul_pos m (dot axis (difference k l)) positive forward))
       where
@@ -140,11 +159,14 @@ module _ (d axis : Triple) (p q k l : Corner) (n m : ℤ) (somewhere : ¬ IsZero
         counted : (a : ℕ) → pos 0 <ℤ pos a → 0 < a
         counted a h = omega (arith, ints)
 
+    pub there-sight : OnOneSight d (edge_sum k l i j) (share_point p q n m)
+    there-sight = sight_of_agreement d axis (difference p q) there here somewhere ahead.level ahead.forward along level
+
     there-hides : pos 0 <ℤ dot axis (difference k l) → pos 0 <ℤ behind_of d axis k l here → SideHides d k l here
     there-hides forward behind = record {
       point = there;
       on_side = (i, j, some-there forward, refl);
-      same_sight = sight_of_agreement d axis (difference p q) there here somewhere ahead.level ahead.forward along level;
+      same_sight = there-sight;
       nearer = less_by _ _ (m *ℤ behind_of d axis k l here) gap (mul_pos m (behind_of d axis k l here) positive behind);
     }
 
@@ -193,19 +215,10 @@ module _ (d axis : Triple) (somewhere : ¬ IsZero d) (s : Part) (sound : IsSound
     same : place ≡ edge_sum e.a e.b u v
 
   weights : Weights
-  weights =
-      let u = natural (m -ℤ n) (rest n m most) in
-      let v = natural n least in
-      record { u = u.0; v = v.0; some = counted u.0 v.0 n m positive u.1 v.1; same = share-sum e.a e.b n m u.0 v.0 u.1 v.1 }
-    where
-      rest : (n m : ℤ) → n ≤ℤ m → pos 0 ≤ℤ (m -ℤ n)
-      rest n m h = omega (arith, ints)
-
-      counted : (u v : ℕ) (n m : ℤ) → pos 0 <ℤ m → pos u ≡ m -ℤ n → pos v ≡ n → 0 < u + v
-      counted u v n m p e f = omega (arith, ints)
+  weights = let w = share-of-edge e.a e.b n m positive least most in record { u = w.0; v = w.1; some = w.2; same = w.3 }
 
   over : PassesOver d e place
-  over = let w = weights in (place, (w.u, w.v, w.some, w.same), record { across = refl; upward = refl })
+  over = (place, share-of-edge e.a e.b n m positive least most, record { across = refl; upward = refl })
 
   -- a side with parallel projection that has a point on the share's line of sight is in line with the edge
   parallel-in-line : det d (difference e.a e.b) (difference k l) ≡ pos 0 → (i j : ℕ) → 0 < i + j → OnOneSight d (edge_sum k l i j) place → IsInLine d e.a e.b k l
@@ -227,17 +240,21 @@ module _ (d axis : Triple) (somewhere : ¬ IsZero d) (s : Part) (sound : IsSound
       equal : (a b : ℤ) → b -ℤ a ≡ pos 0 → b ≡ a
       equal a b h = omega (arith, ints)
 
-  -- at an ordinary point a side that hides an edge is in line with it
-  pub in-line : IsOrdinary d s (share_point e.a e.b n m) → SideHides d k l (share_point e.a e.b n m) → IsInLine d e.a e.b k l
-  in-line r h =
+  -- at an ordinary point a side that has a point on the line of sight is in line with the edge
+  pub in-line-over : IsOrdinary d s (share_point e.a e.b n m) → (q : Point) → IsPointOfEdge k l q → OnOneSight d q (share_point e.a e.b n m) → IsInLine d e.a e.b k l
+  in-line-over r q on_side same =
       by_equal (det d (difference e.a e.b) (difference k l)) (pos 0)
-      (λ parallel. parallel-in-line parallel h.on_side.0 h.on_side.1 h.on_side.2 (subst (λ (q : Point). OnOneSight d q place) h.on_side.3 h.same_sight))
-      (λ crosses. absurd (not-at-crossing d s place sound.closed in_range e over f k l side h.point h.on_side h.same_sight crosses r))
+      (λ parallel. parallel-in-line parallel on_side.0 on_side.1 on_side.2 (subst (λ (q : Point). OnOneSight d q place) on_side.3 same))
+      (λ crosses. absurd (not-at-crossing d s place sound.closed in_range e over f k l side q on_side same crosses r))
     where
       by_equal : {P : Type 0} (a b : ℤ) → (a ≡ b → P) → (¬ (a ≡ b) → P) → P
       by_equal a b same other =
           by_lt_z a b (λ less. other (λ e. absurd (omega (arith, ints))))
           (λ most. by_lt_z b a (λ less. other (λ e. absurd (omega (arith, ints)))) (λ least. same (omega (arith, ints))))
+
+  -- and so is a side that hides it
+  pub in-line : IsOrdinary d s (share_point e.a e.b n m) → SideHides d k l (share_point e.a e.b n m) → IsInLine d e.a e.b k l
+  in-line r h = in-line-over r h.point h.on_side h.same_sight
 
   -- the edge is a side of the face: the behind is 0 at the end that it shares with the side, and there alone
   not-at-own : HaveCommonEnd k l e.a e.b → behind_of d axis k l (point_of e.a) ≢ behind_of d axis k l (point_of e.b) → behind_of d axis k l place ≡ pos 0 → ¬ IsOrdinary d s place
@@ -301,16 +318,21 @@ module _ (d axis : Triple) (somewhere : ¬ IsZero d) (s : Part) (sound : IsSound
       go (inr h) (inl other) = own (inr other.1)
       go (inr h) (inr other) = others h.1 other.1
 
+  -- where the edge passes an end of the side
+  pub not-at-ends : IsInLine d e.a e.b k l → (past_of axis k (share_point e.a e.b n m) ≡ pos 0) ⊎ (short_of axis l (share_point e.a e.b n m) ≡ pos 0) → ¬ IsOrdinary d s (share_point e.a e.b n m)
+  not-at-ends in_line (inl none) r =
+      not-at-corner d s place k (side-listed f k l side).0 (end-sight d axis e.a e.b k l n m somewhere positive ahead in_line k in_line.0 none) r
+  not-at-ends in_line (inr none) r =
+      not-at-corner d s place l (side-listed f k l side).1 (end-sight d axis e.a e.b k l n m somewhere positive ahead in_line l in_line.1 (turned _ none)) r
+    where
+      turned : (a : ℤ) → pos 0 -ℤ a ≡ pos 0 → a ≡ pos 0
+      turned a h = omega (arith, ints)
+
   pub not-at-side-end : IsInLine d e.a e.b k l → pos 0 <ℤ dot axis (difference k l)
       → pos 0 ≤ℤ past_of axis k (share_point e.a e.b n m) → pos 0 ≤ℤ short_of axis l (share_point e.a e.b n m) → pos 0 ≤ℤ behind_of d axis k l (share_point e.a e.b n m)
       → (past_of axis k (share_point e.a e.b n m) ≡ pos 0) ⊎ (short_of axis l (share_point e.a e.b n m) ≡ pos 0)
       ⊎ ((behind_of d axis k l (point_of e.a) ≢ behind_of d axis k l (point_of e.b)) × (behind_of d axis k l (share_point e.a e.b n m) ≡ pos 0))
       → ¬ IsOrdinary d s (share_point e.a e.b n m)
-  not-at-side-end in_line forward past short behind (inl none) r =
-      not-at-corner d s place k (side-listed f k l side).0 (end-sight d axis e.a e.b k l n m somewhere positive ahead in_line k in_line.0 none) r
-  not-at-side-end in_line forward past short behind (inr (inl none)) r =
-      not-at-corner d s place l (side-listed f k l side).1 (end-sight d axis e.a e.b k l n m somewhere positive ahead in_line l in_line.1 (turned _ none)) r
-    where
-      turned : (a : ℤ) → pos 0 -ℤ a ≡ pos 0 → a ≡ pos 0
-      turned a h = omega (arith, ints)
+  not-at-side-end in_line forward past short behind (inl none) r = not-at-ends in_line (inl none) r
+  not-at-side-end in_line forward past short behind (inr (inl none)) r = not-at-ends in_line (inr none) r
   not-at-side-end in_line forward past short behind (inr (inr root)) r = not-at-root in_line forward past short root.0 root.1 r

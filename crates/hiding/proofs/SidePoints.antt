@@ -1,6 +1,6 @@
 -- Points of edges and of sides by whole weights: they are points of the face, and a side of a face that has the edge too shares a corner with it.
-use Rattle.std.proofs.Common.{◌≡◌, ◌⊎◌, inl, inr, ℕ, zero, suc, ◌+◌, ◌*◌, ◌/◌, ◌%◌, List, [], ◌∷◌, Some, slice_get, Contains, refl, sym, ap, ◌∙◌, subst, arith}
-use Rattle.std.specs.Prelude.{ℤ, pos, negsuc, ◌+ℤ◌, ◌-ℤ◌, ◌*ℤ◌, ◌≤ℤ◌}
+use Rattle.std.proofs.Common.{◌≡◌, ◌⊎◌, inl, inr, ℕ, zero, suc, ◌+◌, ◌*◌, ◌/◌, ◌%◌, ◌<◌, List, [], ◌∷◌, Some, slice_get, Contains, refl, sym, ap, ◌∙◌, subst, arith}
+use Rattle.std.specs.Prelude.{ℤ, pos, negsuc, ◌+ℤ◌, ◌-ℤ◌, ◌*ℤ◌, ◌<ℤ◌, ◌≤ℤ◌}
 use Rattle.std.proofs.lemmas.Int.{ints}
 use Rattle.std.proofs.lemmas.Option.{same_Some, slice_get_within, get_or_from_slice_get}
 use Rattle.std.proofs.lemmas.List.Elements.{Contains-get_or}
@@ -35,6 +35,19 @@ share-sum a b n m u v is_u is_v =
   where
     sum-is : (u v : ℕ) (n m : ℤ) → pos u ≡ m -ℤ n → pos v ≡ n → m ≡ pos (u + v)
     sum-is u v n m e f = omega (arith, ints)
+
+-- a share from 0 to 1 is a point of the edge
+pub share-of-edge : (a b : Corner) (n m : ℤ) → pos 0 <ℤ m → pos 0 ≤ℤ n → n ≤ℤ m → IsPointOfEdge a b (share_point a b n m)
+share-of-edge a b n m positive least most =
+    let u = natural (m -ℤ n) (rest n m most) in
+    let v = natural n least in
+    (u.0, v.0, counted u.0 v.0 n m positive u.1 v.1, share-sum a b n m u.0 v.0 u.1 v.1)
+  where
+    rest : (n m : ℤ) → n ≤ℤ m → pos 0 ≤ℤ (m -ℤ n)
+    rest n m h = omega (arith, ints)
+
+    counted : (u v : ℕ) (n m : ℤ) → pos 0 <ℤ m → pos u ≡ m -ℤ n → pos v ≡ n → 0 < u + v
+    counted u v n m p e f = omega (arith, ints)
 
 -- weights that are all times one number
 scaled-part : (a b : ℤ) (u v w : ℕ) → pos (u * w) *ℤ a +ℤ pos (v * w) *ℤ b ≡ (pos u *ℤ a +ℤ pos v *ℤ b) *ℤ pos w

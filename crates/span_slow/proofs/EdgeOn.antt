@@ -7,6 +7,7 @@ use Rattle.lattice.specs.Triple.{Triple, IsZero, det}
 use Rattle.lattice.specs.Points.{Point, IsPoint, difference}
 use Rattle.geometry.specs.Faces.{FaceHides, IsFlat, facing_of}
 use Rattle.geometry.specs.Parts.{Part, Face, Edge, IsClosed}
+use Rattle.geometry.specs.Views.{IsOrdinary}
 use Rattle.hiding.specs.Values.{WideSideHides, SideHides}
 use Rattle.span_slow.specs.declared.interval.Interval.{Interval}
 use Rattle.span_slow.specs.Hidden.{AreWhere}
@@ -52,5 +53,5 @@ module _ (d : Triple) (somewhere : ¬ IsZero d) {s : Part} (closed : IsClosed s)
   pub edge_on_where : (xs ys zs : List Interval) → AreWhere d e (WideSideHides d a b) xs → AreWhere d e (WideSideHides d b c) ys → AreWhere d e (WideSideHides d c a) zs
       → AreWhere d e (FaceHides d f.a f.b f.c) (xs ++ (ys ++ zs))
   edge_on_where xs ys zs x y z =
-      where_alike d e BySide (FaceHides d f.a f.b f.c) (xs ++ (ys ++ zs)) (λ n m hn hm ordinary. by_side _ (positive_of n m hn hm))
-      (where_either d e (WideSideHides d a b) (λ p. WideSideHides d b c p ⊎ WideSideHides d c a p) xs (ys ++ zs) x (where_either d e (WideSideHides d b c) (WideSideHides d c a) ys zs y z))
+      where_alike (IsOrdinary d s) e BySide (FaceHides d f.a f.b f.c) (xs ++ (ys ++ zs)) (λ n m hn hm ordinary. by_side _ (positive_of n m hn hm))
+      (where_either (IsOrdinary d s) e (WideSideHides d a b) (λ p. WideSideHides d b c p ⊎ WideSideHides d c a p) xs (ys ++ zs) x (where_either (IsOrdinary d s) e (WideSideHides d b c) (WideSideHides d c a) ys zs y z))

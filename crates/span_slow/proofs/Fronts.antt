@@ -66,7 +66,7 @@ module _ (d : Triple) (s : Part) (sound : IsSound s) (in_range : All (IsBelow (l
 
   -- in front of the plane
   pub front_none : depth.start ≤ℤ pos 0 → depth.end ≤ℤ pos 0 → AreWhere d e (FaceHides d f.a f.b f.c) []
-  front_none start end = where_none d e (FaceHides d f.a f.b f.c) (λ n m hn hm ordinary hides.
+  front_none start end = where_none (IsOrdinary d s) e (FaceHides d f.a f.b f.c) (λ n m hn hm ordinary hides.
       let least : pos 0 <ℤ value_at depth.start depth.end n m = subst (λ (v : ℤ). pos 0 <ℤ v) (sym (at_depth n m)) ((behind n m (positive_of n m hn hm)).0 hides).depth in
       apart (value_at depth.start depth.end n m) least (at_most_between depth.start depth.end n m hn hm start end))
     where
@@ -83,11 +83,11 @@ module _ (d : Triple) (s : Part) (sound : IsSound s) (in_range : All (IsBelow (l
     at_ca : (n m : ℤ) → value_at ca.start ca.end n m ≡ side_of d c a (share_point e.a e.b n m)
     at_ca n m = told e ca (side_of d c a) n m tells_ca (side-share d e.a e.b n m c a)
 
-    abbrev linears : List Linear
+    abbrev pub linears : List Linear
     linears = ab ∷ bc ∷ ca ∷ depth ∷ []
 
     -- where one of the four begins or ceases to be at least 0
-    end_apart : (n m : ℤ) → pos 0 <ℤ m → pos 0 ≤ℤ n → n ≤ℤ m → AreNonnegative linears n m → IsRootOrEndAt linears n m → ¬ IsOrdinary d s (share_point e.a e.b n m)
+    pub end_apart : (n m : ℤ) → pos 0 <ℤ m → pos 0 ≤ℤ n → n ≤ℤ m → AreNonnegative linears n m → IsRootOrEndAt linears n m → ¬ IsOrdinary d s (share_point e.a e.b n m)
     end_apart n m positive least most all (inl h) = not-at-start d s e n m positive least most h
     end_apart n m positive least most all (inr (inl h)) = not-at-finish d s e n m positive least most h
     end_apart n m positive least most (h_ab, (h_bc, (h_ca, (h_depth, _)))) (inr (inr root)) =
@@ -109,7 +109,7 @@ module _ (d : Triple) (s : Part) (sound : IsSound s) (in_range : All (IsBelow (l
 
     -- the edge is not in front of the plane at both ends
     module _ (some : (pos 0 <ℤ depth.start) ⊎ (pos 0 <ℤ depth.end)) where
-      inside : (n m : ℤ) → pos 0 <ℤ n → n <ℤ m → IsOrdinary d s (share_point e.a e.b n m) → FaceHides d f.a f.b f.c (share_point e.a e.b n m) ↔ AreNonnegative linears n m
+      pub inside : (n m : ℤ) → pos 0 <ℤ n → n <ℤ m → IsOrdinary d s (share_point e.a e.b n m) → FaceHides d f.a f.b f.c (share_point e.a e.b n m) ↔ AreNonnegative linears n m
       inside n m hn hm ordinary = ((λ hides. all ((behind n m positive).0 hides)), (λ least. (behind n m positive).1 (all_back least)))
         where
           positive : pos 0 <ℤ m
@@ -136,4 +136,4 @@ module _ (d : Triple) (s : Part) (sound : IsSound s) (in_range : All (IsBelow (l
 
       pub front_where : (x : Interval) → IsWhereNonnegative linears x → (o : Option Interval) → IfSome o (λ y. (y ≡ x) × IsEarlier x.from x.to) → IfNone o (¬ IsEarlier x.from x.to)
           → AreWhere d e (FaceHides d f.a f.b f.c) (option_to_list o)
-      front_where x least o kept dropped = where_proper d e (FaceHides d f.a f.b f.c) linears inside end_apart x least o kept dropped
+      front_where x least o kept dropped = where_proper (IsOrdinary d s) e (FaceHides d f.a f.b f.c) linears inside end_apart x least o kept dropped

@@ -15,4 +15,9 @@ pub mod Fronts
 pub mod Sides
 pub mod EdgeOn
 pub mod Numbered
+pub mod CutReads
+pub mod CutParts
+pub mod CutFronts
+pub mod CutPairs
+pub mod CutHides
 pub mod Told

@@ -25,7 +25,7 @@ use Rattle.span_slow.proofs.Fronts.{changes, rooted}
 use Rattle.span_slow.proofs.Where.{Tells, told, IsRootOrEndAt, HasRootAt, where_none, where_alike, where_proper}
 
 -- ---- the order of the two ends does not count
-turned : (d : Triple) (k l : Corner) (p : Point) → WideSideHides d k l p → WideSideHides d l k p
+pub turned : (d : Triple) (k l : Corner) (p : Point) → WideSideHides d k l p → WideSideHides d l k p
 turned d k l p (wide, hides) = ((λ same. wide (record { across = sym same.across; upward = sym same.upward })), side-hides-turned d k l p hides)
 
 pub side_turned : {s : Part} (f : Face s) (k l : Corner) → IsSideOf f k l → IsSideOf f l k
@@ -37,7 +37,7 @@ side_turned f k l (inr (inr (inl (p, q)))) = inr (inr (inr (q, p)))
 side_turned f k l (inr (inr (inr (p, q)))) = inr (inr (inl (q, p)))
 
 pub where_turned : (d : Triple) {s : Part} (e : Edge s) (k l : Corner) (xs : List Interval) → AreWhere d e (WideSideHides d l k) xs → AreWhere d e (WideSideHides d k l) xs
-where_turned d e k l xs h = where_alike d e (WideSideHides d l k) (WideSideHides d k l) xs (λ n m hn hm ordinary. (turned d l k _, turned d k l _)) h
+where_turned d {s} e k l xs h = where_alike (IsOrdinary d s) e (WideSideHides d l k) (WideSideHides d k l) xs (λ n m hn hm ordinary. (turned d l k _, turned d k l _)) h
 
 -- ---- the edge's corners
 pub ahead_at : (d axis : Triple) {s : Part} (e : Edge s) (a b : Corner) → e.a ≡ a → e.b ≡ b → IsAhead d axis a b → IsAhead d axis e.a e.b
@@ -56,11 +56,11 @@ module _ (d axis : Triple) (somewhere : ¬ IsZero d) (s : Part) (sound : IsSound
 
   -- not in line with the edge
   pub side_off_line : ¬ IsInLine d e.a e.b k l → AreWhere d e (WideSideHides d k l) []
-  side_off_line off = where_none d e (WideSideHides d k l) (λ n m hn hm ordinary h. off (hides_in_line n m hn hm ordinary h))
+  side_off_line off = where_none (IsOrdinary d s) e (WideSideHides d k l) (λ n m hn hm ordinary h. off (hides_in_line n m hn hm ordinary h))
 
   -- seen end-on
   pub side_end_on : dot axis (difference k l) ≡ pos 0 → AreWhere d e (WideSideHides d k l) []
-  side_end_on same = where_none d e (WideSideHides d k l) (λ n m hn hm ordinary h.
+  side_end_on same = where_none (IsOrdinary d s) e (WideSideHides d k l) (λ n m hn hm ordinary h.
       h.0 (one-sight d axis e.a e.b k l somewhere ahead (hides_in_line n m hn hm ordinary h) same))
 
   -- ---- a side in line with the edge, which goes forward as the edge does
@@ -83,7 +83,7 @@ module _ (d axis : Triple) (somewhere : ¬ IsZero d) (s : Part) (sound : IsSound
 
     -- in front of the line
     pub side_none : behind.start ≤ℤ pos 0 → behind.end ≤ℤ pos 0 → AreWhere d e (WideSideHides d k l) []
-    side_none start end = where_none d e (WideSideHides d k l) (λ n m hn hm ordinary hides.
+    side_none start end = where_none (IsOrdinary d s) e (WideSideHides d k l) (λ n m hn hm ordinary hides.
         let least : pos 0 <ℤ value_at behind.start behind.end n m = subst (λ (v : ℤ). pos 0 <ℤ v) (sym (at_behind n m)) ((under n m (positive_of n m hn hm)).0 hides).behind in
         apart (value_at behind.start behind.end n m) least (at_most_between behind.start behind.end n m hn hm start end))
       where
@@ -97,11 +97,11 @@ module _ (d axis : Triple) (somewhere : ¬ IsZero d) (s : Part) (sound : IsSound
       at_short : (n m : ℤ) → value_at short.start short.end n m ≡ short_of axis l (share_point e.a e.b n m)
       at_short n m = told e short (short_of axis l) n m tells_short (short-share d e.a e.b n m axis l)
 
-      abbrev linears : List Linear
+      abbrev pub linears : List Linear
       linears = past ∷ short ∷ behind ∷ []
 
       -- where one of the three begins or ceases to be at least 0
-      end_apart : (n m : ℤ) → pos 0 <ℤ m → pos 0 ≤ℤ n → n ≤ℤ m → AreNonnegative linears n m → IsRootOrEndAt linears n m → ¬ IsOrdinary d s (share_point e.a e.b n m)
+      pub end_apart : (n m : ℤ) → pos 0 <ℤ m → pos 0 ≤ℤ n → n ≤ℤ m → AreNonnegative linears n m → IsRootOrEndAt linears n m → ¬ IsOrdinary d s (share_point e.a e.b n m)
       end_apart n m positive least most all (inl h) = not-at-start d s e n m positive least most h
       end_apart n m positive least most all (inr (inl h)) = not-at-finish d s e n m positive least most h
       end_apart n m positive least most (h_past, (h_short, (h_behind, _))) (inr (inr root)) =
@@ -120,7 +120,7 @@ module _ (d axis : Triple) (somewhere : ¬ IsZero d) (s : Part) (sound : IsSound
 
       -- the edge is not in front of the line at both ends
       module _ (some : (pos 0 <ℤ behind.start) ⊎ (pos 0 <ℤ behind.end)) where
-        inside : (n m : ℤ) → pos 0 <ℤ n → n <ℤ m → IsOrdinary d s (share_point e.a e.b n m) → WideSideHides d k l (share_point e.a e.b n m) ↔ AreNonnegative linears n m
+        pub inside : (n m : ℤ) → pos 0 <ℤ n → n <ℤ m → IsOrdinary d s (share_point e.a e.b n m) → WideSideHides d k l (share_point e.a e.b n m) ↔ AreNonnegative linears n m
         inside n m hn hm ordinary = ((λ hides. all ((under n m positive).0 hides)), (λ least. (under n m positive).1 (all_back least)))
           where
             positive : pos 0 <ℤ m
@@ -146,4 +146,4 @@ module _ (d axis : Triple) (somewhere : ¬ IsZero d) (s : Part) (sound : IsSound
 
         pub side_where : (x : Interval) → IsWhereNonnegative linears x → (o : Option Interval) → IfSome o (λ y. (y ≡ x) × IsEarlier x.from x.to) → IfNone o (¬ IsEarlier x.from x.to)
             → AreWhere d e (WideSideHides d k l) (option_to_list o)
-        side_where x least o kept dropped = where_proper d e (WideSideHides d k l) linears inside end_apart x least o kept dropped
+        side_where x least o kept dropped = where_proper (IsOrdinary d s) e (WideSideHides d k l) linears inside end_apart x least o kept dropped

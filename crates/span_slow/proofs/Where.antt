@@ -1,32 +1,31 @@
 -- Where along an edge something is so: lists of intervals put together, and the interval where linear values are at least 0.
 use Rattle.std.proofs.Common.{◌≡◌, ◌⊎◌, inl, inr, zero, suc, List, [], ◌∷◌, ◌++◌, All, Contains, refl, sym, subst, ap, ◌∙◌, arith, Option, Some, None}
 use Rattle.std.specs.Prelude.{ℤ, pos, ◌<ℤ◌, ◌≤ℤ◌, ◌↔◌, ◌≢◌, IfSome, IfNone, option_to_list}
+use Rattle.std.proofs.lemmas.List.{append_assoc}
 use Rattle.std.proofs.lemmas.List.Elements.{All-append, Contains-append_left, Contains-append_right, Contains-append_cases}
 use Rattle.exact_frac.specs.declared.Frac.{Frac}
 use Rattle.lattice.specs.declared.points.Corner.{Corner}
-use Rattle.lattice.specs.Triple.{Triple}
 use Rattle.lattice.specs.Points.{Point, point_of}
 use Rattle.geometry.specs.Faces.{share_point}
 use Rattle.geometry.specs.Parts.{Part, Edge}
-use Rattle.geometry.specs.Views.{IsOrdinary}
 use Rattle.hiding.specs.Values.{value_at}
 use Rattle.span_slow.specs.declared.interval.Interval.{Interval}
 use Rattle.span_slow.specs.declared.interval.Linear.{Linear}
 use Rattle.span_slow.specs.Places.{IsPlace, IsEarlier, IsValue, IsBetween, IsFromTo}
-use Rattle.span_slow.specs.Spans.{HasNoOrdinaryEnd}
-use Rattle.span_slow.specs.Hidden.{AreNonnegative, HasRoot, IsRootOrEnd, IsWhereNonnegative, IsWithinAny, AreWhere}
+use Rattle.span_slow.specs.Spans.{HasNoEndAt}
+use Rattle.span_slow.specs.Hidden.{AreNonnegative, HasRoot, IsRootOrEnd, IsWhereNonnegative, IsWithinAny, AreWhereAt, AreAddedAt}
 use Rattle.span_slow.proofs.LinearValues.{same_root}
 use Rattle.span_slow.proofs.Fractions.{weaker, no_less, strict, positive_of, value_at_start, value_at_finish, earlier_between}
 
 -- ---- within lists of intervals
-within_none : (n m : ℤ) → ¬ IsWithinAny [] n m
+pub within_none : (n m : ℤ) → ¬ IsWithinAny [] n m
 within_none n m (x, (k, h, is), between) = omega arith
 
-all_one : (P : Interval → Type 0) (x : Interval) → P x → All P (x ∷ [])
+pub all_one : (P : Interval → Type 0) (x : Interval) → P x → All P (x ∷ [])
 all_one P x h zero y within = h
 all_one P x h (suc k) y within = absurd (omega arith)
 
-within_one : (x : Interval) (n m : ℤ) → IsBetween x.from x.to n m ↔ IsWithinAny (x ∷ []) n m
+pub within_one : (x : Interval) (n m : ℤ) → IsBetween x.from x.to n m ↔ IsWithinAny (x ∷ []) n m
 within_one x n m = (
   (λ h. (x, (0, omega arith, refl), h)),
   (λ (y, listed, h). only y listed h),
@@ -51,10 +50,10 @@ within_either xs ys n m = (
     whole (inr (x, listed, h)) = (x, Contains-append_right xs ys x listed, h)
 
 -- ---- where one thing is so, or another
-module _ (d : Triple) {s : Part} (e : Edge s) where
+module _ (O : Point → Type 0) {s : Part} (e : Edge s) where
   pub where_alike : (P Q : Point → Type 0) (xs : List Interval)
-      → ((n m : ℤ) → pos 0 <ℤ n → n <ℤ m → IsOrdinary d s (share_point e.a e.b n m) → P (share_point e.a e.b n m) ↔ Q (share_point e.a e.b n m))
-      → AreWhere d e P xs → AreWhere d e Q xs
+      → ((n m : ℤ) → pos 0 <ℤ n → n <ℤ m → O (share_point e.a e.b n m) → P (share_point e.a e.b n m) ↔ Q (share_point e.a e.b n m))
+      → AreWhereAt O e P xs → AreWhereAt O e Q xs
   where_alike P Q xs alike h = record {
     ordered = h.ordered;
     ends = h.ends;
@@ -65,18 +64,18 @@ module _ (d : Triple) {s : Part} (e : Edge s) where
   }
 
   pub where_none : (P : Point → Type 0)
-      → ((n m : ℤ) → pos 0 <ℤ n → n <ℤ m → IsOrdinary d s (share_point e.a e.b n m) → ¬ P (share_point e.a e.b n m))
-      → AreWhere d e P []
+      → ((n m : ℤ) → pos 0 <ℤ n → n <ℤ m → O (share_point e.a e.b n m) → ¬ P (share_point e.a e.b n m))
+      → AreWhereAt O e P []
   where_none P never = record {
     ordered = λ k x h. absurd (omega arith);
     ends = λ k x h. absurd (omega arith);
     exactly = λ n m least most ordinary. ((λ p. absurd (never n m least most ordinary p)), (λ within. absurd (within_none n m within)));
   }
 
-  pub where_either : (P Q : Point → Type 0) (xs ys : List Interval) → AreWhere d e P xs → AreWhere d e Q ys → AreWhere d e (λ p. P p ⊎ Q p) (xs ++ ys)
+  pub where_either : (P Q : Point → Type 0) (xs ys : List Interval) → AreWhereAt O e P xs → AreWhereAt O e Q ys → AreWhereAt O e (λ p. P p ⊎ Q p) (xs ++ ys)
   where_either P Q xs ys h k = record {
     ordered = All-append (λ x. IsEarlier x.from x.to) xs ys h.ordered k.ordered;
-    ends = All-append (λ x. HasNoOrdinaryEnd d e x.from x.to) xs ys h.ends k.ends;
+    ends = All-append (λ x. HasNoEndAt O e x.from x.to) xs ys h.ends k.ends;
     exactly = λ n m least most ordinary. either n m (h.exactly n m least most ordinary) (k.exactly n m least most ordinary);
   }
     where
@@ -91,6 +90,23 @@ module _ (d : Triple) {s : Part} (e : Edge s) where
           back : IsWithinAny xs n m ⊎ IsWithinAny ys n m → P (share_point e.a e.b n m) ⊎ Q (share_point e.a e.b n m)
           back (inl h) = inl (f.1 h)
           back (inr h) = inr (g.1 h)
+
+-- ---- intervals that are added one after another
+module _ (O : Point → Type 0) {s : Part} (e : Edge s) where
+  pub added_one : (P : Point → Type 0) (old new : List Interval) (o : Option Interval) → AreWhereAt O e P (option_to_list o) → new ≡ old ++ option_to_list o → AreAddedAt O e P old new
+  added_one P old new o right all = record { added = option_to_list o; all = all; right = right }
+
+  pub added_then : (P Q : Point → Type 0) (old mid new : List Interval) → AreAddedAt O e P old mid → AreAddedAt O e Q mid new → AreAddedAt O e (λ p. P p ⊎ Q p) old new
+  added_then P Q old mid new first second = record {
+    added = first.added ++ second.added;
+    all = second.all ∙ ap (λ (xs : List Interval). xs ++ second.added) first.all ∙ append_assoc old first.added second.added;
+    right = where_either O e P Q first.added second.added first.right second.right;
+  }
+
+  pub added_alike : (P Q : Point → Type 0) (old new : List Interval)
+      → ((n m : ℤ) → pos 0 <ℤ n → n <ℤ m → O (share_point e.a e.b n m) → P (share_point e.a e.b n m) ↔ Q (share_point e.a e.b n m))
+      → AreAddedAt O e P old new → AreAddedAt O e Q old new
+  added_alike P Q old new alike h = record { added = h.added; all = h.all; right = where_alike O e P Q h.added alike h.right }
 
 -- ---- values that are linear along the edge
 -- the linear is what F is worth along the edge
@@ -118,18 +134,18 @@ root_at [] r n m same h = elim h [ ]
 root_at (v ∷ vs) r n m same (inl (changes, root)) = inl (changes, same_root v.start v.end n m r.num r.den r.positive same root)
 root_at (v ∷ vs) r n m same (inr h) = inr (root_at vs r n m same h)
 
-cut_at : (linears : List Linear) (r : Frac) (n m : ℤ) → IsValue r n m → IsRootOrEnd linears r → IsRootOrEndAt linears n m
+pub cut_at : (linears : List Linear) (r : Frac) (n m : ℤ) → IsValue r n m → IsRootOrEnd linears r → IsRootOrEndAt linears n m
 cut_at linears r n m same (inl h) = inl (value_at_start r.num r.den n m r.positive same h)
 cut_at linears r n m same (inr (inl h)) = inr (inl (value_at_finish r.num r.den n m r.positive same h))
 cut_at linears r n m same (inr (inr h)) = inr (inr (root_at linears r n m same h))
 
--- P holds at ordinary points exactly where all the values are at least 0, and where one of them begins or ceases to be so there is none
-module _ (d : Triple) {s : Part} (e : Edge s) (P : Point → Type 0) (linears : List Linear)
-    (inside : (n m : ℤ) → pos 0 <ℤ n → n <ℤ m → IsOrdinary d s (share_point e.a e.b n m) → P (share_point e.a e.b n m) ↔ AreNonnegative linears n m)
-    (apart : (n m : ℤ) → pos 0 <ℤ m → pos 0 ≤ℤ n → n ≤ℤ m → AreNonnegative linears n m → IsRootOrEndAt linears n m → ¬ IsOrdinary d s (share_point e.a e.b n m))
+-- P holds at the points of O exactly where all the values are at least 0, and where one of them begins or ceases to be so there is none
+module _ (O : Point → Type 0) {s : Part} (e : Edge s) (P : Point → Type 0) (linears : List Linear)
+    (inside : (n m : ℤ) → pos 0 <ℤ n → n <ℤ m → O (share_point e.a e.b n m) → P (share_point e.a e.b n m) ↔ AreNonnegative linears n m)
+    (apart : (n m : ℤ) → pos 0 <ℤ m → pos 0 ≤ℤ n → n ≤ℤ m → AreNonnegative linears n m → IsRootOrEndAt linears n m → ¬ O (share_point e.a e.b n m))
     (x : Interval) (least : IsWhereNonnegative linears x) where
-  -- so an ordinary point where P holds is not at an end
-  is_between : (n m : ℤ) → pos 0 <ℤ n → n <ℤ m → IsOrdinary d s (share_point e.a e.b n m) → P (share_point e.a e.b n m) → IsBetween x.from x.to n m
+  -- so a point of O where P holds is not at an end
+  is_between : (n m : ℤ) → pos 0 <ℤ n → n <ℤ m → O (share_point e.a e.b n m) → P (share_point e.a e.b n m) → IsBetween x.from x.to n m
   is_between n m hn hm ordinary p =
       let positive = positive_of n m hn hm in
       let all = (inside n m hn hm ordinary).0 p in
@@ -139,28 +155,28 @@ module _ (d : Triple) {s : Part} (e : Edge s) (P : Point → Type 0) (linears : 
         strict closed.1 (λ h. cut (cut_at linears x.to n m h least.to_end)),
       )
 
-  holds_between : (n m : ℤ) → pos 0 <ℤ n → n <ℤ m → IsOrdinary d s (share_point e.a e.b n m) → IsBetween x.from x.to n m → P (share_point e.a e.b n m)
+  holds_between : (n m : ℤ) → pos 0 <ℤ n → n <ℤ m → O (share_point e.a e.b n m) → IsBetween x.from x.to n m → P (share_point e.a e.b n m)
   holds_between n m hn hm ordinary between =
       (inside n m hn hm ordinary).1 ((least.exactly n m (positive_of n m hn hm) (weaker hn) (weaker hm)).0 (weaker between.0, weaker between.1))
 
-  at_end : (r : Frac) → IsPlace r → IsRootOrEnd linears r → IsFromTo x.from x.to r.num r.den → ¬ IsOrdinary d s (share_point e.a e.b r.num r.den)
+  at_end : (r : Frac) → IsPlace r → IsRootOrEnd linears r → IsFromTo x.from x.to r.num r.den → ¬ O (share_point e.a e.b r.num r.den)
   at_end r place cut within =
       apart r.num r.den r.positive place.least place.most ((least.exactly r.num r.den r.positive place.least place.most).0 within) (cut_at linears r r.num r.den refl cut)
 
-  where_one : IsEarlier x.from x.to → AreWhere d e P (x ∷ [])
+  where_one : IsEarlier x.from x.to → AreWhereAt O e P (x ∷ [])
   where_one earlier = record {
     ordered = all_one (λ x. IsEarlier x.from x.to) x earlier;
-    ends = all_one (λ x. HasNoOrdinaryEnd d e x.from x.to) x (at_end x.from x.from_place least.from_end (no_less refl, weaker earlier), at_end x.to x.to_place least.to_end (weaker earlier, no_less refl));
+    ends = all_one (λ x. HasNoEndAt O e x.from x.to) x (at_end x.from x.from_place least.from_end (no_less refl, weaker earlier), at_end x.to x.to_place least.to_end (weaker earlier, no_less refl));
     exactly = λ n m hn hm ordinary.
         ((λ p. (within_one x n m).0 (is_between n m hn hm ordinary p)), (λ within. holds_between n m hn hm ordinary ((within_one x n m).1 within)));
   }
 
-  where_no_inside : ¬ IsEarlier x.from x.to → AreWhere d e P []
-  where_no_inside later = where_none d e P (λ n m hn hm ordinary p.
+  where_no_inside : ¬ IsEarlier x.from x.to → AreWhereAt O e P []
+  where_no_inside later = where_none O e P (λ n m hn hm ordinary p.
       let between = is_between n m hn hm ordinary p in
       later (earlier_between x.from.num x.from.den x.to.num x.to.den n m x.from.positive x.to.positive (positive_of n m hn hm) between.0 between.1))
 
   -- kept if it has an inside
-  pub where_proper : (o : Option Interval) → IfSome o (λ y. (y ≡ x) × IsEarlier x.from x.to) → IfNone o (¬ IsEarlier x.from x.to) → AreWhere d e P (option_to_list o)
-  where_proper (Some y) (same, earlier) dropped = subst (λ (z : Interval). AreWhere d e P (z ∷ [])) (sym same) (where_one earlier)
+  pub where_proper : (o : Option Interval) → IfSome o (λ y. (y ≡ x) × IsEarlier x.from x.to) → IfNone o (¬ IsEarlier x.from x.to) → AreWhereAt O e P (option_to_list o)
+  where_proper (Some y) (same, earlier) dropped = subst (λ (z : Interval). AreWhereAt O e P (z ∷ [])) (sym same) (where_one earlier)
   where_proper None kept later = where_no_inside later

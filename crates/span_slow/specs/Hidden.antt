@@ -11,7 +11,7 @@ use Rattle.span_slow.specs.declared.interval.Interval.{Interval}
 use Rattle.span_slow.specs.declared.interval.Linear.{Linear}
 use Rattle.span_slow.specs.declared.span.Span.{Span}
 use Rattle.span_slow.specs.Places.{IsEarlier, IsSame, IsValue, IsBetween, IsFromTo}
-use Rattle.span_slow.specs.Spans.{CoverEdge, Alternate, HasNoOrdinaryEnd}
+use Rattle.span_slow.specs.Spans.{CoverEdge, Alternate, HasNoEndAt}
 
 -- ---- where values that are linear along an edge are at least 0
 abbrev pub AreNonnegative : List Linear → ℤ → ℤ → Type 0
@@ -37,17 +37,24 @@ pub record IsWhereNonnegative (linears : List Linear) (x : Interval) : Type 0 wh
 abbrev pub IsWithinAny : List Interval → ℤ → ℤ → Type 0
 IsWithinAny xs n m = (x : Interval) × Contains xs x × IsBetween x.from x.to n m
 
--- at each ordinary inner point of the edge P holds exactly if it is strictly within an interval; no interval ends at such a point
-pub record AreWhere (d : Triple) {s : Part} (e : Edge s) (P : Point → Type 0) (xs : List Interval) : Type 0 where
+-- at each inner point of the edge that O holds of, P holds exactly if it is strictly within an interval; no interval ends at such a point
+pub record AreWhereAt (O : Point → Type 0) {s : Part} (e : Edge s) (P : Point → Type 0) (xs : List Interval) : Type 0 where
   pub ordered : All (λ x. IsEarlier x.from x.to) xs
-  pub ends : All (λ x. HasNoOrdinaryEnd d e x.from x.to) xs
-  pub exactly : (n m : ℤ) → pos 0 <ℤ n → n <ℤ m → IsOrdinary d s (share_point e.a e.b n m) → P (share_point e.a e.b n m) ↔ IsWithinAny xs n m
+  pub ends : All (λ x. HasNoEndAt O e x.from x.to) xs
+  pub exactly : (n m : ℤ) → pos 0 <ℤ n → n <ℤ m → O (share_point e.a e.b n m) → P (share_point e.a e.b n m) ↔ IsWithinAny xs n m
+
+-- the same of the ordinary points of a plain view
+abbrev pub AreWhere : Triple → {s : Part} → Edge s → (Point → Type 0) → List Interval → Type 0
+AreWhere d {s = s} e P xs = AreWhereAt (IsOrdinary d s) e P xs
 
 -- the new list is the old one with such intervals
-pub record AreAdded (d : Triple) {s : Part} (e : Edge s) (P : Point → Type 0) (old new : List Interval) : Type 0 where
+pub record AreAddedAt (O : Point → Type 0) {s : Part} (e : Edge s) (P : Point → Type 0) (old new : List Interval) : Type 0 where
   pub added : List Interval
   pub all : new ≡ old ++ added
-  pub right : AreWhere d e P added
+  pub right : AreWhereAt O e P added
+
+abbrev pub AreAdded : Triple → {s : Part} → Edge s → (Point → Type 0) → List Interval → List Interval → Type 0
+AreAdded d {s = s} e P old new = AreAddedAt (IsOrdinary d s) e P old new
 
 -- ---- from intervals to spans
 -- n / m is an end of an interval

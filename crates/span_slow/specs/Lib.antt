@@ -1,4 +1,5 @@
 pub mod Places
 pub mod Spans
 pub mod Hidden
+pub mod CutHidden
 pub mod Steps

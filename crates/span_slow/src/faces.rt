@@ -62,7 +62,7 @@ fn add_face(
 }
 
 /// One more interval, if there is one.
-fn add(hidden: &mut Vec<Interval>, x: Option<Interval>) -> Result<(), OutOfMemory>
+pub(crate) fn add(hidden: &mut Vec<Interval>, x: Option<Interval>) -> Result<(), OutOfMemory>
     ensures { OnOk result (hidden.new.items ≡ hidden.old.items ++ option_to_list x) }
 {
     if let Some(x) = x {
@@ -110,7 +110,7 @@ fn side_interval(seen: &SeenEdge, k: &Corner, l: &Corner) -> Option<Interval>
 }
 
 /// The corner is seen on the line of the edge.
-fn is_in_line(seen: &SeenEdge, k: &Corner) -> bool
+pub(crate) fn is_in_line(seen: &SeenEdge, k: &Corner) -> bool
     ensures { IsTrue result ↔ (side_of (of_dir seen.now.d) seen.now.a seen.now.b (point_of k.now) ≡ pos 0) }
 {
     view_cross(
@@ -136,7 +136,7 @@ fn forward_interval(seen: &SeenEdge, k: &Corner, l: &Corner) -> Option<Interval>
 }
 
 /// The interval, if it has an inside.
-fn proper(x: Interval) -> Option<Interval>
+pub(crate) fn proper(x: Interval) -> Option<Interval>
     ensures kept { IfSome result (λ y. (y ≡ x) × IsEarlier x.from x.to) }
     ensures dropped { IfNone result (¬ IsEarlier x.from x.to) }
 {

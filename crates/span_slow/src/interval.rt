@@ -9,8 +9,8 @@ use exact_frac::Frac;
 pub(crate) struct Linear {
     pub start: i128,
     pub end: i128,
-    ghost start_small: { unsigned_abs start < 2 ^ 67 },
-    ghost end_small: { unsigned_abs end < 2 ^ 67 },
+    ghost start_small: { unsigned_abs start < 2 ^ 68 },
+    ghost end_small: { unsigned_abs end < 2 ^ 68 },
 }
 
 /// The places of an edge from one to the other; none where `to` is less than `from`.

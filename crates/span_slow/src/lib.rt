@@ -13,6 +13,8 @@ ghost use Rattle.geometry.specs.Views.{IsEndOn};
 ghost use Rattle.solid_mesh.specs.Solids.{solid_part, edge_halves};
 ghost use Rattle.span_slow.specs.Spans.{AreSpans};
 
+mod cut_faces;
+mod cut_seen;
 mod faces;
 mod interval;
 mod seen;

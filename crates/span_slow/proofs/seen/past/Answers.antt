@@ -9,8 +9,8 @@ use Rattle.span_slow.proofs.seen.past.Goals as goal
 
 pub invariant_of-result : goal.invariant_of-result
 invariant_of-result c = record {
-  start_small = below_of (2 ^ 67) (pass w128 (below c.dot.result (2 ^ 30) (c.dot.ensures.small c.args.seen.now.small)) tt) tt;
-  end_small = below_of (2 ^ 67) (pass w128 (below c.dot-2.result (2 ^ 30) (c.dot-2.ensures.small c.args.seen.now.small)) tt) tt;
+  start_small = below_of (2 ^ 68) (pass w128 (below c.dot.result (2 ^ 30) (c.dot.ensures.small c.args.seen.now.small)) tt) tt;
+  end_small = below_of (2 ^ 68) (pass w128 (below c.dot-2.result (2 ^ 30) (c.dot-2.ensures.small c.args.seen.now.small)) tt) tt;
 }
 
 pub returns-clause-start : goal.returns-clause-start

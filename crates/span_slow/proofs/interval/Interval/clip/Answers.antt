@@ -5,8 +5,8 @@ use Rattle.span_slow.proofs.Clips.{all_kept, none_kept, tested_below, tested_lea
 use Rattle.span_slow.proofs.interval.Interval.clip.Goals as goal
 
 -- a small number as the machine reads it
-read : (v : ℤ) → unsigned_abs v < 2 ^ 67 → to_z w128 (of_z w128 v) ≡ v
-read v h = (pass w128 (below v (2 ^ 67) h) tt).is
+read : (v : ℤ) → unsigned_abs v < 2 ^ 68 → to_z w128 (of_z w128 v) ≡ v
+read v h = (pass w128 (below v (2 ^ 68) h) tt).is
 
 pub returns-then-linear-lt0-2 : goal.returns-then-linear-lt0-2
 returns-then-linear-lt0-2 c =
