@@ -1,0 +1,13 @@
+pub mod Tests
+pub mod Xors
+pub mod Lies
+pub mod Planes
+pub mod BorderPoints
+pub mod FaceBorders
+pub mod Sections
+pub mod Steps
+pub mod Meetings
+pub mod Along
+pub mod Between
+pub mod Roots
+pub mod Segments
