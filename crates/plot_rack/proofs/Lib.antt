@@ -1,0 +1,4 @@
+pub mod Drawings
+pub mod Firsts
+pub mod Fractions
+pub mod Texts

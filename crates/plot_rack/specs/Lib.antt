@@ -1,0 +1,5 @@
+pub mod Choices
+pub mod ListPlotter
+pub mod Lists
+pub mod Plotters
+pub mod Racks
