@@ -1,12 +1,17 @@
 pub mod Blocks
 pub mod Chains
 pub mod Drawings
+pub mod FileNames
+pub mod Keeping
+pub mod MadeFiles
 pub mod Orders
+pub mod PlotFiles
 pub mod SheetFacts
 pub mod SpanPlaces
 pub mod SpanSums
 pub mod StripLists
 pub mod StripPlaces
 pub mod StrokeLists
+pub mod Unmet
 pub mod ViewRight
 pub mod Warnings

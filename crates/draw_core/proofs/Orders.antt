@@ -5,7 +5,7 @@ use Rattle.desk.specs.Files.{Files}
 use Rattle.draw_words.specs.Names.{Named, named_by}
 use Rattle.job_file.specs.Documents.{JobValues, job_of_bytes}
 use Rattle.job_file.proofs.DocumentLemmas.{empty, usual}
-use Rattle.draw_core.specs.Run.{TakesReadJob, IsOfJob, IsOfPart, IsOfSheet, ComesTo, ReadsInOrder, RunsInOrder}
+use Rattle.draw_core.specs.Run.{TakesMetJob, IsOfJob, IsOfPart, IsOfSheet, ComesTo, ReadsInOrder, RunsInOrder}
 use Rattle.draw_core.specs.declared.fault.Fault.{Fault}
 use Rattle.draw_core.specs.declared.fault.Fault.TheVariants.{Usage, ReadFault, JobTooLong, Job as JobUnread, NoPlotter, PartTooLong, Part as PartUnread, Nothing, Mesh, DoesNotFit, WriteFault, Memory}
 use Rattle.draw_core.specs.declared.fault.Input.TheVariants.{Job as TheJob, Part as ThePart}
@@ -22,60 +22,60 @@ no_part : (name : Option (List ℕ)) → IsOfJob name (ReadFault ThePart) → �
 no_part None h = h
 no_part (Some text) h = h
 
-pub job_in_order : (files : Files) (named : Named) (e : Fault) → IsOfJob named.job e → ReadsInOrder files named e
-job_in_order files named (ReadFault TheJob) h = is_named named.job h
-job_in_order files named (ReadFault ThePart) h = absurd (no_part named.job h)
-job_in_order files named Usage h = tt
-job_in_order files named JobTooLong h = tt
-job_in_order files named (JobUnread cause) h = tt
-job_in_order files named (NoPlotter name) h = tt
-job_in_order files named PartTooLong h = tt
-job_in_order files named (PartUnread cause) h = tt
-job_in_order files named Nothing h = tt
-job_in_order files named (Mesh fault) h = tt
-job_in_order files named (DoesNotFit need_w need_h have_w have_h) h = tt
-job_in_order files named (WriteFault target) h = tt
-job_in_order files named Memory h = tt
+pub job_in_order : (suffixes : List (List ℕ)) (files : Files) (named : Named) (e : Fault) → IsOfJob named.job e → ReadsInOrder suffixes files named e
+job_in_order suffixes files named (ReadFault TheJob) h = is_named named.job h
+job_in_order suffixes files named (ReadFault ThePart) h = absurd (no_part named.job h)
+job_in_order suffixes files named Usage h = tt
+job_in_order suffixes files named JobTooLong h = tt
+job_in_order suffixes files named (JobUnread cause) h = tt
+job_in_order suffixes files named (NoPlotter name) h = tt
+job_in_order suffixes files named PartTooLong h = tt
+job_in_order suffixes files named (PartUnread cause) h = tt
+job_in_order suffixes files named Nothing h = tt
+job_in_order suffixes files named (Mesh fault) h = tt
+job_in_order suffixes files named (DoesNotFit need_w need_h have_w have_h) h = tt
+job_in_order suffixes files named (WriteFault target) h = tt
+job_in_order suffixes files named Memory h = tt
 
-pub part_in_order : (files : Files) (named : Named) (job : JobValues) → TakesReadJob files named.job (Ok job) → (e : Fault) → IsOfPart e → ReadsInOrder files named e
-part_in_order files named job taken (ReadFault TheJob) h = absurd h
-part_in_order files named job taken (ReadFault ThePart) h = (job, taken)
-part_in_order files named job taken Usage h = tt
-part_in_order files named job taken JobTooLong h = tt
-part_in_order files named job taken (JobUnread cause) h = tt
-part_in_order files named job taken (NoPlotter name) h = tt
-part_in_order files named job taken PartTooLong h = tt
-part_in_order files named job taken (PartUnread cause) h = tt
-part_in_order files named job taken Nothing h = tt
-part_in_order files named job taken (Mesh fault) h = tt
-part_in_order files named job taken (DoesNotFit need_w need_h have_w have_h) h = tt
-part_in_order files named job taken (WriteFault target) h = tt
-part_in_order files named job taken Memory h = tt
+pub part_in_order : (suffixes : List (List ℕ)) (files : Files) (named : Named) (job : JobValues) → TakesMetJob suffixes files named.job (Ok job) → (e : Fault) → IsOfPart e → ReadsInOrder suffixes files named e
+part_in_order suffixes files named job taken (ReadFault TheJob) h = absurd h
+part_in_order suffixes files named job taken (ReadFault ThePart) h = (job, taken)
+part_in_order suffixes files named job taken Usage h = tt
+part_in_order suffixes files named job taken JobTooLong h = tt
+part_in_order suffixes files named job taken (JobUnread cause) h = tt
+part_in_order suffixes files named job taken (NoPlotter name) h = tt
+part_in_order suffixes files named job taken PartTooLong h = tt
+part_in_order suffixes files named job taken (PartUnread cause) h = tt
+part_in_order suffixes files named job taken Nothing h = tt
+part_in_order suffixes files named job taken (Mesh fault) h = tt
+part_in_order suffixes files named job taken (DoesNotFit need_w need_h have_w have_h) h = tt
+part_in_order suffixes files named job taken (WriteFault target) h = tt
+part_in_order suffixes files named job taken Memory h = tt
 
-pub sheet_in_order : (files : Files) (named : Named) (e : Fault) → IsOfSheet e → ReadsInOrder files named e
-sheet_in_order files named (ReadFault input) h = absurd h
-sheet_in_order files named Usage h = tt
-sheet_in_order files named JobTooLong h = tt
-sheet_in_order files named (JobUnread cause) h = tt
-sheet_in_order files named (NoPlotter name) h = tt
-sheet_in_order files named PartTooLong h = tt
-sheet_in_order files named (PartUnread cause) h = tt
-sheet_in_order files named Nothing h = tt
-sheet_in_order files named (Mesh fault) h = tt
-sheet_in_order files named (DoesNotFit need_w need_h have_w have_h) h = tt
-sheet_in_order files named (WriteFault target) h = tt
-sheet_in_order files named Memory h = tt
+pub sheet_in_order : (suffixes : List (List ℕ)) (files : Files) (named : Named) (e : Fault) → IsOfSheet e → ReadsInOrder suffixes files named e
+sheet_in_order suffixes files named (ReadFault input) h = absurd h
+sheet_in_order suffixes files named Usage h = tt
+sheet_in_order suffixes files named JobTooLong h = tt
+sheet_in_order suffixes files named (JobUnread cause) h = tt
+sheet_in_order suffixes files named (NoPlotter name) h = tt
+sheet_in_order suffixes files named PartTooLong h = tt
+sheet_in_order suffixes files named (PartUnread cause) h = tt
+sheet_in_order suffixes files named Nothing h = tt
+sheet_in_order suffixes files named (Mesh fault) h = tt
+sheet_in_order suffixes files named (DoesNotFit need_w need_h have_w have_h) h = tt
+sheet_in_order suffixes files named (WriteFault target) h = tt
+sheet_in_order suffixes files named Memory h = tt
 
-pub run_in_order : (words : List (List ℕ)) (files : Files) (named : Named) → named_by words ≡ Some named → (e : Fault) → ReadsInOrder files named e → RunsInOrder words files e
-run_in_order words files named is (ReadFault input) h = subst (λ (o : Option Named). IsSomeAnd o (λ n. ComesTo files n input)) (sym is) h
-run_in_order words files named is Usage h = tt
-run_in_order words files named is JobTooLong h = tt
-run_in_order words files named is (JobUnread cause) h = tt
-run_in_order words files named is (NoPlotter name) h = tt
-run_in_order words files named is PartTooLong h = tt
-run_in_order words files named is (PartUnread cause) h = tt
-run_in_order words files named is Nothing h = tt
-run_in_order words files named is (Mesh fault) h = tt
-run_in_order words files named is (DoesNotFit need_w need_h have_w have_h) h = tt
-run_in_order words files named is (WriteFault target) h = tt
-run_in_order words files named is Memory h = tt
+pub run_in_order : (suffixes words : List (List ℕ)) (files : Files) (named : Named) → named_by words ≡ Some named → (e : Fault) → ReadsInOrder suffixes files named e → RunsInOrder suffixes words files e
+run_in_order suffixes words files named is (ReadFault input) h = subst (λ (o : Option Named). IsSomeAnd o (λ n. ComesTo suffixes files n input)) (sym is) h
+run_in_order suffixes words files named is Usage h = tt
+run_in_order suffixes words files named is JobTooLong h = tt
+run_in_order suffixes words files named is (JobUnread cause) h = tt
+run_in_order suffixes words files named is (NoPlotter name) h = tt
+run_in_order suffixes words files named is PartTooLong h = tt
+run_in_order suffixes words files named is (PartUnread cause) h = tt
+run_in_order suffixes words files named is Nothing h = tt
+run_in_order suffixes words files named is (Mesh fault) h = tt
+run_in_order suffixes words files named is (DoesNotFit need_w need_h have_w have_h) h = tt
+run_in_order suffixes words files named is (WriteFault target) h = tt
+run_in_order suffixes words files named is Memory h = tt

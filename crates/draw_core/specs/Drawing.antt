@@ -1,5 +1,5 @@
 -- What a drawing shows, and its text.
-use Rattle.std.specs.Prelude.{◌≡◌, ℕ, List, Option, IsSomeAnd}
+use Rattle.std.specs.Prelude.{◌≡◌, ℕ, ℤ, List, [], ◌∷◌, map, Option, Some, None, IsSomeAnd}
 use Rattle.std.specs.List.{AllZip}
 use Rattle.lattice.specs.Creases.{fraction_of}
 use Rattle.lattice.specs.declared.pieces.Crease.{Crease}
@@ -10,9 +10,13 @@ use Rattle.job_file.specs.Seen.{direction_seen, job_seen}
 use Rattle.job_file.specs.declared.view.JobView.{JobView}
 use Rattle.solid_mesh.specs.declared.solid.Solid.{Solid}
 use Rattle.solid_mesh.specs.Solids.{solid_part}
+use Rattle.plot_rack.specs.Choices.{first_with}
+use Rattle.plot_rack.specs.Plotters.{Plot}
+use Rattle.sheet_plan.specs.declared.sheet.Sheet.{Sheet}
 use Rattle.sheet_plan.specs.declared.sheet.Stroke.{Stroke}
 use Rattle.svg_page.specs.Svg.{svg_of}
-use Rattle.draw_core.specs.Run.{Drawn, LeavesAfter}
+use Rattle.draw_core.specs.Outputs.{File, plot_name, LeavesAll}
+use Rattle.draw_core.specs.Run.{Drawn}
 use Rattle.draw_core.specs.Sheets.{IsSheetOf}
 use Rattle.draw_core.specs.Strokes.{AreStrokes}
 use Rattle.draw_core.specs.declared.drawing.Drawing.{Drawing}
@@ -34,16 +38,30 @@ pub record IsDrawing (d : Drawing) : Type 0 where
 abbrev pub drawn_in : Drawing → Drawn
 drawn_in d = record { job = job_seen d.job; part = solid_part d.solid }
 
--- the text of the drawing: its sheet with its title and the strokes of its views
-abbrev pub IsTextOf : Drawing → List ℕ → Type 0
-IsTextOf d text = (strokes : List Stroke) × AreStrokes d.sheet d.views.items strokes × (text ≡ svg_of d.sheet d.job.title strokes)
+-- what a plotter makes of a page and strokes; there is one for each output
+abbrev pub paper_of : Option Plot → ℤ × ℤ → List Stroke → List ℕ
+paper_of None page strokes = []
+paper_of (Some plot) page strokes = plot.paper page strokes
 
--- the run leaves the drawing's text under the name, as its fault allows
-pub record Writes (fault : Option Fault) (old new : Files) (name : List ℕ) (d : Drawing) : Type 0 where
-  pub text : List ℕ
-  pub is_text : IsTextOf d text
-  pub leaves : LeavesAfter fault old new name text
+-- the file of an output of the drawing: the paper of the first plotter with that suffix
+abbrev pub plot_file : List Plot → Sheet → List Stroke → List ℕ → List ℕ → File
+plot_file plots sheet strokes out name =
+    (plot_name out name, paper_of (first_with (λ plot. plot.suffix) plots name) (sheet.width, sheet.height) strokes)
+
+-- the files of the drawing, of which the first has this name: the SVG of its sheet with its title and strokes, and for each
+-- output of its job a plotter's file of the same strokes
+abbrev pub files_of : List Plot → Drawing → List Stroke → List ℕ → List File
+files_of plots d strokes out = (out, svg_of d.sheet d.job.title strokes) ∷ map (plot_file plots d.sheet strokes out) d.job.outputs.items
+
+abbrev pub AreFilesOf : List Plot → Drawing → List ℕ → List File → Type 0
+AreFilesOf plots d out files = (strokes : List Stroke) × AreStrokes d.sheet d.views.items strokes × (files ≡ files_of plots d strokes out)
+
+-- the run leaves the drawing's files, of which the first has this name, as its fault allows
+pub record Writes (plots : List Plot) (fault : Option Fault) (old new : Files) (out : List ℕ) (d : Drawing) : Type 0 where
+  pub files : List File
+  pub are_files : AreFilesOf plots d out files
+  pub leaves : LeavesAll fault old new files
 
 -- and the words name it
-abbrev pub WritesNamed : Option Named → Option Fault → Files → Files → Drawing → Type 0
-WritesNamed named fault old new d = IsSomeAnd named (λ names. Writes fault old new names.out d)
+abbrev pub WritesNamed : List Plot → Option Named → Option Fault → Files → Files → Drawing → Type 0
+WritesNamed plots named fault old new d = IsSomeAnd named (λ names. Writes plots fault old new names.out d)

@@ -20,6 +20,8 @@ use Rattle.weld.specs.declared.fault.Word.{Word}
 use Rattle.weld.specs.declared.fault.Word.TheVariants as word
 use Rattle.draw_core.specs.declared.fault.Input.{Input}
 use Rattle.draw_core.specs.declared.fault.Input.TheVariants as input
+use Rattle.draw_core.specs.declared.fault.Target.{Target}
+use Rattle.draw_core.specs.declared.fault.Target.TheVariants.{Out, Plot}
 use Rattle.draw_core.specs.declared.fault.Fault.{Fault}
 use Rattle.draw_core.specs.declared.fault.Fault.TheVariants.{Usage, ReadFault, JobTooLong, Job, NoPlotter, PartTooLong, Part, Nothing, Mesh, DoesNotFit, WriteFault, Memory}
 
@@ -110,6 +112,10 @@ sheet_line need_w need_h have_w have_h =
     codes "draw: sheet: needs " ⊕ signed_decimal need_w ⊕ codes " by " ⊕ signed_decimal need_h
     ⊕ codes ", has " ⊕ signed_decimal have_w ⊕ codes " by " ⊕ signed_decimal have_h ⊕ codes "\n"
 
+abbrev pub write_line : Target → List ℕ
+write_line Out = codes "draw: cannot write the drawing\n"
+write_line (Plot number) = codes "draw: cannot write plot " ⊕ decimal number ⊕ codes "\n"
+
 abbrev pub fault_line : Fault → List ℕ
 fault_line Usage = codes "draw: usage: draw PART [--job JOB] [--out OUT]\n"
 fault_line (ReadFault input) = read_line input
@@ -121,7 +127,7 @@ fault_line (Part fault) = part_line fault
 fault_line Nothing = codes "draw: part: no triangle\n"
 fault_line (Mesh fault) = mesh_line fault
 fault_line (DoesNotFit need_w need_h have_w have_h) = sheet_line need_w need_h have_w have_h
-fault_line (WriteFault target) = codes "draw: cannot write the drawing\n"
+fault_line (WriteFault target) = write_line target
 fault_line Memory = codes "draw: out of memory\n"
 
 -- a fault of a job with neither a number nor a name
@@ -138,6 +144,7 @@ NamesNothing (NoPlotter name) = ⊥
 NamesNothing (Part fault) = ⊥
 NamesNothing (Mesh fault) = ⊥
 NamesNothing (DoesNotFit need_w need_h have_w have_h) = ⊥
+NamesNothing (WriteFault (Plot number)) = ⊥
 NamesNothing fault = Unit {0}
 
 -- what a run adds to what was warned: nothing where it has no fault, and else a prefix of the fault's line

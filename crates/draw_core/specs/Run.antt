@@ -1,6 +1,6 @@
 -- What a run answers, from its words and the files at entry: steps in order, each with what it gives and what it refuses.
 use Rattle.std.specs.Prelude.{◌≡◌, ◌⊎◌, ◌<◌, ◌≤◌, ℕ, List, [], ◌∷◌, length, Option, Some, None, IsSome, IsSomeAnd, Result, Ok, Err, Bool, false, IsTrue}
-use Rattle.desk.specs.Files.{Files, Keeps, MayKeepFront, Rose}
+use Rattle.desk.specs.Files.{Files, Rose}
 use Rattle.draw_words.specs.Names.{Named, named_by}
 use Rattle.geometry.specs.Parts.{Part}
 use Rattle.geometry.specs.Sound.{IsSound}
@@ -11,6 +11,7 @@ use Rattle.weld.specs.Welds.{IsWeldOf, proper_of}
 use Rattle.weld.specs.declared.fault.PartFault.{PartFault}
 use Rattle.solid_mesh.specs.Faults.{HasFault}
 use Rattle.solid_mesh.specs.declared.faults.MeshFault.{MeshFault}
+use Rattle.draw_core.specs.Outputs.{first_unmet}
 use Rattle.draw_core.specs.Reading.{ReadsPartText}
 use Rattle.draw_core.specs.Sheets.{HasSheet, HasNoSheet}
 use Rattle.draw_core.specs.declared.fault.Input.{Input}
@@ -57,10 +58,10 @@ abbrev pub ReadsJob : List ℕ → Result JobValues Fault → Type 0
 ReadsJob bytes (Ok job) = job_of_bytes bytes ≡ Ok job
 ReadsJob bytes (Err e) = (cause : JobFault) × (e ≡ JobUnread cause) × (job_of_bytes bytes ≡ Err cause)
 
--- it asks for no output besides the drawing, since there is no plotter
-abbrev pub NeedsNoPlotter : JobValues → Result JobValues Fault → Type 0
-NeedsNoPlotter job (Ok same) = (same ≡ job) × (job.outputs ≡ [])
-NeedsNoPlotter job (Err e) = (name : List ℕ) × (others : List (List ℕ)) × (e ≡ NoPlotter name) × (job.outputs ≡ name ∷ others)
+-- each of its outputs is the suffix of a plotter
+abbrev pub HasPlotters : List (List ℕ) → JobValues → Result JobValues Fault → Type 0
+HasPlotters suffixes job (Ok same) = (same ≡ job) × (first_unmet suffixes job.outputs ≡ None)
+HasPlotters suffixes job (Err e) = (name : List ℕ) × (e ≡ NoPlotter name) × (first_unmet suffixes job.outputs ≡ Some name)
 
 -- what the part's text says, in units of 10^-decimals mm
 abbrev pub ReadsText : ℕ → (bytes : List ℕ) → Result Raw Fault → Type 0
@@ -85,9 +86,9 @@ ChecksPart part (Err e) = (fault : MeshFault) × (e ≡ Mesh fault) × HasFault 
 abbrev pub ReadsSolid : ℕ → List ℕ → Result Part Fault → Type 0
 ReadsSolid decimals bytes = ReadsPart decimals bytes and_then ChecksPart
 
--- the job is taken, read, and needs no plotter
+-- the job is taken, and read
 abbrev pub TakesReadJob : Files → Option (List ℕ) → Result JobValues Fault → Type 0
-TakesReadJob files name = TakesJob files name and_then ReadsJob and_then NeedsNoPlotter
+TakesReadJob files name = TakesJob files name and_then ReadsJob
 
 -- the part is taken, read with the job's decimals, and sound
 abbrev pub TakesSolid : Files → List ℕ → ℕ → Result Part Fault → Type 0
@@ -104,14 +105,18 @@ PlansSheet job part (Ok drawn) = (drawn ≡ record { job = job; part = part }) �
 PlansSheet job part (Err (DoesNotFit need_w need_h have_w have_h)) = HasNoSheet job part.corners need_w need_h have_w have_h
 PlansSheet job part (Err e) = ⊥
 
--- the files that were named give the job, and then the part
-abbrev pub DrawsFiles : Files → Named → Result Drawn Fault → Type 0
-DrawsFiles files named =
-    TakesReadJob files named.job and_then λ job. (TakesSolid files named.part job.decimals and_then PlansSheet job)
+-- the job is taken and read, and its outputs have plotters with these suffixes
+abbrev pub TakesMetJob : List (List ℕ) → Files → Option (List ℕ) → Result JobValues Fault → Type 0
+TakesMetJob suffixes files name = TakesReadJob files name and_then HasPlotters suffixes
 
--- a run: what is drawn, or the refusal
-abbrev pub Runs : List (List ℕ) → Files → Result Drawn Fault → Type 0
-Runs words files = NamesFiles words and_then DrawsFiles files
+-- the files that were named give the job, and then the part
+abbrev pub DrawsFiles : List (List ℕ) → Files → Named → Result Drawn Fault → Type 0
+DrawsFiles suffixes files named =
+    TakesMetJob suffixes files named.job and_then λ job. (TakesSolid files named.part job.decimals and_then PlansSheet job)
+
+-- a run with plotters of these suffixes: what is drawn, or the refusal
+abbrev pub Runs : List (List ℕ) → List (List ℕ) → Files → Result Drawn Fault → Type 0
+Runs suffixes words files = NamesFiles words and_then DrawsFiles suffixes files
 
 -- ---- answers
 -- Want of memory is free, and a fault of reading or writing has its count; each other refusal is that of the steps.
@@ -186,18 +191,18 @@ AnswersWords named (Some fault) = IsSomeAnd named (λ names. IsOfFiles names fau
 AnswersWords named None = IsSome named
 
 -- the run comes to reading the job where it is named, and to the part once the job was taken
-abbrev pub ComesTo : Files → Named → Input → Type 0
-ComesTo files named TheJob = IsSome named.job
-ComesTo files named ThePart = (job : JobValues) × TakesReadJob files named.job (Ok job)
+abbrev pub ComesTo : List (List ℕ) → Files → Named → Input → Type 0
+ComesTo suffixes files named TheJob = IsSome named.job
+ComesTo suffixes files named ThePart = (job : JobValues) × TakesMetJob suffixes files named.job (Ok job)
 
 -- a fault of reading is answered only where the run comes to that
-abbrev pub ReadsInOrder : Files → Named → Fault → Type 0
-ReadsInOrder files named (ReadFault input) = ComesTo files named input
-ReadsInOrder files named fault = Unit {0}
+abbrev pub ReadsInOrder : List (List ℕ) → Files → Named → Fault → Type 0
+ReadsInOrder suffixes files named (ReadFault input) = ComesTo suffixes files named input
+ReadsInOrder suffixes files named fault = Unit {0}
 
-abbrev pub RunsInOrder : List (List ℕ) → Files → Fault → Type 0
-RunsInOrder words files (ReadFault input) = IsSomeAnd (named_by words) (λ named. ComesTo files named input)
-RunsInOrder words files fault = Unit {0}
+abbrev pub RunsInOrder : List (List ℕ) → List (List ℕ) → Files → Fault → Type 0
+RunsInOrder suffixes words files (ReadFault input) = IsSomeAnd (named_by words) (λ named. ComesTo suffixes files named input)
+RunsInOrder suffixes words files fault = Unit {0}
 
 -- the count of the faults of reading rose where one is answered, and else it stands
 abbrev pub CountsReads : Option Fault → ℕ → ℕ → Type 0
@@ -230,12 +235,6 @@ HasDrawing None there = IsTrue there
 HasDrawing (Some (WriteFault target)) there = IsTrue there
 HasDrawing (Some Memory) there = Unit {0}
 HasDrawing fault there = there ≡ false
-
--- what a run that has a drawing leaves: the file whole, or after a fault of writing its old bytes or a prefix of the new
-abbrev pub LeavesAfter : Option Fault → Files → Files → List ℕ → List ℕ → Type 0
-LeavesAfter None old new name bytes = Keeps old new name bytes
-LeavesAfter (Some (WriteFault target)) old new name bytes = MayKeepFront old new name bytes
-LeavesAfter fault old new name bytes = new ≡ old
 
 -- the faults that are left once the part was read
 abbrev pub IsWriteOutcome : Fault → Type 0

@@ -1,19 +1,28 @@
 -- What contracts see of what a run has taken.
-use Rattle.std.specs.Prelude.{◌≡◌, Option, IsSomeAnd}
+use Rattle.std.specs.Prelude.{◌≡◌, ℕ, List, Option, IsSomeAnd}
+use Rattle.std.specs.declared.alloc.Global.{Global}
+use Rattle.std.specs.declared.dyn_box.DynBox.{DynBox}
 use Rattle.draw_words.specs.Names.{Named}
 use Rattle.job_file.specs.Seen.{job_seen}
+use Rattle.plot_rack.specs.Choices.{AreChosen}
+use Rattle.plot_rack.specs.Racks.{boxes_of}
 use Rattle.solid_mesh.specs.Solids.{solid_part}
 use Rattle.draw_core.specs.Run.{Drawn}
 use Rattle.draw_core.specs.Sheets.{IsSheetOf}
 use Rattle.draw_core.specs.declared.take.Taken.{Taken}
 
-abbrev pub drawn_of : Taken → Drawn
+-- V and W are the types that are boxed in its rack, and their values
+abbrev pub drawn_of : {V : Type 0} {W : V → Type 0} → Taken V W → Drawn
 drawn_of taken = record { job = job_seen taken.job; part = solid_part taken.solid }
 
 -- its sheet is the job's for its solid
-abbrev pub HasItsSheet : Taken → Type 0
+abbrev pub HasItsSheet : {V : Type 0} {W : V → Type 0} → Taken V W → Type 0
 HasItsSheet taken = IsSheetOf taken.job (solid_part taken.solid).corners taken.sheet
 
 -- the words name where its drawing goes
-abbrev pub GoesWhereNamed : Option Named → Taken → Type 0
+abbrev pub GoesWhereNamed : {V : Type 0} {W : V → Type 0} → Option Named → Taken V W → Type 0
 GoesWhereNamed named taken = IsSomeAnd named (λ names. taken.out ≡ names.out)
+
+-- for each output of its job it has the first of these boxes with that suffix
+abbrev pub HasItsPlotters : {V : Type 0} {W : V → Type 0} → (DynBox V Global W → List ℕ) → List (DynBox V Global W) → Taken V W → Type 0
+HasItsPlotters suffix_of boxes taken = AreChosen suffix_of boxes taken.job.outputs.items (boxes_of taken.rack)

@@ -16,7 +16,10 @@ pub enum Input {
 /// What a run writes.
 #[derive(Clone, Copy, Debug, PartialEq, Eq)]
 pub enum Target {
+    /// The drawing.
     Out,
+    /// The text of the plotter for this output of the job, counted from 0.
+    Plot(u32),
 }
 
 /// Why a run refuses.
@@ -26,7 +29,7 @@ pub enum Fault {
     ReadFault(Input),
     JobTooLong,
     Job(JobFault),
-    /// There is no plotter for this output, the first one of the job.
+    /// No plotter has this suffix, the first such output of the job.
     NoPlotter(Name),
     PartTooLong,
     Part(PartFault),

@@ -4,7 +4,10 @@
 mod drawing;
 mod fault;
 mod fetch;
+mod keep;
 mod lines;
+mod made;
+mod outputs;
 mod part;
 mod run;
 mod sheets;

@@ -1,18 +1,15 @@
 // The line that a fault is told by.
 ghost use Rattle.std.specs.Prelude.{◌≡◌, ◌<◌, IfOk, IsOk, codes, string_bytes};
-ghost use Rattle.draw_core.specs.Lines.{shown_byte, shown, key_text, axis_text, job_line, read_line, HasNoNumberOrName, word_text, want_text, kind_text, part_line, mesh_line, sheet_line, fault_line, NamesNothing};
+ghost use Rattle.draw_core.specs.Lines.{shown_byte, shown, key_text, axis_text, job_line, read_line, write_line, HasNoNumberOrName, word_text, want_text, kind_text, part_line, mesh_line, sheet_line, fault_line, NamesNothing};
 ghost use Rattle.svg_page.specs.Texts.{◌⊕◌};
 ghost use Rattle.draw_core.specs.Told.{text_of};
 
-use crate::fault::{Fault, Input};
+use crate::fault::{Fault, Input, Target};
 use job_file::{JobFault, Key};
 use lattice::Axis;
 use solid_mesh::MeshFault;
 use std::alloc::{AllocError, Global};
 use weld::{PartFault, PartKind, Want, Word};
-
-/// The line of a fault of writing.
-pub(crate) const WRITE_LINE: &str = "draw: cannot write the drawing\n";
 
 /// The line of want of memory.
 pub const MEMORY_LINE: &str = "draw: out of memory\n";
@@ -58,7 +55,7 @@ pub(crate) fn line_of(alloc: Global, fault: &Fault) -> Result<Line, AllocError>
             have_w,
             have_h,
         } => Ok(Line::Made(sheet_line(alloc, *need_w, *need_h, *have_w, *have_h)?)),
-        Fault::WriteFault(_) => Ok(Line::Fixed(WRITE_LINE)),
+        Fault::WriteFault(target) => write_line(alloc, *target),
         Fault::Memory => Ok(Line::Fixed(MEMORY_LINE)),
     }
 }
@@ -69,6 +66,23 @@ fn read_line(input: &Input) -> &'static str
     match input {
         Input::Job => "draw: cannot read the job\n",
         Input::Part => "draw: cannot read the part\n",
+    }
+}
+
+fn plot_line(alloc: Global, number: u32) -> Result<String, AllocError>
+    ensures { IfOk result (λ line. string_bytes line ≡ write_line (Target.Plot number)) }
+{
+    format!(in alloc; "draw: cannot write plot {number}\n")
+}
+
+// The line of a fault of writing. It takes memory only where the target has a number.
+fn write_line(alloc: Global, target: Target) -> Result<Line, AllocError>
+    ensures line { IfOk result (λ line. text_of line ≡ write_line target) }
+    ensures fixed { NamesNothing (Fault.WriteFault target) → IsOk result }
+{
+    match target {
+        Target::Out => Ok(Line::Fixed("draw: cannot write the drawing\n")),
+        Target::Plot(number) => Ok(Line::Made(plot_line(alloc, number)?)),
     }
 }
 
@@ -421,6 +435,8 @@ mod tests {
                 },
                 "sheet: needs 100000 by 80000, has -1 by 15000",
             ),
+            (Fault::WriteFault(Target::Out), "cannot write the drawing"),
+            (Fault::WriteFault(Target::Plot(7)), "cannot write plot 7"),
             (Fault::Memory, "out of memory"),
         ] {
             let line = format!(in rt.alloc(); "draw: {line}\n")?;

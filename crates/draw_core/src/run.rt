@@ -1,58 +1,65 @@
 // The top call: from the words and a desk to a drawing.
-ghost use Rattle.std.specs.Prelude.{◌≡◌, ◌⊎◌, ◌++◌, true, false, length, None, Some, Ok, Err, IfOk, IfErr, IfSome, IfNone, IsSome, IsErrOf, OnOk, is_some, string_bytes, vec_len, ◌<◌, ◌≤◌};
+ghost use Rattle.std.specs.Prelude.{◌≡◌, ◌⊎◌, ◌++◌, true, false, length, None, Some, Ok, Err, map, IfOk, IfErr, IfSome, IfNone, IsSome, IsErrOf, OnOk, is_some, string_bytes, vec_len, ◌<◌, ◌≤◌};
 ghost use Rattle.desk.specs.Files.{OnlyReads, OnlyWarns, Rose, AppendsFront};
 ghost use Rattle.draw_words.specs.Names.{named_by};
 ghost use Rattle.draw_words.specs.Seen.{texts};
 ghost use Rattle.draw_core.specs.Taken.{drawn_of, HasItsSheet};
-ghost use Rattle.draw_core.specs.Run.{Runs, Refuses, AnswersWords, RunsInOrder, CountsReads, IsMissing, HasDrawing, LeavesAfter, IsWriteOutcome, status_of};
+ghost use Rattle.plot_rack.specs.Racks.{boxes_of};
+ghost use Rattle.draw_core.specs.Outputs.{CountsWrites, HasNoWriteFault};
+ghost use Rattle.draw_core.specs.Run.{Runs, Refuses, AnswersWords, RunsInOrder, CountsReads, IsMissing, HasDrawing, IsWriteOutcome, status_of};
 ghost use Rattle.draw_core.specs.Desks.{OnlyWrites, OnlyRuns, HearsAll};
 ghost use Rattle.draw_core.specs.Lines.{NamesNothing, Warns, WarnsWhole};
-ghost use Rattle.draw_core.specs.Drawing.{drawn_in, IsDrawing, IsTextOf, Writes, WritesNamed};
+ghost use Rattle.draw_core.specs.Drawing.{drawn_in, IsDrawing, WritesNamed};
+ghost use Rattle.draw_core.specs.Kept.{AreRackFiles, WritesRack};
 
 use crate::drawing::{Drawing, Outcome};
-use crate::fault::{Fault, Target};
-use crate::lines::{MEMORY_LINE, WRITE_LINE, line_of};
+use crate::fault::Fault;
+use crate::keep::{keep_all, warn};
+use crate::lines::{MEMORY_LINE, line_of};
+use crate::made::outputs_of;
+use crate::outputs::Output;
 use crate::strokes::strokes_of;
 use crate::take::{Taken, take};
 use crate::views::views_of;
-use dec_text::Name;
-use desk::{Desk, DeskFault};
+use desk::Desk;
 use exact_frac::OutOfMemory;
+use plot_rack::Plotter;
 use std::alloc::Global;
 use svg_page::svg;
 
-/// A drawing, its text, and the name that it is written under.
+/// A drawing and its files.
 #[derive(Drop)]
 struct Made {
     drawing: Drawing,
-    text: Vec<u8>,
-    out: Name,
+    outputs: Vec<Output>,
 }
 
-/// The drawing of what was taken.
+/// The drawing of what was taken, and its files.
 fn drawing_of(alloc: Global, taken: Taken) -> Result<Made, OutOfMemory>
     requires { HasItsSheet taken }
     ensures drawn { IfOk result (λ made. drawn_in made.drawing ≡ drawn_of taken) }
     ensures shows { IfOk result (λ made. IsDrawing made.drawing) }
-    ensures text { IfOk result (λ made. IsTextOf made.drawing made.text.items) }
-    ensures out { IfOk result (λ made. made.out ≡ taken.out) }
+    ensures files { IfOk result (λ made. AreRackFiles (λ b. plot (b.vtable, b.value)) (boxes_of taken.rack) made.drawing taken.out made.outputs.items) }
 {
     let Taken {
         out,
         job,
+        mut rack,
         solid,
         sheet,
     } = taken;
     let views = views_of(alloc, &solid, job.crease, &job.views)?;
     let strokes = strokes_of(alloc, &sheet, &views)?;
+    rack.draw(sheet.width, sheet.height, &strokes)?;
     let text = svg(alloc, &sheet, &job.title, &strokes)?;
+    let outputs = outputs_of(alloc, out, text, &rack)?;
     let drawing = Drawing {
         solid,
         job,
         sheet,
         views,
     };
-    Ok(Made { drawing, text, out })
+    Ok(Made { drawing, outputs })
 }
 
 /// An end without a drawing.
@@ -66,17 +73,6 @@ fn ended(fault: Fault) -> Outcome
         fault: Some(fault),
         drawing: None,
     }
-}
-
-/// Warns by a line. A desk that can't is not asked again.
-fn warn<D: Desk>(line: &str, desk: &mut D)
-    ensures front { (D.state desk.old).tells_warned ≡ true →
-        AppendsFront (D.state desk.old).warned (D.state desk.new).warned line.now }
-    ensures whole { HearsAll (D.state desk.old) (D.state desk.new) →
-        (D.state desk.new).warned ≡ (D.state desk.old).warned ++ line.now }
-    ensures changes { OnlyWarns (D.state desk.old) (D.state desk.new) }
-{
-    let _unheard = desk.warn(line.as_bytes());
 }
 
 /// Ends a run with a fault, and warns of it. Where its line finds no memory, the fault is want of memory.
@@ -103,36 +99,6 @@ fn refuse<D: Desk>(alloc: Global, fault: Fault, desk: &mut D) -> Outcome
     }
 }
 
-/// Writes a drawing's text under a name, and tells why it couldn't, of which it warns.
-fn keep_text<D: Desk>(out: &str, text: &[u8], desk: &mut D) -> Option<Fault>
-    ensures fault { IfSome result IsWriteOutcome }
-    ensures files { (D.state desk.old).tells ≡ true →
-        LeavesAfter result (D.state desk.old).files (D.state desk.new).files out.now text.now }
-    ensures write_fault { result ≡ Some (Fault.WriteFault Target.Out) →
-        Rose (D.state desk.old).write_faults (D.state desk.new).write_faults }
-    ensures no_write_fault { (result ≡ Some (Fault.WriteFault Target.Out) → ⊥) →
-        (D.state desk.new).write_faults ≡ (D.state desk.old).write_faults }
-    ensures steady { (D.state desk.old).steady ≡ true → result ≡ Some (Fault.WriteFault Target.Out) → ⊥ }
-    ensures firm { (D.state desk.old).firm ≡ true → result ≡ Some Fault.Memory → ⊥ }
-    ensures warned { (D.state desk.old).tells_warned ≡ true →
-        Warns result (D.state desk.old).warned (D.state desk.new).warned }
-    ensures whole { HearsAll (D.state desk.old) (D.state desk.new) →
-        WarnsWhole result (D.state desk.old).warned (D.state desk.new).warned }
-    ensures changes { OnlyWrites (D.state desk.old) (D.state desk.new) }
-{
-    match desk.keep(out, text) {
-        Ok(()) => None,
-        Err(DeskFault::Failed) => {
-            warn(WRITE_LINE, desk);
-            Some(Fault::WriteFault(Target::Out))
-        }
-        Err(DeskFault::Memory(_)) => {
-            warn(MEMORY_LINE, desk);
-            Some(Fault::Memory)
-        }
-    }
-}
-
 /// The program's status at the end of a run.
 fn end_status(fault: &Option<Fault>) -> u8
     ensures { result ≡ status_of fault.now }
@@ -152,14 +118,11 @@ fn write_drawing<D: Desk>(alloc: Global, taken: Taken, desk: &mut D) -> Outcome
     ensures made { IfSome result.drawing (λ d. drawn_in d ≡ drawn_of taken) }
     ensures shows { IfSome result.drawing IsDrawing }
     ensures files { (D.state desk.old).tells ≡ true →
-        IfSome result.drawing (Writes result.fault (D.state desk.old).files (D.state desk.new).files taken.out) }
+        IfSome result.drawing (WritesRack (λ b. plot (b.vtable, b.value)) (boxes_of taken.rack) result.fault (D.state desk.old).files (D.state desk.new).files taken.out) }
     ensures untouched { IfNone result.drawing ((D.state desk.new).files ≡ (D.state desk.old).files) }
     ensures firm { (D.state desk.old).firm ≡ true → result.fault ≡ Some Fault.Memory → result.drawing ≡ None }
-    ensures write_fault { result.fault ≡ Some (Fault.WriteFault Target.Out) →
-        Rose (D.state desk.old).write_faults (D.state desk.new).write_faults }
-    ensures no_write_fault { (result.fault ≡ Some (Fault.WriteFault Target.Out) → ⊥) →
-        (D.state desk.new).write_faults ≡ (D.state desk.old).write_faults }
-    ensures steady { (D.state desk.old).steady ≡ true → result.fault ≡ Some (Fault.WriteFault Target.Out) → ⊥ }
+    ensures writes { CountsWrites result.fault (D.state desk.old).write_faults (D.state desk.new).write_faults }
+    ensures steady { (D.state desk.old).steady ≡ true → HasNoWriteFault result.fault }
     ensures warned { (D.state desk.old).tells_warned ≡ true →
         Warns result.fault (D.state desk.old).warned (D.state desk.new).warned }
     ensures whole { HearsAll (D.state desk.old) (D.state desk.new) →
@@ -170,7 +133,7 @@ fn write_drawing<D: Desk>(alloc: Global, taken: Taken, desk: &mut D) -> Outcome
         Ok(made) => made,
         Err(_) => return refuse(alloc, Fault::Memory, desk),
     };
-    let fault = keep_text(made.out.as_str(), &made.text, desk);
+    let fault = keep_all(&made.outputs, desk);
     Outcome {
         status: end_status(&fault),
         fault,
@@ -179,8 +142,8 @@ fn write_drawing<D: Desk>(alloc: Global, taken: Taken, desk: &mut D) -> Outcome
 }
 
 /// Reads the job and the part that the words name, draws the job's views on their sheet and writes it under the name that
-/// they give, or `drawing.svg`. Without a job it is the usual one: front, above and left. Of a fault it warns once, by one
-/// line.
+/// they give, or `drawing.svg`, and beside it the texts of the plotters that the job's outputs choose out of `extras`; all
+/// others are dropped. Without a job it is the usual one: front, above and left. Of a fault it warns once, by one line.
 ///
 /// The faults are looked for in this order: the words, the job's bytes, its text, its outputs, the part's bytes, its text,
 /// whether it has a triangle, its surface, whether the views fit the sheet, the drawing's file. Want of memory may be
@@ -188,34 +151,36 @@ fn write_drawing<D: Desk>(alloc: Global, taken: Taken, desk: &mut D) -> Outcome
 /// check that of sorting, and of one test for each pair of an edge and a triangle whose ranges of x meet, which for some parts
 /// is nearly every pair; and for each view, for the spans that of the product of the numbers of drawn edges and of triangles,
 /// and for the pieces that of sorting the spans.
-pub fn draw<D: Desk>(alloc: Global, words: &[String], desk: &mut D) -> Outcome
+pub fn draw<D: Desk>(
+    alloc: Global,
+    words: &[String],
+    desk: &mut D,
+    extras: Vec<Box<dyn Plotter>>,
+) -> Outcome
     // The answer is that of the run's steps, in their order.
     ensures status { result.status ≡ status_of result.fault }
     ensures answer { (D.state desk.old).tells ≡ true →
-        IfSome result.fault (Refuses (Runs (texts words.now) (D.state desk.old).files)) }
+        IfSome result.fault (Refuses (Runs (map (λ b. (plot b).suffix) extras.items) (texts words.now) (D.state desk.old).files)) }
     ensures words { AnswersWords (named_by (texts words.now)) result.fault }
     ensures order { (D.state desk.old).tells ≡ true →
-        IfSome result.fault (RunsInOrder (texts words.now) (D.state desk.old).files) }
+        IfSome result.fault (RunsInOrder (map (λ b. (plot b).suffix) extras.items) (texts words.now) (D.state desk.old).files) }
 
     // A fault of the desk is answered exactly where it counted one.
     ensures reads { CountsReads result.fault (D.state desk.old).read_faults (D.state desk.new).read_faults }
-    ensures write_fault { result.fault ≡ Some (Fault.WriteFault Target.Out) →
-        Rose (D.state desk.old).write_faults (D.state desk.new).write_faults }
-    ensures no_write_fault { (result.fault ≡ Some (Fault.WriteFault Target.Out) → ⊥) →
-        (D.state desk.new).write_faults ≡ (D.state desk.old).write_faults }
+    ensures writes { CountsWrites result.fault (D.state desk.old).write_faults (D.state desk.new).write_faults }
 
     // A steady desk fails only where a file is missing.
     ensures missing { (D.state desk.old).steady ≡ true →
-        IfSome result.fault (IsMissing (Runs (texts words.now) (D.state desk.old).files)) }
-    ensures steady { (D.state desk.old).steady ≡ true → result.fault ≡ Some (Fault.WriteFault Target.Out) → ⊥ }
+        IfSome result.fault (IsMissing (Runs (map (λ b. (plot b).suffix) extras.items) (texts words.now) (D.state desk.old).files)) }
+    ensures steady { (D.state desk.old).steady ≡ true → HasNoWriteFault result.fault }
 
     // The drawing shows the part by the job, from the texts at entry, and its text is what the file holds.
     ensures drawn { HasDrawing result.fault (is_some result.drawing) }
     ensures part { (D.state desk.old).tells ≡ true →
-        IfSome result.drawing (λ d. Runs (texts words.now) (D.state desk.old).files (Ok (drawn_in d))) }
+        IfSome result.drawing (λ d. Runs (map (λ b. (plot b).suffix) extras.items) (texts words.now) (D.state desk.old).files (Ok (drawn_in d))) }
     ensures shows { IfSome result.drawing IsDrawing }
     ensures files { (D.state desk.old).tells ≡ true →
-        IfSome result.drawing (WritesNamed (named_by (texts words.now)) result.fault (D.state desk.old).files (D.state desk.new).files) }
+        IfSome result.drawing (WritesNamed (map (λ b. plot b) extras.items) (named_by (texts words.now)) result.fault (D.state desk.old).files (D.state desk.new).files) }
     ensures untouched { IfNone result.drawing ((D.state desk.new).files ≡ (D.state desk.old).files) }
     ensures firm { (D.state desk.old).firm ≡ true → result.fault ≡ Some Fault.Memory → result.drawing ≡ None }
 
@@ -228,7 +193,7 @@ pub fn draw<D: Desk>(alloc: Global, words: &[String], desk: &mut D) -> Outcome
     // Nothing else of the desk changes.
     ensures changes { OnlyRuns (D.state desk.old) (D.state desk.new) }
 {
-    match take(alloc, words, desk) {
+    match take(alloc, words, desk, extras) {
         Ok(taken) => write_drawing(alloc, taken, desk),
         Err(fault) => refuse(alloc, fault, desk),
     }

@@ -1,15 +1,18 @@
 // Takes what the words name from a desk, the job and the part, and plans the sheet that it is drawn on.
-ghost use Rattle.std.specs.Prelude.{◌≡◌, ◌≤◌, true, Some, None, IfOk, IfErr, IsErrOf};
+ghost use Rattle.std.specs.Prelude.{◌≡◌, ◌⊎◌, ◌≤◌, true, [], map, Some, None, IfOk, IfErr, IsErrOf};
 ghost use Rattle.std.specs.Result.{result_err};
 ghost use Rattle.desk.specs.Files.{Files, OnlyReads};
 ghost use Rattle.draw_words.specs.Names.{named_by};
 ghost use Rattle.draw_words.specs.Seen.{named_seen, texts};
 ghost use Rattle.job_file.specs.Seen.{job_seen};
 ghost use Rattle.solid_mesh.specs.Solids.{solid_part};
-ghost use Rattle.draw_core.specs.Taken.{drawn_of, HasItsSheet, GoesWhereNamed};
-ghost use Rattle.draw_core.specs.Run.{◌and_then◌, ReadsJob, NeedsNoPlotter, TakesReadJob, TakesSolid, PlansSheet, DrawsFiles, Runs, Gives, AnswersWords, IsOfOutputs, IsOfUsualJob, IsOfNamedJob, IsOfJob, IsOfPart, IsOfSheet, IsOfFiles, ReadsInOrder, RunsInOrder, CountsReads, IsMissing};
+ghost use Rattle.draw_core.specs.Taken.{drawn_of, HasItsSheet, HasItsPlotters, GoesWhereNamed};
+ghost use Rattle.plot_rack.specs.Choices.{AreChosen};
+ghost use Rattle.plot_rack.specs.Racks.{boxes_of};
+ghost use Rattle.draw_core.specs.Outputs.{HasNoWriteFault};
+ghost use Rattle.draw_core.specs.Run.{◌and_then◌, ReadsJob, HasPlotters, TakesReadJob, TakesSolid, PlansSheet, DrawsFiles, Runs, Gives, AnswersWords, IsOfOutputs, IsOfUsualJob, IsOfNamedJob, IsOfJob, IsOfPart, IsOfSheet, IsOfFiles, ReadsInOrder, RunsInOrder, CountsReads, IsMissing};
 
-use crate::fault::{Fault, Input, Target};
+use crate::fault::{Fault, Input};
 use crate::fetch::{FetchFault, fetch_all};
 use crate::part::solid_of;
 use crate::sheets::sheet_of;
@@ -17,6 +20,7 @@ use dec_text::Name;
 use desk::Desk;
 use draw_words::{Words, WordsError, read_words};
 use job_file::{Job, JobError};
+use plot_rack::{Plotter, Rack, RackError};
 use sheet_plan::Sheet;
 use solid_mesh::Solid;
 use std::alloc::Global;
@@ -27,37 +31,49 @@ const JOB_LIMIT: usize = 65_536;
 /// The most bytes that a part may have.
 const PART_LIMIT: usize = 16_777_216;
 
-/// The part to draw, the job that says how, the sheet that it is drawn on, and the name that the drawing is written under.
+/// The part to draw, the job that says how, the plotters for its outputs, the sheet that it is drawn on, and the name that the
+/// drawing is written under.
 #[derive(Drop)]
 pub(crate) struct Taken {
     pub(crate) out: Name,
     pub(crate) job: Job,
+    pub(crate) rack: Rack,
     pub(crate) solid: Solid,
     pub(crate) sheet: Sheet,
 }
 
-/// The job, if it asks for no output. There is no plotter for one.
-fn plotless(alloc: Global, job: Job) -> Result<Job, Fault>
-    ensures answer { Gives job_seen (NeedsNoPlotter (job_seen job)) result }
+/// The plotters for the outputs of a job, out of these.
+fn rack_of(alloc: Global, extras: Vec<Box<dyn Plotter>>, job: &Job) -> Result<Rack, Fault>
+    ensures answer { Gives (λ _. job_seen job.now) (HasPlotters (map (λ b. (plot b).suffix) extras.items) (job_seen job.now)) result }
     ensures of_outputs { IfErr result IsOfOutputs }
+    ensures usual { job.now.outputs.items ≡ [] → IfErr result IsOfUsualJob }
+    ensures chosen { IfOk result (λ rack. AreChosen (λ b. (plot b).suffix) extras.items job.now.outputs.items (boxes_of rack)) }
 {
-    if job.outputs.is_empty() {
-        return Ok(job);
+    match Rack::choose(alloc, extras, &job.outputs) {
+        Ok(rack) => Ok(rack),
+        Err(RackError::NoPlotter(place)) => Err(no_plotter(alloc, &job.outputs[place as usize])),
+        Err(RackError::Memory(_)) => Err(Fault::Memory),
     }
-    match Name::new(alloc, job.outputs[0].as_str()) {
-        Ok(name) => Err(Fault::NoPlotter(name)),
-        Err(_) => Err(Fault::Memory),
+}
+
+/// The fault of an output without a plotter.
+fn no_plotter(alloc: Global, name: &Name) -> Fault
+    ensures { (result ≡ Fault.NoPlotter name.now) ⊎ (result ≡ Fault.Memory) }
+{
+    match Name::new(alloc, name.as_str()) {
+        Ok(name) => Fault::NoPlotter(name),
+        Err(_) => Fault::Memory,
     }
 }
 
 /// The job that these bytes say.
 fn job_of(alloc: Global, bytes: &[u8]) -> Result<Job, Fault>
-    ensures answer { Gives job_seen (ReadsJob bytes.now and_then NeedsNoPlotter) result }
+    ensures answer { Gives job_seen (ReadsJob bytes.now) result }
     ensures of_job { IfErr result IsOfNamedJob }
     ensures no_read { IsErrOf result (Fault.ReadFault Input.Job) → ⊥ }
 {
     match Job::read(alloc, bytes) {
-        Ok(job) => plotless(alloc, job),
+        Ok(job) => Ok(job),
         Err(JobError::Job(fault)) => Err(Fault::Job(fault)),
         Err(JobError::Memory(_)) => Err(Fault::Memory),
     }
@@ -85,6 +101,7 @@ fn named_job<D: Desk>(alloc: Global, name: &Name, desk: &mut D) -> Result<Job, F
 fn usual_job(alloc: Global) -> Result<Job, Fault>
     ensures answer { (files : Files) → Gives job_seen (TakesReadJob files None) result }
     ensures of_job { IfErr result IsOfUsualJob }
+    ensures outputs { IfOk result (λ job. job.outputs.items ≡ []) }
 {
     match Job::usual(alloc) {
         Ok(job) => Ok(job),
@@ -97,6 +114,7 @@ fn take_job<D: Desk>(alloc: Global, name: &Option<Name>, desk: &mut D) -> Result
     ensures answer { (D.state desk.old).tells ≡ true →
         Gives job_seen (TakesReadJob (D.state desk.old).files name.now) result }
     ensures of_job { IfErr result (IsOfJob name.now) }
+    ensures outputs { name.now ≡ None → IfOk result (λ job. job.outputs.items ≡ []) }
     ensures reads { CountsReads (result_err result) (D.state desk.old).read_faults (D.state desk.new).read_faults }
     ensures missing { (D.state desk.old).steady ≡ true →
         IfErr result (IsMissing (TakesReadJob (D.state desk.old).files name.now)) }
@@ -133,16 +151,18 @@ fn take_solid<D: Desk>(
 }
 
 /// The sheet on which the job's views of the solid stand.
-fn take_sheet(alloc: Global, out: Name, job: Job, solid: Solid) -> Result<Taken, Fault>
+fn take_sheet(alloc: Global, out: Name, job: Job, rack: Rack, solid: Solid) -> Result<Taken, Fault>
     ensures answer { Gives drawn_of (PlansSheet (job_seen job) (solid_part solid)) result }
     ensures of_sheet { IfErr result IsOfSheet }
     ensures sheet { IfOk result HasItsSheet }
     ensures out { IfOk result (λ taken. taken.out ≡ out) }
+    ensures plotters { IfOk result (λ taken. (taken.job.outputs.items ≡ job.outputs.items) × (boxes_of taken.rack ≡ boxes_of rack)) }
 {
     match sheet_of(alloc, &job, &solid) {
         Ok(sheet) => Ok(Taken {
             out,
             job,
+            rack,
             solid,
             sheet,
         }),
@@ -150,47 +170,63 @@ fn take_sheet(alloc: Global, out: Name, job: Job, solid: Solid) -> Result<Taken,
     }
 }
 
-/// The job of the files that were named, then the part, and the sheet.
-fn take_files<D: Desk>(alloc: Global, named: Words, desk: &mut D) -> Result<Taken, Fault>
+/// The job of the files that were named, its plotters, then the part, and the sheet.
+fn take_files<D: Desk>(
+    alloc: Global,
+    named: Words,
+    desk: &mut D,
+    extras: Vec<Box<dyn Plotter>>,
+) -> Result<Taken, Fault>
     ensures answer { (D.state desk.old).tells ≡ true →
-        Gives drawn_of (DrawsFiles (D.state desk.old).files (named_seen named)) result }
+        Gives drawn_of (DrawsFiles (map (λ b. (plot b).suffix) extras.items) (D.state desk.old).files (named_seen named)) result }
     ensures of_files { IfErr result (IsOfFiles (named_seen named)) }
     ensures sheet { IfOk result HasItsSheet }
     ensures out { IfOk result (λ taken. taken.out ≡ (named_seen named).out) }
+    ensures plotters { IfOk result (HasItsPlotters (λ b. (plot b).suffix) extras.items) }
     ensures order { (D.state desk.old).tells ≡ true →
-        IfErr result (ReadsInOrder (D.state desk.old).files (named_seen named)) }
+        IfErr result (ReadsInOrder (map (λ b. (plot b).suffix) extras.items) (D.state desk.old).files (named_seen named)) }
     ensures reads { CountsReads (result_err result) (D.state desk.old).read_faults (D.state desk.new).read_faults }
     ensures missing { (D.state desk.old).steady ≡ true →
-        IfErr result (IsMissing (DrawsFiles (D.state desk.old).files (named_seen named))) }
+        IfErr result (IsMissing (DrawsFiles (map (λ b. (plot b).suffix) extras.items) (D.state desk.old).files (named_seen named))) }
     ensures changes { OnlyReads (D.state desk.old) (D.state desk.new) }
 {
     let job = match take_job(alloc, &named.job, desk) {
         Ok(job) => job,
         Err(fault) => return Err(fault),
     };
+    let rack = match rack_of(alloc, extras, &job) {
+        Ok(rack) => rack,
+        Err(fault) => return Err(fault),
+    };
     match take_solid(alloc, &named.part, job.decimals, desk) {
-        Ok(solid) => take_sheet(alloc, named.out, job, solid),
+        Ok(solid) => take_sheet(alloc, named.out, job, rack, solid),
         Err(fault) => Err(fault),
     }
 }
 
-/// What the words ask for.
-pub(crate) fn take<D: Desk>(alloc: Global, words: &[String], desk: &mut D) -> Result<Taken, Fault>
+/// What the words ask for, with the plotters out of these.
+pub(crate) fn take<D: Desk>(
+    alloc: Global,
+    words: &[String],
+    desk: &mut D,
+    extras: Vec<Box<dyn Plotter>>,
+) -> Result<Taken, Fault>
     ensures answer { (D.state desk.old).tells ≡ true →
-        Gives drawn_of (Runs (texts words.now) (D.state desk.old).files) result }
+        Gives drawn_of (Runs (map (λ b. (plot b).suffix) extras.items) (texts words.now) (D.state desk.old).files) result }
     ensures words { AnswersWords (named_by (texts words.now)) (result_err result) }
     ensures sheet { IfOk result HasItsSheet }
     ensures out { IfOk result (GoesWhereNamed (named_by (texts words.now))) }
+    ensures plotters { IfOk result (HasItsPlotters (λ b. (plot b).suffix) extras.items) }
     ensures order { (D.state desk.old).tells ≡ true →
-        IfErr result (RunsInOrder (texts words.now) (D.state desk.old).files) }
-    ensures no_write { IsErrOf result (Fault.WriteFault Target.Out) → ⊥ }
+        IfErr result (RunsInOrder (map (λ b. (plot b).suffix) extras.items) (texts words.now) (D.state desk.old).files) }
+    ensures no_write { HasNoWriteFault (result_err result) }
     ensures reads { CountsReads (result_err result) (D.state desk.old).read_faults (D.state desk.new).read_faults }
     ensures missing { (D.state desk.old).steady ≡ true →
-        IfErr result (IsMissing (Runs (texts words.now) (D.state desk.old).files)) }
+        IfErr result (IsMissing (Runs (map (λ b. (plot b).suffix) extras.items) (texts words.now) (D.state desk.old).files)) }
     ensures changes { OnlyReads (D.state desk.old) (D.state desk.new) }
 {
     match read_words(alloc, words) {
-        Ok(named) => take_files(alloc, named, desk),
+        Ok(named) => take_files(alloc, named, desk, extras),
         Err(WordsError::Usage) => Err(Fault::Usage),
         Err(WordsError::Memory(_)) => Err(Fault::Memory),
     }

@@ -20,9 +20,9 @@ fn a_part_is_drawn_and_a_missing_one_is_refused(rt: HostRuntime) -> Result<(), F
     let mut files = Vec::new(alloc);
     files.push((Name::new(alloc, "p")?, TETRAHEDRON.to_vec(alloc)?))?;
     let mut desk = MemoryDesk::new(alloc, files, Vec::new(alloc));
-    let missing = draw(alloc, &words_of(alloc, "q")?, &mut desk);
+    let missing = draw(alloc, &words_of(alloc, "q")?, &mut desk, Vec::new(alloc));
     assert_eq!(rt; missing.fault.map(|fault| fault.status()), Some(7));
-    let outcome = draw(alloc, &words_of(alloc, "p")?, &mut desk);
+    let outcome = draw(alloc, &words_of(alloc, "p")?, &mut desk, Vec::new(alloc));
     assert_eq!(rt; outcome.status, 0);
     assert!(rt; desk.file("drawing.svg").is_some());
     assert_eq!(rt; Fault::Memory.status(), 9);

@@ -5,6 +5,8 @@
 #[cfg(test)]
 mod parts;
 #[cfg(test)]
+mod plots;
+#[cfg(test)]
 mod refusals;
 #[cfg(test)]
 mod runs;

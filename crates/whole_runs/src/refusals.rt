@@ -32,7 +32,7 @@ fn each_refusal_has_its_status_and_its_line(rt: HostRuntime) -> Result<(), Fail>
         ("p", CUBE, 3, 0, true, ""),
     ] {
         let mut desk = desk_of(alloc, part.as_bytes(), b"", fail)?;
-        let outcome = draw(alloc, &words_of(alloc, words)?, &mut desk);
+        let outcome = draw(alloc, &words_of(alloc, words)?, &mut desk, Vec::new(alloc));
         assert_eq!(rt; outcome.status, status, "{words}, call {fail} fails");
         assert_eq!(rt;
             outcome.drawing.is_some(),
@@ -55,7 +55,7 @@ fn a_part_may_be_too_long(rt: HostRuntime) -> Result<(), Fail> {
     let alloc = rt.alloc();
     let blanks = vec![in alloc; b' '; 16_777_217]?;
     let mut desk = desk_of(alloc, &blanks, b"", 9999)?;
-    let outcome = draw(alloc, &words_of(alloc, "p")?, &mut desk);
+    let outcome = draw(alloc, &words_of(alloc, "p")?, &mut desk, Vec::new(alloc));
     assert_eq!(rt; outcome.status, 4);
     assert_eq!(rt;
         desk.warned_bytes(),
@@ -132,7 +132,7 @@ fn each_job_is_drawn_or_refused_by_its_line(rt: HostRuntime) -> Result<(), Fail>
         ),
     ] {
         let mut desk = desk_of(alloc, CUBE.as_bytes(), job.as_bytes(), fail)?;
-        let outcome = draw(alloc, &words_of(alloc, words)?, &mut desk);
+        let outcome = draw(alloc, &words_of(alloc, words)?, &mut desk, Vec::new(alloc));
         assert_eq!(rt; outcome.status, status, "{words}: {job}");
         assert_eq!(rt;
             desk.warned_bytes(),
@@ -164,7 +164,12 @@ fn a_job_may_be_too_long(rt: HostRuntime) -> Result<(), Fail> {
         (more.as_slice(), "job: more than 65536 bytes"),
     ] {
         let mut desk = desk_of(alloc, CUBE.as_bytes(), job, 99)?;
-        let outcome = draw(alloc, &words_of(alloc, "--job j p")?, &mut desk);
+        let outcome = draw(
+            alloc,
+            &words_of(alloc, "--job j p")?,
+            &mut desk,
+            Vec::new(alloc),
+        );
         assert_eq!(rt; outcome.status, if fault.is_empty() { 0 } else { 3 });
         assert_eq!(rt; desk.warned_bytes(), warned(alloc, fault)?.as_bytes());
     }
@@ -186,7 +191,12 @@ fn views_may_not_fit(rt: HostRuntime) -> Result<(), Fail> {
         ),
     ] {
         let mut desk = desk_of(alloc, PLATE.as_bytes(), job.as_bytes(), 99)?;
-        let outcome = draw(alloc, &words_of(alloc, "--job j p")?, &mut desk);
+        let outcome = draw(
+            alloc,
+            &words_of(alloc, "--job j p")?,
+            &mut desk,
+            Vec::new(alloc),
+        );
         assert_eq!(rt; outcome.status, if fault.is_empty() { 0 } else { 6 });
         assert_eq!(rt; desk.warned_bytes(), warned(alloc, fault)?.as_bytes());
         assert_eq!(rt; desk.file("drawing.svg").is_some(), fault.is_empty());
@@ -232,7 +242,7 @@ fn each_surface_is_closed_or_refused_by_its_fault(rt: HostRuntime) -> Result<(),
         ("", "part: no triangle"),
     ] {
         let mut desk = desk_of(alloc, stl_of(alloc, facets)?.as_bytes(), b"", 99)?;
-        let _outcome = draw(alloc, &words_of(alloc, "p")?, &mut desk);
+        let _outcome = draw(alloc, &words_of(alloc, "p")?, &mut desk, Vec::new(alloc));
         assert_eq!(rt;
             desk.warned_bytes(),
             warned(alloc, fault)?.as_bytes(),
@@ -254,7 +264,7 @@ fn a_tip_touches_a_face_or_not(rt: HostRuntime) -> Result<(), Fail> {
         let [before, behind] = STANDING;
         let text = format!(in alloc; "{before}{tip}{behind}")?;
         let mut desk = desk_of(alloc, text.as_bytes(), b"", 99)?;
-        let _outcome = draw(alloc, &words_of(alloc, "p")?, &mut desk);
+        let _outcome = draw(alloc, &words_of(alloc, "p")?, &mut desk, Vec::new(alloc));
         assert_eq!(rt;
             desk.warned_bytes(),
             warned(alloc, fault)?.as_bytes(),
@@ -326,7 +336,7 @@ fn each_text_is_read_or_refused_on_its_line(rt: HostRuntime) -> Result<(), Fail>
         let mut text = String::from_str(alloc, part)?;
         text.push_str(more)?;
         let mut desk = desk_of(alloc, text.as_bytes(), b"", 99)?;
-        let _outcome = draw(alloc, &words_of(alloc, "p")?, &mut desk);
+        let _outcome = draw(alloc, &words_of(alloc, "p")?, &mut desk, Vec::new(alloc));
         assert_eq!(rt;
             desk.warned_bytes(),
             warned(alloc, fault)?.as_bytes(),
@@ -352,7 +362,7 @@ fn few_beginnings_of_a_part_are_one(rt: HostRuntime) -> Result<(), Fail> {
                 return Err("no text".into());
             };
             let mut desk = desk_of(alloc, part.as_bytes(), b"", 99)?;
-            let outcome = draw(alloc, &words_of(alloc, "p")?, &mut desk);
+            let outcome = draw(alloc, &words_of(alloc, "p")?, &mut desk, Vec::new(alloc));
             let whole = text.len() - end <= rest;
             assert_eq!(rt; outcome.status == 0, whole, "{end} bytes");
         }

@@ -5,7 +5,7 @@ use std::alloc::{AllocError, Global};
 use std::test::Fail;
 
 // The words of a line.
-pub fn words_of(alloc: Global, text: &str) -> Result<Vec<String>, AllocError> {
+pub(crate) fn words_of(alloc: Global, text: &str) -> Result<Vec<String>, AllocError> {
     let mut words = Vec::new(alloc);
     for word in text.split_whitespace() {
         words.push(String::from_str(alloc, word)?)?;
@@ -14,7 +14,12 @@ pub fn words_of(alloc: Global, text: &str) -> Result<Vec<String>, AllocError> {
 }
 
 // A desk with the part under `p` and the job under `j`, which fails one call.
-pub fn desk_of(alloc: Global, part: &[u8], job: &[u8], fail: u64) -> Result<MemoryDesk, Fail> {
+pub(crate) fn desk_of(
+    alloc: Global,
+    part: &[u8],
+    job: &[u8],
+    fail: u64,
+) -> Result<MemoryDesk, Fail> {
     let mut files = Vec::new(alloc);
     files.push((Name::new(alloc, "p")?, part.to_vec(alloc)?))?;
     files.push((Name::new(alloc, "j")?, job.to_vec(alloc)?))?;
@@ -22,7 +27,7 @@ pub fn desk_of(alloc: Global, part: &[u8], job: &[u8], fail: u64) -> Result<Memo
 }
 
 // What is warned of a fault.
-pub fn warned(alloc: Global, fault: &str) -> Result<String, AllocError> {
+pub(crate) fn warned(alloc: Global, fault: &str) -> Result<String, AllocError> {
     if fault.is_empty() {
         return Ok(String::new(alloc));
     }
@@ -30,7 +35,7 @@ pub fn warned(alloc: Global, fault: &str) -> Result<String, AllocError> {
 }
 
 // A text of cubes of 10 mm, with their least corners at these places.
-pub fn cubes(alloc: Global, places: &[[u32; 3]]) -> Result<String, AllocError> {
+pub(crate) fn cubes(alloc: Global, places: &[[u32; 3]]) -> Result<String, AllocError> {
     let corners = places.len().saturating_mul(8);
     let triangles = places.len().saturating_mul(12);
     let mut text = format!(in alloc; "OFF {corners} {triangles} 0\n")?;
@@ -85,7 +90,7 @@ fn line_of(alloc: Global, line: &str) -> Result<String, AllocError> {
 }
 
 // The text of a sheet with this head and these strokes.
-pub fn sheet_of(alloc: Global, head: &str, strokes: &str) -> Result<String, AllocError> {
+pub(crate) fn sheet_of(alloc: Global, head: &str, strokes: &str) -> Result<String, AllocError> {
     let mut text = String::from_str(alloc, head)?;
     for line in strokes.lines() {
         text.push_str(&line_of(alloc, line)?)?;

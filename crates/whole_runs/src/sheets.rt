@@ -73,7 +73,12 @@ fn parts_are_drawn_by_their_jobs(rt: HostRuntime) -> Result<(), Fail> {
         ),
     ] {
         let mut desk = desk_of(alloc, part.as_bytes(), job.as_bytes(), 99)?;
-        let outcome = draw(alloc, &words_of(alloc, "--job j p")?, &mut desk);
+        let outcome = draw(
+            alloc,
+            &words_of(alloc, "--job j p")?,
+            &mut desk,
+            Vec::new(alloc),
+        );
         assert_eq!(rt; outcome.status, 0, "{job}");
         let text = desk.file("drawing.svg").ok_or("no file")?;
         assert_eq!(rt; text, sheet_of(alloc, head, strokes)?.as_bytes(), "{job}");
@@ -88,7 +93,7 @@ fn the_drawing_has_its_job(rt: HostRuntime) -> Result<(), Fail> {
     for (words, decimals, x, views) in [("p", 3, 10_000, 3), ("--job j p", 0, 10, 1)] {
         let job = "decimals = 0\n[[view]]\nname = \"left\"\n";
         let mut desk = desk_of(alloc, CUBE.as_bytes(), job.as_bytes(), 99)?;
-        let outcome = draw(alloc, &words_of(alloc, words)?, &mut desk);
+        let outcome = draw(alloc, &words_of(alloc, words)?, &mut desk, Vec::new(alloc));
         let drawing = outcome.drawing.ok_or("no drawing")?;
         assert_eq!(rt; drawing.job.decimals, decimals);
         let greatest = (0..drawing.solid.corners())

@@ -1,7 +1,7 @@
 // The strokes of sheets, view by view: the mark, and x and y of both ends.
 
 // The usual views of the cube: front, above and left.
-pub const CUBE_SHEET: &str = "\
+pub(crate) const CUBE_SHEET: &str = "\
 view
 solid 2000 3000 2000 2000
 solid 2000 3000 3000 3000
@@ -23,7 +23,7 @@ end
 ";
 
 // The front view of the cube alone.
-pub const SQUARE: &str = "\
+pub(crate) const SQUARE: &str = "\
 view
 solid 2000 3000 2000 2000
 solid 2000 3000 3000 3000
@@ -33,7 +33,7 @@ end
 ";
 
 // The cube from a corner: the nearest and the farthest corner are seen at one place.
-pub const CUBE_ISOMETRIC: &str = "\
+pub(crate) const CUBE_ISOMETRIC: &str = "\
 view
 solid 2000 3225 2000 2409
 solid 2000 3225 2707 3633
@@ -51,7 +51,7 @@ end
 ";
 
 // The usual views of the bracket. In the last one a hidden line goes on where a visible one ends.
-pub const BRACKET_SHEET: &str = "\
+pub(crate) const BRACKET_SHEET: &str = "\
 view
 solid 2000 4000 2000 2000
 solid 2000 4000 5000 4000
@@ -81,7 +81,7 @@ end
 ";
 
 // Four views of the bracket in third-angle projection, the last one beneath them.
-pub const BRACKET_THIRD: &str = "\
+pub(crate) const BRACKET_THIRD: &str = "\
 view
 solid 2000 7500 2000 5500
 solid 2000 7500 5000 7500
@@ -133,7 +133,7 @@ end
 ";
 
 // The second cube is moved to the right and up, so that the first hides a part of it.
-pub const MOVED_FRONT: &str = "\
+pub(crate) const MOVED_FRONT: &str = "\
 view
 solid 2000 3500 2000 2500
 solid 2000 3500 3000 3500
@@ -149,7 +149,7 @@ end
 ";
 
 // The wedge's slanting edge is hidden exactly between two corners of the cube.
-pub const WEDGE_FRONT: &str = "\
+pub(crate) const WEDGE_FRONT: &str = "\
 view
 solid 2000 4000 2500 3500
 solid 2000 4000 4000 4000
@@ -164,7 +164,7 @@ end
 ";
 
 // Half a hundredth of a millimetre is rounded up.
-pub const THIRDS_FRONT: &str = "\
+pub(crate) const THIRDS_FRONT: &str = "\
 view
 solid 2000 4500 2000 3500
 solid 2000 4500 3000 4500
@@ -179,7 +179,7 @@ end
 ";
 
 // The plate at 1:10.
-pub const PLATE_TENTH: &str = "\
+pub(crate) const PLATE_TENTH: &str = "\
 view
 solid 2000 10000 2000 2000
 solid 2000 10000 12000 10000

@@ -1,0 +1,77 @@
+// Keeps the files of a drawing, and warns.
+ghost use Rattle.std.specs.Prelude.{◌≡◌, ◌++◌, true, map, None, Some, IfSome, IfNone};
+ghost use Rattle.desk.specs.Files.{OnlyWarns, AppendsFront, Keeps};
+ghost use Rattle.draw_core.specs.Desks.{OnlyWrites, HearsAll};
+ghost use Rattle.draw_core.specs.Lines.{Warns, WarnsWhole};
+ghost use Rattle.draw_core.specs.Made.{file_seen};
+ghost use Rattle.draw_core.specs.Outputs.{LeavesAll, CountsWrites, HasNoWriteFault};
+ghost use Rattle.draw_core.specs.Run.{IsWriteOutcome};
+ghost use Rattle.draw_core.specs.Kept.{LeavesOne, OnlyFiles, TargetsInOrder};
+
+use crate::fault::Fault;
+use crate::lines::MEMORY_LINE;
+use crate::outputs::Output;
+use desk::{Desk, DeskFault};
+
+/// Warns by a line. A desk that can't is not asked again.
+pub(crate) fn warn<D: Desk>(line: &str, desk: &mut D)
+    ensures front { (D.state desk.old).tells_warned ≡ true →
+        AppendsFront (D.state desk.old).warned (D.state desk.new).warned line.now }
+    ensures whole { HearsAll (D.state desk.old) (D.state desk.new) →
+        (D.state desk.new).warned ≡ (D.state desk.old).warned ++ line.now }
+    ensures changes { OnlyWarns (D.state desk.old) (D.state desk.new) }
+{
+    let _unheard = desk.warn(line.as_bytes());
+}
+
+/// Keeps a file, and tells why it couldn't, of which it warns.
+fn keep_output<D: Desk>(output: &Output, desk: &mut D) -> Option<Fault>
+    ensures fault { IfSome result IsWriteOutcome }
+    ensures files { (D.state desk.old).tells ≡ true →
+        LeavesOne result (D.state desk.old).files (D.state desk.new).files output.now }
+    ensures writes { CountsWrites result (D.state desk.old).write_faults (D.state desk.new).write_faults }
+    ensures kept { IfNone result (OnlyFiles (D.state desk.old) (D.state desk.new)) }
+    ensures steady { (D.state desk.old).steady ≡ true → HasNoWriteFault result }
+    ensures firm { (D.state desk.old).firm ≡ true → result ≡ Some Fault.Memory → ⊥ }
+    ensures warned { (D.state desk.old).tells_warned ≡ true →
+        Warns result (D.state desk.old).warned (D.state desk.new).warned }
+    ensures whole { HearsAll (D.state desk.old) (D.state desk.new) →
+        WarnsWhole result (D.state desk.old).warned (D.state desk.new).warned }
+    ensures changes { OnlyWrites (D.state desk.old) (D.state desk.new) }
+{
+    match desk.keep(output.name.as_str(), &output.bytes) {
+        Ok(()) => None,
+        Err(DeskFault::Failed) => {
+            warn(output.line.as_str(), desk);
+            Some(Fault::WriteFault(output.target))
+        }
+        Err(DeskFault::Memory(_)) => {
+            warn(MEMORY_LINE, desk);
+            Some(Fault::Memory)
+        }
+    }
+}
+
+/// Keeps the files of a drawing in order, up to the first that it can't keep, and tells why it couldn't.
+pub(crate) fn keep_all<D: Desk>(outputs: &[Output], desk: &mut D) -> Option<Fault>
+    requires { TargetsInOrder outputs.now }
+    ensures fault { IfSome result IsWriteOutcome }
+    ensures files { (D.state desk.old).tells ≡ true →
+        LeavesAll result (D.state desk.old).files (D.state desk.new).files (map file_seen outputs.now) }
+    ensures writes { CountsWrites result (D.state desk.old).write_faults (D.state desk.new).write_faults }
+    ensures steady { (D.state desk.old).steady ≡ true → HasNoWriteFault result }
+    ensures firm { (D.state desk.old).firm ≡ true → result ≡ Some Fault.Memory → ⊥ }
+    ensures warned { (D.state desk.old).tells_warned ≡ true →
+        Warns result (D.state desk.old).warned (D.state desk.new).warned }
+    ensures whole { HearsAll (D.state desk.old) (D.state desk.new) →
+        WarnsWhole result (D.state desk.old).warned (D.state desk.new).warned }
+    ensures changes { OnlyWrites (D.state desk.old) (D.state desk.new) }
+{
+    for output in outputs {
+        match keep_output(output, desk) {
+            None => {}
+            Some(fault) => return Some(fault),
+        }
+    }
+    None
+}
