@@ -1,16 +1,19 @@
--- The two ends of a segment are on its line, and are seen at different places.
+-- The two ends of the border of a face that is not flat are seen at different places.
 use Rattle.std.proofs.Common.{◌≡◌, ℕ, zero, suc, ◌+◌, ◌<◌, List, [], ◌∷◌, refl, sym, subst, ◌∙◌, unsigned_abs, arith}
 use Rattle.std.specs.Prelude.{ℤ, pos, ◌+ℤ◌, ◌-ℤ◌, ◌*ℤ◌, ◌<ℤ◌}
 use Rattle.std.proofs.lemmas.Int.{ints}
-use Rattle.integers.proofs.Ring.{Expr, var, con, ◌⊕◌, ◌⊖◌, ◌⊗◌, ring, by_one, by_two, by_three, same_of_gap}
+use Rattle.integers.proofs.Ring.{Expr, var, con, ◌⊕◌, ◌⊖◌, ◌⊗◌, ring, by_two, by_three, same_of_gap}
 use Rattle.integers.proofs.Signs.{zero_of_mul, mul_pos}
 use Rattle.lattice.specs.declared.points.Corner.{Corner}
-use Rattle.lattice.specs.Triple.{Triple, dot, cross, IsZero, right_axis, up_axis}
-use Rattle.lattice.specs.Points.{Point, OnOneSight, scaled, across_of, upward_of, height_of}
+use Rattle.lattice.specs.Triple.{Triple, dot, right_axis, up_axis}
+use Rattle.lattice.specs.Points.{Point, point_of, OnOneSight, scaled, across_of, upward_of, height_of}
 use Rattle.lattice.specs.Cuts.{Plane, toward_of, plane_height, IsOnPlane}
-use Rattle.lattice.proofs.Vectors.{Letters, letters, dots, crosses}
-use Rattle.geometry.specs.Faces.{difference, normal, IsFlat}
-use Rattle.geometry.specs.Cuts.{over_of, crossing_of}
+use Rattle.lattice.proofs.Vectors.{Letters, dots, crosses}
+use Rattle.geometry.specs.Faces.{difference, IsFlat}
+use Rattle.geometry.specs.Parts.{Part, Face}
+use Rattle.geometry.specs.Cuts.{over_of, crossing_of, start_corner, end_corner, GoesBeyond, IsBorderOf}
+use Rattle.geometry.proofs.Shares.{edge_turned}
+use Rattle.geometry.proofs.Borders.{over_beyond, over_before, not_both_sides, crossing_on_plane}
 use Rattle.cut_plane.proofs.BorderLines.{by_view}
 
 -- two points on the plane and on one line of sight agree along every vector
@@ -97,3 +100,67 @@ module _ (c : Plane) (k l m : Corner) (far : 0 < unsigned_abs (over_of c k)) (fi
 
       km : Letters
       km = record { x = var 6 ⊖ var 0; y = var 7 ⊖ var 1; z = var 8 ⊖ var 2 }
+
+-- ---- the order of the corners
+module _ (a b d : Corner) where
+  three : List ℤ
+  three = a.x ∷ a.y ∷ a.z ∷ b.x ∷ b.y ∷ b.z ∷ d.x ∷ d.y ∷ d.z ∷ []
+
+  abbrev way : ℕ → ℕ → Letters
+  way m n = record { x = var n ⊖ var m; y = var (suc n) ⊖ var (suc m); z = var (suc (suc n)) ⊖ var (suc (suc m)) }
+
+  flat_round : IsFlat b d a → IsFlat a b d
+  unfolding three
+  flat_round h = record {
+    x = ring three (crosses (way 0 3) (way 0 6)).x (crosses (way 3 6) (way 3 0)).x refl ∙ h.x;
+    y = ring three (crosses (way 0 3) (way 0 6)).y (crosses (way 3 6) (way 3 0)).y refl ∙ h.y;
+    z = ring three (crosses (way 0 3) (way 0 6)).z (crosses (way 3 6) (way 3 0)).z refl ∙ h.z;
+  }
+
+  flat_swap : IsFlat a d b → IsFlat a b d
+  unfolding three
+  flat_swap h = record {
+    x = ring three (crosses (way 0 3) (way 0 6)).x (con (pos 0) ⊖ (crosses (way 0 6) (way 0 3)).x) refl ∙ none _ h.x;
+    y = ring three (crosses (way 0 3) (way 0 6)).y (con (pos 0) ⊖ (crosses (way 0 6) (way 0 3)).y) refl ∙ none _ h.y;
+    z = ring three (crosses (way 0 3) (way 0 6)).z (con (pos 0) ⊖ (crosses (way 0 6) (way 0 3)).z) refl ∙ none _ h.z;
+  }
+    where
+      none : (z : ℤ) → z ≡ pos 0 → pos 0 -ℤ z ≡ pos 0
+      none z e = omega (arith, ints)
+
+-- ---- the border of a face
+size_above : (z : ℤ) → pos 0 <ℤ z → 0 < unsigned_abs z
+size_above z h = omega (arith, ints)
+
+size_below : (z : ℤ) → z <ℤ pos 0 → 0 < unsigned_abs z
+size_below z h = omega (arith, ints)
+
+module _ (c : Plane) (k l m : Corner) where
+  flat_before : GoesBeyond c k l → GoesBeyond c k m → OnOneSight (toward_of c) (crossing_of c k l) (crossing_of c k m) → IsFlat k l m
+  flat_before p q sight = flat_of_sight c k l m (size_above (over_of c k) (over_before c k p.0)) (crossing_on_plane c k l p) (crossing_on_plane c k m q) sight
+
+  flat_beyond : GoesBeyond c l k → GoesBeyond c m k → OnOneSight (toward_of c) (crossing_of c l k) (crossing_of c m k) → IsFlat k l m
+  flat_beyond p q sight =
+      let first = edge_turned l k (unsigned_abs (over_of c k)) (unsigned_abs (over_of c l)) in
+      let second = edge_turned m k (unsigned_abs (over_of c k)) (unsigned_abs (over_of c m)) in
+      flat_of_sight c k l m (size_below (over_of c k) (over_beyond c k p.1)) (subst (IsOnPlane c) first (crossing_on_plane c l k p)) (subst (IsOnPlane c) second (crossing_on_plane c m k q))
+      (subst (λ (x : Point). OnOneSight (toward_of c) x (crossing_of c k m)) first (subst (λ (y : Point). OnOneSight (toward_of c) (crossing_of c l k) y) second sight))
+
+module _ (c : Plane) {s : Part} (f : Face s) where
+  by_sides : (first second : ℕ) → GoesBeyond c (start_corner f first) (end_corner f first) → GoesBeyond c (end_corner f second) (start_corner f second)
+      → OnOneSight (toward_of c) (crossing_of c (start_corner f first) (end_corner f first)) (crossing_of c (end_corner f second) (start_corner f second)) → IsFlat f.a f.b f.c
+  by_sides zero zero p q sight = absurd (not_both_sides c (point_of f.a) q.1 p.0)
+  by_sides zero (suc zero) p q sight = flat_round f.a f.b f.c (flat_swap f.b f.c f.a (flat_beyond c f.b f.a f.c p q sight))
+  by_sides zero (suc (suc n)) p q sight = flat_before c f.a f.b f.c p q sight
+  by_sides (suc zero) zero p q sight = flat_round f.a f.b f.c (flat_before c f.b f.c f.a p q sight)
+  by_sides (suc zero) (suc zero) p q sight = absurd (not_both_sides c (point_of f.b) q.1 p.0)
+  by_sides (suc zero) (suc (suc n)) p q sight = flat_round f.a f.b f.c (flat_round f.b f.c f.a (flat_swap f.c f.a f.b (flat_beyond c f.c f.b f.a p q sight)))
+  by_sides (suc (suc m)) zero p q sight = flat_swap f.a f.b f.c (flat_beyond c f.a f.c f.b p q sight)
+  by_sides (suc (suc m)) (suc zero) p q sight = flat_round f.a f.b f.c (flat_round f.b f.c f.a (flat_before c f.c f.a f.b p q sight))
+  by_sides (suc (suc m)) (suc (suc n)) p q sight = absurd (not_both_sides c (point_of f.c) q.1 p.0)
+
+  -- the ends of the border of a face that is not flat are seen at different places
+  pub border_apart : (p q : Point) → IsBorderOf c f p q → ¬ IsFlat f.a f.b f.c → ¬ OnOneSight (toward_of c) p q
+  border_apart p q h whole sight =
+      whole (by_sides h.first h.second h.goes h.returns
+      (subst (λ (x : Point). OnOneSight (toward_of c) x (crossing_of c (end_corner f h.second) (start_corner f h.second))) h.from (subst (λ (y : Point). OnOneSight (toward_of c) p y) h.to sight)))

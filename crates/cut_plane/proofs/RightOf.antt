@@ -287,10 +287,10 @@ module _ (c : Plane) (s : Part) (x : Segment) (h : IsSegmentOf c s x) (p : Point
       alone : (x y : ℤ) → (pos 0 *ℤ x) +ℤ (pos 1 *ℤ y) ≡ y
       alone x y = ring (x ∷ y ∷ []) ((con (pos 0) ⊗ var 0) ⊕ (con (pos 1) ⊗ var 1)) (var 1) refl
 
-  first_on : IsOnLine (toward_of c) x.line (of_spot x.a)
+  pub first_on : IsOnLine (toward_of c) x.line (of_spot x.a)
   first_on = subst (IsOnLine (toward_of c) x.line) first_alone (on_line (weighted_sum (pos 1) a (pos 0) b) (ends.on_face 1 0 (omega arith), ends.on_plane 1 0))
 
-  second_on : IsOnLine (toward_of c) x.line (of_spot x.b)
+  pub second_on : IsOnLine (toward_of c) x.line (of_spot x.b)
   second_on = subst (IsOnLine (toward_of c) x.line) second_alone (on_line (weighted_sum (pos 0) a (pos 1) b) (ends.on_face 0 1 (omega arith), ends.on_plane 0 1))
 
   pub left_of_right : IsRightOf (toward_of c) x p → IsLeftOfBorder c h.face p

@@ -11,3 +11,4 @@ pub mod Along
 pub mod Between
 pub mod Roots
 pub mod Segments
+pub mod Found

@@ -1,5 +1,6 @@
 -- Where the border of a section crosses an edge, as they are seen.
-use Rattle.std.specs.Prelude.{◌≡◌, ◌≢◌, ◌⊎◌, ℤ, pos, ◌+ℤ◌, ◌-ℤ◌, ◌*ℤ◌, ◌≤ℤ◌}
+use Rattle.std.specs.Prelude.{◌≡◌, ◌≢◌, ◌⊎◌, ◌≤◌, ◌^◌, ℤ, pos, ◌+ℤ◌, ◌-ℤ◌, ◌*ℤ◌, ◌<ℤ◌, ◌≤ℤ◌, unsigned_abs, Option, Some, IfSome, List, All, Contains}
+use Rattle.exact_frac.specs.declared.Frac.{Frac}
 use Rattle.lattice.specs.declared.lines.Line.{Line}
 use Rattle.lattice.specs.Triple.{Triple, det}
 use Rattle.lattice.specs.Points.{Point, across_of, upward_of}
@@ -31,3 +32,19 @@ pub record IsSeenBetween (d : Triple) (p q r : Point) : Type 0 where
 pub record IsRootOf (x y n m : ℤ) : Type 0 where
   pub root : ((m -ℤ n) *ℤ x) +ℤ (n *ℤ y) ≡ pos 0
   pub changes : x ≢ y
+
+-- a place of the edge, with a short divisor
+pub record IsShort (r : Frac) : Type 0 where
+  pub least : pos 0 ≤ℤ r.num
+  pub most : r.num ≤ℤ r.den
+  pub small : unsigned_abs r.den ≤ 2 ^ 66
+
+-- where the face's border crosses the edge, if it does between its corners
+pub record IsCrossingOf (c : Plane) {s : Part} (f : Face s) (e : Edge s) (found : Option Frac) : Type 0 where
+  pub found_is : IfSome found (λ r. IsShort r × CrossesAt c f e r.num r.den)
+  pub all : (n m : ℤ) → pos 0 <ℤ m → pos 0 ≤ℤ n → n ≤ℤ m → CrossesAt c f e n m → (r : Frac) × (found ≡ Some r) × (n *ℤ r.den ≡ r.num *ℤ m)
+
+-- each of the places is a crossing, and each crossing between the edge's corners is at one of them
+pub record AreCrossings (c : Plane) {s : Part} (e : Edge s) (places : List Frac) : Type 0 where
+  pub each : All (λ r. IsShort r × ((f : Face s) × CrossesAt c f e r.num r.den)) places
+  pub all : (f : Face s) (n m : ℤ) → pos 0 <ℤ m → pos 0 ≤ℤ n → n ≤ℤ m → CrossesAt c f e n m → (r : Frac) × Contains places r × (n *ℤ r.den ≡ r.num *ℤ m)
