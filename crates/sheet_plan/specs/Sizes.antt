@@ -6,6 +6,7 @@ use Rattle.sheet_plan.specs.declared.bounds.Extent.{Extent}
 use Rattle.sheet_plan.specs.declared.cells.Cell.{Cell}
 use Rattle.sheet_plan.specs.declared.cells.Cell.TheVariants.{Grid, Lower}
 use Rattle.sheet_plan.specs.declared.cells.Shape.{Shape}
+use Rattle.sheet_plan.specs.declared.layout.Starts.{Starts}
 use Rattle.sheet_plan.specs.Layout.{shapes_of}
 use Rattle.sheet_plan.specs.Numbers.{Measure}
 
@@ -38,3 +39,8 @@ pub record IsStride (n : ℤ) : Type 0 where
 pub record IsLength (n : ℤ) : Type 0 where
   pub least : pos 0 ≤ℤ n
   pub greatest : n ≤ℤ pos (2 ^ 52)
+
+pub record AreLengths (starts : Starts) : Type 0 where
+  pub second : IsLength starts.second
+  pub third : IsLength starts.third
+  pub fourth : IsLength starts.fourth

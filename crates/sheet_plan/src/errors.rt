@@ -1,4 +1,4 @@
-// The sheet of a job.
+// Why a job has no sheet: its views do not fit, or memory is wanting.
 ghost use Rattle.std.specs.Prelude.{◌≡◌};
 ghost use Rattle.sheet_plan.specs.declared.errors.PlanError.TheVariants.{Memory};
 

@@ -1,9 +1,9 @@
 // Where the views of a job stand on a sheet, at one scale.
-ghost use Rattle.std.specs.Prelude.{◌≡◌, ◌<◌, ◌≤◌, ◌^◌, unsigned_abs, length, IfOk, slice_get, Some};
+ghost use Rattle.std.specs.Prelude.{◌≡◌, ◌<◌, ◌≤◌, ◌^◌, ℕ, ℤ, List, unsigned_abs, length, take, IfOk, slice_get, Some};
 ghost use Rattle.std.specs.List.{All};
 ghost use Rattle.lattice.specs.Points.{of_dir};
-ghost use Rattle.sheet_plan.specs.Layout.{row_stride, column_stride, stride, lower_strides, sum_below, without_gap, need_w, need_h, cell_x, cell_y, StandsInCell, AreInPlace};
-ghost use Rattle.sheet_plan.specs.Sizes.{IsInGrid, IsSmall, IsStride, IsLength};
+ghost use Rattle.sheet_plan.specs.Layout.{row_stride, column_stride, stride, lower_strides, sum_below, without_gap, need_w, need_h, AreStarts, cell_x, cell_y, StandsInCell, AreInPlace};
+ghost use Rattle.sheet_plan.specs.Sizes.{IsInGrid, IsSmall, IsStride, IsLength, AreLengths};
 ghost use Rattle.sheet_plan.specs.declared.cells.Shape.{Shape};
 
 use crate::bounds::Extent;
@@ -102,51 +102,102 @@ pub(crate) fn need_of(shapes: &[Shape]) -> Need
     }
 }
 
-/// From where on the box of the view with this number stands, from the left.
-fn cell_x(shapes: &[Shape], i: usize, cell: Cell) -> i64
-    requires small { All IsSmall shapes.now }
-    requires few { length shapes.now ≤ 12 }
-    requires within { i ≤ length shapes.now }
+/// Where rows or columns begin, each as far from the first one.
+#[derive(Clone, Copy)]
+pub(crate) struct Starts {
+    pub second: i64,
+    pub third: i64,
+    pub fourth: i64,
+}
+
+impl Starts {
+    /// Where the row or column with this number begins, from 0 on.
+    fn at(&self, number: u32) -> i64
+        requires few { number ≤ 3 }
+        requires sizes { AreLengths self.now }
+        ensures value { (stride : ℕ → ℤ) → AreStarts stride self.now → result ≡ sum_below stride number }
+        ensures size { IsLength result }
+    {
+        match number {
+            0 => 0,
+            1 => self.second,
+            2 => self.third,
+            _ => self.fourth,
+        }
+    }
+}
+
+/// Where the rows begin. The one beneath the grid is row 3.
+fn row_starts(shapes: &[Shape]) -> Starts
+    requires { All IsSmall shapes.now }
+    ensures value { AreStarts (row_stride shapes.now) result }
+    ensures sizes { AreLengths result }
+{
+    Starts {
+        second: rows_before(shapes, 1),
+        third: rows_before(shapes, 2),
+        fourth: rows_before(shapes, 3),
+    }
+}
+
+/// Where the columns begin.
+fn column_starts(shapes: &[Shape]) -> Starts
+    requires { All IsSmall shapes.now }
+    ensures value { AreStarts (column_stride shapes.now) result }
+    ensures sizes { AreLengths result }
+{
+    Starts {
+        second: columns_before(shapes, 1),
+        third: columns_before(shapes, 2),
+        fourth: columns_before(shapes, 3),
+    }
+}
+
+/// From where on a view's box stands, from the left, if so much of the lower row is taken.
+fn cell_x(columns: &Starts, taken: i64, cell: Cell) -> i64
+    requires columns { AreLengths columns.now }
+    requires taken { IsLength taken }
     requires in_grid { IsInGrid cell }
-    ensures value { result ≡ cell_x shapes.now i cell }
+    ensures value { (shapes : List Shape) (i : ℕ) → AreStarts (column_stride shapes) columns.now → taken ≡ lower_strides (take i shapes) → result ≡ cell_x shapes i cell }
     ensures size { unsigned_abs result < 2 ^ 53 }
 {
     match cell {
-        Cell::Grid(_, column) => MARGIN + columns_before(shapes, column),
-        Cell::Lower => MARGIN + lower_strides(&shapes[..i]),
+        Cell::Grid(_, column) => MARGIN + columns.at(column),
+        Cell::Lower => MARGIN + taken,
     }
 }
 
 /// From where on it stands, from above.
-fn cell_y(shapes: &[Shape], cell: Cell) -> i64
-    requires small { All IsSmall shapes.now }
+fn cell_y(rows: &Starts, cell: Cell) -> i64
+    requires rows { AreLengths rows.now }
     requires in_grid { IsInGrid cell }
-    ensures value { result ≡ cell_y shapes.now cell }
+    ensures value { (shapes : List Shape) → AreStarts (row_stride shapes) rows.now → result ≡ cell_y shapes cell }
     ensures size { unsigned_abs result < 2 ^ 53 }
 {
     match cell {
-        Cell::Grid(row, _) => MARGIN + rows_before(shapes, row),
-        Cell::Lower => MARGIN + rows_before(shapes, 3),
+        Cell::Grid(row, _) => MARGIN + rows.at(row),
+        Cell::Lower => MARGIN + rows.at(3),
     }
 }
 
-/// The view with this number and shape in its place.
-fn place(shapes: &[Shape], i: usize, shape: &Shape, extent: &Extent) -> Spread
-    requires small { All IsSmall shapes.now }
-    requires few { length shapes.now ≤ 12 }
-    requires within { i ≤ length shapes.now }
+/// A view of this shape in its place, where so much of the lower row is taken.
+fn place(rows: &Starts, columns: &Starts, taken: i64, shape: &Shape, extent: &Extent) -> Spread
+    requires rows { AreLengths rows.now }
+    requires columns { AreLengths columns.now }
+    requires taken { IsLength taken }
     requires shape { IsSmall shape.now }
     ensures direction { of_dir result.d ≡ of_dir extent.now.d }
-    ensures stands { StandsInCell shapes.now i shape.now result }
+    ensures stands { (shapes : List Shape) (i : ℕ) → AreStarts (row_stride shapes) rows.now → AreStarts (column_stride shapes) columns.now → taken ≡ lower_strides (take i shapes)
+        → StandsInCell shapes i shape.now result }
 {
     Spread {
         d: extent.d,
-        x0: cell_x(shapes, i, shape.cell) - shape.left,
-        y0: cell_y(shapes, shape.cell) + shape.top,
+        x0: cell_x(columns, taken, shape.cell) - shape.left,
+        y0: cell_y(rows, shape.cell) + shape.top,
     }
 }
 
-/// All views in their places, in time that grows with the square of their number.
+/// All views in their places, in time that grows with their number.
 pub(crate) fn places(
     alloc: Global,
     shapes: &[Shape],
@@ -157,9 +208,13 @@ pub(crate) fn places(
     requires count { length shapes.now ≡ length extents.now }
     ensures { IfOk result (λ places. AreInPlace shapes.now extents.now places.items) }
 {
+    let rows = row_starts(shapes);
+    let columns = column_starts(shapes);
+    let mut taken = 0;
     let mut places = Vec::new(alloc);
     for i in 0..shapes.len() {
-        places.push(place(shapes, i, &shapes[i], &extents[i]))?;
+        places.push(place(&rows, &columns, taken, &shapes[i], &extents[i]))?;
+        taken += shapes[i].lower_part();
     }
     Ok(places)
 }

@@ -26,7 +26,7 @@ use std::alloc::Global;
 /// the sheet's edges, and 40 mm from the lower one. The front view and those above and below it have equal `x0`, and the
 /// front view and those beside it equal `y0`.
 ///
-/// Takes time that grows with the square of the number of views.
+/// Takes time that grows with the number of views.
 pub fn plan(alloc: Global, job: &Job, extents: &[Extent]) -> Result<Sheet, PlanError>
     requires { length job.now.views.items ≡ length extents.now }
     ensures planned { IfOk result (IsPlanned job.now extents.now) }
