@@ -1,8 +1,10 @@
--- The numbers of a scale are from 1 to 100, and the first is at most 50.
-use Rattle.std.proofs.Common.{◌≡◌, ◌⊎◌, inl, inr, ℕ, ◌≤◌, List, [], ◌∷◌, refl, arith, Bool, true}
+-- The numbers of a scale are from 1 to 100, and the first is at most 50; so hatch lines are at most 3 * 10^8 units apart.
+use Rattle.std.proofs.Common.{◌≡◌, ◌⊎◌, inl, inr, ℕ, zero, suc, ◌*◌, ◌/◌, ◌<◌, ◌≤◌, ◌^◌, max, mul-le-mul, List, [], ◌∷◌, refl, arith, Bool, true}
 use Rattle.std.specs.Prelude.{IsTrue, ◌&&◌, ◌==◌, nat_le}
 use Rattle.std.specs.List.{list_any, list_all}
 use Rattle.std.proofs.lemmas.Bool.{leb-true, eqb-true, and_parts, or_cases}
+use Rattle.std.proofs.Math.Nat.{div-le_self, mul_assoc}
+use Rattle.job_file.specs.declared.job.Scale.{Scale}
 use Rattle.job_file.specs.Scales.{scales, is_scale}
 
 pub record IsBounded (num den : ℕ) : Type 0 where
@@ -39,3 +41,21 @@ one_of num den (s ∷ xs) all any =
 
 pub scale_bounds : (num den : ℕ) → IsTrue (is_scale num den) → IsBounded num den
 scale_bounds num den h = one_of num den scales refl h
+
+power_small : (k : ℕ) → k ≤ 6 → 10 ^ k ≤ 10 ^ 6
+power_small zero h = omega arith
+power_small (suc zero) h = omega arith
+power_small (suc (suc zero)) h = omega arith
+power_small (suc (suc (suc zero))) h = omega arith
+power_small (suc (suc (suc (suc zero)))) h = omega arith
+power_small (suc (suc (suc (suc (suc zero))))) h = omega arith
+power_small (suc (suc (suc (suc (suc (suc zero)))))) h = omega arith
+power_small (suc (suc (suc (suc (suc (suc (suc k))))))) h = absurd (omega arith)
+
+pub spacing_small : (s : Scale) (k : ℕ) → k ≤ 6 → max (3 * 10 ^ k * s.den / s.num) 1 < 2 ^ 32
+spacing_small s k few =
+    let b = scale_bounds s.num s.den s.listed in
+    let product = mul-le-mul (power_small k few) b.den_greatest in
+    let quotient = div-le_self (3 * 10 ^ k * s.den) s.num in
+    let turned = mul_assoc 3 (10 ^ k) s.den in
+    omega arith

@@ -42,6 +42,8 @@ pub enum Mark {
     Solid,
     /// A hidden line.
     Dashed,
+    /// A line of the hatching of a section.
+    Hatch,
 }
 
 /// A straight stroke of a view, from one point to another: U and V of both, in units and in lowest terms, and where they

@@ -1,15 +1,15 @@
-// Where spots stand on a sheet, and the strokes of pieces.
-ghost use Rattle.std.specs.Prelude.{◌≡◌, ◌<◌, length};
+// Where spots stand on a sheet, and the strokes of pieces and of hatch lines.
+ghost use Rattle.std.specs.Prelude.{◌≡◌, ◌<◌, ◌≤◌, length};
 ghost use Rattle.sheet_plan.specs.Sheets.{mark_of};
 
 use crate::numbers::Ruler;
 use crate::sheet::{Mark, Sheet, Spread, Stroke};
-use lattice::{Piece, Spot, Style, across, upward};
+use lattice::{HatchLine, Piece, Spot, Style, across, upward};
 
 impl Sheet {
     ghost use Rattle.lattice.specs.Points.{of_spot};
     ghost use Rattle.sheet_plan.specs.declared.sheet.Spread.{Spread};
-    ghost use Rattle.sheet_plan.specs.Sheets.{IsPlaceOf, IsShownAt, IsStrokeAt};
+    ghost use Rattle.sheet_plan.specs.Sheets.{IsPlaceOf, IsShownAt, IsStrokeBetween, IsStrokeAt, IsHatchStrokeAt, spacing_of};
 
     /// Where the spot stands on the sheet, in the view with this number: x and y, in hundredths of a millimetre, rounded to
     /// the nearest whole number, and halves up in the view's own directions.
@@ -25,7 +25,32 @@ impl Sheet {
         requires { view < length self.now.places.items }
         ensures { (place : Spread) → IsPlaceOf self.now view place → IsStrokeAt self.now view place piece.now result }
     {
-        self.stroke_at(view, &self.places[view as usize], piece)
+        let mark = mark_of(piece.style);
+        self.stroke_between(view, &self.places[view as usize], mark, &piece.a, &piece.b)
+    }
+
+    /// The stroke of a hatch line, in the view with this number.
+    pub fn hatch_stroke(&self, view: u32, line: &HatchLine) -> Stroke
+        requires { view < length self.now.places.items }
+        ensures { (place : Spread) → IsPlaceOf self.now view place → IsHatchStrokeAt self.now view place line.now result }
+    {
+        self.stroke_between(
+            view,
+            &self.places[view as usize],
+            Mark::Hatch,
+            &line.a,
+            &line.b,
+        )
+    }
+
+    /// How far neighbouring hatch lines are apart in U, in units: 3 mm on the sheet, cut off to a whole number, and at least
+    /// one.
+    pub fn spacing(&self) -> u32
+        ensures value { result ≡ spacing_of self.now.scale.num self.now.scale.den self.now.decimals }
+        ensures some { 1 ≤ result }
+    {
+        let units = 3 * 10u64.pow(u32::from(self.decimals)) * u64::from(self.scale.den);
+        (units / u64::from(self.scale.num)).max(1) as u32
     }
 
     /// Where the spot stands in a view at this place.
@@ -41,19 +66,19 @@ impl Sheet {
         (place.x0 + right, place.y0 - up)
     }
 
-    /// The stroke of a piece in a view at this place.
-    fn stroke_at(&self, view: u32, place: &Spread, piece: &Piece) -> Stroke
-        ensures { IsStrokeAt self.now view place.now piece.now result }
+    /// The stroke from one spot to the other, in a view at this place.
+    fn stroke_between(&self, view: u32, place: &Spread, mark: Mark, a: &Spot, b: &Spot) -> Stroke
+        ensures { IsStrokeBetween self.now view place.now mark a.now b.now result }
     {
-        let (x1, y1) = self.shown(place, &piece.a);
-        let (x2, y2) = self.shown(place, &piece.b);
+        let (x1, y1) = self.shown(place, a);
+        let (x2, y2) = self.shown(place, b);
         Stroke {
             view,
-            mark: mark_of(piece.style),
-            u1: across(&place.d, &piece.a).reduce(),
-            v1: upward(&place.d, &piece.a).reduce(),
-            u2: across(&place.d, &piece.b).reduce(),
-            v2: upward(&place.d, &piece.b).reduce(),
+            mark,
+            u1: across(&place.d, a).reduce(),
+            v1: upward(&place.d, a).reduce(),
+            u2: across(&place.d, b).reduce(),
+            v2: upward(&place.d, b).reduce(),
             x1,
             y1,
             x2,

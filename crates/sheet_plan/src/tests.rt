@@ -7,7 +7,7 @@ ghost use Rattle.geometry.specs.Parts.{part_of};
 use crate::{Extent, Mark, PlanError, Sheet, Spread, extent, plan};
 use exact_frac::{Frac, OutOfMemory};
 use job_file::{Job, JobView, Scale};
-use lattice::{Corner, Dir, Piece, Soup, Spot, Style, Tri};
+use lattice::{Corner, Dir, HatchLine, Piece, Soup, Spot, Style, Tri};
 use solid_mesh::Solid;
 use std::alloc::{AllocError, Global};
 use std::process::Abort;
@@ -216,6 +216,30 @@ fn a_stroke_in_lowest_terms(rt: HostRuntime) -> Result<(), Fail> {
         (35005, 4, 10000, 1)
     );
     assert_eq!(rt; (s.x1, s.y1, s.x2, s.y2), (2500, 4000, 2875, 3500));
+    let line = HatchLine {
+        a: piece.a,
+        b: piece.b,
+    };
+    let s = sheet.hatch_stroke(0, &line);
+    assert_eq!(rt; (s.view, s.mark), (0, Mark::Hatch));
+    assert_eq!(rt; (s.x1, s.y1, s.x2, s.y2), (2500, 4000, 2875, 3500));
+    Ok(())
+}
+
+#[test]
+fn hatch_lines_are_3_mm_apart(rt: HostRuntime) -> Result<(), Fail> {
+    let Ok(d) = Dir::new(0, -1, 0) else {
+        assert!(rt; false, "no direction");
+        return Ok(());
+    };
+    let mut sheet = a3(rt.alloc(), d, 4500, Scale { num: 1, den: 1 })?;
+    assert_eq!(rt; sheet.spacing(), 3000);
+    sheet.scale = Scale { num: 20, den: 1 };
+    assert_eq!(rt; sheet.spacing(), 150);
+    sheet.decimals = 0;
+    assert_eq!(rt; sheet.spacing(), 1);
+    sheet.scale = Scale { num: 1, den: 100 };
+    assert_eq!(rt; sheet.spacing(), 300);
     Ok(())
 }
 

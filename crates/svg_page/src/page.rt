@@ -142,5 +142,6 @@ fn pen(mark: Mark) -> &'static str
     match mark {
         Mark::Solid => "stroke-width=\"50\"",
         Mark::Dashed => "stroke-width=\"35\" stroke-dasharray=\"300 150\"",
+        Mark::Hatch => "stroke-width=\"18\"",
     }
 }

@@ -35,7 +35,7 @@ const CUBE: &str = "<?xml version=\"1.0\" encoding=\"UTF-8\"?>\n\
      </g>\n\
      </svg>\n";
 
-// A title with bytes that have names, and a second view with a dashed stroke.
+// A title with bytes that have names, and a second view with a dashed stroke and a hatch line.
 const TITLED: &str = "<?xml version=\"1.0\" encoding=\"UTF-8\"?>\n\
      <svg xmlns=\"http://www.w3.org/2000/svg\" width=\"420mm\" height=\"297mm\" viewBox=\"0 0 42000 29700\">\n\
      <rect x=\"1000\" y=\"1000\" width=\"40000\" height=\"27700\" fill=\"none\" stroke=\"black\" stroke-width=\"70\"/>\n\
@@ -44,6 +44,7 @@ const TITLED: &str = "<?xml version=\"1.0\" encoding=\"UTF-8\"?>\n\
      </g>\n\
      <g stroke=\"black\" fill=\"none\">\n\
      <line x1=\"2500\" y1=\"3000\" x2=\"-2500\" y2=\"3000\" stroke-width=\"35\" stroke-dasharray=\"300 150\"/>\n\
+     <line x1=\"2500\" y1=\"3000\" x2=\"3500\" y2=\"2000\" stroke-width=\"18\"/>\n\
      </g>\n\
      </svg>\n";
 
@@ -139,7 +140,10 @@ fn a_title_and_a_view_without_strokes(rt: HostRuntime) -> Result<(), Fail> {
     let sheet = a3(rt.alloc(), d, 2)?;
     assert!(rt; sheet.places.len() == 2);
     let title = Name::new(rt.alloc(), "A & B <1>\"")?;
-    let strokes = [stroke(1, Mark::Dashed, (2500, 3000), (-2500, 3000))];
+    let strokes = [
+        stroke(1, Mark::Dashed, (2500, 3000), (-2500, 3000)),
+        stroke(1, Mark::Hatch, (2500, 3000), (3500, 2000)),
+    ];
     let text = svg(rt.alloc(), &sheet, &title, &strokes)?;
     assert_eq!(rt; text.as_slice(), TITLED.as_bytes());
     Ok(())

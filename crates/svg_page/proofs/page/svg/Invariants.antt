@@ -1,4 +1,4 @@
-use Rattle.std.proofs.Common.{◌≡◌, ◌++◌, string_bytes}
+use Rattle.std.proofs.Common.{◌≡◌, ◌++◌}
 use Rattle.svg_page.specs.Svg.{head, title_line, groups_below}
 use Rattle.svg_page.proofs.page.svg.Given as goal
 
