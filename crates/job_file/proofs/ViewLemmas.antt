@@ -9,7 +9,8 @@ use Rattle.toml.specs.View.{view}
 use Rattle.job_file.specs.declared.fault.JobFault.{JobFault}
 use Rattle.job_file.specs.Seen.{view_seen}
 use Rattle.job_file.specs.Steps.{◌>>=◌}
-use Rattle.job_file.specs.ViewKeys.{ViewValues, is_named, view_of, views_after}
+use Rattle.job_file.specs.ViewKeys.{is_named, view_of, views_after}
+use Rattle.job_file.specs.ViewValues.{ViewValues}
 use Rattle.job_file.specs.Views.{AreNamedApart}
 use Rattle.job_file.specs.declared.view.JobView.{JobView}
 use Rattle.job_file.specs.declared.view.Principal.{Principal}

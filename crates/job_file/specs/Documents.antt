@@ -19,7 +19,8 @@ use Rattle.job_file.specs.declared.table.Kind.TheVariants.{Job}
 use Rattle.job_file.specs.Scales.{scales}
 use Rattle.job_file.specs.Steps.{◌>>=◌, unless, key_fault, or_wrong, value_or, look_up}
 use Rattle.job_file.specs.Texts.{is_title, are_outputs}
-use Rattle.job_file.specs.ViewKeys.{ViewValues, view_named, views_after}
+use Rattle.job_file.specs.ViewKeys.{view_named, views_after}
+use Rattle.job_file.specs.ViewValues.{ViewValues}
 
 -- the values of a job, each at its key
 pub record JobValues : Type 0 where

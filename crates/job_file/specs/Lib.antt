@@ -1,4 +1,5 @@
 pub mod Arrays
+pub mod CutKeys
 pub mod Documents
 pub mod Keys
 pub mod Names
@@ -7,5 +8,6 @@ pub mod Seen
 pub mod Steps
 pub mod Texts
 pub mod Triples
+pub mod ViewValues
 pub mod ViewKeys
 pub mod Views

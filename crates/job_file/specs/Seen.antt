@@ -9,15 +9,19 @@ use Rattle.job_file.specs.declared.job.Job.{Job}
 use Rattle.job_file.specs.declared.job.Scale.{Scale}
 use Rattle.job_file.specs.declared.view.JobView.{JobView}
 use Rattle.job_file.specs.Documents.{JobValues}
-use Rattle.job_file.specs.ViewKeys.{ViewValues}
+use Rattle.job_file.specs.ViewValues.{Shown, ViewValues, whole, behind}
 
 -- the direction that the part is seen from
 abbrev pub direction_seen : ViewSpec → Triple
 direction_seen (Plain d) = of_dir d
 direction_seen (Section c) = toward_of (plane_of c)
 
+abbrev pub shown : ViewSpec → Shown
+shown (Plain d) = whole (of_dir d)
+shown (Section c) = behind (plane_of c)
+
 abbrev pub view_seen : JobView → ViewValues
-view_seen v = record { direction = direction_seen v.spec; named = v.named }
+view_seen v = record { shows = shown v.spec; named = v.named }
 
 abbrev pub scale_seen : Scale → ℕ × ℕ
 scale_seen s = (s.num, s.den)

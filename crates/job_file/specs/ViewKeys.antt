@@ -12,15 +12,12 @@ use Rattle.job_file.specs.declared.fault.Key.TheVariants as key
 use Rattle.job_file.specs.declared.view.Principal.{Principal}
 use Rattle.job_file.specs.declared.view.Principal.TheVariants.{Front, Back, Left, Right, Above, Below}
 use Rattle.job_file.specs.Arrays.{values_in}
+use Rattle.job_file.specs.CutKeys.{cut_view}
 use Rattle.job_file.specs.Keys.{unknown_key}
 use Rattle.job_file.specs.declared.table.Kind.TheVariants.{View}
 use Rattle.job_file.specs.Names.{direction_of, principals}
 use Rattle.job_file.specs.Steps.{◌>>=◌, unless, key_fault, or_wrong, look_up}
-
--- a view: its direction, and its name if it has one
-pub record ViewValues : Type 0 where
-  pub direction : Triple
-  pub named : Option Principal
+use Rattle.job_file.specs.ViewValues.{ViewValues, whole}
 
 abbrev pub number_of : Principal → ℕ
 number_of Front = 0
@@ -37,7 +34,7 @@ is_named p (Some q) = number_of p == number_of q
 
 -- the view of a name
 abbrev pub view_named : Principal → ViewValues
-view_named p = record { direction = direction_of p; named = Some p }
+view_named p = record { shows = whole (direction_of p); named = Some p }
 
 -- one of the six names, which no earlier view has
 abbrev pub named_view : List ViewValues → Data → Result ViewValues JobFault
@@ -76,13 +73,13 @@ abbrev pub toward_view : ℕ → Data → Result ViewValues JobFault
 toward_view n d =
     or_wrong key.Toward (numbers_of d) >>= λ t.
     direction_at n t >>= λ direction.
-    Ok (record { direction = direction; named = None })
+    Ok (record { shows = whole direction; named = None })
 
--- a view has exactly one of the three forms, and `at` and `from` go with `cut`; cut views are still to come
+-- a view has exactly one of the three forms, and `at` and `from` go with `cut`
 abbrev pub view_of_keys : List ViewValues → Option Data → Option Data → Option Data → Option Data → Option Data → Result ViewValues JobFault
 view_of_keys earlier (Some name) None None at from = if is_some at || is_some from then Err (Wrong key.Cut) else named_view earlier name
 view_of_keys earlier None (Some toward) None at from = if is_some at || is_some from then Err (Wrong key.Cut) else toward_view (length earlier) toward
-view_of_keys earlier None None (Some cut) at from = Err (Wrong key.Cut)
+view_of_keys earlier None None (Some cut) at from = cut_view (length earlier) cut at from
 view_of_keys earlier name toward cut at from = Err (Wrong key.View)
 
 -- the view of a table, after those that stand before it

@@ -44,6 +44,8 @@ pub enum JobFault {
     ZeroDirection(u32),
     /// The direction of this view has a component outside -9 to 9, the first one along this axis.
     DirectionRange(u32, Axis),
+    /// The plane of this view's cut is outside -1,048,576 to 1,048,576.
+    CutRange(u32),
 }
 
 /// Why bytes give no job.

@@ -28,9 +28,9 @@ pub struct Scale {
     ghost listed: { IsTrue (is_scale num den) },
 }
 
-/// What a drawing shows, and how. A unit is 10^-`decimals` mm. The title has at most 120 bytes, without control characters
-/// and what XML doesn't allow. There are at most 8 outputs, all different, each of 1 to 16 bytes from `a` to `z` and `0` to
-/// `9`, and none is `svg`. There are 1 to 12 views, and no two have one name.
+/// What a drawing shows, and how. A unit is 10^-`decimals` mm. The title has at most 120 bytes, without ASCII control
+/// characters and what XML doesn't allow. There are at most 8 outputs, all different, each of 1 to 16 bytes from `a` to `z`
+/// and `0` to `9`, and none is `svg`. There are 1 to 12 views, and no two have one name.
 #[derive(Drop)]
 pub struct Job {
     pub decimals: u8,

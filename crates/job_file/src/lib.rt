@@ -4,6 +4,7 @@
 //! in a fixed order, and the first one is the answer.
 #![tactic(auto)]
 
+mod cuts;
 mod directions;
 mod fault;
 mod job;

@@ -1,9 +1,10 @@
 // Texts of jobs, and what they say.
 use crate::{Job, JobError, JobFault, JobView};
+use lattice::ViewSpec;
 use std::alloc::{AllocError, Global};
 use std::test::Fail;
 
-// A text with every key of a job, and both kinds of views.
+// A text with every key of a job, and the three kinds of views.
 const EVERY_KEY: &str = "version = 1
 decimals = 6
 angle = \"third\"
@@ -16,11 +17,19 @@ outputs = [\"pieces\", \"0123456789abcdef\"]
 name = \"below\"
 [[view]]
 toward = [9, -9, 0]
+[[view]]
+cut = \"y\"
+at = -15000
+from = \"low\"
 ";
 
 // A view in words.
 fn view_told(alloc: Global, view: &JobView) -> Result<String, AllocError> {
     let v = view.dir().vector();
+    if let ViewSpec::Section(cut) = view.spec {
+        let (axis, at, from_high) = (cut.axis(), cut.at(), cut.from_high());
+        return format!(in alloc; " cut {axis:?} {at} {from_high}");
+    }
     match view.named {
         Some(name) => format!(in alloc; " {name:?} {} {} {}", v.x, v.y, v.z),
         None => format!(in alloc; " toward {} {} {}", v.x, v.y, v.z),
@@ -54,6 +63,7 @@ fn fault_told(alloc: Global, fault: &JobFault) -> Result<String, AllocError> {
         JobFault::TooManyViews => String::from_str(alloc, "TooManyViews"),
         JobFault::ZeroDirection(view) => format!(in alloc; "ZeroDirection {view}"),
         JobFault::DirectionRange(view, axis) => format!(in alloc; "DirectionRange {view} {axis:?}"),
+        JobFault::CutRange(view) => format!(in alloc; "CutRange {view}"),
     }
 }
 
@@ -85,7 +95,7 @@ fn each_text_is_a_job_or_has_its_first_fault(rt: HostRuntime) -> Result<(), Fail
     for (text, wanted) in [
         (
             EVERY_KEY,
-            "6 true A0 1:100 Coarse 'A & B <1>' pieces 0123456789abcdef Below 0 0 -1 toward 9 -9 0",
+            "6 true A0 1:100 Coarse 'A & B <1>' pieces 0123456789abcdef Below 0 0 -1 toward 9 -9 0 cut Y -15000 false",
         ),
         ("version = 2", "Version 2"),
         ("version = 3\ncolour = 1\n", "Version 3"),
@@ -115,9 +125,16 @@ fn each_text_is_a_job_or_has_its_first_fault(rt: HostRuntime) -> Result<(), Fail
             "Wrong View",
         ),
         ("[[view]]\nname = \"front\"\nat = 1\n", "Wrong Cut"),
+        ("[[view]]\ncut = \"Y\"\nat = 1.0\n", "Wrong Cut"),
+        ("[[view]]\ncut = \"y\"\nat = 1.0\n", "Wrong At"),
+        ("[[view]]\ncut = \"y\"\nat = 1\n", "Wrong From"),
         (
-            "[[view]]\ncut = \"y\"\nat = 15000\nfrom = \"low\"\n",
-            "Wrong Cut",
+            "[[view]]\ncut = \"y\"\nat = 1048577\nfrom = \"left\"\n",
+            "Wrong From",
+        ),
+        (
+            "[[view]]\nname = \"front\"\n[[view]]\ncut = \"z\"\nat = -1048577\nfrom = \"high\"\n",
+            "CutRange 1",
         ),
         ("[[view]]\nname = 1\nroll = 2\n", "UnknownKey roll"),
         ("[[view]]\ntoward = [1, 2]\n", "Wrong Toward"),

@@ -1,5 +1,5 @@
 // A view of a job.
-ghost use Rattle.std.specs.Prelude.{◌≡◌, Some, IsSome};
+ghost use Rattle.std.specs.Prelude.{◌≡◌, Some};
 ghost use Rattle.std.specs.Option.{ForSome};
 ghost use Rattle.job_file.specs.Names.{direction_of};
 ghost use Rattle.job_file.specs.Views.{plain_direction};
@@ -17,12 +17,11 @@ pub enum Principal {
     Below,
 }
 
-/// A view of a job. It shows the whole part, a named one from its name's direction. Cut views are still to come.
+/// A view of a job: of the whole part from a direction, which is that of its name if it has one, or of what a cut leaves.
 #[derive(Clone, Copy)]
 pub struct JobView {
     pub spec: ViewSpec,
     pub named: Option<Principal>,
-    ghost whole: { IsSome (plain_direction spec) },
     ghost directed: { ForSome named (λ p. plain_direction spec ≡ Some (direction_of p)) },
 }
 

@@ -9,6 +9,7 @@ ghost use Rattle.job_file.specs.Steps.{Gives, GivesExactly};
 ghost use Rattle.job_file.specs.ViewKeys.{is_named, view_named, named_view, toward_view, view_of_keys, view_of_table, view_of, views_after};
 ghost use Rattle.job_file.specs.Views.{AreNamedApart};
 
+use crate::cuts::cut_view;
 use crate::directions::{direction, direction_of, numbers_of, principal_of};
 use crate::fault::{JobError, JobFault, Key};
 use crate::table::{Kind, unknown_key, value_at};
@@ -101,7 +102,7 @@ fn view_of_keys(table: &Table, earlier: &[JobView]) -> Result<JobView, JobFault>
         )),
         (Some(name), None, None) => named_view(name, earlier),
         (None, Some(toward), None) => toward_view(earlier.len() as u32, toward),
-        (None, None, Some(_)) => Err(JobFault::Wrong(Key::Cut)),
+        (None, None, Some(cut)) => cut_view(earlier.len() as u32, cut, table),
         _ => Err(JobFault::Wrong(Key::View)),
     }
 }
