@@ -21,7 +21,7 @@ use Rattle.cut_plane.specs.Sides.{IsRightOf, IsNotAbove, IsBelow, IsFromTo}
 use Rattle.cut_plane.proofs.BorderPoints.{IsMixOf, AreEnds, border_ends}
 
 -- ---- sums
-mix_product : (r : Triple) (p q m : Point) (h : IsMixOf p q m) → (pos h.i *ℤ dot r (scaled p)) +ℤ (pos h.j *ℤ dot r (scaled q)) ≡ h.k *ℤ dot r (scaled m)
+pub mix_product : (r : Triple) (p q m : Point) (h : IsMixOf p q m) → (pos h.i *ℤ dot r (scaled p)) +ℤ (pos h.j *ℤ dot r (scaled q)) ≡ h.k *ℤ dot r (scaled m)
 mix_product r p q m h =
     by_three _ _ ((pos h.i *ℤ p.x) +ℤ (pos h.j *ℤ q.x)) (h.k *ℤ m.x) r.x ((pos h.i *ℤ p.y) +ℤ (pos h.j *ℤ q.y)) (h.k *ℤ m.y) r.y ((pos h.i *ℤ p.z) +ℤ (pos h.j *ℤ q.z)) (h.k *ℤ m.z) r.z
     (ring (r.x ∷ r.y ∷ r.z ∷ p.x ∷ p.y ∷ p.z ∷ q.x ∷ q.y ∷ q.z ∷ m.x ∷ m.y ∷ m.z ∷ pos h.i ∷ pos h.j ∷ h.k ∷ [])

@@ -16,4 +16,5 @@ mod tests;
 
 pub use loops::{Section, borders};
 pub use parity::inside;
+pub use seen::{InView, seen_corner};
 pub use segments::Segment;

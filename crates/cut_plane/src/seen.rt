@@ -6,16 +6,16 @@ ghost use Rattle.lattice.specs.Cuts.{plane_of, toward_of, level_of};
 
 use lattice::{Axis, Corner, Cut, Normal};
 
-/// The components of a vector across, upward and toward the viewer.
+/// The components of a vector across, upward and toward the viewer, in units.
 #[derive(Clone, Copy)]
-pub(crate) struct InView {
+pub struct InView {
     pub across: i64,
     pub upward: i64,
     pub height: i64,
 }
 
 /// The corner as it is seen in the cut view.
-pub(crate) fn seen_corner(cut: &Cut, k: &Corner) -> InView
+pub fn seen_corner(cut: &Cut, k: &Corner) -> InView
     ensures across { result.across ≡ across_of (toward_of (plane_of cut.now)) (point_of k.now) }
     ensures upward { result.upward ≡ upward_of (toward_of (plane_of cut.now)) (point_of k.now) }
     ensures height { result.height ≡ height_of (toward_of (plane_of cut.now)) (point_of k.now) }

@@ -16,7 +16,7 @@ use Rattle.geometry.specs.Cuts.{over_of, IsLeftOfBorder}
 use Rattle.geometry.proofs.Borders.{face_rise, rise_on, over_beyond, over_before, side_of_corner}
 use Rattle.geometry.proofs.Shares.{edge_turned}
 use Rattle.section_parity.specs.Sights.{Sight, sight_of, crossing_sight, counts_at, is_before, left_of_border, left_by, beside_way, if_apart, crosses_beside}
-use Rattle.section_parity.proofs.Tests.{less_of}
+use Rattle.section_parity.proofs.Tested.{less_of}
 use Rattle.section_parity.proofs.Xors.{xor, xor-none, xor-comm}
 use Rattle.section_parity.proofs.Lies.{up_down, balanced}
 use Rattle.section_parity.proofs.Planes.{IsClearOf, counts_of_beside, beside_of_counts, lie_of}

@@ -1,10 +1,12 @@
-pub mod Tests
+pub mod Tested
 pub mod Xors
 pub mod Lies
 pub mod Planes
 pub mod BorderPoints
 pub mod FaceBorders
 pub mod Sections
+pub mod DiagonalCrossings
+pub mod Diagonals
 pub mod Steps
 pub mod Meetings
 pub mod Along
@@ -12,3 +14,6 @@ pub mod Between
 pub mod Roots
 pub mod Segments
 pub mod Found
+pub mod Comparisons
+pub mod EdgeValues
+pub mod SegmentCrossings

@@ -6,7 +6,7 @@ use Rattle.std.proofs.lemmas.Int.{ints, by_lt_z}
 use Rattle.integers.proofs.Ring.{var, con, ◌⊖◌, ◌⊗◌, ring}
 use Rattle.integers.proofs.Signs.{mul_nonneg, mul_pos, mul_neg, nonneg_of_mul}
 use Rattle.section_parity.specs.Sights.{counts}
-use Rattle.section_parity.proofs.Tests.{less_of, most_of, same_test}
+use Rattle.section_parity.proofs.Tested.{less_of, most_of, same_test}
 use Rattle.section_parity.proofs.Xors.{xor, xor-twice, xor-comm}
 
 -- ---- signs of products
@@ -16,7 +16,7 @@ turned a b = ring (a ∷ b ∷ []) ((con (pos 0) ⊖ var 0) ⊗ var 1) (con (pos
 turned_second : (a b : ℤ) → a *ℤ (pos 0 -ℤ b) ≡ pos 0 -ℤ (a *ℤ b)
 turned_second a b = ring (a ∷ b ∷ []) (var 0 ⊗ (con (pos 0) ⊖ var 1)) (con (pos 0) ⊖ (var 0 ⊗ var 1)) refl
 
-down_up : (a b : ℤ) → a ≤ℤ pos 0 → pos 0 ≤ℤ b → (a *ℤ b) ≤ℤ pos 0
+pub down_up : (a b : ℤ) → a ≤ℤ pos 0 → pos 0 ≤ℤ b → (a *ℤ b) ≤ℤ pos 0
 down_up a b h g = go (a *ℤ b) ((pos 0 -ℤ a) *ℤ b) (turned a b) (mul_nonneg (pos 0 -ℤ a) b (omega (arith, ints)) g)
   where
     go : (x y : ℤ) → y ≡ pos 0 -ℤ x → pos 0 ≤ℤ y → x ≤ℤ pos 0
@@ -28,7 +28,7 @@ up_down a b h g = go (a *ℤ b) (a *ℤ (pos 0 -ℤ b)) (turned_second a b) (mul
     go : (x y : ℤ) → y ≡ pos 0 -ℤ x → pos 0 ≤ℤ y → x ≤ℤ pos 0
     go x y e h = omega (arith, ints)
 
-down_down : (a b : ℤ) → a ≤ℤ pos 0 → b ≤ℤ pos 0 → pos 0 ≤ℤ (a *ℤ b)
+pub down_down : (a b : ℤ) → a ≤ℤ pos 0 → b ≤ℤ pos 0 → pos 0 ≤ℤ (a *ℤ b)
 down_down a b h g = go (a *ℤ b) ((pos 0 -ℤ a) *ℤ b) (turned a b) (up_down (pos 0 -ℤ a) b (omega (arith, ints)) g)
   where
     go : (x y : ℤ) → y ≡ pos 0 -ℤ x → y ≤ℤ pos 0 → pos 0 ≤ℤ x

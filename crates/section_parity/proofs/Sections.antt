@@ -4,19 +4,19 @@ use Rattle.std.specs.Prelude.{pos, ◌<ℤ◌, ◌↔◌}
 use Rattle.std.specs.Bool.{Decides}
 use Rattle.std.proofs.lemmas.Bool.{false≢true, false_from_ne_true}
 use Rattle.std.proofs.lemmas.Bool.Decides.{Decides-eqb}
-use Rattle.std.proofs.lemmas.Option.{slice_get-get_or, get_or_from_slice_get, slice_get_read}
+use Rattle.std.proofs.lemmas.Option.{get_or_from_slice_get, slice_get_read}
 use Rattle.lattice.specs.declared.points.Corner.{Corner}
 use Rattle.lattice.specs.declared.soup.Tri.{Tri}
 use Rattle.lattice.specs.Triangles.{IsBelow}
 use Rattle.lattice.specs.Points.{Point, IsPoint}
 use Rattle.lattice.specs.Cuts.{Plane, toward_of}
 use Rattle.geometry.specs.Parts.{Part, Face, IsClosed, start_of, end_of}
-use Rattle.geometry.specs.Cuts.{IsCount, HasBorderRightOf, IsInSection}
+use Rattle.geometry.specs.Cuts.{HasBorderRightOf, IsInSection}
 use Rattle.geometry.proofs.Listed.{face_at}
 use Rattle.solid_mesh.specs.Halves.{start_at, end_at}
 use Rattle.solid_mesh.proofs.HalfLemmas.{half_between, half_within, start_of_half, end_of_half}
-use Rattle.section_parity.specs.Sights.{Sight, sight_of, corner_at, left_of_border, left_of_triangle, crosses_beside, if_apart, is_before, beside_way, crossing_sight}
-use Rattle.section_parity.proofs.Xors.{xor, xor-none, same_of_xor, odd_below, odd_below-same, odd_below-xor, odd_below-none, odd_below-one, odd_table, odd_below-threes, odd_in, odd_in-places, odd_decides, odd_count, count_by}
+use Rattle.section_parity.specs.Sights.{Sight, sight_of, corner_at, left_of_border, left_of_triangle, if_apart, is_before, beside_way, crossing_sight}
+use Rattle.section_parity.proofs.Xors.{xor, xor-none, same_of_xor, odd_below, odd_below-same, odd_below-xor, odd_below-none, odd_below-one, odd_table, odd_below-threes, odd_in, odd_in-places, odd_in-same, odd_in_decides}
 use Rattle.section_parity.proofs.FaceBorders.{IsFaceClear, face_balanced, crossing_turned, left_decides}
 
 both_or_neither : (a b : Bool) → (a ≡ true → b ≡ true) → (b ≡ true → a ≡ true) → a ≡ b
@@ -42,12 +42,16 @@ if_apart-turned false true x = refl
 if_apart-turned true false x = refl
 if_apart-turned true true x = refl
 
-crosses-turned : (c : Plane) (k l : Corner) (p q : Sight) → crosses_beside c k l p q ≡ crosses_beside c l k p q
-crosses-turned c k l p q =
-    ap (λ x. if_apart (is_before c k) (is_before c l) (beside_way p q x)) (crossing_turned c k l)
-    ∙ if_apart-turned (is_before c k) (is_before c l) (beside_way p q (crossing_sight c l k))
+-- the side crosses the plane where the test says
+abbrev pub crosses_where : (Sight → Bool) → Plane → Corner → Corner → Bool
+crosses_where test c k l = if_apart (is_before c k) (is_before c l) (test (crossing_sight c k l))
 
-module _ (c : Plane) (s : Part) (closed : IsClosed s) (o : Corner) (p q : Sight) where
+crosses-turned : (test : Sight → Bool) (c : Plane) (k l : Corner) → crosses_where test c k l ≡ crosses_where test c l k
+crosses-turned test c k l =
+    ap (λ x. if_apart (is_before c k) (is_before c l) (test x)) (crossing_turned c k l)
+    ∙ if_apart-turned (is_before c k) (is_before c l) (test (crossing_sight c l k))
+
+module _ (c : Plane) (s : Part) (closed : IsClosed s) (o : Corner) (test : Sight → Bool) where
   abbrev N : ℕ
   N = 3 * length s.triangles
 
@@ -57,9 +61,9 @@ module _ (c : Plane) (s : Part) (closed : IsClosed s) (o : Corner) (p q : Sight)
   abbrev end : ℕ → ℕ
   end half = end_at s.triangles half
 
-  -- the half crosses the plane to the right of the way
+  -- the half crosses the plane where the test says
   abbrev side : ℕ → Bool
-  side half = crosses_beside c (corner_at s o (start half)) (corner_at s o (end half)) p q
+  side half = crosses_where test c (corner_at s o (start half)) (corner_at s o (end half))
 
   -- and the other is its twin
   abbrev table : ℕ → ℕ → Bool
@@ -77,8 +81,8 @@ module _ (c : Plane) (s : Part) (closed : IsClosed s) (o : Corner) (p q : Sight)
 
   twin_side : (half other : ℕ) → start half ≡ end other → end half ≡ start other → side half ≡ side other
   twin_side half other e g =
-      (λ i. crosses_beside c (corner_at s o (e i)) (corner_at s o (g i)) p q)
-      ∙ crosses-turned c (corner_at s o (end other)) (corner_at s o (start other)) p q
+      (λ i. crosses_where test c (corner_at s o (e i)) (corner_at s o (g i)))
+      ∙ crosses-turned test c (corner_at s o (end other)) (corner_at s o (start other))
 
   alike : (half other : ℕ) → half < N → other < N → table half other ≡ table other half
   alike half other h g = both_or_neither (table half other) (table other half) (one half other) (one other half)
@@ -91,7 +95,7 @@ module _ (c : Plane) (s : Part) (closed : IsClosed s) (o : Corner) (p q : Sight)
   no_own_twin : (half : ℕ) → half < N → table half half ≡ false
   no_own_twin half h = false_from_ne_true (table half half) (λ t.
       let (e, g, crosses) = table_true half half t in
-      false≢true (sym (ap (λ k. crosses_beside c (corner_at s o k) (corner_at s o (end half)) p q) e ∙ if_apart-same (is_before c (corner_at s o (end half))) _) ∙ crosses))
+      false≢true (sym (ap (λ k. crosses_where test c (corner_at s o k) (corner_at s o (end half))) e ∙ if_apart-same (is_before c (corner_at s o (end half))) _) ∙ crosses))
 
   row : (half : ℕ) → half < N → odd_below (table half) N ≡ side half
   row half within = by (side half) refl
@@ -107,90 +111,109 @@ module _ (c : Plane) (s : Part) (closed : IsClosed s) (o : Corner) (p q : Sight)
           closed.once k other (end half) (start half) (half_between s k (end half) (start half) h (sym g) (sym e)) back)
           ∙ sym e
 
-  -- an even number of halves cross the plane to the right of the way
+  -- an even number of halves cross the plane there
   sides_even : odd_below side N ≡ false
   sides_even = sym (odd_below-same (λ half. odd_below (table half) N) side N row) ∙ odd_table table N alike no_own_twin
 
   -- ---- triangle by triangle
-  module _ (in_range : All (IsBelow (length s.corners)) s.triangles) where
-    abbrev zeros : Tri
-    zeros = record { a = 0; b = 0; c = 0 }
+  abbrev zeros : Tri
+  zeros = record { a = 0; b = 0; c = 0 }
 
-    abbrev tri : ℕ → Tri
-    tri k = get_or s.triangles k zeros
+  abbrev tri : ℕ → Tri
+  tri k = get_or s.triangles k zeros
 
-    abbrev three_sides : ℕ → Bool
-    three_sides k = xor (xor (side (3 * k)) (side (3 * k + 1))) (side (3 * k + 2))
+  abbrev across : Tri → ℕ → Bool
+  across t n = crosses_where test c (corner_at s o (start_of t n)) (corner_at s o (end_of t n))
 
-    abbrev across : Tri → ℕ → Bool
-    across t n = crosses_beside c (corner_at s o (start_of t n)) (corner_at s o (end_of t n)) p q
+  -- an odd number of the triangle's sides cross the plane there
+  abbrev pub sides_of : Tri → Bool
+  sides_of t = xor (xor (across t 0) (across t 1)) (across t 2)
 
-    side_at : (half k n : ℕ) → half / 3 ≡ k → half % 3 ≡ n → side half ≡ across (tri k) n
-    side_at half k n e g = λ i. across (tri (e i)) (g i)
+  side_at : (half k n : ℕ) → half / 3 ≡ k → half % 3 ≡ n → side half ≡ across (tri k) n
+  side_at half k n e g = λ i. across (tri (e i)) (g i)
 
-    three_at : (k : ℕ) → three_sides k ≡ xor (xor (across (tri k) 0) (across (tri k) 1)) (across (tri k) 2)
-    three_at k = λ i. xor
-        (xor (side_at (3 * k) k 0 (omega arith) (omega arith) i) (side_at (3 * k + 1) k 1 (omega arith) (omega arith) i))
-        (side_at (3 * k + 2) k 2 (omega arith) (omega arith) i)
+  three_at : (k : ℕ) → xor (xor (side (3 * k)) (side (3 * k + 1))) (side (3 * k + 2)) ≡ sides_of (tri k)
+  three_at k = λ i. xor
+      (xor (side_at (3 * k) k 0 (omega arith) (omega arith) i) (side_at (3 * k + 1) k 1 (omega arith) (omega arith) i))
+      (side_at (3 * k + 2) k 2 (omega arith) (omega arith) i)
 
-    module _ (p_there : pos 0 <ℤ p.w) (q_there : pos 0 <ℤ q.w) (clear : (f : Face s) → IsFaceClear c f.a f.b f.c p q) where
-      triangle_balanced : (k : ℕ) → k < length s.triangles → xor (xor (left_of_triangle c s o p (tri k)) (left_of_triangle c s o q (tri k))) (three_sides k) ≡ false
-      triangle_balanced k h =
-          let f : Face s = face_at s in_range (tri k) k (slice_get-get_or s.triangles k zeros h) in
-          let at_a : corner_at s o (tri k).a ≡ f.a = get_or_from_slice_get s.corners (tri k).a f.a o f.at_a in
-          let at_b : corner_at s o (tri k).b ≡ f.b = get_or_from_slice_get s.corners (tri k).b f.b o f.at_b in
-          let at_c : corner_at s o (tri k).c ≡ f.c = get_or_from_slice_get s.corners (tri k).c f.c o f.at_c in
-          ap (xor (xor (left_of_triangle c s o p (tri k)) (left_of_triangle c s o q (tri k)))) (three_at k)
-          ∙ (λ i. xor
-          (xor (left_of_border c (at_a i) (at_b i) (at_c i) p) (left_of_border c (at_a i) (at_b i) (at_c i) q))
-          (xor (xor (crosses_beside c (at_a i) (at_b i) p q) (crosses_beside c (at_b i) (at_c i) p q)) (crosses_beside c (at_c i) (at_a i) p q)))
-          ∙ face_balanced c f.a f.b f.c p q p_there q_there (clear f)
+  threes_even : odd_below (λ k. sides_of (tri k)) (length s.triangles) ≡ false
+  threes_even =
+      sym (odd_below-same (λ k. xor (xor (side (3 * k)) (side (3 * k + 1))) (side (3 * k + 2))) (λ k. sides_of (tri k)) (length s.triangles) (λ k h. three_at k))
+      ∙ sym (odd_below-threes side (length s.triangles))
+      ∙ sides_even
 
-      pub same_oddness : odd_in (left_of_triangle c s o p) s.triangles ≡ odd_in (left_of_triangle c s o q) s.triangles
-      same_oddness =
-          let first = λ (k : ℕ). left_of_triangle c s o p (tri k) in
-          let second = λ (k : ℕ). left_of_triangle c s o q (tri k) in
-          let t = length s.triangles in
-          let even : xor (odd_below first t) (odd_below second t) ≡ false =
-          sym (xor-none (xor (odd_below first t) (odd_below second t)))
-          ∙ sym (λ i. xor (odd_below-xor first second t i) ((sym (odd_below-threes side t) ∙ sides_even) i))
-          ∙ sym (odd_below-xor (λ k. xor (first k) (second k)) three_sides t)
-          ∙ odd_below-none (λ k. xor (xor (first k) (second k)) (three_sides k)) t triangle_balanced in
-          odd_in-places (left_of_triangle c s o p) zeros s.triangles
-          ∙ same_of_xor (odd_below first t) (odd_below second t) even
-          ∙ sym (odd_in-places (left_of_triangle c s o q) zeros s.triangles)
+  -- whether an odd number of triangles pass stays the same where each triangle's sides are added
+  pub with_sides : (b : Tri → Bool) → odd_in (λ t. xor (b t) (sides_of t)) s.triangles ≡ odd_in b s.triangles
+  with_sides b =
+      odd_in-places (λ t. xor (b t) (sides_of t)) zeros s.triangles
+      ∙ odd_below-xor (λ k. b (tri k)) (λ k. sides_of (tri k)) (length s.triangles)
+      ∙ ap (xor (odd_below (λ k. b (tri k)) (length s.triangles))) threes_even
+      ∙ xor-none (odd_below (λ k. b (tri k)) (length s.triangles))
+      ∙ sym (odd_in-places b zeros s.triangles)
+
+-- ---- a triangle of the part
+-- a triangle's borders and sides are those of a face
+pub left_at : (c : Plane) (s : Part) (o : Corner) (p : Sight) (f : Face s) → left_of_triangle c s o p f.tri ≡ left_of_border c f.a f.b f.c p
+left_at c s o p f = λ i. left_of_border c
+    (get_or_from_slice_get s.corners f.tri.a f.a o f.at_a i)
+    (get_or_from_slice_get s.corners f.tri.b f.b o f.at_b i)
+    (get_or_from_slice_get s.corners f.tri.c f.c o f.at_c i) p
+
+-- an odd number of the sides of a face with these corners cross the plane where the test says
+abbrev pub sides_between : (Sight → Bool) → Plane → Corner → Corner → Corner → Bool
+sides_between test c k l m = xor (xor (crosses_where test c k l) (crosses_where test c l m)) (crosses_where test c m k)
+
+pub sides_at : (c : Plane) (s : Part) (closed : IsClosed s) (o : Corner) (test : Sight → Bool) (f : Face s) → sides_of c s closed o test f.tri ≡ sides_between test c f.a f.b f.c
+sides_at c s closed o test f = λ i. sides_between test c
+    (get_or_from_slice_get s.corners f.tri.a f.a o f.at_a i)
+    (get_or_from_slice_get s.corners f.tri.b f.b o f.at_b i)
+    (get_or_from_slice_get s.corners f.tri.c f.c o f.at_c i)
+
+pub face_of : (s : Part) → All (IsBelow (length s.corners)) s.triangles → (t : Tri) → Contains s.triangles t → (f : Face s) × (f.tri ≡ t)
+face_of s in_range t (k, h, is) = (face_at s in_range t k (slice_get_read s.triangles (length s.triangles) k t refl h (sym is)), refl)
+
+-- ---- two sights
+module _ (c : Plane) (s : Part) (closed : IsClosed s) (o : Corner) (p q : Sight) (in_range : All (IsBelow (length s.corners)) s.triangles)
+    (p_there : pos 0 <ℤ p.w) (q_there : pos 0 <ℤ q.w) (clear : (f : Face s) → IsFaceClear c f.a f.b f.c p q) where
+  abbrev moved : Tri → Bool
+  moved t = xor (left_of_triangle c s o p t) (sides_of c s closed o (beside_way p q) t)
+
+  face_same : (f : Face s) → moved f.tri ≡ left_of_triangle c s o q f.tri
+  face_same f =
+      (λ i. xor (left_at c s o p f i) (sides_at c s closed o (beside_way p q) f i))
+      ∙ other_of_xor (left_of_border c f.a f.b f.c p) (left_of_border c f.a f.b f.c q) (sides_between (beside_way p q) c f.a f.b f.c) (face_balanced c f.a f.b f.c p q p_there q_there (clear f))
+      ∙ sym (left_at c s o q f)
+    where
+      other_of_xor : (x y z : Bool) → xor (xor x y) z ≡ false → xor x z ≡ y
+      other_of_xor false y z h = sym (same_of_xor y z h)
+      other_of_xor true false z h = sym (ap (λ v. xor true v) (same_of_xor true z h))
+      other_of_xor true true z h = ap (λ v. xor true v) h
+
+  pub same_oddness : odd_in (left_of_triangle c s o p) s.triangles ≡ odd_in (left_of_triangle c s o q) s.triangles
+  same_oddness =
+      sym (with_sides c s closed o (beside_way p q) (left_of_triangle c s o p))
+      ∙ odd_in-same moved (left_of_triangle c s o q) s.triangles (λ t there.
+      let (f, same) = face_of s in_range t there in
+      ap moved (sym same) ∙ face_same f ∙ ap (left_of_triangle c s o q) same)
 
 -- ---- the section
-module _ (c : Plane) (s : Part) (in_range : All (IsBelow (length s.corners)) s.triangles) (o : Corner) (p : Point) (there : IsPoint p) where
+module _ (c : Plane) (s : Part) (in_range : All (IsBelow (length s.corners)) s.triangles) (o : Corner) (p : Point) (is_point : IsPoint p) where
   abbrev sight : Sight
   sight = sight_of (toward_of c) p
 
-  face_left : (f : Face s) → left_of_triangle c s o sight f.tri ≡ left_of_border c f.a f.b f.c sight
-  face_left f = λ i. left_of_border c
-      (get_or_from_slice_get s.corners f.tri.a f.a o f.at_a i)
-      (get_or_from_slice_get s.corners f.tri.b f.b o f.at_b i)
-      (get_or_from_slice_get s.corners f.tri.c f.c o f.at_c i) sight
-
   -- whether a triangle's border is to the right of the point is told by its corners
   pub triangle_decides : (t : Tri) → Contains s.triangles t → Decides (left_of_triangle c s o sight t) (HasBorderRightOf c s p t)
-  triangle_decides t (k, h, is) = (
+  triangle_decides t there = (
     (λ e.
-        let f : Face s = face_at s in_range t k (slice_get_read s.triangles (length s.triangles) k t refl h (sym is)) in
-        (f, refl, (left_decides c f p there).0 (sym (face_left f) ∙ e))),
-    (λ (f, same, left). ap (left_of_triangle c s o sight) (sym same) ∙ face_left f ∙ (left_decides c f p there).1 left),
+        let (f, same) = face_of s in_range t there in
+        (f, same, (left_decides c f p is_point).0 (sym (left_at c s o sight f) ∙ ap (left_of_triangle c s o sight) same ∙ e))),
+    (λ (f, same, left). ap (left_of_triangle c s o sight) (sym same) ∙ left_at c s o sight f ∙ (left_decides c f p is_point).1 left),
   )
 
   -- and whether the point is in the section
   pub section_decides : Decides (odd_in (left_of_triangle c s o sight) s.triangles) (IsInSection c s p)
-  section_decides = (
-    (λ e.
-        let (n, count) = counted_all in
-        (n, count, (odd_decides n).0 (odd_count (HasBorderRightOf c s p) (left_of_triangle c s o sight) s.triangles n triangle_decides count ∙ e))),
-    (λ (n, count, odd). sym (odd_count (HasBorderRightOf c s p) (left_of_triangle c s o sight) s.triangles n triangle_decides count) ∙ (odd_decides n).1 odd),
-  )
-    where
-      counted_all : (n : ℕ) × IsCount Tri (HasBorderRightOf c s p) s.triangles n
-      counted_all = count_by (HasBorderRightOf c s p) (left_of_triangle c s o sight) s.triangles triangle_decides
+  section_decides = odd_in_decides (HasBorderRightOf c s p) (left_of_triangle c s o sight) s.triangles triangle_decides
 
 -- two points, with no border across the way between them, are both in the section or both not
 pub section_alike : (c : Plane) (s : Part) → IsClosed s → All (IsBelow (length s.corners)) s.triangles → (o : Corner) (p q : Point) → IsPoint p → IsPoint q

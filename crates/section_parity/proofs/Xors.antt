@@ -174,3 +174,16 @@ count_by {A} P b (x ∷ xs) decide = by (count_by P b xs (λ y there. decide y (
     by : (n : ℕ) × IsCount A P xs n → (v : Bool) → b x ≡ v → (n : ℕ) × IsCount A P (x ∷ xs) n
     by (n, h) true e = (suc n, counted x xs n ((decide x (0, omega arith, refl)).0 e) h)
     by (n, h) false e = (n, skipped x xs n (λ p. false≢true (sym e ∙ (decide x (0, omega arith, refl)).1 p)) h)
+
+-- an odd number of elements pass exactly if the count of those with the property is odd
+pub odd_in_decides : {A : Type 0} (P : A → Type 0) (b : A → Bool) (xs : List A) → ((x : A) → Contains xs x → Decides (b x) (P x)) → Decides (odd_in b xs) ((n : ℕ) × IsCount A P xs n × (n % 2 ≡ 1))
+odd_in_decides {A} P b xs decide = (
+  (λ e.
+      let (n, count) = count_by P b xs decide in
+      (n, count, (odd_decides n).0 (odd_count P b xs n decide count ∙ e))),
+  (λ (n, count, odd). sym (odd_count P b xs n decide count) ∙ (odd_decides n).1 odd),
+)
+
+pub odd_in-same : {A : Type 0} (b c : A → Bool) (xs : List A) → ((x : A) → Contains xs x → b x ≡ c x) → odd_in b xs ≡ odd_in c xs
+odd_in-same b c [] h = refl
+odd_in-same b c (x ∷ xs) h = λ i. xor (h x (0, omega arith, refl) i) (odd_in-same b c xs (λ y there. h y (Contains-later x xs y there)) i)

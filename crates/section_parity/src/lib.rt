@@ -1,2 +1,9 @@
-//! Where along an edge its points are in the section of a cut: lemmas on the borders to the right of a point.
+//! Where along an edge its points are in the section of a cut: the places at which borders of the section cross the edge, and
+//! lemmas on the borders to the right of a point.
 #![tactic(auto)]
+
+mod places;
+#[cfg(test)]
+mod tests;
+
+pub use places::crossings;

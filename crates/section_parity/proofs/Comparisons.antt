@@ -1,0 +1,81 @@
+-- A place is amid two others, by the orders of the fractions.
+use Rattle.std.proofs.Common.{◌≡◌, ◌⊎◌, inl, inr, ◌↔◌, Bool, true, refl, subst, arith}
+use Rattle.std.specs.Prelude.{ℤ, ◌*ℤ◌, ◌<ℤ◌, ◌≤ℤ◌, IsTrue}
+use Rattle.std.specs.Cmp.{int_ranks}
+use Rattle.std.specs.Ordering.{int_cmp, is_le, MatchOrdering}
+use Rattle.std.specs.declared.cmp.Ordering.{Ordering}
+use Rattle.std.specs.declared.cmp.Ordering.TheVariants.{Less, Equal, Greater}
+use Rattle.std.proofs.lemmas.Int.{ints}
+use Rattle.cut_plane.proofs.Lists.{not_true}
+use Rattle.section_parity.specs.Crossings.{IsAmid}
+
+told : (x y : ℤ) (b : Bool) → b ≡ is_le (int_cmp x y) → IsTrue b ↔ (x ≤ℤ y)
+told x y b e = by (int_cmp x y) (int_ranks x y) e
+  where
+    by : (r : Ordering) → MatchOrdering r (x <ℤ y) (x ≡ y) (y <ℤ x) → b ≡ is_le r → IsTrue b ↔ (x ≤ℤ y)
+    by Less h f = ((λ t. omega (arith, ints)), (λ t. f))
+    by Equal h f = ((λ t. omega (arith, ints)), (λ t. f))
+    by Greater h f = ((λ t. absurd (not_true b f t)), (λ t. absurd (omega (arith, ints))))
+
+ranked : (x y : ℤ) (r : Ordering) → int_cmp x y ≡ r → MatchOrdering r (x <ℤ y) (x ≡ y) (y <ℤ x)
+ranked x y r e = subst (λ (o : Ordering). MatchOrdering o (x <ℤ y) (x ≡ y) (y <ℤ x)) e (int_ranks x y)
+
+weak : (x y : ℤ) → x <ℤ y → x ≤ℤ y
+weak x y h = omega (arith, ints)
+
+clash : (x y : ℤ) → x <ℤ y → y ≤ℤ x → ⊥
+clash x y h g = omega (arith, ints)
+
+module _ (n m n' m' k l : ℤ) where
+  -- the third is more than the first: amid exactly if it is at most the second
+  pub amid_of_less : int_cmp (n *ℤ l) (k *ℤ m) ≡ Less → (b : Bool) → b ≡ is_le (int_cmp (k *ℤ m') (n' *ℤ l)) → IsTrue b ↔ IsAmid n m n' m' k l
+  amid_of_less e b at_most = ((λ t. inl (weak (n *ℤ l) (k *ℤ m) less, second.0 t)), by)
+    where
+      less : (n *ℤ l) <ℤ (k *ℤ m)
+      less = ranked (n *ℤ l) (k *ℤ m) Less e
+
+      second : IsTrue b ↔ ((k *ℤ m') ≤ℤ (n' *ℤ l))
+      second = told (k *ℤ m') (n' *ℤ l) b at_most
+
+      by : IsAmid n m n' m' k l → IsTrue b
+      by (inl (p, q)) = second.1 q
+      by (inr (p, q)) = absurd (clash (n *ℤ l) (k *ℤ m) less q)
+
+  -- it is less than the first: amid exactly if the second is at most it
+  pub amid_of_greater : int_cmp (n *ℤ l) (k *ℤ m) ≡ Greater → (b : Bool) → b ≡ is_le (int_cmp (n' *ℤ l) (k *ℤ m')) → IsTrue b ↔ IsAmid n m n' m' k l
+  amid_of_greater e b at_most = ((λ t. inr (second.0 t, weak (k *ℤ m) (n *ℤ l) less)), by)
+    where
+      less : (k *ℤ m) <ℤ (n *ℤ l)
+      less = ranked (n *ℤ l) (k *ℤ m) Greater e
+
+      second : IsTrue b ↔ ((n' *ℤ l) ≤ℤ (k *ℤ m'))
+      second = told (n' *ℤ l) (k *ℤ m') b at_most
+
+      by : IsAmid n m n' m' k l → IsTrue b
+      by (inl (p, q)) = absurd (clash (k *ℤ m) (n *ℤ l) less p)
+      by (inr (p, q)) = second.1 p
+
+  -- it is the first: always amid
+  pub amid_of_equal : int_cmp (n *ℤ l) (k *ℤ m) ≡ Equal → IsTrue true ↔ IsAmid n m n' m' k l
+  amid_of_equal e = ((λ t. by (either (k *ℤ m') (n' *ℤ l))), (λ amid. refl))
+    where
+      same : n *ℤ l ≡ k *ℤ m
+      same = ranked (n *ℤ l) (k *ℤ m) Equal e
+
+      either : (x y : ℤ) → (x ≤ℤ y) ⊎ (y ≤ℤ x)
+      either x y = sides (int_cmp x y) (int_ranks x y)
+        where
+          sides : (r : Ordering) → MatchOrdering r (x <ℤ y) (x ≡ y) (y <ℤ x) → (x ≤ℤ y) ⊎ (y ≤ℤ x)
+          sides Less h = inl (omega (arith, ints))
+          sides Equal h = inl (omega (arith, ints))
+          sides Greater h = inr (omega (arith, ints))
+
+      under : (x y : ℤ) → x ≡ y → x ≤ℤ y
+      under x y h = omega (arith, ints)
+
+      over : (x y : ℤ) → x ≡ y → y ≤ℤ x
+      over x y h = omega (arith, ints)
+
+      by : ((k *ℤ m') ≤ℤ (n' *ℤ l)) ⊎ ((n' *ℤ l) ≤ℤ (k *ℤ m')) → IsAmid n m n' m' k l
+      by (inl h) = inl (under (n *ℤ l) (k *ℤ m) same, h)
+      by (inr h) = inr (h, over (n *ℤ l) (k *ℤ m) same)
