@@ -11,6 +11,7 @@ use Rattle.geometry.specs.Faces.{share_point, facing_of, IsFlat}
 use Rattle.geometry.specs.Parts.{Part, Face, Edge, IsClosed}
 use Rattle.geometry.specs.Cuts.{FaceHidesInCut}
 use Rattle.geometry.specs.Sound.{IsSound}
+use Rattle.geometry.specs.Views.{IsOrdinary}
 use Rattle.hiding.specs.Values.{value_at, past_of, short_of, behind_of, IsAhead, IsInLine, IsSideOf, WideSideHides}
 use Rattle.hiding.specs.CutValues.{reach_of, WideSideReaches}
 use Rattle.hiding.proofs.Values.{past-share, short-share}
@@ -22,7 +23,7 @@ use Rattle.hiding.proofs.SideEnds.{one-sight, in-line-over, not-at-ends}
 use Rattle.span_slow.specs.declared.interval.Interval.{Interval}
 use Rattle.span_slow.specs.declared.interval.Linear.{Linear}
 use Rattle.span_slow.specs.Places.{IsEarlier}
-use Rattle.span_slow.specs.Hidden.{AreNonnegative, IsWhereNonnegative}
+use Rattle.span_slow.specs.Hidden.{AreNonnegative, IsWhereNonnegative, AreWhere}
 use Rattle.span_slow.specs.CutHidden.{IsOrdinaryBeyond, AreWhereBeyond, AreAddedBeyond, PairHides, SomeSideReaches}
 use Rattle.span_slow.proofs.Axes.{level_by_sight}
 use Rattle.span_slow.proofs.CutFronts.{none_beyond}
@@ -79,6 +80,28 @@ pub line_none : (d v axis : Triple) → d ≡ v → {s : Part} (e : Edge s) (a b
 line_none d v axis same e a b k l at_a at_b (inl off) = inl (λ h. off (subst (λ (t : Triple). IsInLine t a b k l) (sym same) ((in_line_at v e a b k l at_a at_b).0 h)))
 line_none d v axis same e a b k l at_a at_b (inr none) = inr none
 
+-- ---- one side
+square_there : (c : Plane) → pos 0 <ℤ dot (toward_of c) (toward_of c)
+square_there c = subst (λ (v : ℤ). pos 0 <ℤ v) (sym (square-one c)) (omega (arith, ints))
+
+-- the order of its ends does not count
+pub hidden_renamed : (d : Triple) {s : Part} (e : Edge s) (k l x y : Corner) → AreTwoEnds k l x y → AreWhere d e (WideSideHides d x y) [] → AreWhere d e (WideSideHides d k l) []
+hidden_renamed d {s} e k l x y ends h =
+    where_alike (IsOrdinary d s) e (WideSideHides d x y) (WideSideHides d k l) [] (λ i j hi hj ordinary. let same = hides_renamed d k l x y (share_point e.a e.b i j) ends in (same.1, same.0)) h
+
+module _ (c : Plane) (axis : Triple) (s : Part) (sound : IsSound s) (in_range : All (IsBelow (length s.corners)) s.triangles) (e : Edge s) (ahead : IsAhead (toward_of c) axis e.a e.b)
+    (f : Face s) (k l : Corner) (side : IsSideOf f k l) where
+  -- it is not in line, or is seen end-on
+  pub side_apart : (¬ IsInLine (toward_of c) e.a e.b k l) ⊎ (dot axis (difference k l) ≡ pos 0) → AreWhere (toward_of c) e (WideSideHides (toward_of c) k l) []
+  side_apart (inl off) = side_off_line (toward_of c) axis (cut-somewhere c) s sound in_range e ahead f k l side off
+  side_apart (inr same) = side_end_on (toward_of c) axis (cut-somewhere c) s sound in_range e ahead f k l side same
+
+  -- it is in line, and not nearer at either end of the edge
+  pub side_before : IsInLine (toward_of c) e.a e.b k l → pos 0 <ℤ dot axis (difference k l) → (behind : Linear) → Tells e behind (behind_of (toward_of c) axis k l)
+      → behind.start ≤ℤ pos 0 → behind.end ≤ℤ pos 0 → AreWhere (toward_of c) e (WideSideHides (toward_of c) k l) []
+  side_before in_line forward behind tells_behind start end =
+      side_none (toward_of c) axis (cut-somewhere c) s sound in_range e ahead f k l side (square_there c) in_line forward behind tells_behind start end
+
 -- ---- one pair of sides
 module _ (c : Plane) (axis : Triple) (s : Part) (sound : IsSound s) (in_range : All (IsBelow (length s.corners)) s.triangles) (e : Edge s) (ahead : IsAhead (toward_of c) axis e.a e.b)
     (f : Face s) (k l m n : Corner) (first : IsSideOf f k l) (second : IsSideOf f m n) where
@@ -86,8 +109,7 @@ module _ (c : Plane) (axis : Triple) (s : Part) (sound : IsSound s) (in_range : 
   d = toward_of c
 
   pub pair_first_none : (¬ IsInLine (toward_of c) e.a e.b k l) ⊎ (dot axis (difference k l) ≡ pos 0) → AreWhereBeyond c e (PairHides c k l m n) []
-  pair_first_none (inl off) = none_beyond c s e (PairHides c k l m n) (WideSideHides d k l) (λ p h. h.0) (side_off_line d axis (cut-somewhere c) s sound in_range e ahead f k l first off)
-  pair_first_none (inr same) = none_beyond c s e (PairHides c k l m n) (WideSideHides d k l) (λ p h. h.0) (side_end_on d axis (cut-somewhere c) s sound in_range e ahead f k l first same)
+  pair_first_none none = none_beyond c s e (PairHides c k l m n) (WideSideHides d k l) (λ p h. h.0) (side_apart c axis s sound in_range e ahead f k l first none)
 
   pub pair_second_none : (¬ IsInLine (toward_of c) e.a e.b m n) ⊎ (dot axis (difference m n) ≡ pos 0) → AreWhereBeyond c e (PairHides c k l m n) []
   pair_second_none none = where_none (IsOrdinaryBeyond c s) e (PairHides c k l m n) (λ i j hi hj ordinary h.
@@ -103,12 +125,12 @@ module _ (c : Plane) (axis : Triple) (s : Part) (sound : IsSound s) (in_range : 
       (second_line : IsInLine (toward_of c) e.a e.b m n) (second_forward : pos 0 <ℤ dot axis (difference m n))
       (behind : Linear) (tells_behind : Tells e behind (behind_of (toward_of c) axis k l)) where
     square : pos 0 <ℤ dot d d
-    square = subst (λ (v : ℤ). pos 0 <ℤ v) (sym (square-one c)) (omega (arith, ints))
+    square = square_there c
 
     -- in front of the first side
     pub pair_none : behind.start ≤ℤ pos 0 → behind.end ≤ℤ pos 0 → AreWhereBeyond c e (PairHides c k l m n) []
     pair_none start end = none_beyond c s e (PairHides c k l m n) (WideSideHides d k l) (λ p h. h.0)
-        (side_none d axis (cut-somewhere c) s sound in_range e ahead f k l first square first_line first_forward behind tells_behind start end)
+        (side_before c axis s sound in_range e ahead f k l first first_line first_forward behind tells_behind start end)
 
     module _ (past short reach second_past second_short : Linear) (tells_past : Tells e past (past_of axis k)) (tells_short : Tells e short (short_of axis l))
         (tells_reach : Tells e reach (reach_of c axis m n)) (tells_second_past : Tells e second_past (past_of axis m)) (tells_second_short : Tells e second_short (short_of axis n)) where

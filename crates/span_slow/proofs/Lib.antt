@@ -16,8 +16,15 @@ pub mod Sides
 pub mod EdgeOn
 pub mod Numbered
 pub mod CutReads
+pub mod CutCovers
 pub mod CutParts
 pub mod CutFronts
 pub mod CutPairs
 pub mod CutHides
 pub mod Told
+pub mod Stretches
+pub mod Crossed
+pub mod InSection
+pub mod ClippedSpans
+pub mod CutTold
+pub mod OneSide

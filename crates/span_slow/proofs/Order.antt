@@ -82,6 +82,18 @@ not_later_earlier x y z = most_less x.num x.den y.num y.den z.num z.den x.positi
 pub earlier_earlier : (x y z : Frac) → IsEarlier x y → IsEarlier y z → IsEarlier x z
 earlier_earlier x y z = less_less x.num x.den y.num y.den z.num z.den x.positive y.positive z.positive
 
+pub not_later_not_later : (x y z : Frac) → IsNotLater x y → IsNotLater y z → IsNotLater x z
+not_later_not_later x y z = most_most x.num x.den y.num y.den z.num z.den x.positive y.positive z.positive
+
+pub not_later_self : (x : Frac) → IsNotLater x x
+not_later_self x = itself (x.num *ℤ x.den)
+  where
+    itself : (z : ℤ) → z ≤ℤ z
+    itself z = omega (arith, ints)
+
+pub not_both : (x y : Frac) → IsEarlier x y → IsNotLater y x → ⊥
+not_both x y = clash (x.num *ℤ y.den) (y.num *ℤ x.den)
+
 -- what is so strictly between two places
 module _ (from to : Frac) (n m : ℤ) (up : pos 0 <ℤ m) where
   pub between_earlier : IsBetween from to n m → IsEarlier from to
@@ -154,3 +166,28 @@ one_of_not_later x y h one most = equal y.num y.den
 
     equal : (x y : ℤ) → pos 0 ≤ℤ (x -ℤ y) → x ≤ℤ y → x ≡ y
     equal x y p q = omega (arith, ints)
+
+-- 1 is the last place
+pub not_later_one : (x y : Frac) → y.num ≡ y.den → x.num ≤ℤ x.den → IsNotLater x y
+not_later_one x y one most =
+    by_room (x.num *ℤ y.den) (y.num *ℤ x.den) (subst (λ v. pos 0 ≤ℤ v) (sym (swapped ∙ ap (λ v. (y.den *ℤ (x.den -ℤ x.num)) +ℤ (v *ℤ x.den)) (nothing y.num y.den one)))
+    (more (y.den *ℤ (x.den -ℤ x.num)) x.den (mul_nonneg y.den (x.den -ℤ x.num) (weak y.den y.positive) (room x.num x.den most))))
+  where
+    swapped : (y.num *ℤ x.den) -ℤ (x.num *ℤ y.den) ≡ (y.den *ℤ (x.den -ℤ x.num)) +ℤ ((y.num -ℤ y.den) *ℤ x.den)
+    swapped = ring (x.num ∷ x.den ∷ y.num ∷ y.den ∷ []) ((var 2 ⊗ var 1) ⊖ (var 0 ⊗ var 3)) ((var 3 ⊗ (var 1 ⊖ var 0)) ⊕ ((var 2 ⊖ var 3) ⊗ var 1)) refl
+
+    nothing : (x y : ℤ) → x ≡ y → x -ℤ y ≡ pos 0
+    nothing x y h = omega (arith, ints)
+
+    more : (x z : ℤ) → pos 0 ≤ℤ x → pos 0 ≤ℤ (x +ℤ (pos 0 *ℤ z))
+    more x z h = omega (arith, ints)
+
+-- a place of the same value is between the same two
+pub between_value : (a b : Frac) (n m k l : ℤ) → pos 0 <ℤ m → pos 0 <ℤ l → n *ℤ l ≡ k *ℤ m → IsBetween a b n m → IsBetween a b k l
+between_value a b n m k l up positive same h = (
+  less_most a.num a.den n m k l a.positive up positive h.0 (at_most (n *ℤ l) (k *ℤ m) same),
+  most_less k l n m b.num b.den positive up b.positive (at_most (k *ℤ m) (n *ℤ l) (sym same)) h.1,
+)
+  where
+    at_most : (x y : ℤ) → x ≡ y → x ≤ℤ y
+    at_most x y e = omega (arith, ints)

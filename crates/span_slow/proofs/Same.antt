@@ -43,3 +43,8 @@ same_known xs a b p h = elim h [
     | inr x ↦ inr (inr (x.0, x.1, elim x.2 [ inl s ↦ inl (same_trans a b x.0.from p s) | inr s ↦ inr (same_trans a b x.0.to p s) ]))
   ]
 ]
+
+pub same_not_later : (a b c d : Frac) → IsSame a c → IsSame b d → (a.num *ℤ b.den) ≤ℤ (b.num *ℤ a.den) → (c.num *ℤ d.den) ≤ℤ (d.num *ℤ c.den)
+same_not_later a b c d p q h =
+    subst (λ v. (c.num *ℤ d.den) ≤ℤ (v *ℤ c.den)) q.0 (subst (λ v. (c.num *ℤ d.den) ≤ℤ (b.num *ℤ v)) p.1
+    (subst (λ v. (c.num *ℤ v) ≤ℤ (b.num *ℤ a.den)) q.1 (subst (λ v. (v *ℤ b.den) ≤ℤ (b.num *ℤ a.den)) p.0 h)))

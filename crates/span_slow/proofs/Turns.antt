@@ -11,7 +11,7 @@ use Rattle.span_slow.specs.declared.span.Span.{Span}
 use Rattle.span_slow.specs.Places.{IsPlace, IsSame, IsEarlier, IsBetween}
 use Rattle.span_slow.specs.Spans.{Follow, Alternate}
 use Rattle.span_slow.specs.Hidden.{IsWithinAny, IsIntervalEnd, TellsWithin, AreSpansOf}
-use Rattle.span_slow.specs.Steps.{AreApart, IsVisibleAdded}
+use Rattle.span_slow.specs.Steps.{AreApart, IsSpanAdded}
 use Rattle.span_slow.proofs.Order.{clash, weaken, less_most, most_less, most_most, IsNotLater, not_later_of_not, earlier_earlier, not_later_earlier, zero_of_not_later, one_of_not_later, zero_not_later}
 use Rattle.span_slow.proofs.Same.{same, same_back, same_between, same_earlier, same_known}
 use Rattle.span_slow.proofs.Lists.{front_more}
@@ -156,7 +156,7 @@ module _ (united : List Interval) (apart : AreApart united) (k : ℕ) (from : Fr
         least : (k : ℕ) → k ≤ k
         least k = omega arith
 
-    up_to : (mid : List Span) → IsVisibleAdded from x.from spans mid → AreRight united x.from false mid
+    up_to : (mid : List Span) → IsSpanAdded from x.from false spans mid → AreRight united x.from false mid
     up_to mid added = ⊎_elim
         (λ h. subst (AreRight united x.from false) (sym h.1.4) (right_visible united from x.from spans h.1.0 told.right
         (free united k from x.from told.past rest_later) told.known (inr (inr (x, listed, inl (same x.from)))) h.1.1 h.1.2 h.1.3 h.0))
@@ -168,7 +168,7 @@ module _ (united : List Interval) (apart : AreApart united) (k : ℕ) (from : Fr
     IsPast y = IsNotLater y.to x.to
 
     -- the interval is added as a hidden span
-    pub told_more : (mid : List Span) → IsVisibleAdded from x.from spans mid → (y : Span) → IsSame y.from x.from → IsSame y.to x.to → y.hidden ≡ true → AreTold united (k + 1) x.to (mid ++ y ∷ [])
+    pub told_more : (mid : List Span) → IsSpanAdded from x.from false spans mid → (y : Span) → IsSame y.from x.from → IsSame y.to x.to → y.hidden ≡ true → AreTold united (k + 1) x.to (mid ++ y ∷ [])
     told_more mid added y sf st is = record {
       place = x.to_place;
       known = inr (inr (x, listed, inr (same x.to)));
@@ -190,7 +190,7 @@ module _ (united : List Interval) (apart : AreApart united) (k : ℕ) (from : Fr
         past_forth r h = most_most r.num r.den from.num from.den x.from.num x.from.den r.positive from.positive x.from.positive h forth
 
   -- the rest of the edge is visible
-  pub spans_right : length united ≤ k → (to : Frac) → to.num ≡ to.den → (new : List Span) → IsVisibleAdded from to spans new → AreSpansOf united new
+  pub spans_right : length united ≤ k → (to : Frac) → to.num ≡ to.den → (new : List Span) → IsSpanAdded from to false spans new → AreSpansOf united new
   spans_right done to one new added = ⊎_elim
       (λ h. subst (AreSpansOf united) (sym h.1.4) (whole to one (spans ++ h.1.0 ∷ []) false
       (right_visible united from to spans h.1.0 told.right

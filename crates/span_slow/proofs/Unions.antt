@@ -172,7 +172,7 @@ module _ (done closed : List Interval) (from to : Frac) (joined : AreJoined done
         }
 
 -- ---- the order of the intervals
-not_less : (x y : ℤ) → is_lt (int_cmp x y) ≡ false → y ≤ℤ x
+pub not_less : (x y : ℤ) → is_lt (int_cmp x y) ≡ false → y ≤ℤ x
 not_less x y h = go (int_cmp x y) (int_ranks x y) h
   where
     go : (r : Ordering) → MatchOrdering r (x <ℤ y) (x ≡ y) (y <ℤ x) → is_lt r ≡ false → y ≤ℤ x

@@ -1,11 +1,12 @@
 -- What each step does on the way from linears to intervals, and from intervals to spans.
-use Rattle.std.specs.Prelude.{◌≡◌, ◌⊎◌, ◌↔◌, ℤ, pos, ◌<ℤ◌, ◌≤ℤ◌, false, List, [], ◌∷◌, ◌++◌, All, AllPairs}
+use Rattle.std.specs.Prelude.{◌≡◌, ◌⊎◌, ◌↔◌, ℤ, pos, ◌<ℤ◌, ◌≤ℤ◌, Bool, List, [], ◌∷◌, ◌++◌, All, AllPairs, Contains}
 use Rattle.exact_frac.specs.declared.Frac.{Frac}
 use Rattle.hiding.specs.Values.{value_at}
 use Rattle.span_slow.specs.declared.interval.Interval.{Interval}
 use Rattle.span_slow.specs.declared.interval.Linear.{Linear}
 use Rattle.span_slow.specs.declared.span.Span.{Span}
-use Rattle.span_slow.specs.Places.{IsEarlier, IsSame, IsFromTo}
+use Rattle.span_slow.specs.Places.{IsEarlier, IsSame, IsBetween, IsFromTo}
+use Rattle.span_slow.specs.Spans.{Follow, Alternate}
 use Rattle.span_slow.specs.Hidden.{IsRootOrEnd, IsWithinAny, IsAtEnd, IsIntervalEnd}
 
 -- the new interval is where the old one is and the value is at least 0
@@ -32,7 +33,36 @@ abbrev pub IsIntervalAdded : Frac → Frac → List Interval → List Interval �
 IsIntervalAdded from to old new =
     (IsEarlier from to × ((x : Interval) × IsSame x.from from × IsSame x.to to × (new ≡ old ++ x ∷ []))) ⊎ ((¬ IsEarlier from to) × (new ≡ old))
 
--- the visible span from one to the other, if it has an inside
-abbrev pub IsVisibleAdded : Frac → Frac → List Span → List Span → Type 0
-IsVisibleAdded from to old new =
-    (IsEarlier from to × ((x : Span) × IsSame x.from from × IsSame x.to to × (x.hidden ≡ false) × (new ≡ old ++ x ∷ []))) ⊎ ((¬ IsEarlier from to) × (new ≡ old))
+-- the span from one to the other, if it has an inside
+abbrev pub IsSpanAdded : Frac → Frac → Bool → List Span → List Span → Type 0
+IsSpanAdded from to hidden old new =
+    (IsEarlier from to × ((x : Span) × IsSame x.from from × IsSame x.to to × (x.hidden ≡ hidden) × (new ≡ old ++ x ∷ []))) ⊎ ((¬ IsEarlier from to) × (new ≡ old))
+
+-- ---- what of spans is within a part of the edge
+-- the later of two places; the first where they are equal
+abbrev pub IsLaterOf : Frac → Frac → Frac → Type 0
+IsLaterOf a b r = (IsEarlier a b × IsSame r b) ⊎ ((¬ IsEarlier a b) × IsSame r a)
+
+-- the earlier of two places; the first where they are equal
+abbrev pub IsEarlierOf : Frac → Frac → Frac → Type 0
+IsEarlierOf a b r = (IsEarlier b a × IsSame r b) ⊎ ((¬ IsEarlier b a) × IsSame r a)
+
+-- what of the span is within the part, if that has an inside
+abbrev pub IsClippedAdded : Interval → Span → List Span → List Span → Type 0
+IsClippedAdded part x old new = (from : Frac) × (to : Frac) × IsLaterOf part.from x.from from × IsEarlierOf part.to x.to to × IsSpanAdded from to x.hidden old new
+
+-- an end of the part, or an end of the span strictly inside the part
+abbrev pub IsClippedEnd : Interval → Span → Frac → Type 0
+IsClippedEnd part x r = (IsSame r part.from ⊎ IsSame r part.to) ⊎ (IsBetween part.from part.to r.num r.den × (IsSame r x.from ⊎ IsSame r x.to))
+
+-- y tells of a part of the edge what x tells
+pub record IsClippedSpan (part : Interval) (x y : Span) : Type 0 where
+  pub within : (n m : ℤ) → pos 0 <ℤ m → IsBetween y.from y.to n m → IsBetween x.from x.to n m × IsBetween part.from part.to n m
+  pub ends : IsClippedEnd part x y.from × IsClippedEnd part x y.to
+  pub same_hidden : y.hidden ≡ x.hidden
+
+-- they follow one another over the part, each within one of the spans, and neighbours differ
+pub record AreClipped (part : Interval) (spans clipped : List Span) : Type 0 where
+  pub covers : Follow part.from clipped part.to
+  pub each : All (λ y. (x : Span) × Contains spans x × IsClippedSpan part x y) clipped
+  pub alternate : Alternate clipped

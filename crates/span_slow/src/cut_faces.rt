@@ -1,23 +1,24 @@
 // The part of an edge that is beyond the plane of a cut, and the intervals of it that faces hide.
-ghost use Rattle.std.specs.Prelude.{◌≡◌, ◌<◌, ◌⊎◌, ◌↔◌, pos, ◌<ℤ◌, length, All, IsTrue, IfOk, OnOk, IfSome, IfNone, option_to_list};
+ghost use Rattle.std.specs.Prelude.{◌≡◌, ◌<◌, ◌⊎◌, ◌↔◌, pos, ◌<ℤ◌, length, [], All, IsTrue, IsFalse, IfOk, OnOk, IfSome, IfNone, option_to_list};
 ghost use Rattle.lattice.specs.Triangles.{IsBelow};
 ghost use Rattle.lattice.specs.Triple.{dot};
-ghost use Rattle.lattice.specs.Points.{of_dir, of_vector, difference};
-ghost use Rattle.lattice.specs.Cuts.{plane_of, toward_of};
+ghost use Rattle.lattice.specs.Points.{of_dir, of_vector, point_of, difference};
+ghost use Rattle.lattice.specs.Cuts.{plane_of, toward_of, IsBeyond, IsBeforePlane};
 ghost use Rattle.geometry.specs.Faces.{facing_of};
 ghost use Rattle.geometry.specs.Parts.{Part, Face, Edge};
 ghost use Rattle.geometry.specs.Cuts.{FaceHidesInCut};
 ghost use Rattle.geometry.specs.Sound.{IsSound};
 ghost use Rattle.solid_mesh.specs.Solids.{solid_part};
 ghost use Rattle.hiding.specs.Values.{AreCornersOf, IsSideOf, WideSideHides, IsInLine};
+ghost use Rattle.span_slow.specs.Hidden.{AreWhere};
 ghost use Rattle.span_slow.specs.CutHidden.{IsPartBeyond, AreWhereBeyond, AreAddedBeyond, IsHiddenByFaces, PairHides, SomeSideReaches, IsForward};
 
-use crate::cut_seen::{CutEdge, beyond, reach, under};
-use crate::faces::{add, is_in_line, proper};
+use crate::cut_seen::{CutEdge, below, beyond, reach, under};
+use crate::faces::{add, add_face, is_in_line, proper};
 use crate::interval::{Interval, Linear};
 use crate::seen::{SeenEdge, behind, depth, past, short, side};
 use exact_frac::OutOfMemory;
-use lattice::{Corner, Tri, Vector, view_cross};
+use lattice::{Corner, Cut, Tri, Vector, view_cross};
 use solid_mesh::Solid;
 use std::alloc::Global;
 
@@ -44,7 +45,8 @@ pub(crate) fn hidden_by_faces(
     Ok(hidden)
 }
 
-/// Adds the intervals in which what the plane leaves of the triangle hides the edge: at most nine.
+/// Adds the intervals in which what the plane leaves of the triangle hides the edge: at most nine, and those of the plain view
+/// where the plane leaves all of it.
 fn add_cut_face(
     hidden: &mut Vec<Interval>,
     solid: &Solid,
@@ -58,6 +60,12 @@ fn add_cut_face(
 {
     let Tri { a, b, c } = solid.triangle(triangle);
     let (a, b, c) = (solid.corner(a), solid.corner(b), solid.corner(c));
+    if is_before(&edge.cut, &a, &b, &c) {
+        return Ok(());
+    }
+    if is_beyond(&edge.cut, &a, &b, &c) {
+        return add_face(hidden, solid, &edge.seen, triangle);
+    }
     let facing = view_cross(
         &edge.seen.d,
         &Vector::between(&a, &b),
@@ -72,6 +80,34 @@ fn add_cut_face(
         add_pairs(hidden, edge, &b, &c, &a, &b, &c)?;
         add_pairs(hidden, edge, &c, &a, &a, &b, &c)
     }
+}
+
+/// The cut takes the face away: all of its corners are before the plane.
+fn is_before(cut: &Cut, a: &Corner, b: &Corner, c: &Corner) -> bool
+    ensures { IsTrue result ↔ (IsBeforePlane (plane_of cut.now) (point_of a.now) × IsBeforePlane (plane_of cut.now) (point_of b.now) × IsBeforePlane (plane_of cut.now) (point_of c.now)) }
+{
+    is_corner_before(cut, a) && is_corner_before(cut, b) && is_corner_before(cut, c)
+}
+
+/// The cut leaves the face as it is: all of its corners are beyond the plane.
+fn is_beyond(cut: &Cut, a: &Corner, b: &Corner, c: &Corner) -> bool
+    ensures { IsTrue result ↔ (IsBeyond (plane_of cut.now) (point_of a.now) × IsBeyond (plane_of cut.now) (point_of b.now) × IsBeyond (plane_of cut.now) (point_of c.now)) }
+{
+    is_corner_beyond(cut, a) && is_corner_beyond(cut, b) && is_corner_beyond(cut, c)
+}
+
+/// The corner is beyond the plane.
+fn is_corner_beyond(cut: &Cut, p: &Corner) -> bool
+    ensures { IsTrue result ↔ IsBeyond (plane_of cut.now) (point_of p.now) }
+{
+    below(cut, p) > 0
+}
+
+/// The corner is before the plane.
+fn is_corner_before(cut: &Cut, p: &Corner) -> bool
+    ensures { IsTrue result ↔ IsBeforePlane (plane_of cut.now) (point_of p.now) }
+{
+    below(cut, p) < 0
 }
 
 /// Where the edge is hidden by a face whose corners are seen counterclockwise: within its three sides, behind its plane,
@@ -106,7 +142,8 @@ fn has_positive_end(v: Linear) -> bool
     v.start > 0 || v.end > 0
 }
 
-/// Adds the intervals in which a side of a face that is edge-on hides the edge, and a side of it is beyond the plane.
+/// Adds the intervals in which a side of a face that is edge-on hides the edge, and a side of it is beyond the plane. Most
+/// sides hide nothing, and need one look.
 fn add_pairs(
     hidden: &mut Vec<Interval>,
     edge: &CutEdge,
@@ -121,9 +158,24 @@ fn add_pairs(
         OnOk result (AreAddedBeyond (plane_of edge.now.cut) e
         (λ p. WideSideHides (toward_of (plane_of edge.now.cut)) k.now l.now p × SomeSideReaches (plane_of edge.now.cut) a.now b.now c.now p) hidden.old.items hidden.new.items) }
 {
+    if !may_hide(edge, k, l) {
+        return Ok(());
+    }
     add(hidden, pair_interval(edge, k, l, a, b))?;
     add(hidden, pair_interval(edge, k, l, b, c))?;
     add(hidden, pair_interval(edge, k, l, c, a))
+}
+
+/// False only where the side hides no point of the edge: it isn't seen in line with the edge, or is not nearer at either end.
+fn may_hide(edge: &CutEdge, k: &Corner, l: &Corner) -> bool
+    ensures { (s : Part) → IsSound s → All (IsBelow (length s.corners)) s.triangles → (e : Edge s) → e.a ≡ edge.now.seen.a → e.b ≡ edge.now.seen.b →
+        (f : Face s) → IsSideOf f k.now l.now → IsFalse result →
+        AreWhere (toward_of (plane_of edge.now.cut)) e (WideSideHides (toward_of (plane_of edge.now.cut)) k.now l.now) [] }
+{
+    match forward_side(&edge.seen, k, l) {
+        None => false,
+        Some((k, l)) => has_positive_end(behind(&edge.seen, &k, &l)),
+    }
 }
 
 /// Where the side from `k` to `l` hides the edge, and the one from `m` to `n` is beyond the plane.

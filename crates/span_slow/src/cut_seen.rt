@@ -70,7 +70,7 @@ fn down(cut: &Cut, p: &Corner) -> i64
 }
 
 /// Twice how far the corner is below the plane: positive beyond it, and never 0.
-fn below(cut: &Cut, p: &Corner) -> i128
+pub(crate) fn below(cut: &Cut, p: &Corner) -> i128
     ensures value { result ≡ below_of (plane_of cut.now) (point_of p.now) }
     ensures size { unsigned_abs result ≤ 2 ^ 23 }
 {

@@ -36,7 +36,7 @@ pub(crate) fn hidden_intervals(
 }
 
 /// Adds the intervals in which the triangle hides the edge: at most three.
-fn add_face(
+pub(crate) fn add_face(
     hidden: &mut Vec<Interval>,
     solid: &Solid,
     seen: &SeenEdge,

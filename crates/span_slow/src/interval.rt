@@ -33,6 +33,7 @@ pub(crate) fn is_earlier(a: Frac, b: Frac) -> bool
 pub(crate) fn start() -> Frac
     ensures place { IsPlace result }
     ensures num { result.num ≡ pos 0 }
+    ensures den { result.den ≡ pos 1 }
 {
     Frac { num: 0, den: 1 }
 }
@@ -41,6 +42,7 @@ pub(crate) fn start() -> Frac
 pub(crate) fn finish() -> Frac
     ensures place { IsPlace result }
     ensures num { result.num ≡ result.den }
+    ensures den { result.den ≡ pos 1 }
 {
     Frac { num: 1, den: 1 }
 }

@@ -4,7 +4,7 @@ ghost use Rattle.std.specs.List.Sorted.{IsSortedByKey};
 ghost use Rattle.exact_frac.specs.Frac.{order_of};
 ghost use Rattle.span_slow.specs.Places.{IsPlace, IsEarlier};
 ghost use Rattle.span_slow.specs.Hidden.{AreSpansOf};
-ghost use Rattle.span_slow.specs.Steps.{AreApart, AreUnited, IsIntervalAdded, IsVisibleAdded};
+ghost use Rattle.span_slow.specs.Steps.{AreApart, AreUnited, IsIntervalAdded, IsSpanAdded};
 
 use crate::interval::{Interval, finish, is_earlier, start};
 use crate::span::Span;
@@ -71,7 +71,7 @@ fn alternating(alloc: Global, united: &[Interval]) -> Result<Vec<Span>, OutOfMem
     let mut spans = Vec::new(alloc);
     let mut from = start();
     for x in united {
-        add_visible(&mut spans, from, x.from)?;
+        add_span(&mut spans, from, x.from, false)?;
         spans.push(Span {
             from: x.from,
             to: x.to,
@@ -79,22 +79,23 @@ fn alternating(alloc: Global, united: &[Interval]) -> Result<Vec<Span>, OutOfMem
         })?;
         from = x.to;
     }
-    add_visible(&mut spans, from, finish())?;
+    add_span(&mut spans, from, finish(), false)?;
     Ok(spans)
 }
 
-/// Adds the visible span, if it has an inside.
-fn add_visible(spans: &mut Vec<Span>, from: Frac, to: Frac) -> Result<(), OutOfMemory>
+/// Adds the span, if it has an inside.
+pub(crate) fn add_span(
+    spans: &mut Vec<Span>,
+    from: Frac,
+    to: Frac,
+    hidden: bool,
+) -> Result<(), OutOfMemory>
     requires from { IsPlace from }
     requires to { IsPlace to }
-    ensures { OnOk result (IsVisibleAdded from to spans.old.items spans.new.items) }
+    ensures { OnOk result (IsSpanAdded from to hidden spans.old.items spans.new.items) }
 {
     if is_earlier(from, to) {
-        spans.push(Span {
-            from,
-            to,
-            hidden: false,
-        })?;
+        spans.push(Span { from, to, hidden })?;
     }
     Ok(())
 }

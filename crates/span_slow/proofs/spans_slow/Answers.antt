@@ -1,18 +1,20 @@
-use Rattle.std.proofs.Common.{sym, subst, ◌∙◌}
-use Rattle.lattice.specs.Triple.{Triple}
-use Rattle.lattice.specs.Points.{of_dir}
-use Rattle.geometry.specs.Views.{IsHidden}
-use Rattle.solid_mesh.specs.Solids.{solid_part}
-use Rattle.span_slow.specs.Hidden.{AreWhere}
+use Rattle.std.proofs.Common.{sym, subst}
+use Rattle.geometry.specs.Views.{IsEndOn}
+use Rattle.span_slow.specs.declared.view.View.{View}
+use Rattle.span_slow.specs.Views.{direction_in, AreSpansIn}
 use Rattle.span_slow.proofs.Numbered.{if_ok}
-use Rattle.span_slow.proofs.Told.{read_ends, spans_are}
 use Rattle.span_slow.proofs.spans_slow.Goals as goal
 
-pub returns : goal.returns
-returns c e numbered =
-    let s = solid_part c.args.solid.now in
-    let (p, q) = read_ends s e c.edge-numbers.result c.corner.result c.corner-2.result (c.edge-numbers.ensures.each e numbered) c.corner.ensures c.corner-2.ensures in
-    let hidden = c.in_ok-hidden.ensures e (p ∙ sym c.new-seen.ensures.a) (q ∙ sym c.new-seen.ensures.b) in
-    let of_seen : AreWhere (of_dir c.args.d.now) e (IsHidden (of_dir c.args.d.now) s) c.in_ok-hidden.hidden.items =
-    subst (λ (d : Triple). AreWhere d e (IsHidden d s) c.in_ok-hidden.hidden.items) c.new-seen.ensures.d hidden in
-    if_ok c.spans_of.result (λ spans right. spans_are (of_dir c.args.d.now) s e c.in_ok-hidden.hidden.items of_seen spans.items right) c.spans_of.ensures
+pub plain_spans-requires-clause-seen : goal.plain_spans-requires-clause-seen
+plain_spans-requires-clause-seen c e numbered = subst (λ (v : View). ¬ IsEndOn (direction_in v) e) c.in-Plain.is (c.requires.seen e numbered)
+
+pub cut_spans-requires-clause-seen : goal.cut_spans-requires-clause-seen
+cut_spans-requires-clause-seen c e numbered = subst (λ (v : View). ¬ IsEndOn (direction_in v) e) c.in-Section.is (c.requires.seen e numbered)
+
+pub returns-in-Plain : goal.returns-in-Plain
+returns-in-Plain c e numbered =
+    if_ok c.plain_spans.result (λ spans right. subst (λ (v : View). AreSpansIn v e spans.items) (sym c.in-Plain.is) right) (c.plain_spans.ensures e numbered)
+
+pub returns-in-Section : goal.returns-in-Section
+returns-in-Section c e numbered =
+    if_ok c.cut_spans.result (λ spans right. subst (λ (v : View). AreSpansIn v e spans.items) (sym c.in-Section.is) right) (c.cut_spans.ensures e numbered)

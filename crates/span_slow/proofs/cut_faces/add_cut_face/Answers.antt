@@ -1,16 +1,19 @@
 use Rattle.std.proofs.Common.{◌≡◌, inl, inr, sym, subst, ◌∙◌, arith}
 use Rattle.std.specs.Prelude.{ℤ, pos, ◌<ℤ◌}
 use Rattle.std.proofs.lemmas.Int.{ints}
+use Rattle.lattice.specs.Triple.{Triple}
 use Rattle.lattice.specs.Points.{of_dir}
 use Rattle.lattice.specs.Cuts.{plane_of}
 use Rattle.geometry.specs.Cuts.{FaceHidesInCut}
-use Rattle.geometry.specs.Faces.{facing_of}
+use Rattle.geometry.specs.Faces.{FaceHides, facing_of}
 use Rattle.solid_mesh.specs.Solids.{solid_part}
 use Rattle.solid_mesh.proofs.Facts.{closed, in_range, sound}
+use Rattle.span_slow.specs.Hidden.{AreAdded}
 use Rattle.span_slow.specs.CutHidden.{IsOrdinaryBeyond}
 use Rattle.span_slow.proofs.CutPairs.{edge_on_added}
 use Rattle.span_slow.proofs.EdgeOn.{facing_read, facing_back}
 use Rattle.span_slow.proofs.Numbered.{on_ok, read_face}
+use Rattle.span_slow.proofs.OneSide.{nothing_hidden, hidden_alike}
 use Rattle.span_slow.proofs.Where.{added_one}
 use Rattle.span_slow.proofs.cut_faces.add_cut_face.Goals as goal
 
@@ -55,3 +58,22 @@ returns-in_ok-add_pairs-2 c e at_a at_b f at =
     (c.in_ok-add_pairs.ensures s (sound solid) (in_range solid) e at_a at_b f p q r (inl (inl (sym p, sym q))))
     (c.in_ok-add_pairs-2.ensures s (sound solid) (in_range solid) e at_a at_b f p q r (inr (inl (inl (sym q, sym r)))))
     all) (c.add_pairs-else-facing-lt0-2.ensures s (sound solid) (in_range solid) e at_a at_b f p q r (inr (inr (inl (sym r, sym p)))))
+
+pub returns-then-is_before : goal.returns-then-is_before
+returns-then-is_before c e at_a at_b f at =
+    let solid = c.args.solid.now in
+    let z = plane_of c.args.edge.now.cut in
+    let (p, q, r) = read_face (solid_part solid) f c.args.triangle c.triangle-a.result _ _ _ at c.triangle-a.ensures.listed c.corner-a.ensures c.corner-b.ensures c.corner-c.ensures in
+    let (one, two, three) = c.is_before.ensures.0 c.if-is_before.true in
+    nothing_hidden z e f c.corner-a.result c.corner-b.result c.corner-c.result p q r one two three c.args.hidden.now.items
+
+pub returns-then-is_beyond : goal.returns-then-is_beyond
+returns-then-is_beyond c e at_a at_b f at =
+    let solid = c.args.solid.now in
+    let z = plane_of c.args.edge.now.cut in
+    let old = c.args.hidden.now.items in
+    let new = c.add_face.new.hidden.items in
+    let (p, q, r) = read_face (solid_part solid) f c.args.triangle c.triangle-a.result _ _ _ at c.triangle-a.ensures.listed c.corner-a.ensures c.corner-b.ensures c.corner-c.ensures in
+    let (one, two, three) = c.is_beyond.ensures.0 c.if-is_beyond.true in
+    on_ok c.add_face.result (λ added. hidden_alike z e f c.corner-a.result c.corner-b.result c.corner-c.result p q r one two three old new
+    (subst (λ (d : Triple). AreAdded d e (FaceHides d f.a f.b f.c) old new) c.args.edge.now.along added)) (c.add_face.ensures e at_a at_b f at)

@@ -13,7 +13,7 @@ loop-x-preserved c =
     let x = c.x-item.result in
     subst (λ (spans : List Span). AreTold united (k + 1) x.to spans) (sym c.in_ok-push.ensures.items)
     (told_more united c.requires k c.loop-x.from c.loop-x.spans.items c.loop-x.invariant x c.loop-x-test.true (sym c.x-item.is)
-    _ c.in_ok-add_visible.ensures _ (refl, refl) (refl, refl) refl)
+    _ c.in_ok-add_span.ensures _ (refl, refl) (refl, refl) refl)
 
 pub returns : goal.returns
-returns c = spans_right c.args.united.now c.requires c.loop-x.x-index c.loop-x.from c.loop-x.spans.items c.loop-x.invariant c.loop-x-test.false c.finish.result c.finish.ensures.num _ c.in_ok-add_visible-2.ensures
+returns c = spans_right c.args.united.now c.requires c.loop-x.x-index c.loop-x.from c.loop-x.spans.items c.loop-x.invariant c.loop-x-test.false c.finish.result c.finish.ensures.num _ c.in_ok-add_span-2.ensures

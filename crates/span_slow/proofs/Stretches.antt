@@ -1,0 +1,113 @@
+-- Where something is so along an edge up to a place, and what is added up to the next one.
+use Rattle.std.proofs.Common.{◌≡◌, ◌⊎◌, inl, inr, ⊎_elim, List, [], ◌∷◌, ◌++◌, All, get_or, refl, sym, subst, arith}
+use Rattle.std.specs.Prelude.{ℤ, pos, ◌-ℤ◌, ◌*ℤ◌, ◌<ℤ◌, ◌≤ℤ◌, ◌↔◌}
+use Rattle.std.proofs.lemmas.Int.{ints}
+use Rattle.std.proofs.lemmas.List.Elements.{All-nil, All-push, All-contains}
+use Rattle.integers.proofs.Ring.{var, ◌⊖◌, ◌⊗◌, ring, less_by, gap_of_less}
+use Rattle.integers.proofs.Signs.{mul_nonneg, mul_pos}
+use Rattle.exact_frac.specs.declared.Frac.{Frac}
+use Rattle.lattice.specs.Points.{Point}
+use Rattle.geometry.specs.Faces.{share_point}
+use Rattle.geometry.specs.Parts.{Part, Edge}
+use Rattle.span_slow.specs.declared.interval.Interval.{Interval}
+use Rattle.span_slow.specs.Places.{IsEarlier, IsSame, IsBetween}
+use Rattle.span_slow.specs.Spans.{HasNoEndAt}
+use Rattle.span_slow.specs.Hidden.{IsWithinAny, AreWhereAt}
+use Rattle.span_slow.specs.Sections.{mediant_point, IsKept, IsStretchAdded, IsApartFrom, AreWhereUpTo}
+use Rattle.span_slow.proofs.Fractions.{weaker, no_less, positive_of}
+use Rattle.span_slow.proofs.Order.{clash, three, less_most, most_most, IsNotLater, between_earlier}
+use Rattle.span_slow.proofs.Same.{same_back, same_value, same_between, same_earlier}
+use Rattle.span_slow.proofs.Within.{within_old, within_new, within_cases}
+
+module _ (O : Point → Type 0) {s : Part} (e : Edge s) (P : Point → Type 0) where
+  -- ---- the ends of the edge
+  -- nothing is before 0
+  pub up_to_start : (to : Frac) → to.num ≡ pos 0 → IsApartFrom O e to → AreWhereUpTo O e P to []
+  up_to_start to zero apart = record {
+    ordered = All-nil (λ (x : Interval). IsEarlier x.from x.to);
+    ends = All-nil (λ (x : Interval). HasNoEndAt O e x.from x.to);
+    before = All-nil (λ (x : Interval). IsNotLater x.to to);
+    apart = apart;
+    exactly = λ n m first last less ordinary. absurd (none (n *ℤ to.den) m (mul_nonneg n to.den (weaker first) (weaker to.positive)) (subst (λ v. (n *ℤ to.den) <ℤ (v *ℤ m)) zero less));
+  }
+    where
+      none : (x m : ℤ) → pos 0 ≤ℤ x → x <ℤ (pos 0 *ℤ m) → ⊥
+      none x m h k = omega (arith, ints)
+
+  -- all is before 1
+  pub up_to_finish : (to : Frac) → to.num ≡ to.den → (xs : List Interval) → AreWhereUpTo O e P to xs → AreWhereAt O e P xs
+  up_to_finish to one xs h = record {
+    ordered = h.ordered;
+    ends = h.ends;
+    exactly = λ n m first last. h.exactly n m first last (subst (λ v. (n *ℤ to.den) <ℤ (v *ℤ m)) (sym one) (less n m to.den last to.positive));
+  }
+    where
+      less : (n m l : ℤ) → n <ℤ m → pos 0 <ℤ l → (n *ℤ l) <ℤ (l *ℤ m)
+      less n m l h up = less_by (n *ℤ l) (l *ℤ m) (l *ℤ (m -ℤ n)) (ring (n ∷ m ∷ l ∷ []) ((var 2 ⊗ var 1) ⊖ (var 0 ⊗ var 2)) (var 2 ⊗ (var 1 ⊖ var 0)) refl) (mul_pos l (m -ℤ n) up (gap_of_less n m h))
+
+  -- ---- from one place to the next: if P holds at a place between the two, it holds at all of them
+  module _ (from to : Frac) (later : IsNotLater from to) (apart : IsApartFrom O e to)
+      (alike : IsEarlier from to → (n m : ℤ) → pos 0 <ℤ m → IsBetween from to n m → P (share_point e.a e.b n m) ↔ P (mediant_point e from to))
+      (old : List Interval) (before : AreWhereUpTo O e P from old) where
+    -- n / m is before both, or strictly between them
+    side : (n m : ℤ) → pos 0 <ℤ n → n <ℤ m → O (share_point e.a e.b n m) → (n *ℤ to.den) <ℤ (to.num *ℤ m) → ((n *ℤ from.den) <ℤ (from.num *ℤ m)) ⊎ IsBetween from to n m
+    side n m first last here less = ⊎_elim
+        (λ l. inl l)
+        (λ r. ⊎_elim (λ same. absurd (before.apart n m (positive_of n m first last) (weaker first) (weaker last) same here)) (λ g. inr (g, less)) r)
+        (three (n *ℤ from.den) (from.num *ℤ m))
+
+    not_both : (n m : ℤ) → (n *ℤ from.den) <ℤ (from.num *ℤ m) → IsBetween from to n m → ⊥
+    not_both n m less between = clash (n *ℤ from.den) (from.num *ℤ m) less (weaker between.0)
+
+    old_less : (n m : ℤ) → pos 0 <ℤ m → IsWithinAny old n m → (n *ℤ from.den) <ℤ (from.num *ℤ m)
+    old_less n m up (x, listed, between) = less_most n m x.to.num x.to.den from.num from.den up x.to.positive from.positive between.1 (All-contains (λ (x : Interval). IsNotLater x.to from) old x before.before listed)
+
+    still_before : All (λ x. IsNotLater x.to to) old
+    still_before k d h = let x = get_or old k d in most_most x.to.num x.to.den from.num from.den to.num to.den x.to.positive from.positive to.positive (before.before k d h) later
+
+    none_kept : ¬ IsKept e P from to → AreWhereUpTo O e P to old
+    none_kept not = record {
+      ordered = before.ordered;
+      ends = before.ends;
+      before = still_before;
+      apart = apart;
+      exactly = λ n m first last less here. ⊎_elim (λ l. before.exactly n m first last l here) (λ b.
+          let up = positive_of n m first last in
+          let earlier = between_earlier from to n m up b in (
+            (λ p. absurd (not (earlier, (alike earlier n m up b).0 p))),
+            (λ w. absurd (not_both n m (old_less n m up w) b)),
+          )) (side n m first last here less);
+    }
+
+    one_kept : IsKept e P from to → (x : Interval) → IsSame x.from from → IsSame x.to to → AreWhereUpTo O e P to (old ++ x ∷ [])
+    one_kept kept x same_from same_to = record {
+      ordered = All-push (λ (x : Interval). IsEarlier x.from x.to) old x before.ordered (same_earlier from to x.from x.to back_from back_to kept.0);
+      ends = All-push (λ (x : Interval). HasNoEndAt O e x.from x.to) old x before.ends (
+        before.apart x.from.num x.from.den x.from.positive x.from_place.least x.from_place.most (same_value x.from from x.from.num x.from.den same_from refl),
+        apart x.to.num x.to.den x.to.positive x.to_place.least x.to_place.most at_to,
+      );
+      before = All-push (λ (x : Interval). IsNotLater x.to to) old x still_before (no_less at_to);
+      apart = apart;
+      exactly = λ n m first last less here. ⊎_elim (λ l.
+          let known = before.exactly n m first last l here in (
+            (λ p. within_old old x n m (known.0 p)),
+            (λ w. ⊎_elim (λ h. known.1 h) (λ b. absurd (not_both n m l (same_between x.from x.to from to n m same_from same_to b))) (within_cases old x n m w)),
+          )) (λ b. (
+            (λ p. within_new old x n m (same_between from to x.from x.to n m back_from back_to b)),
+            (λ w. (alike kept.0 n m (positive_of n m first last) b).1 kept.1),
+          )) (side n m first last here less);
+    }
+      where
+        back_from : IsSame from x.from
+        back_from = same_back x.from from same_from
+
+        back_to : IsSame to x.to
+        back_to = same_back x.to to same_to
+
+        at_to : x.to.num *ℤ to.den ≡ to.num *ℤ x.to.den
+        at_to = same_value x.to to x.to.num x.to.den same_to refl
+
+    pub up_to_next : (new : List Interval) → IsStretchAdded e P from to old new → AreWhereUpTo O e P to new
+    up_to_next new added = ⊎_elim
+        (λ h. subst (λ xs. AreWhereUpTo O e P to xs) (sym h.1.3) (one_kept h.0 h.1.0 h.1.1 h.1.2))
+        (λ h. subst (λ xs. AreWhereUpTo O e P to xs) (sym h.1) (none_kept h.0)) added
