@@ -1,6 +1,11 @@
 pub mod Blocks
+pub mod BorderStrips
+pub mod BorderWays
 pub mod Chains
+pub mod CutPlaces
+pub mod CutRight
 pub mod Drawings
+pub mod EdgeStrips
 pub mod FileNames
 pub mod Keeping
 pub mod MadeFiles
@@ -9,8 +14,10 @@ pub mod PlotFiles
 pub mod SheetFacts
 pub mod SpanPlaces
 pub mod SpanSums
+pub mod StepLines
 pub mod StripLists
 pub mod StripPlaces
+pub mod StripScenes
 pub mod StrokeLists
 pub mod Unmet
 pub mod ViewRight

@@ -1,15 +1,15 @@
 -- The files of the plotters that were chosen are those that the job's outputs name.
-use Rattle.std.proofs.Common.{◌≡◌, ℕ, ℤ, List, [], ◌∷◌, map, Option, Some, None, option_map, Bool, true, false, cond, refl, sym, ap, ◌∙◌}
+use Rattle.std.proofs.Common.{◌≡◌, ℕ, ℤ, List, [], ◌∷◌, map, Option, Some, option_map, Bool, true, false, cond, refl, sym, ap, ◌∙◌}
 use Rattle.std.specs.List.{find}
 use Rattle.std.specs.Str.{bytes_eq}
 use Rattle.std.proofs.lemmas.Slice.Eq.{bytes_eq-Decides}
 use Rattle.plot_rack.specs.Choices.{first_with, AreChosen}
-use Rattle.plot_rack.specs.Plotters.{Plot, drawn, text_of, AreDrawn}
+use Rattle.plot_rack.specs.Plotters.{Plot, drawn, AreDrawn}
 use Rattle.sheet_plan.specs.declared.sheet.Sheet.{Sheet}
 use Rattle.sheet_plan.specs.declared.sheet.Stroke.{Stroke}
 use Rattle.draw_core.specs.Drawing.{paper_of, plot_file}
 use Rattle.draw_core.specs.Made.{file_of_plot}
-use Rattle.draw_core.specs.Outputs.{File, plot_name}
+use Rattle.draw_core.specs.Outputs.{plot_name}
 use Rattle.draw_core.proofs.Unmet.{find_map}
 
 cond_passes : {B : Type 0} (p : B → Bool) (b : Bool) (y x : B) (rest : Option B) → p y ≡ b → cond b (Some y) rest ≡ Some x → (rest ≡ Some x → p x ≡ true) → p x ≡ true

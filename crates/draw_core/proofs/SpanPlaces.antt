@@ -1,20 +1,21 @@
--- An ordinary point of an edge is strictly within one of its spans.
-use Rattle.std.proofs.Common.{◌≡◌, zero, suc, List, [], ◌∷◌, Contains, refl, sym, subst, ◌∙◌, arith}
+-- A point of an edge that is at no end of its spans is strictly within one of them. What points are at no end is what a view takes for ordinary.
+use Rattle.std.proofs.Common.{◌≡◌, zero, suc, List, [], ◌∷◌, Contains, All, get_or, refl, sym, subst, ◌∙◌, arith}
 use Rattle.std.specs.Prelude.{ℤ, pos, ◌-ℤ◌, ◌*ℤ◌, ◌<ℤ◌, ◌≤ℤ◌}
 use Rattle.std.proofs.lemmas.Int.{ints, by_lt_z}
-use Rattle.std.proofs.lemmas.List.Elements.{All-contains}
+use Rattle.std.proofs.lemmas.List.Elements.{Contains-get_or}
 use Rattle.integers.proofs.Ring.{var, ◌⊖◌, ◌⊗◌, ring}
 use Rattle.integers.proofs.Signs.{mul_nonneg}
 use Rattle.exact_frac.specs.declared.Frac.{Frac}
 use Rattle.lattice.specs.Triple.{Triple}
+use Rattle.lattice.specs.Points.{Point, IsPoint, OnOneSight}
 use Rattle.geometry.specs.Faces.{share_point}
 use Rattle.geometry.specs.Parts.{Part, Edge}
-use Rattle.geometry.specs.Views.{IsOrdinary}
 use Rattle.line_merge.proofs.Lists.{contains_rest, contains_first}
 use Rattle.span_slow.specs.declared.span.Span.{Span}
-use Rattle.span_slow.specs.Places.{point_at, IsEarlier, IsBetween}
-use Rattle.span_slow.specs.Spans.{Follow, CoverEdge, HasNoOrdinaryEnd, AreSpans}
-use Rattle.geometry.proofs.Sights.{ordinary_along}
+use Rattle.span_slow.specs.Places.{IsPlace, point_at, IsEarlier, IsBetween}
+use Rattle.span_slow.specs.Spans.{Follow, CoverEdge, HasNoEndAt}
+use Rattle.span_slow.proofs.Order.{less_less, less_most, between_inner}
+use Rattle.span_slow.proofs.Same.{same_between, same_earlier}
 use Rattle.geometry.proofs.Shares.{one_place}
 
 -- ---- orders
@@ -36,13 +37,51 @@ earlier_in from to [] h x (k, within, is) = absurd (omega arith)
 earlier_in from to (y ∷ ys) (same, earlier, later) x (zero, within, is) = subst (λ (z : Span). IsEarlier z.from z.to) is earlier
 earlier_in from to (y ∷ ys) (same, earlier, later) x (suc k, within, is) = earlier_in y.to to ys later x (k, omega arith, is)
 
--- ---- from a place to its span
-module _ (d : Triple) {s : Part} (e : Edge s) (n m : ℤ) (positive : pos 0 <ℤ m) (ordinary : IsOrdinary d s (share_point e.a e.b n m)) where
-  -- an ordinary point is at no end
-  pub not_at : (r : Frac) → ¬ IsOrdinary d s (point_at e r) → r.num *ℤ m ≡ n *ℤ r.den → ⊥
-  not_at r apart same = apart (ordinary_along d s (share_point e.a e.b n m) (point_at e r) r.positive (one_place d e.a e.b r.num r.den n m same) ordinary)
+pub all_earlier : (from to : Frac) (spans : List Span) → Follow from spans to → All (λ x. IsEarlier x.from x.to) spans
+all_earlier from to spans follow k x within = earlier_in from to spans follow (get_or spans k x) (Contains-get_or spans k x within)
 
-  find : (from to : Frac) (spans : List Span) → Follow from spans to → ((x : Span) → Contains spans x → HasNoOrdinaryEnd d e x.from x.to)
+-- and is within the chain
+module _ (n m : ℤ) (positive : pos 0 <ℤ m) where
+  before_chain : (from to : Frac) (spans : List Span) → Follow from spans to → (n *ℤ from.den) <ℤ (from.num *ℤ m) → (n *ℤ to.den) <ℤ (to.num *ℤ m)
+  before_chain from to [] same before = subst (λ (k : ℤ). (n *ℤ to.den) <ℤ (k *ℤ m)) same.0 (subst (λ (k : ℤ). (n *ℤ k) <ℤ (from.num *ℤ m)) same.1 before)
+  before_chain from to (x ∷ xs) (same, earlier, later) before =
+      before_chain x.to to xs later
+      (less_less n m from.num from.den x.to.num x.to.den positive from.positive x.to.positive before (same_earlier x.from x.to from x.to same (refl, refl) earlier))
+
+  pub between_chain : (from to : Frac) (spans : List Span) → Follow from spans to → (x : Span) → Contains spans x → IsBetween x.from x.to n m → IsBetween from to n m
+  between_chain from to [] h x (k, within, is) between = absurd (omega arith)
+  between_chain from to (y ∷ ys) (same, earlier, later) x (zero, within, is) between =
+      let here = same_between y.from y.to from y.to n m same (refl, refl) (subst (λ (z : Span). IsBetween z.from z.to n m) (sym is) between) in
+      (here.0, before_chain y.to to ys later here.1)
+  between_chain from to (y ∷ ys) (same, earlier, later) x (suc k, within, is) between =
+      let there = between_chain y.to to ys later x (k, omega arith, is) between in
+      (less_less from.num from.den y.to.num y.to.den n m from.positive y.to.positive positive (same_earlier y.from y.to from y.to same (refl, refl) earlier) there.0, there.1)
+
+-- strictly between two places of an edge is within the edge
+pub inner_of_between : (from to : Frac) (n m : ℤ) → pos 0 <ℤ m → IsPlace from → IsPlace to → IsBetween from to n m → (pos 0 <ℤ n) × (n <ℤ m)
+inner_of_between from to n m positive first second between =
+    (between_inner from to n m positive between first.least, below_one n m to.num to.den positive to.positive second.most between.1)
+  where
+    weak_once : (f g : ℤ) → f ≤ℤ g → (f *ℤ pos 1) ≤ℤ (pos 1 *ℤ g)
+    weak_once f g h = omega (arith, ints)
+
+    below : (n m : ℤ) → (n *ℤ pos 1) <ℤ (pos 1 *ℤ m) → n <ℤ m
+    below n m h = omega (arith, ints)
+
+    below_one : (n m f g : ℤ) → pos 0 <ℤ m → pos 0 <ℤ g → f ≤ℤ g → (n *ℤ g) <ℤ (f *ℤ m) → n <ℤ m
+    below_one n m f g up g_up most h = below n m (less_most n m f g (pos 1) (pos 1) up g_up (omega (arith, ints)) h (weak_once f g most))
+
+-- ---- from a place to its span
+-- what is so of a point is so along its line of sight
+abbrev pub StaysAlong : Triple → (Point → Type 0) → Type 0
+StaysAlong d O = (p q : Point) → IsPoint q → OnOneSight d q p → O p → O q
+
+module _ (d : Triple) (O : Point → Type 0) (along : StaysAlong d O) {s : Part} (e : Edge s) (n m : ℤ) (positive : pos 0 <ℤ m) (ordinary : O (share_point e.a e.b n m)) where
+  -- an ordinary point is at no end
+  pub not_at : (r : Frac) → ¬ O (point_at e r) → r.num *ℤ m ≡ n *ℤ r.den → ⊥
+  not_at r apart same = apart (along (share_point e.a e.b n m) (point_at e r) r.positive (one_place d e.a e.b r.num r.den n m same) ordinary)
+
+  pub find : (from to : Frac) (spans : List Span) → Follow from spans to → ((x : Span) → Contains spans x → HasNoEndAt O e x.from x.to)
       → (from.num *ℤ m) <ℤ (n *ℤ from.den) → (n *ℤ to.den) ≤ℤ (to.num *ℤ m) → (x : Span) × Contains spans x × IsBetween x.from x.to n m
   find from to [] same apart after before =
       absurd (not_less (from.num *ℤ m) (n *ℤ from.den) after
@@ -77,13 +116,14 @@ module _ (d : Triple) {s : Part} (e : Edge s) (n m : ℤ) (positive : pos 0 <ℤ
       none : f *ℤ m ≡ pos 0
       none = (λ i. zero_is i *ℤ m) ∙ times_zero m
 
-  pub span_of_place : pos 0 ≤ℤ n → n ≤ℤ m → (spans : List Span) → AreSpans d e spans → (x : Span) × Contains spans x × IsBetween x.from x.to n m
-  span_of_place least most spans right = go spans right.covers (λ x c. All-contains (λ x. HasNoOrdinaryEnd d e x.from x.to) spans x right.ends c)
+  -- in spans of the whole edge
+  pub span_of_place : pos 0 ≤ℤ n → n ≤ℤ m → (spans : List Span) → CoverEdge spans → ((x : Span) → Contains spans x → HasNoEndAt O e x.from x.to) → (x : Span) × Contains spans x × IsBetween x.from x.to n m
+  span_of_place least most = go
     where
       no_length : (k : ℤ) → pos 0 <ℤ k → k ≡ pos 0 → ⊥
       no_length k h e = omega (arith, ints)
 
-      go : (spans : List Span) → CoverEdge spans → ((x : Span) → Contains spans x → HasNoOrdinaryEnd d e x.from x.to) → (x : Span) × Contains spans x × IsBetween x.from x.to n m
+      go : (spans : List Span) → CoverEdge spans → ((x : Span) → Contains spans x → HasNoEndAt O e x.from x.to) → (x : Span) × Contains spans x × IsBetween x.from x.to n m
       go [] (from, to, zero_is, one_is, same) apart = absurd (no_length to.den to.positive (sym one_is ∙ sym same.0 ∙ zero_is))
       go (x ∷ xs) (from, to, zero_is, one_is, follow) apart =
           by_lt_z (from.num *ℤ m) (n *ℤ from.den)

@@ -6,16 +6,15 @@ use Rattle.integers.proofs.Ring.{var, ◌⊕◌, ◌⊖◌, ◌⊗◌, ring}
 use Rattle.integers.proofs.Signs.{mul_nonneg}
 use Rattle.integers.proofs.Weighted.{after_first, before_second, at_first, at_second, sum_pos, weights_between}
 use Rattle.lattice.specs.Triple.{Triple}
-use Rattle.lattice.specs.Points.{Point, IsPoint, OnOneSight}
+use Rattle.lattice.specs.Points.{Point, OnOneSight}
 use Rattle.geometry.specs.Faces.{share_point}
 use Rattle.geometry.specs.Parts.{Part, Edge}
-use Rattle.geometry.specs.Views.{IsOrdinary}
 use Rattle.span_slow.specs.declared.span.Span.{Span}
 use Rattle.span_slow.specs.Places.{IsEarlier, IsBetween}
-use Rattle.span_slow.specs.Spans.{HasNoOrdinaryEnd}
-use Rattle.geometry.proofs.Sights.{sight_on, ordinary_along}
+use Rattle.span_slow.specs.Spans.{HasNoEndAt}
+use Rattle.geometry.proofs.Sights.{sight_on}
 use Rattle.geometry.proofs.Shares.{one_place}
-use Rattle.draw_core.proofs.SpanPlaces.{at_most_by, not_at}
+use Rattle.draw_core.proofs.SpanPlaces.{at_most_by, StaysAlong, not_at}
 
 -- on one line of sight with a sum of the span's two ends
 abbrev pub LiesWithin : Triple → {s : Part} → Edge s → Span → Point → Type 0
@@ -62,18 +61,18 @@ module _ (d : Triple) {s : Part} (e : Edge s) (x : Span) (p : Point) where
   m_of i j = (pos i *ℤ x.from.den) +ℤ (pos j *ℤ x.to.den)
 
   -- a sum of the ends that is seen at an ordinary point is a place within the span
-  pub place_of_sum : IsEarlier x.from x.to → HasNoOrdinaryEnd d e x.from x.to → IsPoint p → IsOrdinary d s p → LiesWithin d e x p → HasPlace d e x p
-  place_of_sum earlier apart positive ordinary (i, j, some, sight) = go i j (sum_pos x.from.den x.to.den i j x.from.positive x.to.positive some) sight
+  pub place_of_sum : (O : Point → Type 0) → StaysAlong d O → IsEarlier x.from x.to → HasNoEndAt O e x.from x.to → O p → LiesWithin d e x p → HasPlace d e x p
+  place_of_sum O stays earlier apart ordinary (i, j, some, sight) = go i j (sum_pos x.from.den x.to.den i j x.from.positive x.to.positive some) sight
     where
-      along : (n m : ℤ) → pos 0 <ℤ m → OnOneSight d (share_point e.a e.b n m) p → IsOrdinary d s (share_point e.a e.b n m)
-      along n m h sight = ordinary_along d s p (share_point e.a e.b n m) h sight ordinary
+      along : (n m : ℤ) → pos 0 <ℤ m → OnOneSight d (share_point e.a e.b n m) p → O (share_point e.a e.b n m)
+      along n m h sight = stays p (share_point e.a e.b n m) h sight ordinary
 
       go : (i j : ℕ) → pos 0 <ℤ m_of i j → OnOneSight d (share_point e.a e.b (n_of i j) (m_of i j)) p → HasPlace d e x p
       go zero j h sight =
-          absurd (not_at d e (n_of zero j) (m_of zero j) h (along (n_of zero j) (m_of zero j) h sight) x.to apart.1
+          absurd (not_at d O stays e (n_of zero j) (m_of zero j) h (along (n_of zero j) (m_of zero j) h sight) x.to apart.1
           (at_second x.from.num x.from.den x.to.num x.to.den (pos j)))
       go (suc i) zero h sight =
-          absurd (not_at d e (n_of (suc i) zero) (m_of (suc i) zero) h (along (n_of (suc i) zero) (m_of (suc i) zero) h sight) x.from apart.0
+          absurd (not_at d O stays e (n_of (suc i) zero) (m_of (suc i) zero) h (along (n_of (suc i) zero) (m_of (suc i) zero) h sight) x.from apart.0
           (at_first x.from.num x.from.den x.to.num x.to.den (pos (suc i))))
       go (suc i) (suc j) h sight = record {
         n = n_of (suc i) (suc j);

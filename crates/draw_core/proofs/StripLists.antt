@@ -5,19 +5,20 @@ use Rattle.lattice.specs.declared.pieces.Strip.{Strip}
 use Rattle.lattice.specs.Triple.{Triple}
 use Rattle.geometry.specs.Parts.{Part, Edge, IsNumbered}
 use Rattle.line_merge.proofs.Lists.{contains_rest, contains_first}
+use Rattle.span_slow.specs.declared.span.Span.{Span}
 use Rattle.draw_core.specs.Strips.{AreStripsOf, AreEdgeStrips}
 
-module _ (d : Triple) (s : Part) (halves : List ℕ) where
+module _ (d : Triple) {s : Part} (Right : Edge s → List Span → Type 0) (halves : List ℕ) where
   -- these are the strips of the edge with the number i
   abbrev pub AreOf : ℕ → List Strip → Type 0
-  AreOf i strips = (e : Edge s) → IsNumbered halves i e → AreStripsOf d e strips
+  AreOf i strips = (e : Edge s) → IsNumbered halves i e → AreStripsOf d Right e strips
 
-  pub edge_more : (numbers : List ℕ) (strips : List Strip) (i : ℕ) (more : List Strip) → AreEdgeStrips d s halves numbers strips → AreOf i more → AreEdgeStrips d s halves (numbers ++ i ∷ []) (strips ++ more)
+  pub edge_more : (numbers : List ℕ) (strips : List Strip) (i : ℕ) (more : List Strip) → AreEdgeStrips d Right halves numbers strips → AreOf i more → AreEdgeStrips d Right halves (numbers ++ i ∷ []) (strips ++ more)
   edge_more [] strips i more h of_i = (more, [], ap (λ ys. ys ++ more) h ∙ sym (append-nil more), of_i, refl)
   edge_more (k ∷ ks) strips i more (here, rest, parted, of_k, later) of_i =
       (here, rest ++ more, ap (λ ys. ys ++ more) parted ∙ append_assoc here rest more, of_k, edge_more ks rest i more later of_i)
 
-  pub edge_of_strip : (numbers : List ℕ) (strips : List Strip) → AreEdgeStrips d s halves numbers strips → (y : Strip) → Contains strips y
+  pub edge_of_strip : (numbers : List ℕ) (strips : List Strip) → AreEdgeStrips d Right halves numbers strips → (y : Strip) → Contains strips y
       → (i : ℕ) × (here : List Strip) × Contains numbers i × Contains here y × AreOf i here
   edge_of_strip [] strips h y c = absurd (let none : Contains [] y = subst (λ ys. Contains ys y) h c in omega (arith, none.1))
   edge_of_strip (k ∷ ks) strips (here, rest, parted, of_k, later) y c = by (edge_of_strip ks rest later y) (Contains-append_cases here rest y (subst (λ ys. Contains ys y) parted c))
@@ -29,7 +30,7 @@ module _ (d : Triple) (s : Part) (halves : List ℕ) where
       by in_later (inl c) = (k, here, contains_first ks k, c, of_k)
       by in_later (inr c) = let (i, group, n, in_group, of_i) = in_later c in (i, group, contains_rest k ks i n, in_group, of_i)
 
-  pub strips_of_edge : (numbers : List ℕ) (strips : List Strip) → AreEdgeStrips d s halves numbers strips → (i : ℕ) → Contains numbers i
+  pub strips_of_edge : (numbers : List ℕ) (strips : List Strip) → AreEdgeStrips d Right halves numbers strips → (i : ℕ) → Contains numbers i
       → (here : List Strip) × ((y : Strip) → Contains here y → Contains strips y) × AreOf i here
   strips_of_edge [] strips h i (n, within, is) = absurd (omega arith)
   strips_of_edge (k ∷ ks) strips (here, rest, parted, of_k, later) i (zero, within, is) =

@@ -8,15 +8,15 @@ use Rattle.lattice.specs.Triple.{Triple}
 use Rattle.lattice.specs.Points.{Point, of_spot, OnOneSight}
 use Rattle.lattice.specs.Lines.{IsOnLine, AreStripEnds}
 use Rattle.geometry.specs.Parts.{Part, Edge}
-use Rattle.geometry.specs.Views.{IsEndOn, IsOrdinary}
+use Rattle.geometry.specs.Views.{IsEndOn}
 use Rattle.geometry.proofs.EdgeLines.{share_on_line}
 use Rattle.geometry.proofs.Shares.{end_on, sum_is}
-use Rattle.geometry.proofs.Sights.{ordinary_along}
 use Rattle.line_merge.specs.Merging.{LiesOnStrip}
 use Rattle.span_slow.specs.declared.span.Span.{Span}
 use Rattle.span_slow.specs.Places.{point_at, IsEarlier}
-use Rattle.span_slow.specs.Spans.{HasNoOrdinaryEnd}
+use Rattle.span_slow.specs.Spans.{HasNoEndAt}
 use Rattle.draw_core.specs.Strips.{IsEdgeLine, IsStripOf}
+use Rattle.draw_core.proofs.SpanPlaces.{StaysAlong}
 use Rattle.draw_core.proofs.SpanSums.{LiesWithin}
 
 -- the spots at a span's ends are on the line of the edge, and not at one place
@@ -34,11 +34,11 @@ span_ends d e x l a b on from to earlier seen = record {
 
 module _ (d : Triple) {s : Part} (e : Edge s) (x : Span) (y : Strip) (is : IsStripOf d e x y) (p : Point) where
   -- an ordinary point is at neither end
-  pub off_ends : HasNoOrdinaryEnd d e x.from x.to → IsOrdinary d s p → (¬ OnOneSight d (of_spot y.a) p) × (¬ OnOneSight d (of_spot y.b) p)
-  off_ends apart ordinary = (λ h. apart.0 (at x.from y.a is.from h), λ h. apart.1 (at x.to y.b is.to h))
+  pub off_ends : (O : Point → Type 0) → StaysAlong d O → HasNoEndAt O e x.from x.to → O p → (¬ OnOneSight d (of_spot y.a) p) × (¬ OnOneSight d (of_spot y.b) p)
+  off_ends O stays apart ordinary = (λ h. apart.0 (at x.from y.a is.from h), λ h. apart.1 (at x.to y.b is.to h))
     where
-      at : (r : Frac) (q : Spot) → of_spot q ≡ point_at e r → OnOneSight d (of_spot q) p → IsOrdinary d s (point_at e r)
-      at r q q_is h = ordinary_along d s p (point_at e r) r.positive (subst (λ (z : Point). OnOneSight d z p) q_is h) ordinary
+      at : (r : Frac) (q : Spot) → of_spot q ≡ point_at e r → OnOneSight d (of_spot q) p → O (point_at e r)
+      at r q q_is h = stays p (point_at e r) r.positive (subst (λ (z : Point). OnOneSight d z p) q_is h) ordinary
 
   -- what lies on the strip lies within the span, and the other way round
   pub within_of_strip : LiesOnStrip d y p → LiesWithin d e x p

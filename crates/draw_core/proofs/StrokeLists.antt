@@ -3,12 +3,13 @@ use Rattle.std.proofs.Common.{◌≡◌, ◌⊎◌, inl, inr, ℕ, suc, ◌+◌,
 use Rattle.std.specs.List.{All, AllZip}
 use Rattle.std.proofs.lemmas.List.Elements.{All-nil, All-cons, All-append, All-same}
 use Rattle.std.proofs.lemmas.Option.{slice_get_within, slice_get_cases}
+use Rattle.lattice.specs.declared.pieces.HatchLine.{HatchLine}
 use Rattle.lattice.specs.declared.pieces.Piece.{Piece}
 use Rattle.sheet_plan.specs.declared.sheet.Sheet.{Sheet}
 use Rattle.sheet_plan.specs.declared.sheet.Spread.{Spread}
 use Rattle.sheet_plan.specs.declared.sheet.Stroke.{Stroke}
 use Rattle.sheet_plan.specs.Sheets.{IsPlaceOf}
-use Rattle.draw_core.specs.Strokes.{IsStrokeOn, AreStrokesFrom}
+use Rattle.draw_core.specs.Strokes.{IsStrokeOn, IsHatchStrokeOn, AreStrokesOf, AreStrokesFrom}
 use Rattle.draw_core.specs.declared.drawing.ViewDrawing.{ViewDrawing}
 
 module _ (sheet : Sheet) where
@@ -21,14 +22,10 @@ module _ (sheet : Sheet) where
       by_cases (inl (x, less, at, is)) = (x, at)
       by_cases (inr (beyond, none)) = absurd (omega arith)
 
-  -- the strokes of the view with the number m
-  abbrev pub AreOfView : ℕ → ViewDrawing → List Stroke → Type 0
-  AreOfView m view strokes = AllZip (IsStrokeOn sheet m) view.pieces.items strokes
-
   pub view_more : (n m : ℕ) (views : List ViewDrawing) (strokes : List Stroke) (view : ViewDrawing) (more : List Stroke) → m ≡ n + length views
-      → AreStrokesFrom sheet n views strokes → AreOfView m view more → AreStrokesFrom sheet n (views ++ view ∷ []) (strokes ++ more)
+      → AreStrokesFrom sheet n views strokes → AreStrokesOf sheet m view more → AreStrokesFrom sheet n (views ++ view ∷ []) (strokes ++ more)
   view_more n m [] strokes view more at h zip =
-      (more, [], ap (λ ys. ys ++ more) h ∙ sym (append-nil more), subst (λ k. AreOfView k view more) (let e : m ≡ n = omega (arith, at) in e) zip, refl)
+      (more, [], ap (λ ys. ys ++ more) h ∙ sym (append-nil more), subst (λ k. AreStrokesOf sheet k view more) (let e : m ≡ n = omega (arith, at) in e) zip, refl)
   view_more n m (w ∷ views) strokes view more at (here, rest, parted, of_w, later) zip =
       (here, rest ++ more, ap (λ ys. ys ++ more) parted ∙ append_assoc here rest more, of_w, view_more (suc n) m views rest view more (omega (arith, at)) later zip)
 
@@ -36,14 +33,26 @@ module _ (sheet : Sheet) where
   abbrev pub HasPlace : Stroke → Type 0
   HasPlace s = s.view < length sheet.places.items
 
-  view_in_place : (n : ℕ) (pieces : List Piece) (strokes : List Stroke) → AllZip (IsStrokeOn sheet n) pieces strokes → All HasPlace strokes
-  view_in_place n [] [] h = All-nil HasPlace
-  view_in_place n [] (y ∷ ys) h = absurd h
-  view_in_place n (x ∷ xs) [] h = absurd h
-  view_in_place n (x ∷ xs) (y ∷ ys) ((place, at, drawn), more) =
-      All-cons HasPlace y ys (let within = slice_get_within sheet.places.items n place at in omega (arith, drawn.view_is, within)) (view_in_place n xs ys more)
+  drawn_in_place : (n : ℕ) {X : Type 0} (R : X → Stroke → Type 0) → ((x : X) (y : Stroke) → R x y → HasPlace y) → (xs : List X) (strokes : List Stroke) → AllZip R xs strokes → All HasPlace strokes
+  drawn_in_place n R there [] [] h = All-nil HasPlace
+  drawn_in_place n R there [] (y ∷ ys) h = absurd h
+  drawn_in_place n R there (x ∷ xs) [] h = absurd h
+  drawn_in_place n R there (x ∷ xs) (y ∷ ys) (drawn, more) = All-cons HasPlace y ys (there x y drawn) (drawn_in_place n R there xs ys more)
+
+  piece_in_place : (n : ℕ) (x : Piece) (y : Stroke) → IsStrokeOn sheet n x y → HasPlace y
+  piece_in_place n x y (place, at, drawn) = let within = slice_get_within sheet.places.items n place at in omega (arith, drawn.view_is, within)
+
+  hatch_in_place : (n : ℕ) (x : HatchLine) (y : Stroke) → IsHatchStrokeOn sheet n x y → HasPlace y
+  hatch_in_place n x y (place, at, drawn) = let within = slice_get_within sheet.places.items n place at in omega (arith, drawn.view_is, within)
+
+  view_in_place : (n : ℕ) (view : ViewDrawing) (strokes : List Stroke) → AreStrokesOf sheet n view strokes → All HasPlace strokes
+  view_in_place n view strokes are =
+      All-same HasPlace strokes (are.of_pieces ++ are.of_hatches) are.together
+      (All-append HasPlace are.of_pieces are.of_hatches
+      (drawn_in_place n (IsStrokeOn sheet n) (piece_in_place n) view.pieces.items are.of_pieces are.pieces)
+      (drawn_in_place n (IsHatchStrokeOn sheet n) (hatch_in_place n) view.hatches.items are.of_hatches are.hatches))
 
   pub all_in_place : (n : ℕ) (views : List ViewDrawing) (strokes : List Stroke) → AreStrokesFrom sheet n views strokes → All HasPlace strokes
   all_in_place n [] strokes h = All-same HasPlace strokes [] h (All-nil HasPlace)
   all_in_place n (w ∷ views) strokes (here, rest, parted, of_w, later) =
-      All-same HasPlace strokes (here ++ rest) parted (All-append HasPlace here rest (view_in_place n w.pieces.items here of_w) (all_in_place (suc n) views rest later))
+      All-same HasPlace strokes (here ++ rest) parted (All-append HasPlace here rest (view_in_place n w here of_w) (all_in_place (suc n) views rest later))

@@ -1,6 +1,6 @@
 -- Which outputs of a job have plotters.
 use Rattle.std.proofs.Common.{◌≡◌, ◌≢◌, ◌<◌, ℕ, zero, suc, List, [], ◌∷◌, length, map, Option, Some, None, option_map, Bool, true, false, cond, refl, sym, ap, ◌∙◌, subst, arith, ◌⊎◌, inl, inr}
-use Rattle.std.specs.Prelude.{slice_get, is_some, IsSome, IsTrue, IfSome, ◌&&◌, ◌||◌, not, if◌then◌else◌, nat_le}
+use Rattle.std.specs.Prelude.{slice_get, is_some, IsTrue, ◌&&◌, ◌||◌, not, if◌then◌else◌, nat_le}
 use Rattle.std.specs.List.{AllPairs, find, list_any, list_all, slice_index_or}
 use Rattle.std.specs.Str.{bytes_eq}
 use Rattle.std.proofs.lemmas.Option.{slice_get_within}
@@ -9,7 +9,7 @@ use Rattle.job_file.specs.Documents.{JobValues}
 use Rattle.job_file.specs.Texts.{are_different, are_outputs, is_output}
 use Rattle.plot_rack.specs.Choices.{first_with, AreChosen, IsFirstMissing}
 use Rattle.draw_core.specs.Outputs.{first_unmet}
-use Rattle.draw_core.specs.Run.{HasPlotters, Refuses, IsOfOutputs, IsOfUsualJob, IsOfNamedJob, IsOfJob}
+use Rattle.draw_core.specs.Run.{HasPlotters, Refuses, IsOfOutputs, IsOfUsualJob, IsOfJob}
 use Rattle.draw_core.specs.declared.fault.Fault.{Fault}
 use Rattle.draw_core.specs.declared.fault.Fault.TheVariants.{Usage, ReadFault, JobTooLong, Job as JobUnread, NoPlotter, PartTooLong, Part as PartUnread, Nothing, Mesh, DoesNotFit, WriteFault, Memory}
 

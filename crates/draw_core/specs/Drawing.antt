@@ -2,8 +2,17 @@
 use Rattle.std.specs.Prelude.{◌≡◌, ℕ, ℤ, List, [], ◌∷◌, map, Option, Some, None, IsSomeAnd}
 use Rattle.std.specs.List.{AllZip}
 use Rattle.lattice.specs.Creases.{fraction_of}
+use Rattle.lattice.specs.Cuts.{plane_of}
+use Rattle.lattice.specs.Points.{of_dir}
 use Rattle.lattice.specs.declared.pieces.Crease.{Crease}
+use Rattle.lattice.specs.declared.pieces.HatchLine.{HatchLine}
+use Rattle.lattice.specs.declared.pieces.Piece.{Piece}
+use Rattle.lattice.specs.declared.pieces.ViewSpec.{ViewSpec}
+use Rattle.lattice.specs.declared.pieces.ViewSpec.TheVariants.{Plain, Section}
+use Rattle.geometry.specs.Parts.{Part}
 use Rattle.geometry.specs.Pieces.{AreRight, AreInOrder}
+use Rattle.geometry.specs.Scenes.{AreRightInCut}
+use Rattle.hatch_fill.specs.Hatching.{IsHatching}
 use Rattle.desk.specs.Files.{Files}
 use Rattle.draw_words.specs.Names.{Named}
 use Rattle.job_file.specs.Seen.{direction_seen, job_seen}
@@ -14,6 +23,7 @@ use Rattle.plot_rack.specs.Choices.{first_with}
 use Rattle.plot_rack.specs.Plotters.{Plot}
 use Rattle.sheet_plan.specs.declared.sheet.Sheet.{Sheet}
 use Rattle.sheet_plan.specs.declared.sheet.Stroke.{Stroke}
+use Rattle.sheet_plan.specs.Sheets.{spacing_of}
 use Rattle.svg_page.specs.Svg.{svg_of}
 use Rattle.draw_core.specs.Outputs.{File, plot_name, LeavesAll}
 use Rattle.draw_core.specs.Run.{Drawn}
@@ -23,15 +33,30 @@ use Rattle.draw_core.specs.declared.drawing.Drawing.{Drawing}
 use Rattle.draw_core.specs.declared.drawing.ViewDrawing.{ViewDrawing}
 use Rattle.draw_core.specs.declared.fault.Fault.{Fault}
 
--- the view shows the solid as the job's view asks for it: its pieces are right for its direction and the crease, and in order
-pub record ShowsView (solid : Solid) (crease : Crease) (asked : JobView) (view : ViewDrawing) : Type 0 where
+-- the pieces are right for what the view shows: the whole part, or what a cut leaves of it
+abbrev pub IsRightView : ViewSpec → ℕ → Part → List Piece → Type 0
+IsRightView (Plain d) fraction s pieces = AreRight (of_dir d) fraction s pieces
+IsRightView (Section c) fraction s pieces = AreRightInCut (plane_of c) fraction s pieces
+
+-- the hatch lines of what the view shows: those that fill the section of a cut, and none of the whole part
+abbrev pub IsHatchedView : ViewSpec → ℕ → Part → List HatchLine → Type 0
+IsHatchedView (Plain d) spacing s lines = lines ≡ []
+IsHatchedView (Section c) spacing s lines = IsHatching (plane_of c) s spacing lines
+
+-- the view shows the solid as the job's view asks for it: its pieces are right for it and the crease, and in order, and its hatch lines are so many units apart
+pub record ShowsView (solid : Solid) (crease : Crease) (spacing : ℕ) (asked : JobView) (view : ViewDrawing) : Type 0 where
   pub spec : view.spec ≡ asked.spec
-  pub right : AreRight (direction_seen asked.spec) (fraction_of crease) (solid_part solid) view.pieces.items
+  pub right : IsRightView asked.spec (fraction_of crease) (solid_part solid) view.pieces.items
   pub order : AreInOrder (direction_seen asked.spec) view.pieces.items
+  pub hatched : IsHatchedView asked.spec spacing (solid_part solid) view.hatches.items
+
+-- how far the hatch lines of a sheet are apart
+abbrev pub spacing_on : Sheet → ℕ
+spacing_on sheet = spacing_of sheet.scale.num sheet.scale.den sheet.decimals
 
 -- each view of the job is there, in their order, and the sheet is the job's for the solid
 pub record IsDrawing (d : Drawing) : Type 0 where
-  pub views : AllZip (ShowsView d.solid d.job.crease) d.job.views.items d.views.items
+  pub views : AllZip (ShowsView d.solid d.job.crease (spacing_on d.sheet)) d.job.views.items d.views.items
   pub sheet : IsSheetOf d.job (solid_part d.solid).corners d.sheet
 
 -- what it draws

@@ -3,7 +3,7 @@ use Rattle.std.specs.Prelude.{ℕ, ℤ, List, map, Option, Some, None, if◌then
 use Rattle.std.specs.Fmt.{decimal, signed_decimal}
 use Rattle.desk.specs.Files.{AppendsFront}
 use Rattle.job_file.specs.declared.fault.JobFault.{JobFault}
-use Rattle.job_file.specs.declared.fault.JobFault.TheVariants.{NotToml, Version, UnknownKey, Wrong, TooManyViews, ZeroDirection, DirectionRange}
+use Rattle.job_file.specs.declared.fault.JobFault.TheVariants.{NotToml, Version, UnknownKey, Wrong, TooManyViews, ZeroDirection, DirectionRange, CutRange}
 use Rattle.job_file.specs.declared.fault.Key.{Key}
 use Rattle.job_file.specs.declared.fault.Key.TheVariants as key
 use Rattle.lattice.specs.declared.points.Axis.{Axis}
@@ -61,6 +61,7 @@ job_line (Wrong key) = codes "draw: job: wrong " ⊕ key_text key ⊕ codes "\n"
 job_line TooManyViews = codes "draw: job: more than 12 views\n"
 job_line (ZeroDirection v) = codes "draw: job: view " ⊕ decimal v ⊕ codes ": zero direction\n"
 job_line (DirectionRange v axis) = codes "draw: job: view " ⊕ decimal v ⊕ codes ": direction " ⊕ axis_text axis ⊕ codes " outside -9 to 9\n"
+job_line (CutRange v) = codes "draw: job: view " ⊕ decimal v ⊕ codes ": cut outside -1048576 to 1048576\n"
 
 abbrev pub read_line : Input → List ℕ
 read_line input.Job = codes "draw: cannot read the job\n"

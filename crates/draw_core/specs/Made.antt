@@ -1,5 +1,5 @@
 -- The files that are made of a drawing before the first is kept.
-use Rattle.std.specs.Prelude.{◌≡◌, ℕ, List, [], ◌∷◌, map, slice_get, Option, Some, None, unwrap_or}
+use Rattle.std.specs.Prelude.{◌≡◌, ℕ, List, [], ◌∷◌, map, slice_get, Some, unwrap_or}
 use Rattle.plot_rack.specs.Plotters.{Plot, text_of}
 use Rattle.draw_core.specs.Outputs.{File, plot_name, place_of}
 use Rattle.draw_core.specs.declared.outputs.Output.{Output}

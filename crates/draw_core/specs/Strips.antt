@@ -1,15 +1,17 @@
--- Strips that are the spans of edges.
-use Rattle.std.specs.Prelude.{◌≡◌, ℕ, List, [], ◌∷◌, ◌++◌}
+-- Strips that are the spans of edges, and those that are the segments of borders.
+use Rattle.std.specs.Prelude.{◌≡◌, ℕ, false, List, [], ◌∷◌, ◌++◌}
 use Rattle.std.specs.List.{AllZip}
 use Rattle.lattice.specs.declared.lines.Line.{Line}
 use Rattle.lattice.specs.declared.pieces.Strip.{Strip}
 use Rattle.lattice.specs.Triple.{Triple}
 use Rattle.lattice.specs.Points.{of_spot, point_of}
 use Rattle.lattice.specs.Lines.{IsOnLine}
+use Rattle.lattice.specs.Cuts.{Plane, toward_of}
 use Rattle.geometry.specs.Parts.{Part, Edge, IsNumbered}
+use Rattle.cut_plane.specs.declared.segments.Segment.{Segment}
 use Rattle.span_slow.specs.declared.span.Span.{Span}
 use Rattle.span_slow.specs.Places.{point_at}
-use Rattle.span_slow.specs.Spans.{AreSpans}
+use Rattle.span_slow.specs.CutSpans.{AreCutSpans}
 
 -- both corners of the edge are seen on the line
 pub record IsEdgeLine (d : Triple) {s : Part} (e : Edge s) (l : Line) : Type 0 where
@@ -23,14 +25,29 @@ pub record IsStripOf (d : Triple) {s : Part} (e : Edge s) (x : Span) (strip : St
   pub to : of_spot strip.b ≡ point_at e x.to
   pub hidden : strip.hidden ≡ x.hidden
 
--- the strips are the edge's spans, one each, in order
-pub record AreStripsOf (d : Triple) {s : Part} (e : Edge s) (strips : List Strip) : Type 0 where
+-- the strips are spans of the edge that are right, one each, in order
+pub record AreStripsOf (d : Triple) {s : Part} (Right : Edge s → List Span → Type 0) (e : Edge s) (strips : List Strip) : Type 0 where
   pub spans : List Span
-  pub right : AreSpans d e spans
+  pub right : Right e spans
   pub each : AllZip (IsStripOf d e) spans strips
 
 -- the strips of the edges with these numbers, one edge after the other
-abbrev pub AreEdgeStrips : Triple → (s : Part) → List ℕ → List ℕ → List Strip → Type 0
-AreEdgeStrips d s halves [] strips = strips ≡ []
-AreEdgeStrips d s halves (i ∷ is) strips =
-    (here : List Strip) × (rest : List Strip) × (strips ≡ here ++ rest) × ((e : Edge s) → IsNumbered halves i e → AreStripsOf d e here) × AreEdgeStrips d s halves is rest
+abbrev pub AreEdgeStrips : Triple → {s : Part} → (Edge s → List Span → Type 0) → List ℕ → List ℕ → List Strip → Type 0
+AreEdgeStrips d Right halves [] strips = strips ≡ []
+AreEdgeStrips d {s = s} Right halves (i ∷ is) strips =
+    (here : List Strip) × (rest : List Strip) × (strips ≡ here ++ rest) × ((e : Edge s) → IsNumbered halves i e → AreStripsOf d Right e here) × AreEdgeStrips d Right halves is rest
+
+-- the strip is the segment, and is visible
+pub record IsBorderStrip (x : Segment) (strip : Strip) : Type 0 where
+  pub line : strip.line ≡ x.line
+  pub from : of_spot strip.a ≡ of_spot x.a
+  pub to : of_spot strip.b ≡ of_spot x.b
+  pub hidden : strip.hidden ≡ false
+
+-- the strips of a cut view: those of the edges with these numbers, and then one for each segment
+pub record AreCutStrips (c : Plane) (s : Part) (halves numbers : List ℕ) (segments : List Segment) (strips : List Strip) : Type 0 where
+  pub of_edges : List Strip
+  pub of_borders : List Strip
+  pub together : strips ≡ of_edges ++ of_borders
+  pub edges : AreEdgeStrips (toward_of c) {s = s} (AreCutSpans c) halves numbers of_edges
+  pub borders : AllZip IsBorderStrip segments of_borders

@@ -1,6 +1,7 @@
 //! The top call: from the words and a desk to a drawing.
 #![tactic(auto)]
 
+mod cut_strips;
 mod drawing;
 mod fault;
 mod fetch;

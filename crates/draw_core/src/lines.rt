@@ -173,6 +173,12 @@ fn range_line(alloc: Global, view: u32, axis: &Axis) -> Result<String, AllocErro
     format!(in alloc; "draw: job: view {view}: direction {axis} outside -9 to 9\n")
 }
 
+fn cut_line(alloc: Global, view: u32) -> Result<String, AllocError>
+    ensures { IfOk result (λ line. string_bytes line ≡ job_line (JobFault.CutRange view)) }
+{
+    format!(in alloc; "draw: job: view {view}: cut outside -1048576 to 1048576\n")
+}
+
 // The line of a fault of a job. It takes memory only where the fault has a number or a name.
 fn job_line(alloc: Global, fault: &JobFault) -> Result<Line, AllocError>
     ensures line { IfOk result (λ line. text_of line ≡ job_line fault.now) }
@@ -186,6 +192,7 @@ fn job_line(alloc: Global, fault: &JobFault) -> Result<Line, AllocError>
         JobFault::UnknownKey(name) => Ok(Line::Made(unknown_line(alloc, name.as_str())?)),
         JobFault::ZeroDirection(view) => Ok(Line::Made(zero_line(alloc, *view)?)),
         JobFault::DirectionRange(view, axis) => Ok(Line::Made(range_line(alloc, *view, axis)?)),
+        JobFault::CutRange(view) => Ok(Line::Made(cut_line(alloc, *view)?)),
     }
 }
 
@@ -353,6 +360,10 @@ mod tests {
             (
                 Fault::Job(JobFault::DirectionRange(2, Axis::Z)),
                 "job: view 2: direction z outside -9 to 9",
+            ),
+            (
+                Fault::Job(JobFault::CutRange(3)),
+                "job: view 3: cut outside -1048576 to 1048576",
             ),
             (
                 Fault::NoPlotter(Name::new(rt.alloc(), "mill")?),

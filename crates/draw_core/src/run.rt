@@ -48,7 +48,7 @@ fn drawing_of(alloc: Global, taken: Taken) -> Result<Made, OutOfMemory>
         solid,
         sheet,
     } = taken;
-    let views = views_of(alloc, &solid, job.crease, &job.views)?;
+    let views = views_of(alloc, &solid, job.crease, sheet.spacing(), &job.views)?;
     let strokes = strokes_of(alloc, &sheet, &views)?;
     rack.draw(sheet.width, sheet.height, &strokes)?;
     let text = svg(alloc, &sheet, &job.title, &strokes)?;
@@ -146,11 +146,13 @@ fn write_drawing<D: Desk>(alloc: Global, taken: Taken, desk: &mut D) -> Outcome
 /// others are dropped. Without a job it is the usual one: front, above and left. Of a fault it warns once, by one line.
 ///
 /// The faults are looked for in this order: the words, the job's bytes, its text, its outputs, the part's bytes, its text,
-/// whether it has a triangle, its surface, whether the views fit the sheet, the drawing's file. Want of memory may be
-/// answered at any place; then no file has changed. Time is about linear in the bytes of the job and of the part; for the
+/// whether it has a triangle, its surface, whether the views fit the sheet, the drawing's files, in their order. Want of
+/// memory may be answered at any place; then some first files stand whole, perhaps none, and the others are as before, and
+/// where there is no drawing no file has changed. Time is about linear in the bytes of the job and of the part; for the
 /// check that of sorting, and of one test for each pair of an edge and a triangle whose ranges of x meet, which for some parts
 /// is nearly every pair; and for each view, for the spans that of the product of the numbers of drawn edges and of triangles,
-/// and for the pieces that of sorting the spans.
+/// in a cut view also a pass over the borders for each crossing of an edge with one, and for the pieces and the hatch lines
+/// that of sorting the spans and the crossings of borders with hatch lines.
 pub fn draw<D: Desk>(
     alloc: Global,
     words: &[String],

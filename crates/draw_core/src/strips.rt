@@ -1,5 +1,6 @@
 // The spans of the drawn edges as strips of lines, and the pieces that they are put together to.
-ghost use Rattle.std.specs.Prelude.{◌≡◌, ℕ, ◌<◌, List, ◌++◌, length, IfOk, OnOk};
+ghost use Rattle.std.specs.Prelude.{◌≡◌, ℕ, ◌<◌, List, ◌++◌, length, All, IfOk, OnOk};
+ghost use Rattle.std.specs.List.{AllZip};
 ghost use Rattle.lattice.specs.Creases.{fraction_of};
 ghost use Rattle.lattice.specs.declared.pieces.Strip.{Strip};
 ghost use Rattle.lattice.specs.Points.{of_dir};
@@ -7,15 +8,16 @@ ghost use Rattle.geometry.specs.Pieces.{AreRight, AreInOrder};
 ghost use Rattle.geometry.specs.Views.{IsEndOn, AreDrawnEdges};
 ghost use Rattle.solid_mesh.specs.Solids.{solid_part, edge_halves};
 ghost use Rattle.span_slow.specs.Places.{IsEarlier};
+ghost use Rattle.span_slow.specs.Views.{direction_in, IsViewOf, AreSpansIn};
 ghost use Rattle.edge_pick.specs.Edges.{OfEdge};
-ghost use Rattle.draw_core.specs.Strips.{IsEdgeLine, IsStripOf, AreStripsOf, AreEdgeStrips};
+ghost use Rattle.draw_core.specs.Strips.{IsEdgeLine, IsStripOf, AreEdgeStrips};
 
 use edge_pick::{Crease, pick};
 use exact_frac::OutOfMemory;
 use lattice::{Dir, Line, Piece, Strip};
 use line_merge::merge;
 use solid_mesh::Solid;
-use span_slow::{Span, spans_slow};
+use span_slow::{Span, View, spans_slow};
 use std::alloc::Global;
 
 /// The line that the edge is seen on.
@@ -44,40 +46,44 @@ fn strip_of(solid: &Solid, d: &Dir, edge: u32, line: &Line, span: &Span) -> Stri
     }
 }
 
-/// Adds the strips of an edge.
+/// Adds the spans of an edge as strips.
 fn add_strips(
-    alloc: Global,
     strips: &mut Vec<Strip>,
     solid: &Solid,
     d: &Dir,
     edge: u32,
+    spans: &[Span],
 ) -> Result<(), OutOfMemory>
     requires in_range { edge < length (edge_halves solid.now) }
     requires seen { OfEdge solid.now edge (λ e. ¬ IsEndOn (of_dir d.now) e) }
+    requires ordered { All (λ x. IsEarlier x.from x.to) spans.now }
     ensures { OnOk result ((here : List Strip) × (strips.new.items ≡ strips.old.items ++ here) ×
-        OfEdge solid.now edge (λ e. AreStripsOf (of_dir d.now) e here)) }
+        OfEdge solid.now edge (λ e. AllZip (IsStripOf (of_dir d.now) e) spans.now here)) }
 {
     let line = edge_line(solid, d, edge);
-    let spans = spans_slow(alloc, solid, d, edge)?;
-    for span in &spans {
+    for span in spans {
         strips.push(strip_of(solid, d, edge, &line, span))?;
     }
     Ok(())
 }
 
-/// The strips of the drawn edges, edge by edge. Finds the spans of each edge over all triangles.
-fn edge_strips(
+/// The strips of the drawn edges of a view along this direction, edge by edge. Finds the spans of each edge over all triangles.
+pub(crate) fn edge_strips(
     alloc: Global,
     solid: &Solid,
+    view: &View,
     d: &Dir,
     numbers: &[u32],
 ) -> Result<Vec<Strip>, OutOfMemory>
-    requires { (fraction : ℕ) × AreDrawnEdges (of_dir d.now) fraction (solid_part solid.now) (edge_halves solid.now) numbers.now }
-    ensures { IfOk result (λ strips. AreEdgeStrips (of_dir d.now) (solid_part solid.now) (edge_halves solid.now) numbers.now strips.items) }
+    requires along { of_dir d.now ≡ direction_in view.now }
+    requires section { IsViewOf view.now (solid_part solid.now) }
+    requires drawn { (fraction : ℕ) × AreDrawnEdges (direction_in view.now) fraction (solid_part solid.now) (edge_halves solid.now) numbers.now }
+    ensures { IfOk result (λ strips. AreEdgeStrips (direction_in view.now) {s = solid_part solid.now} (AreSpansIn view.now) (edge_halves solid.now) numbers.now strips.items) }
 {
     let mut strips = Vec::new(alloc);
     for edge in numbers {
-        add_strips(alloc, &mut strips, solid, d, *edge)?;
+        let spans = spans_slow(alloc, solid, view, *edge)?;
+        add_strips(&mut strips, solid, d, *edge, &spans)?;
     }
     Ok(strips)
 }
@@ -95,6 +101,6 @@ pub(crate) fn view_pieces(
     ensures order { IfOk result (λ pieces. AreInOrder (of_dir d.now) pieces.items) }
 {
     let picked = pick(alloc, solid, d, crease)?;
-    let strips = edge_strips(alloc, solid, d, &picked.drawn)?;
+    let strips = edge_strips(alloc, solid, &View::Plain(*d), d, &picked.drawn)?;
     merge(alloc, d, &strips)
 }

@@ -1,12 +1,12 @@
-// The strokes of a sheet: view by view, one for each piece.
+// The strokes of a sheet: view by view, one for each piece and then one for each hatch line.
 ghost use Rattle.std.specs.Prelude.{◌≡◌, ◌<◌, ◌≤◌, List, ◌++◌, length, IfOk, OnOk};
 ghost use Rattle.std.specs.List.{All, AllZip};
 ghost use Rattle.sheet_plan.specs.declared.sheet.Stroke.{Stroke};
-ghost use Rattle.draw_core.specs.Strokes.{IsStrokeOn, AreStrokes};
+ghost use Rattle.draw_core.specs.Strokes.{IsStrokeOn, IsHatchStrokeOn, AreStrokesOf, AreStrokes};
 
 use crate::drawing::ViewDrawing;
 use exact_frac::OutOfMemory;
-use lattice::Piece;
+use lattice::{HatchLine, Piece};
 use sheet_plan::{Sheet, Stroke};
 use std::alloc::Global;
 
@@ -35,7 +35,47 @@ fn add_strokes(
     Ok(())
 }
 
-/// The strokes of all views. Goes once over the pieces.
+/// The stroke of a hatch line of the view with this number.
+fn hatch_stroke_of(sheet: &Sheet, number: u32, line: &HatchLine) -> Stroke
+    requires { number < length sheet.now.places.items }
+    ensures { IsHatchStrokeOn sheet.now number line.now result }
+{
+    sheet.hatch_stroke(number, line)
+}
+
+/// Adds the strokes of the hatch lines of the view with this number.
+fn add_hatches(
+    strokes: &mut Vec<Stroke>,
+    sheet: &Sheet,
+    number: u32,
+    lines: &[HatchLine],
+) -> Result<(), OutOfMemory>
+    requires { number < length sheet.now.places.items }
+    ensures { OnOk result ((here : List Stroke) × (strokes.new.items ≡ strokes.old.items ++ here) ×
+        AllZip (IsHatchStrokeOn sheet.now number) lines.now here) }
+{
+    for line in lines {
+        strokes.push(hatch_stroke_of(sheet, number, line))?;
+    }
+    Ok(())
+}
+
+/// Adds the strokes of the view with this number: those of its pieces, and then those of its hatch lines.
+fn add_view(
+    strokes: &mut Vec<Stroke>,
+    sheet: &Sheet,
+    number: u32,
+    view: &ViewDrawing,
+) -> Result<(), OutOfMemory>
+    requires { number < length sheet.now.places.items }
+    ensures { OnOk result ((here : List Stroke) × (strokes.new.items ≡ strokes.old.items ++ here) × AreStrokesOf sheet.now number view.now here) }
+{
+    add_strokes(strokes, sheet, number, &view.pieces)?;
+    add_hatches(strokes, sheet, number, &view.hatches)?;
+    Ok(())
+}
+
+/// The strokes of all views. Goes once over the pieces and the hatch lines.
 pub(crate) fn strokes_of(
     alloc: Global,
     sheet: &Sheet,
@@ -48,7 +88,7 @@ pub(crate) fn strokes_of(
 {
     let mut strokes = Vec::new(alloc);
     for number in 0..views.len() {
-        add_strokes(&mut strokes, sheet, number as u32, &views[number].pieces)?;
+        add_view(&mut strokes, sheet, number as u32, &views[number])?;
     }
     Ok(strokes)
 }

@@ -109,6 +109,13 @@ fn each_job_is_drawn_or_refused_by_its_line(rt: HostRuntime) -> Result<(), Fail>
         ),
         (
             "--job j p",
+            "[[view]]\ncut = \"y\"\nat = 1048577\nfrom = \"low\"",
+            9,
+            3,
+            "job: view 0: cut outside -1048576 to 1048576",
+        ),
+        (
+            "--job j p",
             "outputs = [\"mill\", \"pieces\"]",
             9,
             3,

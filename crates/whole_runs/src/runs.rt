@@ -79,6 +79,7 @@ fn line_of(alloc: Global, line: &str) -> Result<String, AllocError> {
     let pen = match words.next() {
         Some("solid") => "stroke-width=\"50\"",
         Some("dashed") => "stroke-width=\"35\" stroke-dasharray=\"300 150\"",
+        Some("hatch") => "stroke-width=\"18\"",
         Some("view") => return String::from_str(alloc, "<g stroke=\"black\" fill=\"none\">\n"),
         _ => return String::from_str(alloc, "</g>\n"),
     };

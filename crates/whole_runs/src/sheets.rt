@@ -13,7 +13,7 @@ use std::alloc::{AllocError, Global};
 use std::test::Fail;
 
 // Sheets up to their first view.
-const A3: &str = "<?xml version=\"1.0\" encoding=\"UTF-8\"?>
+pub(crate) const A3: &str = "<?xml version=\"1.0\" encoding=\"UTF-8\"?>
 <svg xmlns=\"http://www.w3.org/2000/svg\" width=\"420mm\" height=\"297mm\" viewBox=\"0 0 42000 29700\">
 <rect x=\"1000\" y=\"1000\" width=\"40000\" height=\"27700\" fill=\"none\" stroke=\"black\" stroke-width=\"70\"/>
 ";

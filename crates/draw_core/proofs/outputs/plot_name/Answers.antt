@@ -1,4 +1,4 @@
-use Rattle.std.proofs.Common.{◌≡◌, List, ℕ, codes, ◌∙◌}
+use Rattle.std.proofs.Common.{◌≡◌, codes, ◌∙◌}
 use Rattle.std.proofs.lemmas.Result.{IfOk-weaker}
 use Rattle.svg_page.specs.Texts.{◌⊕◌}
 use Rattle.draw_core.specs.Outputs.{plot_name}

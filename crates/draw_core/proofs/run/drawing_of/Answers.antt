@@ -1,4 +1,4 @@
-use Rattle.std.proofs.Common.{◌≡◌, ◌<◌, ◌^◌, ◌∷◌, ℤ, unsigned_abs, List, length, subst, ap, ◌∙◌, arith, FitsSigned}
+use Rattle.std.proofs.Common.{◌<◌, ◌^◌, ◌∷◌, ℤ, unsigned_abs, List, length, subst, ap, ◌∙◌, arith, FitsSigned}
 use Rattle.std.specs.Int.{w64}
 use Rattle.std.proofs.lemmas.Int.{ints, to_z-of_z}
 use Rattle.std.proofs.lemmas.Slice.Zip.{AllZip-long}
@@ -20,7 +20,7 @@ strokes_of-requires-clause-placed g c =
     let taken = c.args.taken in
     let asked = ap (length {A = JobView}) c.deref.ensures.value in
     let drawn = ap (length {A = ViewDrawing}) c.deref-2.ensures.value in
-    let many = drawn ∙ AllZip-long (ShowsView taken.solid taken.job.crease) c.deref.result.now c.in_ok-views.views.items c.in_ok-views.ensures ∙ asked in
+    let many = drawn ∙ AllZip-long (ShowsView taken.solid taken.job.crease c.spacing.result) c.deref.result.now c.in_ok-views.views.items c.in_ok-views.ensures ∙ asked in
     omega (arith, many, as_many_places taken.job (solid_part taken.solid).corners taken.sheet c.requires)
 
 pub strokes_of-requires-clause-few : goal.strokes_of-requires-clause-few
@@ -28,7 +28,7 @@ strokes_of-requires-clause-few g c =
     let taken = c.args.taken in
     let asked = ap (length {A = JobView}) c.deref.ensures.value in
     let drawn = ap (length {A = ViewDrawing}) c.deref-2.ensures.value in
-    let many = drawn ∙ AllZip-long (ShowsView taken.solid taken.job.crease) c.deref.result.now c.in_ok-views.views.items c.in_ok-views.ensures ∙ asked in
+    let many = drawn ∙ AllZip-long (ShowsView taken.solid taken.job.crease c.spacing.result) c.deref.result.now c.in_ok-views.views.items c.in_ok-views.ensures ∙ asked in
     omega (arith, many, taken.job.few_views)
 
 pub outputs_of-requires : goal.outputs_of-requires

@@ -10,4 +10,4 @@ use Rattle.draw_core.proofs.strips.add_strips.Given as goal
 abbrev pub invariant-loop-span : goal.invariant-loop-span
 invariant-loop-span l =
     (here : List Strip) × (l.strips.items ≡ l.fn.strips.items ++ here)
-    × OfEdge l.solid l.edge (λ e. AllZip (IsStripOf (of_dir l.d) e) (take l.span-index l.span-items) here)
+    × OfEdge l.solid l.edge (λ e. AllZip (IsStripOf (of_dir l.d) e) (take l.span-index l.spans) here)

@@ -3,7 +3,7 @@ use Rattle.std.specs.List.{AllZip}
 use Rattle.std.proofs.lemmas.List.{take_all, take_more, length-take-le}
 use Rattle.lattice.specs.declared.pieces.Piece.{Piece}
 use Rattle.sheet_plan.specs.declared.sheet.Stroke.{Stroke}
-use Rattle.draw_core.specs.Strokes.{IsStrokeOn, AreStrokes}
+use Rattle.draw_core.specs.Strokes.{AreStrokesOf, AreStrokes}
 use Rattle.draw_core.specs.declared.drawing.ViewDrawing.{ViewDrawing}
 use Rattle.draw_core.proofs.StrokeLists.{view_more, all_in_place}
 use Rattle.draw_core.proofs.strokes.strokes_of.Goals as goal
@@ -14,8 +14,8 @@ loop-number-preserved c =
     let views = c.args.views.now in
     let i = c.loop-number.number in
     let view = get_or views i c.index-views-number.result in
-    let (here, added, zip) = c.in_ok-add_strokes.ensures in
-    let of_view = subst (λ (ps : List Piece). AllZip (IsStrokeOn sheet i) ps here) c.deref.ensures.value zip in
+    let (here, added, drawn) = c.in_ok-add_view.ensures in
+    let of_view = subst (λ (v : ViewDrawing). AreStrokesOf sheet i v here) c.index-views-number.is drawn in
     let at : i ≡ 0 + length (take i views) = omega (arith, length-take-le i views (omega arith)) in
     let more = view_more sheet 0 i (take i views) c.loop-number.strokes.items view here at c.loop-number.invariant of_view in
     subst (λ (ys : List Stroke). AreStrokes sheet (take (i + 1) views) ys) (sym added)

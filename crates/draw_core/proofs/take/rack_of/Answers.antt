@@ -3,7 +3,6 @@ use Rattle.std.specs.Prelude.{slice_get, Some}
 use Rattle.std.proofs.lemmas.Option.{get_or_from_slice_get}
 use Rattle.std.specs.List.{AllPairs}
 use Rattle.job_file.specs.Seen.{job_seen}
-use Rattle.plot_rack.specs.Choices.{IsFirstMissing}
 use Rattle.draw_core.proofs.Unmet.{all_met, unmet_at, named_at, missing_within, outputs_differ, refuses_output, of_outputs}
 use Rattle.draw_core.proofs.take.rack_of.Goals as goal
 

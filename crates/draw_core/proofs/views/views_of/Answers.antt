@@ -7,7 +7,7 @@ use Rattle.draw_core.proofs.views.views_of.Goals as goal
 
 pub loop-view-preserved : goal.loop-view-preserved
 loop-view-preserved c =
-    let R = ShowsView c.args.solid.now c.args.crease in
+    let R = ShowsView c.args.solid.now c.args.crease c.args.spacing in
     let asked = c.args.asked.now in
     let k = c.loop-view.view-index in
     subst (λ (vs : List ViewDrawing). AllZip R (take (k + 1) asked) vs) (sym {A = List ViewDrawing} c.in_ok-push.ensures.items)

@@ -5,4 +5,4 @@ use Rattle.draw_core.proofs.views.views_of.Given as goal
 
 -- the views so far
 abbrev pub invariant-loop-view : goal.invariant-loop-view
-invariant-loop-view l = AllZip (ShowsView l.solid l.crease) (take l.view-index l.asked) l.views.items
+invariant-loop-view l = AllZip (ShowsView l.solid l.crease l.spacing) (take l.view-index l.asked) l.views.items
