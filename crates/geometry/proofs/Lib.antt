@@ -3,8 +3,12 @@ pub mod Sights
 pub mod Shares
 pub mod EachEdge
 pub mod EdgeLines
+pub mod StepLines
 pub mod OnLines
 pub mod Scenes
 pub mod Counts
 pub mod Borders
 pub mod BorderSteps
+pub mod PlaceOrder
+pub mod PlaceFractions
+pub mod SamePlaces

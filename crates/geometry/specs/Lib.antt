@@ -1,6 +1,7 @@
 pub mod Faces
 pub mod Parts
 pub mod Views
+pub mod Places
 pub mod Cuts
 pub mod Pieces
 pub mod Scenes

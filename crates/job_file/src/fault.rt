@@ -36,7 +36,7 @@ pub enum JobFault {
     Version(i64),
     /// A key that no job, or no view, has: the least one in the order of the bytes.
     UnknownKey(Name),
-    /// A value that this key doesn't take.
+    /// This key has a value that it doesn't take, is missing, or stands beside keys that it doesn't go with.
     Wrong(Key),
     /// There are more than 12 views.
     TooManyViews,
@@ -44,7 +44,7 @@ pub enum JobFault {
     ZeroDirection(u32),
     /// The direction of this view has a component outside -9 to 9, the first one along this axis.
     DirectionRange(u32, Axis),
-    /// The plane of this view's cut is outside -1,048,576 to 1,048,576.
+    /// `at` of this view is outside -1,048,576 to 1,048,576.
     CutRange(u32),
 }
 

@@ -9,11 +9,11 @@ use Rattle.exact_frac.specs.declared.Frac.{Frac}
 use Rattle.hiding.specs.Values.{value_at}
 use Rattle.span_slow.specs.declared.interval.Interval.{Interval}
 use Rattle.span_slow.specs.declared.interval.Linear.{Linear}
-use Rattle.span_slow.specs.Places.{IsSame, IsEarlier}
+use Rattle.geometry.specs.Places.{IsSame, IsEarlier}
 use Rattle.span_slow.specs.Hidden.{AreNonnegative, HasRoot, IsRootOrEnd, IsWhereNonnegative}
 use Rattle.span_slow.specs.Steps.{IsClipped}
-use Rattle.span_slow.proofs.Order.{weaken, room, most_most, not_later_of_not}
-use Rattle.span_slow.proofs.Same.{same, same_back, same_from_to}
+use Rattle.geometry.proofs.PlaceOrder.{weaken, room, most_most, not_later_of_not}
+use Rattle.geometry.proofs.SamePlaces.{same, same_back, same_from_to}
 
 -- ---- the sign of the value about the place where it is 0
 at_least : (v x y : ℤ) → v ≡ y -ℤ x → (x ≤ℤ y) ↔ (pos 0 ≤ℤ v)

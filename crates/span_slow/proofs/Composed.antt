@@ -6,11 +6,12 @@ use Rattle.std.proofs.lemmas.List.Sorted.{Contains-permutation, IsPermutation-sy
 use Rattle.exact_frac.specs.declared.Frac.{Frac}
 use Rattle.span_slow.specs.declared.interval.Interval.{Interval}
 use Rattle.span_slow.specs.declared.span.Span.{Span}
-use Rattle.span_slow.specs.Places.{IsValue}
+use Rattle.geometry.specs.Places.{IsValue}
 use Rattle.span_slow.specs.Hidden.{IsAtEnd, IsIntervalEnd, TellsWithin, AreSpansOf}
 use Rattle.span_slow.specs.Steps.{AreUnited}
-use Rattle.span_slow.proofs.Order.{between_inner, between_last, zero_value, one_value, not_zero, not_self}
-use Rattle.span_slow.proofs.Same.{same_value, same_known}
+use Rattle.geometry.proofs.PlaceOrder.{between_inner, between_last, zero_value, one_value, not_zero, not_self}
+use Rattle.geometry.proofs.SamePlaces.{same_value}
+use Rattle.span_slow.proofs.Same.{same_known}
 
 -- ---- the same intervals in another order
 module _ (xs ys : List Interval) (moved : IsPermutation xs ys) where

@@ -23,12 +23,12 @@ use Rattle.hiding.proofs.FrontEnds.{not-at-start, not-at-finish}
 use Rattle.section_parity.specs.Crossings.{CrossesAt, IsShort, AreCrossings}
 use Rattle.section_parity.proofs.Between.{section_between, crossing_not_ordinary}
 use Rattle.section_parity.proofs.Found.{crosses_same}
-use Rattle.span_slow.specs.Places.{IsEarlier, IsBetween}
+use Rattle.geometry.specs.Places.{IsEarlier, IsBetween}
 use Rattle.span_slow.proofs.Unions.{not_less}
 use Rattle.span_slow.specs.CutHidden.{IsOrdinaryBeyond}
 use Rattle.span_slow.specs.Sections.{mediant_point, IsApartFrom}
-use Rattle.span_slow.proofs.Fractions.{weaker, no_less}
-use Rattle.span_slow.proofs.Order.{clash, less_most, most_less, IsNotLater, between_inner, between_last, zero_value, one_value, zero_not_later, room}
+use Rattle.geometry.proofs.PlaceFractions.{weaker, no_less}
+use Rattle.geometry.proofs.PlaceOrder.{clash, less_most, most_less, IsNotLater, between_inner, between_last, zero_value, one_value, zero_not_later, room}
 
 -- ---- the places in order
 -- no place is strictly between the two

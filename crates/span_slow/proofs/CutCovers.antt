@@ -7,7 +7,7 @@ use Rattle.geometry.specs.Faces.{share_point}
 use Rattle.geometry.specs.Parts.{Part, Edge}
 use Rattle.span_slow.specs.declared.interval.Interval.{Interval}
 use Rattle.span_slow.specs.declared.span.Span.{Span}
-use Rattle.span_slow.specs.Places.{IsPlace, IsBetween}
+use Rattle.geometry.specs.Places.{IsPlace, IsBetween}
 use Rattle.span_slow.specs.Spans.{Follow}
 use Rattle.span_slow.specs.CutHidden.{IsPartBeyond}
 use Rattle.span_slow.specs.CutSpans.{CoverPart, CoverBeyond}

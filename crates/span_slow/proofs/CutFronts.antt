@@ -19,12 +19,12 @@ use Rattle.hiding.proofs.CutPlanes.{ordinary-in-plain}
 use Rattle.hiding.proofs.FrontEnds.{not-at-start, not-at-finish}
 use Rattle.span_slow.specs.declared.interval.Interval.{Interval}
 use Rattle.span_slow.specs.declared.interval.Linear.{Linear}
-use Rattle.span_slow.specs.Places.{IsEarlier}
+use Rattle.geometry.specs.Places.{IsEarlier}
 use Rattle.span_slow.specs.Hidden.{AreNonnegative, IsWhereNonnegative, AreWhere}
 use Rattle.span_slow.specs.CutHidden.{IsOrdinaryBeyond, AreWhereBeyond}
 use Rattle.span_slow.proofs.CutReads.{cut_hides_by_corners}
 use Rattle.span_slow.proofs.Fronts.{hides_by_corners, changes, rooted, front_none, end_apart, inside}
-use Rattle.span_slow.proofs.Fractions.{weaker, positive_of, strict}
+use Rattle.geometry.proofs.PlaceFractions.{weaker, positive_of, strict}
 use Rattle.span_slow.proofs.LinearValues.{at_most_between}
 use Rattle.span_slow.proofs.Where.{Tells, told, IsRootOrEndAt, within_none, where_none, where_proper}
 

@@ -22,13 +22,13 @@ use Rattle.hiding.proofs.FrontEnds.{not-at-start, not-at-finish}
 use Rattle.hiding.proofs.SideEnds.{one-sight, in-line-over, not-at-ends}
 use Rattle.span_slow.specs.declared.interval.Interval.{Interval}
 use Rattle.span_slow.specs.declared.interval.Linear.{Linear}
-use Rattle.span_slow.specs.Places.{IsEarlier}
+use Rattle.geometry.specs.Places.{IsEarlier}
 use Rattle.span_slow.specs.Hidden.{AreNonnegative, IsWhereNonnegative, AreWhere}
 use Rattle.span_slow.specs.CutHidden.{IsOrdinaryBeyond, AreWhereBeyond, AreAddedBeyond, PairHides, SomeSideReaches}
 use Rattle.span_slow.proofs.Axes.{level_by_sight}
 use Rattle.span_slow.proofs.CutFronts.{none_beyond}
 use Rattle.span_slow.proofs.CutReads.{cut_hides_by_corners}
-use Rattle.span_slow.proofs.Fractions.{weaker, positive_of, strict}
+use Rattle.geometry.proofs.PlaceFractions.{weaker, positive_of, strict}
 use Rattle.span_slow.proofs.Sides.{in_line_at, turned, side_turned, side_off_line, side_end_on, side_none, inside, end_apart}
 use Rattle.span_slow.proofs.Where.{Tells, told, IsRootOrEndAt, where_none, where_alike, where_proper, added_then, added_alike}
 

@@ -16,11 +16,11 @@ use Rattle.hiding.proofs.FrontEnds.{not-at-start, not-at-finish}
 use Rattle.hiding.proofs.SidePoints.{share-of-edge}
 use Rattle.span_slow.specs.declared.interval.Interval.{Interval}
 use Rattle.span_slow.specs.declared.interval.Linear.{Linear}
-use Rattle.span_slow.specs.Places.{point_at, IsPlace, IsEarlier, IsBetween, IsFromTo}
+use Rattle.geometry.specs.Places.{point_at, IsPlace, IsEarlier, IsBetween, IsFromTo}
 use Rattle.span_slow.specs.Hidden.{IsRootOrEnd, IsWhereNonnegative}
 use Rattle.span_slow.specs.CutHidden.{IsPartEnd, IsPartBeyond}
 use Rattle.span_slow.proofs.LinearValues.{level_value}
-use Rattle.span_slow.proofs.Fractions.{weaker, no_less, strict, positive_of, earlier_between}
+use Rattle.geometry.proofs.PlaceFractions.{weaker, no_less, strict, positive_of, earlier_between}
 use Rattle.span_slow.proofs.Where.{Tells, told, IsRootOrEndAt, cut_at, within_none, within_one, all_one}
 
 -- ---- a value that is at least 0 on both sides of a place is 0 there only if it is 0 all along

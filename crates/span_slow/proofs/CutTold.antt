@@ -12,14 +12,13 @@ use Rattle.geometry.proofs.BorderSteps.{ordinary_along_cut}
 use Rattle.geometry.proofs.Shares.{one_place}
 use Rattle.span_slow.specs.declared.interval.Interval.{Interval}
 use Rattle.span_slow.specs.declared.span.Span.{Span}
-use Rattle.span_slow.specs.Places.{point_at, IsPlace, IsSame, IsBetween}
-use Rattle.span_slow.specs.Spans.{HasNoEndAt}
+use Rattle.geometry.specs.Places.{point_at, IsPlace, IsSame, IsBetween, HasNoEndAt}
 use Rattle.span_slow.specs.Hidden.{IsAtEnd, IsIntervalEnd, TellsWithin, AreSpansOf}
 use Rattle.span_slow.specs.CutHidden.{IsPartEnd, IsPartBeyond, IsOrdinaryBeyond, AreWhereBeyond}
 use Rattle.span_slow.specs.CutSpans.{IsAnswerInCut, AreCutSpans}
 use Rattle.span_slow.specs.Steps.{IsClippedEnd, IsClippedSpan, AreClipped}
-use Rattle.span_slow.proofs.Fractions.{after_start, before_finish}
-use Rattle.span_slow.proofs.Order.{between_value}
+use Rattle.geometry.proofs.PlaceFractions.{after_start, before_finish}
+use Rattle.geometry.proofs.PlaceOrder.{between_value}
 use Rattle.span_slow.proofs.Same.{same_known}
 use Rattle.span_slow.proofs.Where.{within_one}
 use Rattle.span_slow.proofs.CutParts.{part_end_apart}

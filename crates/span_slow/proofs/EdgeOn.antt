@@ -13,7 +13,7 @@ use Rattle.span_slow.specs.declared.interval.Interval.{Interval}
 use Rattle.span_slow.specs.Hidden.{AreWhere}
 use Rattle.hiding.proofs.Values.{facing-turned}
 use Rattle.hiding.proofs.Hiding.{wide-side-hides, face-hides}
-use Rattle.span_slow.proofs.Fractions.{positive_of}
+use Rattle.geometry.proofs.PlaceFractions.{positive_of}
 use Rattle.span_slow.proofs.Fronts.{hides_by_corners}
 use Rattle.span_slow.proofs.Where.{where_alike, where_either}
 

@@ -14,13 +14,13 @@ use Rattle.geometry.specs.Sound.{IsSound}
 use Rattle.hiding.specs.Values.{value_at, side_of, depth_of, IsBehind, AreCornersOf}
 use Rattle.span_slow.specs.declared.interval.Interval.{Interval}
 use Rattle.span_slow.specs.declared.interval.Linear.{Linear}
-use Rattle.span_slow.specs.Places.{IsEarlier}
+use Rattle.geometry.specs.Places.{IsEarlier}
 use Rattle.span_slow.specs.Hidden.{AreNonnegative, IsWhereNonnegative, AreWhere}
 use Rattle.hiding.proofs.Values.{side-share, depth-share}
 use Rattle.hiding.proofs.Hiding.{hides-turned, hides-front}
 use Rattle.hiding.proofs.FrontEnds.{not-at-start, not-at-finish, not-at-front-end, IsRoot}
 use Rattle.span_slow.proofs.LinearValues.{at_most_between, level_value}
-use Rattle.span_slow.proofs.Fractions.{weaker, positive_of, strict}
+use Rattle.geometry.proofs.PlaceFractions.{weaker, positive_of, strict}
 use Rattle.span_slow.proofs.Where.{Tells, told, IsRootOrEndAt, HasRootAt, where_none, where_proper}
 
 -- the order of the corners does not count

@@ -13,7 +13,7 @@ use Rattle.solid_mesh.specs.declared.solid.Solid.{Solid}
 use Rattle.solid_mesh.proofs.Facts as facts
 use Rattle.section_parity.specs.Crossings.{IsShort, AreCrossings}
 use Rattle.span_slow.specs.declared.interval.Interval.{Interval}
-use Rattle.span_slow.specs.Places.{IsPlace}
+use Rattle.geometry.specs.Places.{IsPlace}
 use Rattle.span_slow.specs.CutHidden.{IsOrdinaryBeyond, AreWhereBeyond}
 use Rattle.span_slow.specs.Sections.{IsStretchAdded, AreWhereUpTo}
 use Rattle.span_slow.proofs.Stretches.{up_to_start, up_to_finish, up_to_next}

@@ -1,4 +1,3 @@
-pub mod Order
 pub mod Same
 pub mod Lists
 pub mod Clips
@@ -8,7 +7,6 @@ pub mod Turns
 pub mod Composed
 pub mod Axes
 pub mod LinearValues
-pub mod Fractions
 pub mod Where
 pub mod Corners
 pub mod Fronts

@@ -1,39 +1,11 @@
--- What is so of a fraction is so of the same numbers.
-use Rattle.std.proofs.Common.{◌≡◌, refl, sym, subst, ◌∙◌, inl, inr}
-use Rattle.std.specs.Prelude.{ℤ, ◌*ℤ◌, ◌<ℤ◌, ◌≤ℤ◌, List}
+-- What is an end of an interval is so by its numbers.
+use Rattle.std.proofs.Common.{sym, ◌∙◌, inl, inr}
+use Rattle.std.specs.Prelude.{List}
 use Rattle.exact_frac.specs.declared.Frac.{Frac}
+use Rattle.geometry.specs.Places.{IsSame}
+use Rattle.geometry.proofs.SamePlaces.{same_trans}
 use Rattle.span_slow.specs.declared.interval.Interval.{Interval}
-use Rattle.span_slow.specs.Places.{IsSame, IsEarlier, IsValue, IsBetween, IsFromTo}
 use Rattle.span_slow.specs.Hidden.{IsIntervalEnd}
-
-pub same : (a : Frac) → IsSame a a
-same a = (refl, refl)
-
-pub same_back : (a b : Frac) → IsSame a b → IsSame b a
-same_back a b p = (sym p.0, sym p.1)
-
-pub same_trans : (a b c : Frac) → IsSame a b → IsSame b c → IsSame a c
-same_trans a b c p q = (p.0 ∙ q.0, p.1 ∙ q.1)
-
-pub same_from_to : (a b c d : Frac) (n m : ℤ) → IsSame a c → IsSame b d → IsFromTo a b n m → IsFromTo c d n m
-same_from_to a b c d n m p q h = (
-  subst (λ v. (v *ℤ m) ≤ℤ (n *ℤ c.den)) p.0 (subst (λ v. (a.num *ℤ m) ≤ℤ (n *ℤ v)) p.1 h.0),
-  subst (λ v. (n *ℤ d.den) ≤ℤ (v *ℤ m)) q.0 (subst (λ v. (n *ℤ v) ≤ℤ (b.num *ℤ m)) q.1 h.1),
-)
-
-pub same_between : (a b c d : Frac) (n m : ℤ) → IsSame a c → IsSame b d → IsBetween a b n m → IsBetween c d n m
-same_between a b c d n m p q h = (
-  subst (λ v. (v *ℤ m) <ℤ (n *ℤ c.den)) p.0 (subst (λ v. (a.num *ℤ m) <ℤ (n *ℤ v)) p.1 h.0),
-  subst (λ v. (n *ℤ d.den) <ℤ (v *ℤ m)) q.0 (subst (λ v. (n *ℤ v) <ℤ (b.num *ℤ m)) q.1 h.1),
-)
-
-pub same_earlier : (a b c d : Frac) → IsSame a c → IsSame b d → IsEarlier a b → IsEarlier c d
-same_earlier a b c d p q h =
-    subst (λ v. (c.num *ℤ d.den) <ℤ (v *ℤ c.den)) q.0 (subst (λ v. (c.num *ℤ d.den) <ℤ (b.num *ℤ v)) p.1
-    (subst (λ v. (c.num *ℤ v) <ℤ (b.num *ℤ a.den)) q.1 (subst (λ v. (v *ℤ b.den) <ℤ (b.num *ℤ a.den)) p.0 h)))
-
-pub same_value : (a b : Frac) (n m : ℤ) → IsSame a b → IsValue a n m → IsValue b n m
-same_value a b n m p h = subst (λ v. n *ℤ b.den ≡ v *ℤ m) p.0 (subst (λ v. n *ℤ v ≡ a.num *ℤ m) p.1 h)
 
 pub same_known : (xs : List Interval) (a b : Frac) → IsSame a b → IsIntervalEnd xs b → IsIntervalEnd xs a
 same_known xs a b p h = elim h [
@@ -43,8 +15,3 @@ same_known xs a b p h = elim h [
     | inr x ↦ inr (inr (x.0, x.1, elim x.2 [ inl s ↦ inl (same_trans a b x.0.from p s) | inr s ↦ inr (same_trans a b x.0.to p s) ]))
   ]
 ]
-
-pub same_not_later : (a b c d : Frac) → IsSame a c → IsSame b d → (a.num *ℤ b.den) ≤ℤ (b.num *ℤ a.den) → (c.num *ℤ d.den) ≤ℤ (d.num *ℤ c.den)
-same_not_later a b c d p q h =
-    subst (λ v. (c.num *ℤ d.den) ≤ℤ (v *ℤ c.den)) q.0 (subst (λ v. (c.num *ℤ d.den) ≤ℤ (b.num *ℤ v)) p.1
-    (subst (λ v. (c.num *ℤ v) ≤ℤ (b.num *ℤ a.den)) q.1 (subst (λ v. (v *ℤ b.den) ≤ℤ (b.num *ℤ a.den)) p.0 h)))

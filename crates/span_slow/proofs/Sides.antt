@@ -13,14 +13,14 @@ use Rattle.geometry.specs.Sound.{IsSound}
 use Rattle.hiding.specs.Values.{value_at, past_of, short_of, behind_of, IsBehindSide, IsAhead, IsInLine, IsSideOf, WideSideHides}
 use Rattle.span_slow.specs.declared.interval.Interval.{Interval}
 use Rattle.span_slow.specs.declared.interval.Linear.{Linear}
-use Rattle.span_slow.specs.Places.{IsEarlier}
+use Rattle.geometry.specs.Places.{IsEarlier}
 use Rattle.span_slow.specs.Hidden.{AreNonnegative, IsWhereNonnegative, AreWhere}
 use Rattle.hiding.proofs.Values.{past-share, short-share, behind-share}
 use Rattle.hiding.proofs.FrontEnds.{not-at-start, not-at-finish}
 use Rattle.hiding.proofs.SideEnds.{side-hides, in-line, one-sight, not-at-side-end, side-hides-turned}
 use Rattle.span_slow.proofs.Axes.{level_by_sight}
 use Rattle.span_slow.proofs.LinearValues.{at_most_between}
-use Rattle.span_slow.proofs.Fractions.{weaker, positive_of, strict}
+use Rattle.geometry.proofs.PlaceFractions.{weaker, positive_of, strict}
 use Rattle.span_slow.proofs.Fronts.{changes, rooted}
 use Rattle.span_slow.proofs.Where.{Tells, told, IsRootOrEndAt, HasRootAt, where_none, where_alike, where_proper}
 

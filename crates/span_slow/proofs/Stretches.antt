@@ -10,13 +10,12 @@ use Rattle.lattice.specs.Points.{Point}
 use Rattle.geometry.specs.Faces.{share_point}
 use Rattle.geometry.specs.Parts.{Part, Edge}
 use Rattle.span_slow.specs.declared.interval.Interval.{Interval}
-use Rattle.span_slow.specs.Places.{IsEarlier, IsSame, IsBetween}
-use Rattle.span_slow.specs.Spans.{HasNoEndAt}
+use Rattle.geometry.specs.Places.{IsEarlier, IsSame, IsBetween, HasNoEndAt}
 use Rattle.span_slow.specs.Hidden.{IsWithinAny, AreWhereAt}
 use Rattle.span_slow.specs.Sections.{mediant_point, IsKept, IsStretchAdded, IsApartFrom, AreWhereUpTo}
-use Rattle.span_slow.proofs.Fractions.{weaker, no_less, positive_of}
-use Rattle.span_slow.proofs.Order.{clash, three, less_most, most_most, IsNotLater, between_earlier}
-use Rattle.span_slow.proofs.Same.{same_back, same_value, same_between, same_earlier}
+use Rattle.geometry.proofs.PlaceFractions.{weaker, no_less, positive_of}
+use Rattle.geometry.proofs.PlaceOrder.{clash, three, less_most, most_most, IsNotLater, between_earlier}
+use Rattle.geometry.proofs.SamePlaces.{same_back, same_value, same_between, same_earlier}
 use Rattle.span_slow.proofs.Within.{within_old, within_new, within_cases}
 
 module _ (O : Point → Type 0) {s : Part} (e : Edge s) (P : Point → Type 0) where

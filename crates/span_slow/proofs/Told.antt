@@ -14,11 +14,11 @@ use Rattle.solid_mesh.specs.declared.solid.Edge.{Edge}
 use Rattle.geometry.proofs.Listed.{same_element}
 use Rattle.span_slow.specs.declared.interval.Interval.{Interval}
 use Rattle.span_slow.specs.declared.span.Span.{Span}
-use Rattle.span_slow.specs.Places.{point_at, IsPlace, IsSame}
-use Rattle.span_slow.specs.Spans.{HasNoOrdinaryEnd, IsAnswer, AreSpans}
+use Rattle.geometry.specs.Places.{point_at, IsPlace, IsSame, HasNoOrdinaryEnd}
+use Rattle.span_slow.specs.Spans.{IsAnswer, AreSpans}
 use Rattle.span_slow.specs.Hidden.{AreWhere, IsAtEnd, IsIntervalEnd, TellsWithin, AreSpansOf}
 use Rattle.hiding.proofs.FrontEnds.{not-at-start, not-at-finish}
-use Rattle.span_slow.proofs.Fractions.{after_start, before_finish}
+use Rattle.geometry.proofs.PlaceFractions.{after_start, before_finish}
 use Rattle.geometry.proofs.Sights.{ordinary_along}
 use Rattle.geometry.proofs.Shares.{one_place}
 

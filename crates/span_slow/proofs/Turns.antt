@@ -8,12 +8,13 @@ use Rattle.std.proofs.lemmas.List.Elements.{All-nil, All-push}
 use Rattle.exact_frac.specs.declared.Frac.{Frac}
 use Rattle.span_slow.specs.declared.interval.Interval.{Interval}
 use Rattle.span_slow.specs.declared.span.Span.{Span}
-use Rattle.span_slow.specs.Places.{IsPlace, IsSame, IsEarlier, IsBetween}
+use Rattle.geometry.specs.Places.{IsPlace, IsSame, IsEarlier, IsBetween}
 use Rattle.span_slow.specs.Spans.{Follow, Alternate}
 use Rattle.span_slow.specs.Hidden.{IsWithinAny, IsIntervalEnd, TellsWithin, AreSpansOf}
 use Rattle.span_slow.specs.Steps.{AreApart, IsSpanAdded}
-use Rattle.span_slow.proofs.Order.{clash, weaken, less_most, most_less, most_most, IsNotLater, not_later_of_not, earlier_earlier, not_later_earlier, zero_of_not_later, one_of_not_later, zero_not_later}
-use Rattle.span_slow.proofs.Same.{same, same_back, same_between, same_earlier, same_known}
+use Rattle.geometry.proofs.PlaceOrder.{clash, weaken, less_most, most_less, most_most, IsNotLater, not_later_of_not, earlier_earlier, not_later_earlier, zero_of_not_later, one_of_not_later, zero_not_later}
+use Rattle.geometry.proofs.SamePlaces.{same, same_back, same_between, same_earlier}
+use Rattle.span_slow.proofs.Same.{same_known}
 use Rattle.span_slow.proofs.Lists.{front_more}
 
 -- ---- a list of spans with one more at its end

@@ -16,11 +16,12 @@ use Rattle.exact_frac.specs.declared.Frac.{Frac}
 use Rattle.exact_frac.specs.Frac.{order_of}
 use Rattle.exact_frac.specs.Laws.{order_of_total}
 use Rattle.span_slow.specs.declared.interval.Interval.{Interval}
-use Rattle.span_slow.specs.Places.{IsSame, IsEarlier, IsValue, IsBetween}
+use Rattle.geometry.specs.Places.{IsSame, IsEarlier, IsValue, IsBetween}
 use Rattle.span_slow.specs.Hidden.{IsWithinAny, IsAtEnd, IsIntervalEnd}
 use Rattle.span_slow.specs.Steps.{AreApart, AreUnited, IsIntervalAdded}
-use Rattle.span_slow.proofs.Order.{three, less_less, less_most, most_less, IsNotLater, earlier_not_later, between_earlier, between_inner, zero_value, not_zero}
-use Rattle.span_slow.proofs.Same.{same, same_back, same_between, same_earlier, same_value, same_known}
+use Rattle.geometry.proofs.PlaceOrder.{three, less_less, less_most, most_less, IsNotLater, earlier_not_later, between_earlier, between_inner, zero_value, not_zero}
+use Rattle.geometry.proofs.SamePlaces.{same, same_back, same_between, same_earlier, same_value}
+use Rattle.span_slow.proofs.Same.{same_known}
 use Rattle.span_slow.proofs.Within.{within_old, within_new, within_cases, at_old_end, known_old}
 
 -- 0, or an end of an interval

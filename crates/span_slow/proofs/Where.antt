@@ -11,11 +11,10 @@ use Rattle.geometry.specs.Parts.{Part, Edge}
 use Rattle.hiding.specs.Values.{value_at}
 use Rattle.span_slow.specs.declared.interval.Interval.{Interval}
 use Rattle.span_slow.specs.declared.interval.Linear.{Linear}
-use Rattle.span_slow.specs.Places.{IsPlace, IsEarlier, IsValue, IsBetween, IsFromTo}
-use Rattle.span_slow.specs.Spans.{HasNoEndAt}
+use Rattle.geometry.specs.Places.{IsPlace, IsEarlier, IsValue, IsBetween, IsFromTo, HasNoEndAt}
 use Rattle.span_slow.specs.Hidden.{AreNonnegative, HasRoot, IsRootOrEnd, IsWhereNonnegative, IsWithinAny, AreWhereAt, AreAddedAt}
 use Rattle.span_slow.proofs.LinearValues.{same_root}
-use Rattle.span_slow.proofs.Fractions.{weaker, no_less, strict, positive_of, value_at_start, value_at_finish, earlier_between}
+use Rattle.geometry.proofs.PlaceFractions.{weaker, no_less, strict, positive_of, value_at_start, value_at_finish, earlier_between}
 
 -- ---- within lists of intervals
 pub within_none : (n m : ℤ) → ¬ IsWithinAny [] n m

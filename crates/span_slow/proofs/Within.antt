@@ -4,7 +4,7 @@ use Rattle.std.specs.Prelude.{ℤ}
 use Rattle.std.proofs.lemmas.List.Elements.{Contains-push, Contains-push_cases, Contains-append_left}
 use Rattle.exact_frac.specs.declared.Frac.{Frac}
 use Rattle.span_slow.specs.declared.interval.Interval.{Interval}
-use Rattle.span_slow.specs.Places.{IsBetween}
+use Rattle.geometry.specs.Places.{IsBetween}
 use Rattle.span_slow.specs.Hidden.{IsWithinAny, IsAtEnd, IsIntervalEnd}
 
 module _ (xs : List Interval) (x : Interval) where

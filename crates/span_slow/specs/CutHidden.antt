@@ -11,7 +11,7 @@ use Rattle.geometry.specs.Cuts.{FaceHidesInCut, IsOrdinaryInCut}
 use Rattle.hiding.specs.Values.{WideSideHides, IsInLine}
 use Rattle.hiding.specs.CutValues.{WideSideReaches}
 use Rattle.span_slow.specs.declared.interval.Interval.{Interval}
-use Rattle.span_slow.specs.Places.{point_at, IsEarlier}
+use Rattle.geometry.specs.Places.{point_at, IsEarlier}
 use Rattle.span_slow.specs.Hidden.{IsWithinAny, AreWhereAt, AreAddedAt}
 
 -- ---- the part beyond the plane

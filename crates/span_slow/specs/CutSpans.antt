@@ -6,8 +6,8 @@ use Rattle.geometry.specs.Parts.{Part, Edge}
 use Rattle.geometry.specs.Cuts.{IsHiddenInCut, IsOrdinaryInCut}
 use Rattle.span_slow.specs.declared.interval.Interval.{Interval}
 use Rattle.span_slow.specs.declared.span.Span.{Span}
-use Rattle.span_slow.specs.Places.{IsBetween}
-use Rattle.span_slow.specs.Spans.{Follow, Alternate, HasNoEndAt}
+use Rattle.geometry.specs.Places.{IsBetween, HasNoEndAt}
+use Rattle.span_slow.specs.Spans.{Follow, Alternate}
 use Rattle.span_slow.specs.CutHidden.{IsPartBeyond}
 
 -- the spans follow one another over the part, if there is one

@@ -10,8 +10,8 @@ use Rattle.hiding.specs.Values.{value_at}
 use Rattle.span_slow.specs.declared.interval.Interval.{Interval}
 use Rattle.span_slow.specs.declared.interval.Linear.{Linear}
 use Rattle.span_slow.specs.declared.span.Span.{Span}
-use Rattle.span_slow.specs.Places.{IsEarlier, IsSame, IsValue, IsBetween, IsFromTo}
-use Rattle.span_slow.specs.Spans.{CoverEdge, Alternate, HasNoEndAt}
+use Rattle.geometry.specs.Places.{IsEarlier, IsSame, IsValue, IsBetween, IsFromTo, HasNoEndAt}
+use Rattle.span_slow.specs.Spans.{CoverEdge, Alternate}
 
 -- ---- where values that are linear along an edge are at least 0
 abbrev pub AreNonnegative : List Linear → ℤ → ℤ → Type 0

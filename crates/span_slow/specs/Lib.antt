@@ -1,4 +1,3 @@
-pub mod Places
 pub mod Spans
 pub mod Hidden
 pub mod CutHidden

@@ -5,8 +5,7 @@ use Rattle.lattice.specs.Points.{Point}
 use Rattle.geometry.specs.Faces.{share_point}
 use Rattle.geometry.specs.Parts.{Part, Edge}
 use Rattle.span_slow.specs.declared.interval.Interval.{Interval}
-use Rattle.span_slow.specs.Places.{IsEarlier, IsSame, IsValue}
-use Rattle.span_slow.specs.Spans.{HasNoEndAt}
+use Rattle.geometry.specs.Places.{IsEarlier, IsSame, IsValue, HasNoEndAt}
 use Rattle.span_slow.specs.Hidden.{IsWithinAny}
 
 -- the point of the edge at the mediant of two places

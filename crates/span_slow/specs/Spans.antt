@@ -2,12 +2,11 @@
 use Rattle.std.specs.Prelude.{◌≡◌, ◌≢◌, ◌↔◌, ℤ, pos, ◌<ℤ◌, IsTrue, List, [], ◌∷◌, All}
 use Rattle.exact_frac.specs.declared.Frac.{Frac}
 use Rattle.lattice.specs.Triple.{Triple}
-use Rattle.lattice.specs.Points.{Point}
 use Rattle.geometry.specs.Faces.{share_point}
 use Rattle.geometry.specs.Parts.{Part, Edge}
 use Rattle.geometry.specs.Views.{IsHidden, IsOrdinary}
 use Rattle.span_slow.specs.declared.span.Span.{Span}
-use Rattle.span_slow.specs.Places.{point_at, IsEarlier, IsSame, IsBetween}
+use Rattle.geometry.specs.Places.{IsEarlier, IsSame, IsBetween, HasNoOrdinaryEnd}
 
 -- the spans follow one another from a place to a place
 abbrev pub Follow : Frac → List Span → Frac → Type 0
@@ -23,14 +22,6 @@ abbrev pub Alternate : List Span → Type 0
 Alternate [] = Unit {0}
 Alternate (x ∷ []) = Unit {0}
 Alternate (x ∷ y ∷ xs) = (x.hidden ≢ y.hidden) × Alternate (y ∷ xs)
-
--- O holds at neither end
-abbrev pub HasNoEndAt : (Point → Type 0) → {s : Part} → Edge s → Frac → Frac → Type 0
-HasNoEndAt O e from to = (¬ O (point_at e from)) × ¬ O (point_at e to)
-
--- neither end is at an ordinary point
-abbrev pub HasNoOrdinaryEnd : Triple → {s : Part} → Edge s → Frac → Frac → Type 0
-HasNoOrdinaryEnd d {s = s} e from to = HasNoEndAt (IsOrdinary d s) e from to
 
 -- at each ordinary point strictly within the span, what it tells is so
 abbrev pub IsAnswer : Triple → {s : Part} → Edge s → Span → Type 0

@@ -5,7 +5,7 @@ use Rattle.hiding.specs.Values.{value_at}
 use Rattle.span_slow.specs.declared.interval.Interval.{Interval}
 use Rattle.span_slow.specs.declared.interval.Linear.{Linear}
 use Rattle.span_slow.specs.declared.span.Span.{Span}
-use Rattle.span_slow.specs.Places.{IsEarlier, IsSame, IsBetween, IsFromTo}
+use Rattle.geometry.specs.Places.{IsEarlier, IsSame, IsBetween, IsFromTo}
 use Rattle.span_slow.specs.Spans.{Follow, Alternate}
 use Rattle.span_slow.specs.Hidden.{IsRootOrEnd, IsWithinAny, IsAtEnd, IsIntervalEnd}
 

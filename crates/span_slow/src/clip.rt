@@ -1,6 +1,6 @@
 // What of the spans of an edge is within a part of it.
 ghost use Rattle.std.specs.Prelude.{IfOk, OnOk};
-ghost use Rattle.span_slow.specs.Places.{IsPlace, IsEarlier};
+ghost use Rattle.geometry.specs.Places.{IsPlace, IsEarlier};
 ghost use Rattle.span_slow.specs.Spans.{CoverEdge, Alternate};
 ghost use Rattle.span_slow.specs.Steps.{AreClipped, IsLaterOf, IsEarlierOf, IsClippedAdded};
 

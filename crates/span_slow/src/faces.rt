@@ -9,7 +9,7 @@ ghost use Rattle.geometry.specs.Views.{IsHidden};
 ghost use Rattle.geometry.specs.Sound.{IsSound};
 ghost use Rattle.solid_mesh.specs.Solids.{solid_part};
 ghost use Rattle.hiding.specs.Values.{side_of, AreCornersOf, IsSideOf, WideSideHides, IsInLine};
-ghost use Rattle.span_slow.specs.Places.{IsEarlier};
+ghost use Rattle.geometry.specs.Places.{IsEarlier};
 ghost use Rattle.span_slow.specs.Hidden.{AreWhere, AreAdded};
 
 use crate::interval::{Interval, Linear, is_earlier};

@@ -1,6 +1,6 @@
 // Where values that are linear along an edge are at least 0.
 ghost use Rattle.std.specs.Prelude.{◌≡◌, ◌<◌, ◌^◌, ◌↔◌, pos, ◌-ℤ◌, ◌<ℤ◌, ◌≤ℤ◌, unsigned_abs, IsTrue};
-ghost use Rattle.span_slow.specs.Places.{IsPlace, IsEarlier};
+ghost use Rattle.geometry.specs.Places.{IsPlace, IsEarlier};
 
 use exact_frac::Frac;
 

@@ -1,5 +1,5 @@
 // A part of an edge that is hidden, or that is visible.
-ghost use Rattle.span_slow.specs.Places.{IsPlace};
+ghost use Rattle.geometry.specs.Places.{IsPlace};
 
 use exact_frac::Frac;
 

@@ -2,7 +2,7 @@
 ghost use Rattle.std.specs.Prelude.{◌≡◌, All, IfOk, OnOk, IsPermutation};
 ghost use Rattle.std.specs.List.Sorted.{IsSortedByKey};
 ghost use Rattle.exact_frac.specs.Frac.{order_of};
-ghost use Rattle.span_slow.specs.Places.{IsPlace, IsEarlier};
+ghost use Rattle.geometry.specs.Places.{IsPlace, IsEarlier};
 ghost use Rattle.span_slow.specs.Hidden.{AreSpansOf};
 ghost use Rattle.span_slow.specs.Steps.{AreApart, AreUnited, IsIntervalAdded, IsSpanAdded};
 

@@ -4,7 +4,7 @@ use Rattle.lattice.specs.Cuts.{Plane, plane_of}
 use Rattle.solid_mesh.specs.Solids.{solid_part}
 use Rattle.span_slow.specs.declared.interval.Interval.{Interval}
 use Rattle.span_slow.specs.declared.span.Span.{Span}
-use Rattle.span_slow.specs.Places.{IsEarlier}
+use Rattle.geometry.specs.Places.{IsEarlier}
 use Rattle.span_slow.specs.Spans.{CoverEdge}
 use Rattle.span_slow.specs.Steps.{AreClipped}
 use Rattle.span_slow.specs.CutHidden.{IsPartBeyond}

@@ -2,9 +2,9 @@ use Rattle.std.proofs.Common.{◌≡◌, List, [], ◌∷◌, ◌++◌, ◌+◌,
 use Rattle.std.proofs.lemmas.List.{take_all}
 use Rattle.exact_frac.specs.declared.Frac.{Frac}
 use Rattle.span_slow.specs.declared.interval.Interval.{Interval}
-use Rattle.span_slow.specs.Places.{IsPlace}
+use Rattle.geometry.specs.Places.{IsPlace}
 use Rattle.span_slow.specs.Steps.{AreUnited}
-use Rattle.span_slow.proofs.Order.{zero_not_later, not_later_of_not}
+use Rattle.geometry.proofs.PlaceOrder.{zero_not_later, not_later_of_not}
 use Rattle.span_slow.proofs.Lists.{front_more}
 use Rattle.span_slow.proofs.Unions.{AreJoined, IsBeforeRest, joined_none, joined_inside, joined_longer, joined_next, united, before_rest, rest_less, rest_at}
 use Rattle.span_slow.proofs.united.united.Goals as goal

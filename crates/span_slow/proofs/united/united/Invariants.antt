@@ -1,5 +1,5 @@
 use Rattle.std.proofs.Common.{take}
-use Rattle.span_slow.specs.Places.{IsPlace}
+use Rattle.geometry.specs.Places.{IsPlace}
 use Rattle.span_slow.proofs.Unions.{AreJoined, IsBeforeRest}
 use Rattle.span_slow.proofs.united.united.Given as goal
 

@@ -1,9 +1,11 @@
 -- Places of an edge: fractions from 0 to 1.
 use Rattle.std.specs.Prelude.{◌≡◌, ◌<◌, ◌^◌, ℤ, pos, ◌*ℤ◌, ◌<ℤ◌, ◌≤ℤ◌, unsigned_abs}
 use Rattle.exact_frac.specs.declared.Frac.{Frac}
+use Rattle.lattice.specs.Triple.{Triple}
 use Rattle.lattice.specs.Points.{Point}
 use Rattle.geometry.specs.Faces.{share_point}
 use Rattle.geometry.specs.Parts.{Part, Edge}
+use Rattle.geometry.specs.Views.{IsOrdinary}
 
 -- a share of an edge, from 0 to 1, as small as a spot allows
 pub record IsPlace (r : Frac) : Type 0 where
@@ -33,3 +35,11 @@ IsBetween from to n m = ((from.num *ℤ m) <ℤ (n *ℤ from.den)) × ((n *ℤ t
 -- or at one of them
 abbrev pub IsFromTo : Frac → Frac → ℤ → ℤ → Type 0
 IsFromTo from to n m = ((from.num *ℤ m) ≤ℤ (n *ℤ from.den)) × ((n *ℤ to.den) ≤ℤ (to.num *ℤ m))
+
+-- O holds at neither end
+abbrev pub HasNoEndAt : (Point → Type 0) → {s : Part} → Edge s → Frac → Frac → Type 0
+HasNoEndAt O e from to = (¬ O (point_at e from)) × ¬ O (point_at e to)
+
+-- neither end is at an ordinary point
+abbrev pub HasNoOrdinaryEnd : Triple → {s : Part} → Edge s → Frac → Frac → Type 0
+HasNoOrdinaryEnd d {s = s} e from to = HasNoEndAt (IsOrdinary d s) e from to

@@ -5,7 +5,7 @@ use Rattle.std.proofs.lemmas.Int.{ints, by_lt_z}
 use Rattle.integers.proofs.Ring.{var, ◌⊕◌, ◌⊖◌, ◌⊗◌, ring}
 use Rattle.integers.proofs.Signs.{mul_nonneg, mul_pos, nonneg_of_mul, pos_of_mul, zero_of_mul}
 use Rattle.exact_frac.specs.declared.Frac.{Frac}
-use Rattle.span_slow.specs.Places.{IsEarlier, IsValue, IsBetween}
+use Rattle.geometry.specs.Places.{IsEarlier, IsValue, IsBetween}
 
 -- ---- differences
 pub weak : (x : ℤ) → pos 0 <ℤ x → pos 0 ≤ℤ x

@@ -1,0 +1,46 @@
+-- The faces that are counted next to an end of an edge.
+use Rattle.std.specs.Prelude.{◌≡◌, ◌≢◌, ◌⊎◌, ℕ, ℤ, pos, ◌*ℤ◌, ◌<ℤ◌, ◌≤ℤ◌, Bool, true, false, List, Some, length, slice_get, sum}
+use Rattle.std.specs.List.{AllZip}
+use Rattle.lattice.specs.Triple.{Triple}
+use Rattle.lattice.specs.Points.{Point}
+use Rattle.geometry.specs.Faces.{facing_of, share_point, FaceHides}
+use Rattle.geometry.specs.Parts.{Part, Face, Edge}
+use Rattle.counting.specs.Counts.{Side, ReachesTo}
+
+-- the point at the share n / m of the way from the edge's first corner to its second, or from the second to the first
+abbrev pub share_from : {s : Part} → Edge s → Bool → ℤ → ℤ → Point
+share_from e false n m = share_point e.a e.b n m
+share_from e true n m = share_point e.b e.a n m
+
+-- the face is strictly nearer over each inner point of some stretch of the edge from that end
+pub record HidesNext (d : Triple) {s : Part} (e : Edge s) (at_b : Bool) (f : Face s) : Type 0 where
+  pub n : ℤ
+  pub m : ℤ
+  pub some : pos 0 <ℤ n
+  pub within : n ≤ℤ m
+  pub over : (k l : ℤ) → pos 0 <ℤ k → pos 0 <ℤ l → (k *ℤ m) <ℤ (n *ℤ l) → FaceHides d f.a f.b f.c (share_from e at_b k l)
+
+-- the face is counted on that side next to that end of the edge
+pub record IsCountedNext (k : Side) (d : Triple) {s : Part} (e : Edge s) (at_b : Bool) (f : Face s) : Type 0 where
+  pub turned : facing_of d f.a f.b f.c ≢ pos 0
+  pub hides : HidesNext d e at_b f
+  pub reaches : ReachesTo k d e f
+
+-- 1 where P holds, else 0
+abbrev pub IsOneWhere : Type 0 → ℕ → Type 0
+IsOneWhere P n = ((n ≡ 1) × P) ⊎ ((n ≡ 0) × ¬ P)
+
+-- for each face of the part, in order, 1 where it is counted next to the end and else 0
+pub record AreCovers (k : Side) (d : Triple) {s : Part} (e : Edge s) (at_b : Bool) (covers : List ℕ) : Type 0 where
+  pub long : length covers ≡ length s.triangles
+  pub each : (i x : ℕ) → slice_get covers i ≡ Some x → (f : Face s) → f.number ≡ i → IsOneWhere (IsCountedNext k d e at_b f) x
+
+-- the same for the faces with these numbers
+abbrev pub AreCoversOf : Side → Triple → {s : Part} → Edge s → Bool → List ℕ → List ℕ → Type 0
+AreCoversOf k d {s = s} e at_b numbers covers = AllZip (λ i x. (f : Face s) → f.number ≡ i → IsOneWhere (IsCountedNext k d e at_b f) x) numbers covers
+
+-- so many faces are counted on that side next to the end
+pub record AreCountedNext (k : Side) (d : Triple) {s : Part} (e : Edge s) (at_b : Bool) (n : ℕ) : Type 0 where
+  pub covers : List ℕ
+  pub next : AreCovers k d e at_b covers
+  pub all : n ≡ sum covers

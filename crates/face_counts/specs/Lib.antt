@@ -1,0 +1,9 @@
+pub mod Places
+pub mod Shares
+pub mod Sums
+pub mod Meshes
+pub mod Turns
+pub mod Uprights
+pub mod Corners
+pub mod Laws
+pub mod CornerTests
