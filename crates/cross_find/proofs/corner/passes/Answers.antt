@@ -1,0 +1,19 @@
+use Rattle.std.proofs.Common.{subst}
+use Rattle.std.specs.Prelude.{◌↔◌, IsTrue}
+use Rattle.face_counts.specs.Corners.{IsLeft}
+use Rattle.cross_find.specs.Ways.{way_of, side_of}
+use Rattle.cross_find.proofs.CornerSigns.{less_hair, one_hair, two_hairs, two_alike}
+use Rattle.cross_find.proofs.corner.passes.Goals as goal
+
+pub returns : goal.returns
+returns c =
+    let k = side_of c.args.x_left in
+    let l = side_of c.args.y_left in
+    let x = way_of c.args.x.now in
+    let y = way_of c.args.y.now in
+    let w = way_of c.args.w.now in
+    two_alike
+    (subst (λ h. IsTrue c.is_left.result ↔ IsLeft h x w) (less_hair k c.hair-k.result c.hair-k.ensures.value) c.is_left.ensures)
+    (subst (λ h. IsTrue c.is_left-2.result ↔ IsLeft h w y) (one_hair l c.hair-l.result c.hair-l.ensures.value) c.is_left-2.ensures)
+    (subst (λ h. IsTrue c.is_left-3.result ↔ IsLeft h y x) (two_hairs k l c.hair-k.result c.hair-l.result c.hair-k.ensures.value c.hair-l.ensures.value) c.is_left-3.ensures)
+    c.any_two.ensures

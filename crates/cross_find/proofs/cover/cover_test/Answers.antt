@@ -1,0 +1,40 @@
+use Rattle.std.proofs.Common.{true≢false, sym, ◌∙◌}
+use Rattle.lattice.specs.Points.{of_dir}
+use Rattle.counting.specs.Counts.{to_left, to_right}
+use Rattle.cross_find.proofs.Passed.{passed}
+use Rattle.cross_find.proofs.Counted.{not_counted, counted, reaches_left, reaches_right}
+use Rattle.cross_find.proofs.cover.cover_test.Goals as goal
+
+pub returns-then-not-hides_at-clause-left : goal.returns-then-not-hides_at-clause-left
+returns-then-not-hides_at-clause-left c e f at_e at_f =
+    let (a, b) = c.ends.ensures e at_e in
+    let (x, y, z) = c.corners_of-t.ensures f at_f in
+    not_counted (of_dir c.args.d.now) e f c.args.end.at_b _ _ _ _ _ a b x y z (λ h. true≢false (sym (c.hides_at.ensures.1 h) ∙ c.if-not-hides_at.true)) to_left
+
+pub returns-then-not-hides_at-clause-right : goal.returns-then-not-hides_at-clause-right
+returns-then-not-hides_at-clause-right c e f at_e at_f =
+    let (a, b) = c.ends.ensures e at_e in
+    let (x, y, z) = c.corners_of-t.ensures f at_f in
+    not_counted (of_dir c.args.d.now) e f c.args.end.at_b _ _ _ _ _ a b x y z (λ h. true≢false (sym (c.hides_at.ensures.1 h) ∙ c.if-not-hides_at.true)) to_right
+
+pub returns-clause-left : goal.returns-clause-left
+returns-clause-left c e f at_e at_f =
+    let d = of_dir c.args.d.now in
+    let (a, b) = c.ends.ensures e at_e in
+    let (x, y, z) = c.corners_of-t.ensures f at_f in
+    let p = passed c.turn_to-x.result c.turn_to-x.ensures.size ∙ c.turn_to-x.ensures.value in
+    let q = passed c.turn_to-y.result c.turn_to-y.ensures.size ∙ c.turn_to-y.ensures.value in
+    let r = passed c.turn_to-z.result c.turn_to-z.ensures.size ∙ c.turn_to-z.ensures.value in
+    counted d e f c.args.end.at_b _ _ _ _ _ a b x y z (c.hides_at.ensures.0 c.if-not-hides_at.false) to_left c.any_above.result
+    (reaches_left d e f c.args.end.at_b _ _ _ _ _ a b x y z _ _ _ p q r c.any_above.result c.any_above.ensures)
+
+pub returns-clause-right : goal.returns-clause-right
+returns-clause-right c e f at_e at_f =
+    let d = of_dir c.args.d.now in
+    let (a, b) = c.ends.ensures e at_e in
+    let (x, y, z) = c.corners_of-t.ensures f at_f in
+    let p = passed c.turn_to-x.result c.turn_to-x.ensures.size ∙ c.turn_to-x.ensures.value in
+    let q = passed c.turn_to-y.result c.turn_to-y.ensures.size ∙ c.turn_to-y.ensures.value in
+    let r = passed c.turn_to-z.result c.turn_to-z.ensures.size ∙ c.turn_to-z.ensures.value in
+    counted d e f c.args.end.at_b _ _ _ _ _ a b x y z (c.hides_at.ensures.0 c.if-not-hides_at.false) to_right c.any_below.result
+    (reaches_right d e f c.args.end.at_b _ _ _ _ _ a b x y z _ _ _ p q r c.any_below.result c.any_below.ensures)

@@ -1,0 +1,52 @@
+//! The single tests by which the counts of nearer faces are carried along edges and around corners (Appel 1967).
+//!
+//! Two counts belong to each point of an edge: how many faces are strictly nearer there and reach to the left of the edge's line,
+//! as it is seen, and how many reach to its right. Faces that are seen edge-on are never counted. Appel counts the faces once at an
+//! end of an edge, and from there changes the count only where an outline passes nearer. So three tests are enough:
+//!
+//! - `cover_test`: whether a triangle is counted to the left, and to the right, next to an end of an edge. Next to an end a value
+//!   that is linear along the edge has the sign that it has at the end or, where it is 0 there, at the other end. Three such values
+//!   say whether the edge runs within the triangle's three sides, as they are seen, and one whether it runs behind its plane.
+//! - `cross_test`: where an outline passes nearer over an edge, and by how much the two counts change there. A corner of the
+//!   outline on the edge's line counts as standing to its right for the left count, and to its left for the right count.
+//! - `corner_test`: by how much an outline changes the two counts about a corner, from the end of one edge there to that of another.
+//!   Next to its end an edge's left count is that of the faces over a hair to the left of it. So the turn goes counterclockwise,
+//!   less than once around, from a hair beside the first edge to a hair beside the second. An outline that passes nearer over the
+//!   corner changes the count where the turn passes the way to one of its ends. Faces and outlines that have the corner are left
+//!   out: there the triangles at the corner are tested again. Left and right are those along the edge from its first end, and are
+//!   exchanged as they are seen from its second.
+//!
+//! No hair is made. Whether a way is to the left of another is the sign of the turn between them and, where the two are along one
+//! line, that of their product times how far their hairs are apart. So an end of an
+//! outline that is seen along an edge is to one side of its hair. Two hairs on one side of one way are the same, and the turn
+//! between them, as from an edge to itself, passes nothing, and not all ways around.
+//!
+//! Deviations from Appel: 1) there are two counts in place of one, since outlines may run along the edge's line or end on it;
+//! 2) all is decided by signs of determinants of whole coordinates, and the place of a crossing is the quotient of two of them,
+//! so nothing is rounded; 3) an outline may pass just over a corner that it doesn't have, and the counts change about it.
+//!
+//! Each test takes constant time and no memory: `cross_test` three determinants, and four more where the outline passes nearer;
+//! `cover_test` at most twelve; `corner_test` one turn between ways and four products, and twelve of each more where the outline
+//! passes nearer. Each raises the count of tests in a `Meter` by one. A `Sight` hands out these tests, the numbers of edges and the
+//! triangles at a corner, and no coordinate, so that what is found through it is found by counted tests; `SolidSight` is that of a
+//! solid in a direction.
+#![tactic(auto)]
+
+mod corner;
+mod cover;
+mod cross;
+mod ends;
+mod meter;
+mod sight;
+mod solid_sight;
+#[cfg(test)]
+mod tests;
+mod turns;
+mod ways;
+
+pub use cover::cover_test;
+pub use cross::cross_test;
+pub use meter::{Crossing, End, Meter, Turn};
+pub use sight::Sight;
+pub use solid_sight::SolidSight;
+pub use turns::corner_test;

@@ -1,0 +1,173 @@
+// What an outline changes of the counts in a turn about a corner, from the end of one edge to the end of another.
+ghost use Rattle.std.specs.Prelude.{◌≡◌, ◌↔◌, ◌+◌, ◌<◌, ◌≤◌, ◌^◌, ◌-ℤ◌, ◌*ℤ◌, length, unsigned_abs, IsTrue};
+ghost use Rattle.lattice.specs.Points.{of_dir};
+ghost use Rattle.geometry.specs.Parts.{Edge, IsNumbered};
+ghost use Rattle.solid_mesh.specs.Solids.{solid_part, edge_halves};
+ghost use Rattle.counting.specs.Counts.{to_left, to_right};
+ghost use Rattle.face_counts.specs.Shares.{IsTally};
+ghost use Rattle.counting.specs.Turns.{way_to, way_from, corner_at, number_at, side_from, HasTurnedAt};
+ghost use Rattle.face_counts.specs.Corners.{TwoAreLeft};
+ghost use Rattle.face_counts.specs.CornerTests.{rise_to, IsOver};
+ghost use Rattle.cross_find.specs.Ways.{way_of, side_of};
+
+use crate::corner::{are_in_line, passes, passes_between, way_to};
+use crate::cross::turn_of;
+use crate::ends::ends;
+use crate::meter::{End, Meter, Turn};
+use crate::ways::Way;
+use lattice::{Corner, Dir, Vector};
+use solid_mesh::Solid;
+
+/// By how much an outline changes the two counts in the turn about the corner of `from`, counterclockwise and less than once around,
+/// from there to `to`; left and right are those along each edge from its first end. An outline that has the corner, or is not
+/// strictly nearer over it, changes nothing. These are the changes of the counts where both ends are at one corner, neither edge is
+/// seen end-on and `outline` is an outline; else the same formula. Takes constant time and no memory.
+pub fn corner_test(
+    solid: &Solid,
+    d: &Dir,
+    from: End,
+    to: End,
+    outline: u32,
+    meter: &mut Meter,
+) -> Turn
+    requires from_in_range { from.edge < length (edge_halves solid.now) }
+    requires to_in_range { to.edge < length (edge_halves solid.now) }
+    requires outline_in_range { outline < length (edge_halves solid.now) }
+    requires room { meter.old.tests + 1 < 2 ^ 64 }
+    ensures left { (e f o : Edge (solid_part solid.now)) → IsNumbered (edge_halves solid.now) from.edge e → IsNumbered (edge_halves solid.now) to.edge f →
+        IsNumbered (edge_halves solid.now) outline o → HasTurnedAt to_left (of_dir d.now) e from.at_b f to.at_b o result.left }
+    ensures right { (e f o : Edge (solid_part solid.now)) → IsNumbered (edge_halves solid.now) from.edge e → IsNumbered (edge_halves solid.now) to.edge f →
+        IsNumbered (edge_halves solid.now) outline o → HasTurnedAt to_right (of_dir d.now) e from.at_b f to.at_b o result.right }
+    ensures counted { meter.new.tests ≡ meter.old.tests + 1 }
+{
+    meter.tests += 1;
+    if !is_over(solid, d, from, outline) {
+        return Turn { left: 0, right: 0 };
+    }
+    Turn {
+        left: share(solid, d, from, to, outline, true),
+        right: share(solid, d, from, to, outline, false),
+    }
+}
+
+/// The number of the corner at an end of an edge.
+pub(crate) fn number_at(solid: &Solid, end: End) -> u32
+    requires { end.edge < length (edge_halves solid.now) }
+    ensures { (e : Edge (solid_part solid.now)) → IsNumbered (edge_halves solid.now) end.edge e → number_at e end.at_b ≡ result }
+{
+    let numbers = solid.edge(end.edge);
+    if end.at_b { numbers.b } else { numbers.a }
+}
+
+/// The corner at an end of an edge.
+fn corner_at(solid: &Solid, end: End) -> Corner
+    requires { end.edge < length (edge_halves solid.now) }
+    ensures { (e : Edge (solid_part solid.now)) → IsNumbered (edge_halves solid.now) end.edge e → corner_at e end.at_b ≡ result }
+{
+    let (a, b) = ends(solid, end.edge);
+    if end.at_b { b } else { a }
+}
+
+/// The way along an edge from one of its ends.
+fn way_from(solid: &Solid, d: &Dir, end: End) -> Way
+    requires { end.edge < length (edge_halves solid.now) }
+    ensures { (e : Edge (solid_part solid.now)) → IsNumbered (edge_halves solid.now) end.edge e → way_of result ≡ way_from (of_dir d.now) e end.at_b }
+{
+    let (a, b) = ends(solid, end.edge);
+    if end.at_b {
+        way_to(d, &b, &a)
+    } else {
+        way_to(d, &a, &b)
+    }
+}
+
+/// How much nearer `q` is than `p`.
+fn rise_to(d: &Dir, p: &Corner, q: &Corner) -> i128
+    ensures value { result ≡ rise_to (of_dir d.now) p.now q.now }
+    ensures size { unsigned_abs result < 2 ^ 30 }
+{
+    d.vector().dot(&Vector::between(p, q))
+}
+
+/// The outline does not have the corner at that end, is not seen end-on, and is strictly nearer over it.
+fn is_over(solid: &Solid, d: &Dir, end: End, outline: u32) -> bool
+    requires end_in_range { end.edge < length (edge_halves solid.now) }
+    requires outline_in_range { outline < length (edge_halves solid.now) }
+    ensures { (e o : Edge (solid_part solid.now)) → IsNumbered (edge_halves solid.now) end.edge e → IsNumbered (edge_halves solid.now) outline o →
+        IsTrue result ↔ IsOver (of_dir d.now) (number_at e end.at_b) (corner_at e end.at_b) o }
+{
+    let number = number_at(solid, end);
+    let numbers = solid.edge(outline);
+    if numbers.a == number || numbers.b == number {
+        return false;
+    }
+    let c = corner_at(solid, end);
+    let (a, b) = ends(solid, outline);
+    let (v, w) = (way_to(d, &c, &a), way_to(d, &c, &b));
+    // Few outlines are seen in line with a corner, so most tests end here.
+    if !are_in_line(&v, &w) {
+        return false;
+    }
+    passes_between(&v, &w, rise_to(d, &c, &a), rise_to(d, &c, &b))
+}
+
+/// What the outline changes of the count on that side, where it is over the corner.
+fn share(solid: &Solid, d: &Dir, from: End, to: End, outline: u32, left: bool) -> i8
+    requires from_in_range { from.edge < length (edge_halves solid.now) }
+    requires to_in_range { to.edge < length (edge_halves solid.now) }
+    requires outline_in_range { outline < length (edge_halves solid.now) }
+    ensures turned { (e f o : Edge (solid_part solid.now)) → IsNumbered (edge_halves solid.now) from.edge e → IsNumbered (edge_halves solid.now) to.edge f →
+        IsNumbered (edge_halves solid.now) outline o → IsOver (of_dir d.now) (number_at e from.at_b) (corner_at e from.at_b) o →
+        HasTurnedAt (side_of left) (of_dir d.now) e from.at_b f to.at_b o result }
+    ensures size { unsigned_abs result ≤ 4 }
+{
+    let (a, b) = ends(solid, outline);
+    let first = passed(solid, d, from, to, left, &a);
+    let second = passed(solid, d, from, to, left, &b);
+    times_between(turn_of(solid, d, outline), first, second)
+}
+
+/// 1 where the turn on that side passes the way to `p`, else 0.
+fn passed(solid: &Solid, d: &Dir, from: End, to: End, left: bool, p: &Corner) -> i8
+    requires from_in_range { from.edge < length (edge_halves solid.now) }
+    requires to_in_range { to.edge < length (edge_halves solid.now) }
+    ensures tally { (e f : Edge (solid_part solid.now)) → IsNumbered (edge_halves solid.now) from.edge e → IsNumbered (edge_halves solid.now) to.edge f →
+        IsTally (TwoAreLeft (side_from from.at_b (side_of left)) (way_from (of_dir d.now) e from.at_b) (side_from to.at_b (side_of left)) (way_from (of_dir d.now) f to.at_b)
+        (way_to (of_dir d.now) (corner_at e from.at_b) p.now)) result }
+    ensures size { unsigned_abs result ≤ 1 }
+{
+    let (x, y) = (way_from(solid, d, from), way_from(solid, d, to));
+    let w = way_to(d, &corner_at(solid, from), p);
+    one_where(passes(
+        &x,
+        seen_left(left, from.at_b),
+        &y,
+        seen_left(left, to.at_b),
+        &w,
+    ))
+}
+
+/// Whether the side is the left one as it is seen from an end.
+fn seen_left(left: bool, at_b: bool) -> bool
+    ensures { side_of result ≡ side_from at_b (side_of left) }
+{
+    if at_b { !left } else { left }
+}
+
+fn one_where(so: bool) -> i8
+    ensures tally { IsTally (IsTrue so) result }
+    ensures size { unsigned_abs result ≤ 1 }
+{
+    if so { 1 } else { 0 }
+}
+
+/// The turn times the difference of two marks.
+fn times_between(turn: i8, from: i8, to: i8) -> i8
+    requires turn { unsigned_abs turn ≤ 2 }
+    requires from { unsigned_abs from ≤ 1 }
+    requires to { unsigned_abs to ≤ 1 }
+    ensures value { result ≡ turn *ℤ (to -ℤ from) }
+    ensures size { unsigned_abs result ≤ 4 }
+{
+    turn * (to - from)
+}
