@@ -1,0 +1,45 @@
+use Rattle.std.proofs.Common.{ℕ, ◌+◌, ◌<◌, ◌^◌, false, [], arith}
+use Rattle.span_count.proofs.Walks.{edge_after}
+use Rattle.span_count.proofs.Stars.{corner_count}
+use Rattle.span_count.proofs.Moved.{seen_after, room_after, corner_before, own_before, near_last}
+use Rattle.span_count.proofs.Around.{counts_small, rests_of}
+use Rattle.span_count.proofs.step.begin.Goals as goal
+
+pub first_counts-counts-requires-clause-room : goal.first_counts-counts-requires-clause-room
+first_counts-counts-requires-clause-room g c =
+    let x = g.S.Sight.sight c.args.sight.now in
+    let (n, h) = corner_count x c.args.edge c.requires.seen c.requires.edge.in_range false in
+    fits x.tests c.args.triangles n (c.requires.room n h)
+  where
+    fits : (t b n : ℕ) → t + (b + n) < 2 ^ 64 → t + b < 2 ^ 64
+    fits t b n h = omega arith
+
+pub own_counts-own-requires-clause-seen : goal.own_counts-own-requires-clause-seen
+own_counts-own-requires-clause-seen g c =
+    seen_after (g.S.Sight.sight c.args.sight.now) (g.S.Sight.sight c.first_counts-counts.new.sight) c.args.triangles c.first_counts-counts.ensures.tested c.requires.seen
+
+pub own_counts-own-requires-clause-edge : goal.own_counts-own-requires-clause-edge
+own_counts-own-requires-clause-edge g c =
+    edge_after (g.S.Sight.sight c.args.sight.now) (g.S.Sight.sight c.first_counts-counts.new.sight) c.args.triangles c.first_counts-counts.ensures.tested c.args.edge [] c.requires.edge
+
+pub own_counts-own-requires-clause-room : goal.own_counts-own-requires-clause-room
+own_counts-own-requires-clause-room g c n h =
+    let x = g.S.Sight.sight c.args.sight.now in
+    let mid = g.S.Sight.sight c.first_counts-counts.new.sight in
+    room_after x mid c.args.triangles c.first_counts-counts.ensures.tested n (c.requires.room n (corner_before x mid c.args.triangles c.first_counts-counts.ensures.tested c.args.edge false n h))
+
+pub less-requires-clause-small : goal.less-requires-clause-small
+less-requires-clause-small g c =
+    counts_small (g.S.Sight.sight c.args.sight.now) c.requires.seen c.args.edge c.requires.edge.in_range false c.first_counts-counts.result c.first_counts-counts.ensures.counts
+
+pub returns-clause-rest : goal.returns-clause-rest
+returns-clause-rest g c =
+    let x = g.S.Sight.sight c.args.sight.now in
+    let mid = g.S.Sight.sight c.first_counts-counts.new.sight in
+    rests_of x c.args.edge false c.first_counts-counts.result c.own_counts-own.result c.less.result c.first_counts-counts.ensures.counts
+    (own_before x mid c.args.triangles c.first_counts-counts.ensures.tested c.args.edge false c.own_counts-own.result c.own_counts-own.ensures.own) c.less.ensures.left c.less.ensures.right
+
+pub returns-clause-tested : goal.returns-clause-tested
+returns-clause-tested g c =
+    near_last (g.S.Sight.sight c.args.sight.now) c.args.edge false c.args.triangles (g.S.Sight.sight c.first_counts-counts.new.sight) (g.S.Sight.sight c.own_counts-own.new.sight)
+    c.first_counts-counts.ensures.tested c.own_counts-own.ensures.tested

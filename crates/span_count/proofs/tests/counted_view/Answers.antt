@@ -1,0 +1,18 @@
+use Rattle.std.proofs.Common.{ap, sym, subst, arith}
+use Rattle.cross_find.specs.Sights.{SightState}
+use Rattle.span_count.specs.Bounds.{IsBound}
+use Rattle.span_count.proofs.tests.counted_view.Goals as goal
+
+pub spans_counted-requires-clause-room : goal.spans_counted-requires-clause-room
+spans_counted-requires-clause-room c = (
+  c.bound-bound.result,
+  subst (λ (y : SightState). IsBound y.part y.halves c.in_ok-picked.picked c.bound-bound.result) (sym c.new-sight.ensures) c.bound-bound.ensures.bound,
+  let none = ap (λ (y : SightState). y.tests) c.new-sight.ensures in omega (arith, c.bound-bound.ensures.size, none),
+)
+
+pub spans_counted-requires-else-forward-clause-room : goal.spans_counted-requires-else-forward-clause-room
+spans_counted-requires-else-forward-clause-room c = (
+  c.bound-bound.result,
+  subst (λ (y : SightState). IsBound y.part y.halves c.in_ok-picked.picked c.bound-bound.result) (sym c.new-sight.ensures) c.bound-bound.ensures.bound,
+  let none = ap (λ (y : SightState). y.tests) c.new-sight.ensures in omega (arith, c.bound-bound.ensures.size, none),
+)

@@ -1,0 +1,142 @@
+use Rattle.std.proofs.Common.{◌≡◌, ℕ, ◌+◌, ◌<◌, ◌^◌, Some, List, length, get_or, slice_get, refl, sym, subst, ◌∙◌, arith}
+use Rattle.std.specs.Prelude.{Option}
+use Rattle.std.proofs.lemmas.Option.{same_Some, slice_get_read, slice_get_within}
+use Rattle.counting.specs.Turns.{number_at}
+use Rattle.span_count.specs.Bounds.{IsEndCount}
+use Rattle.span_count.specs.Tests.{IsTested}
+use Rattle.span_count.specs.Tours.{IsReady, cost_of}
+use Rattle.span_count.specs.declared.order.DrawnEnd.{DrawnEnd}
+use Rattle.span_count.proofs.Listings.{there_at, seen_edge, few_along, listed, few_over, listed_over}
+use Rattle.span_count.proofs.StepWalks.{first_fits, next_fits, first_most, next_most, tested_within, kept_rests, all_walked}
+use Rattle.span_count.proofs.tour.walk_step.Goals as goal
+
+-- the edge at a place
+drawn_at : (drawn : List ℕ) (place edge : ℕ) → place < length drawn → edge ≡ get_or drawn place edge → slice_get drawn place ≡ Some edge
+drawn_at drawn place edge within is = slice_get_read drawn (length drawn) place edge refl within is
+
+pub first_edge-requires-clause-edge : goal.first_edge-requires-clause-edge
+first_edge-requires-clause-edge g c =
+    let at = drawn_at c.args.picked.now.drawn.items c.args.step.to.place c.index-edge.result.now c.requires.place c.index-edge.ensures in
+    seen_edge (g.S.Sight.sight c.args.sight.now) c.requires.seen c.args.picked.now c.requires.picked _ _ c.requires.finder c.index-edge.result.now (there_at _ _ _ at)
+
+pub first_edge-requires-clause-listed : goal.first_edge-requires-clause-listed
+first_edge-requires-clause-listed g c =
+    let at = drawn_at c.args.picked.now.drawn.items c.args.step.to.place c.index-edge.result.now c.requires.place c.index-edge.ensures in
+    listed (g.S.Sight.sight c.args.sight.now) c.requires.seen c.args.picked.now c.requires.picked _ _ c.requires.finder c.index-edge.result.now (there_at _ _ _ at)
+
+pub first_edge-requires-clause-room : goal.first_edge-requires-clause-room
+first_edge-requires-clause-room g c ends count =
+    let x = g.S.Sight.sight c.args.sight.now in
+    let p = c.args.picked.now in
+    let at = drawn_at p.drawn.items c.args.step.to.place c.index-edge.result.now c.requires.place c.index-edge.ensures in
+    let few = few_along x c.requires.seen p c.requires.picked (g.F.Finder.list_along c.args.finder.now) (g.F.Finder.list_over c.args.finder.now) c.requires.finder c.index-edge.result.now (there_at p.drawn.items c.args.step.to.place c.index-edge.result.now at) in
+    first_fits x.tests (length x.part.triangles) c.args.triangles (length (g.F.Finder.list_along c.args.finder.now c.index-edge.result.now)) (length p.outlines.items) ends
+    (subst (λ (from : Option DrawnEnd). x.tests + cost_of (length x.part.triangles) (length p.outlines.items) ends from < 2 ^ 64) c.in-None.is (c.requires.room c.index-edge.result.now ends at count)) c.requires.triangles few
+
+pub index-requires : goal.index-requires
+index-requires g c =
+    let ready : IsReady (g.S.Sight.sight c.args.sight.now) c.args.picked.now c.args.ends.now c.args.step.to (Some c.in-Some.from) =
+    subst (IsReady (g.S.Sight.sight c.args.sight.now) c.args.picked.now c.args.ends.now c.args.step.to) c.in-Some.is c.requires.ready in
+    omega (arith, slice_get_within c.args.picked.now.drawn.items c.in-Some.from.place ready.1.edge ready.1.drawn)
+
+pub bounds-ends-from : goal.bounds-ends-from
+bounds-ends-from g c =
+    let ready : IsReady (g.S.Sight.sight c.args.sight.now) c.args.picked.now c.args.ends.now c.args.step.to (Some c.in-Some.from) =
+    subst (IsReady (g.S.Sight.sight c.args.sight.now) c.args.picked.now c.args.ends.now c.args.step.to) c.in-Some.is c.requires.ready in
+    slice_get_within c.args.ends.now c.in-Some.from.place ready.1.kept ready.1.listed
+
+pub next_edge-requires-clause-from : goal.next_edge-requires-clause-from
+next_edge-requires-clause-from g c =
+    let ready : IsReady (g.S.Sight.sight c.args.sight.now) c.args.picked.now c.args.ends.now c.args.step.to (Some c.in-Some.from) =
+    subst (IsReady (g.S.Sight.sight c.args.sight.now) c.args.picked.now c.args.ends.now c.args.step.to) c.in-Some.is c.requires.ready in
+    let within = slice_get_within c.args.picked.now.drawn.items c.in-Some.from.place ready.1.edge ready.1.drawn in
+    let at = drawn_at c.args.picked.now.drawn.items c.in-Some.from.place c.index.result.now within c.index.ensures in
+    seen_edge (g.S.Sight.sight c.args.sight.now) c.requires.seen c.args.picked.now c.requires.picked _ _ c.requires.finder c.index.result.now (there_at _ _ _ at)
+
+pub next_edge-requires-clause-to : goal.next_edge-requires-clause-to
+next_edge-requires-clause-to g c =
+    let at = drawn_at c.args.picked.now.drawn.items c.args.step.to.place c.index-edge.result.now c.requires.place c.index-edge.ensures in
+    seen_edge (g.S.Sight.sight c.args.sight.now) c.requires.seen c.args.picked.now c.requires.picked _ _ c.requires.finder c.index-edge.result.now (there_at _ _ _ at)
+
+pub next_edge-requires-clause-one_corner : goal.next_edge-requires-clause-one_corner
+next_edge-requires-clause-one_corner g c e f e_at f_at =
+    let ready : IsReady (g.S.Sight.sight c.args.sight.now) c.args.picked.now c.args.ends.now c.args.step.to (Some c.in-Some.from) =
+    subst (IsReady (g.S.Sight.sight c.args.sight.now) c.args.picked.now c.args.ends.now c.args.step.to) c.in-Some.is c.requires.ready in
+    let within = slice_get_within c.args.picked.now.drawn.items c.in-Some.from.place ready.1.edge ready.1.drawn in
+    ready.0 c.index.result.now c.index-edge.result.now e f (drawn_at c.args.picked.now.drawn.items c.in-Some.from.place c.index.result.now within c.index.ensures)
+    (drawn_at c.args.picked.now.drawn.items c.args.step.to.place c.index-edge.result.now c.requires.place c.index-edge.ensures) e_at f_at
+
+pub next_edge-requires-clause-rests : goal.next_edge-requires-clause-rests
+next_edge-requires-clause-rests g c =
+    let ready : IsReady (g.S.Sight.sight c.args.sight.now) c.args.picked.now c.args.ends.now c.args.step.to (Some c.in-Some.from) =
+    subst (IsReady (g.S.Sight.sight c.args.sight.now) c.args.picked.now c.args.ends.now c.args.step.to) c.in-Some.is c.requires.ready in
+    let within = slice_get_within c.args.picked.now.drawn.items c.in-Some.from.place ready.1.edge ready.1.drawn in
+    kept_rests (g.S.Sight.sight c.args.sight.now) c.args.picked.now c.args.ends.now c.in-Some.from c.index.result.now _ c.end_of-kept.result ready.1
+    (drawn_at c.args.picked.now.drawn.items c.in-Some.from.place c.index.result.now within c.index.ensures) c.end_of-kept.ensures
+
+pub next_edge-requires-clause-listed : goal.next_edge-requires-clause-listed
+next_edge-requires-clause-listed g c =
+    let at = drawn_at c.args.picked.now.drawn.items c.args.step.to.place c.index-edge.result.now c.requires.place c.index-edge.ensures in
+    listed (g.S.Sight.sight c.args.sight.now) c.requires.seen c.args.picked.now c.requires.picked _ _ c.requires.finder c.index-edge.result.now (there_at _ _ _ at)
+
+pub next_edge-requires-clause-listed_over : goal.next_edge-requires-clause-listed_over
+next_edge-requires-clause-listed_over g c f f_at =
+    let at = drawn_at c.args.picked.now.drawn.items c.args.step.to.place c.index-edge.result.now c.requires.place c.index-edge.ensures in
+    listed_over (g.S.Sight.sight c.args.sight.now) c.requires.seen c.args.picked.now c.requires.picked _ _ c.requires.finder c.index-edge.result.now (there_at _ _ _ at) f c.args.step.to.at_b
+
+pub next_edge-requires-clause-room : goal.next_edge-requires-clause-room
+next_edge-requires-clause-room g c f ends f_at count =
+    let x = g.S.Sight.sight c.args.sight.now in
+    let p = c.args.picked.now in
+    let along = g.F.Finder.list_along c.args.finder.now in
+    let over = g.F.Finder.list_over c.args.finder.now in
+    let at = drawn_at p.drawn.items c.args.step.to.place c.index-edge.result.now c.requires.place c.index-edge.ensures in
+    let there = there_at p.drawn.items c.args.step.to.place c.index-edge.result.now at in
+    next_fits x.tests (length (over (number_at f c.args.step.to.at_b))) (length (along c.index-edge.result.now)) (length p.outlines.items) ends
+    (subst (λ (from : Option DrawnEnd). x.tests + cost_of (length x.part.triangles) (length p.outlines.items) ends from < 2 ^ 64) c.in-Some.is (c.requires.room c.index-edge.result.now ends at count))
+    (few_over x c.requires.seen p c.requires.picked along over c.requires.finder c.index-edge.result.now there f c.args.step.to.at_b)
+    (few_along x c.requires.seen p c.requires.picked along over c.requires.finder c.index-edge.result.now there)
+
+pub returns-in-None-clause-walked : goal.returns-in-None-clause-walked
+returns-in-None-clause-walked g c number here =
+    let at = drawn_at c.args.picked.now.drawn.items c.args.step.to.place c.index-edge.result.now c.requires.place c.index-edge.ensures in
+    all_walked (g.S.Sight.sight c.args.sight.now) c.index-edge.result.now number c.args.picked.now.drawn.items c.args.step.to.place at here c.first_edge.result
+    c.first_edge.ensures.spans c.first_edge.ensures.first c.first_edge.ensures.second
+
+pub returns-in-None-clause-tested : goal.returns-in-None-clause-tested
+returns-in-None-clause-tested g c number ends here count =
+    let x = g.S.Sight.sight c.args.sight.now in
+    let p = c.args.picked.now in
+    let edge = c.index-edge.result.now in
+    let along = g.F.Finder.list_along c.args.finder.now in
+    let over = g.F.Finder.list_over c.args.finder.now in
+    let at = drawn_at p.drawn.items c.args.step.to.place edge c.requires.place c.index-edge.ensures in
+    let there = there_at p.drawn.items c.args.step.to.place edge at in
+    let few = few_along x c.requires.seen p c.requires.picked along over c.requires.finder edge there in
+    let counted : IsEndCount x.part x.halves edge ends = subst (λ (n : ℕ). IsEndCount x.part x.halves n ends) (same_Some number edge (sym here ∙ at)) count in
+    subst (λ (from : Option DrawnEnd). IsTested (cost_of (length x.part.triangles) (length p.outlines.items) ends from) x (g.S.Sight.sight c.first_edge.new.sight)) (sym c.in-None.is)
+    (tested_within x (g.S.Sight.sight c.first_edge.new.sight) (c.args.triangles + (length (along edge) + ends)) (length x.part.triangles + (length p.outlines.items + ends))
+    (first_most (length x.part.triangles) c.args.triangles (length (along edge)) (length p.outlines.items) ends c.requires.triangles few) (c.first_edge.ensures.tested ends counted))
+
+pub returns-in-Some-clause-walked : goal.returns-in-Some-clause-walked
+returns-in-Some-clause-walked g c number here =
+    let at = drawn_at c.args.picked.now.drawn.items c.args.step.to.place c.index-edge.result.now c.requires.place c.index-edge.ensures in
+    all_walked (g.S.Sight.sight c.args.sight.now) c.index-edge.result.now number c.args.picked.now.drawn.items c.args.step.to.place at here c.next_edge.result
+    c.next_edge.ensures.spans c.next_edge.ensures.first c.next_edge.ensures.second
+
+pub returns-in-Some-clause-tested : goal.returns-in-Some-clause-tested
+returns-in-Some-clause-tested g c number ends here count =
+    let x = g.S.Sight.sight c.args.sight.now in
+    let p = c.args.picked.now in
+    let edge = c.index-edge.result.now in
+    let along = g.F.Finder.list_along c.args.finder.now in
+    let over = g.F.Finder.list_over c.args.finder.now in
+    let at = drawn_at p.drawn.items c.args.step.to.place edge c.requires.place c.index-edge.ensures in
+    let there = there_at p.drawn.items c.args.step.to.place edge at in
+    let few = few_along x c.requires.seen p c.requires.picked along over c.requires.finder edge there in
+    let counted : IsEndCount x.part x.halves edge ends = subst (λ (n : ℕ). IsEndCount x.part x.halves n ends) (same_Some number edge (sym here ∙ at)) count in
+    let v = over (number_at counted.edge c.args.step.to.at_b) in
+    subst (λ (from : Option DrawnEnd). IsTested (cost_of (length x.part.triangles) (length p.outlines.items) ends from) x (g.S.Sight.sight c.next_edge.new.sight)) (sym c.in-Some.is)
+    (tested_within x (g.S.Sight.sight c.next_edge.new.sight) (length v + (length (along edge) + ends)) (length p.outlines.items + (length p.outlines.items + ends))
+    (next_most (length v) (length (along edge)) (length p.outlines.items) ends
+    (few_over x c.requires.seen p c.requires.picked along over c.requires.finder edge there counted.edge c.args.step.to.at_b) few) (c.next_edge.ensures.tested counted.edge ends counted.numbered counted))

@@ -1,0 +1,27 @@
+-- What is picked of a part that is seen in a direction, and what the lists of a finder hold for it.
+use Rattle.std.specs.Prelude.{◌≡◌, ◌≢◌, ℕ, ◌<◌, List, All, AllPairs, Contains, Some, length, slice_get}
+use Rattle.lattice.specs.declared.points.Corner.{Corner}
+use Rattle.geometry.specs.Parts.{Edge, IsNumbered}
+use Rattle.counting.specs.Shares.{Changes}
+use Rattle.counting.specs.Turns.{PassesOver}
+use Rattle.cross_find.specs.Sights.{SightState}
+use Rattle.edge_pick.specs.declared.Picked.{Picked}
+use Rattle.edge_pick.specs.Picked.{IsPicked}
+
+-- picked of what is seen, with some crease's fraction
+abbrev pub IsPickedIn : SightState → Picked → Type 0
+IsPickedIn x p = (fraction : ℕ) × IsPicked x.direction fraction x.part x.halves p
+
+-- The law of a finder's lists, along edges and over corners.
+pub record IsFinder (x : SightState) (p : Picked) (along over : ℕ → List ℕ) : Type 0 where
+  -- each holds outlines, none twice
+  pub outlines : (edge : ℕ) → edge < length x.halves → All (Contains p.outlines.items) (along edge)
+  pub once : (edge : ℕ) → edge < length x.halves → AllPairs ◌≢◌ (along edge)
+  pub outlines_over : (corner : ℕ) → corner < length x.part.corners → All (Contains p.outlines.items) (over corner)
+  pub once_over : (corner : ℕ) → corner < length x.part.corners → AllPairs ◌≢◌ (over corner)
+  -- that of a drawn edge has every outline that changes one of the counts along it
+  pub changing : (i k : ℕ) (e o : Edge x.part) → Contains p.drawn.items i → Contains p.outlines.items k → IsNumbered x.halves i e → IsNumbered x.halves k o →
+      Changes x.direction e o → Contains (along i) k
+  -- that of a corner has every outline that is strictly nearer over it and does not have it
+  pub passing : (number k : ℕ) (c : Corner) (o : Edge x.part) → slice_get x.part.corners number ≡ Some c → Contains p.outlines.items k → IsNumbered x.halves k o →
+      PassesOver x.direction number c o → Contains (over number) k

@@ -1,0 +1,10 @@
+pub mod Bounds
+pub mod CountSpans
+pub mod Entries
+pub mod Finders
+pub mod Orders
+pub mod Rests
+pub mod Searches
+pub mod Steps
+pub mod Tests
+pub mod Tours
