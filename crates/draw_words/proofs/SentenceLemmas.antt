@@ -10,7 +10,7 @@ use Rattle.clap.specs.Simple.{built, entered, matches_of}
 use Rattle.clap.specs.Walk.{Held, Row, Text, Waiting, Walk, finished, first_of, has_row, idle, nothing_held, option, settled, used, walk}
 use Rattle.clap.specs.declared.error.kind.ErrorKind.TheVariants.{ArgumentConflict, MissingRequiredArgument, UnknownArgument}
 use Rattle.draw_words.specs.App.{draw_app}
-use Rattle.draw_words.specs.Grammar.{Given, Kind, Role, as_job, as_out, as_part, before, ends, given, given_at, given_by, gives, is_marked, kind_of, opens, plain, stranger}
+use Rattle.draw_words.specs.Grammar.{Given, Kind, Role, as_job, as_out, as_part, before, ends, given, given_at, given_by, gives, is_marked, kind_of, opens, plain, unknown_option}
 use Rattle.draw_words.specs.Names.{Read, is_role, read_given, read_of, texts_as}
 use Rattle.draw_words.specs.Seen.{texts}
 use Rattle.draw_words.proofs.WordLemmas.{IsFault, Reads, id_of, reads, rule_as, rules, top}
@@ -161,7 +161,7 @@ doomed_word ends word words has_part h r f none =
 doomed_word (opens role) word words has_part h r f none = turn_fails (standing idle has_part false h) word words (opens_fails role idle has_part word h r f)
 doomed_word (gives role v) word words has_part h r f none =
     turn_fails (standing idle has_part false h) word words (gives_fails role v idle has_part word h r (first_fault (settle_fault rules false h) _ f))
-doomed_word stranger word words has_part h r f none = turn_fails (standing idle has_part false h) word words (stranger_fails idle has_part word h r none)
+doomed_word unknown_option word words has_part h r f none = turn_fails (standing idle has_part false h) word words (stranger_fails idle has_part word h r none)
 doomed_word plain word words has_part h r f none =
     turn_fails (standing idle has_part false h) word words (subst IsFault (sym (plain_turn has_part word h r)) (value_turn_fault has_part (settle_fault rules false h) f))
 
@@ -241,7 +241,7 @@ closed_word (gives role v) word words gs h r c later = go (first role gs) refl
         moved all (standing idle (is_part gs) false h) (standing idle (is_part gs) false (given_held role v h)) word words
         (gives_moves role v (is_part gs) word h r c.settles (no_use_fault role v gs (settled rules h).rows c.rows none))
         (subst (λ (o : Option Read). TellsFrom o (standing idle (is_part gs) false (given_held role v h)) words) (sym (shift gs (given role v) (given_by None words))) next)
-closed_word stranger word words gs h r c later = turn_fails (standing idle (is_part gs) false h) word words (stranger_fails idle (is_part gs) word h r c.skip)
+closed_word unknown_option word words gs h r c later = turn_fails (standing idle (is_part gs) false h) word words (stranger_fails idle (is_part gs) word h r c.skip)
 closed_word plain word words gs h r c later = go (first as_part gs) refl
   where
     all : Option Read
@@ -296,7 +296,7 @@ option_word (gives named v) role word words gs utf8 r sparse other later =
     refused_word role word words gs r.marked
     (turn_fails (standing (option (id_of role)) (is_part gs) false (waits role (map row gs))) word words
     (gives_fails named v (option (id_of role)) (is_part gs) word (waits role (map row gs)) r (first_fault (settle_fault rules false (waits role (map row gs))) _ (waiting_fault role (map row gs)))))
-option_word stranger role word words gs utf8 r sparse other later =
+option_word unknown_option role word words gs utf8 r sparse other later =
     refused_word role word words gs r.marked
     (turn_fails (standing (option (id_of role)) (is_part gs) false (waits role (map row gs))) word words
     (stranger_fails (option (id_of role)) (is_part gs) word (waits role (map row gs)) r refl))

@@ -12,7 +12,7 @@ use Rattle.clap.specs.Lexer.{has_byte, long_of, short_of}
 use Rattle.clap.specs.Simple.{Shape, built}
 use Rattle.clap.specs.Walk.{Held, Rule, Text, arg_by_long}
 use Rattle.draw_words.specs.App.{draw_app, part_rule}
-use Rattle.draw_words.specs.Grammar.{Kind, Role, as_job, as_out, as_part, ends, gives, is_marked, kind_of, opens, option_or, plain, stranger}
+use Rattle.draw_words.specs.Grammar.{Kind, Role, as_job, as_out, as_part, ends, gives, is_marked, kind_of, opens, option_or, plain, unknown_option}
 use Rattle.draw_words.specs.Names.{is_role}
 
 -- ---- the command as it is built
@@ -114,7 +114,7 @@ abbrev pub Reads : Kind → Text → Type 0
 Reads ends word = (is_marked word ≡ true) × (is_end word ≡ true)
 Reads (opens role) word = ReadsOption role None word
 Reads (gives role value) word = ReadsOption role (Some value) word
-Reads stranger word = ReadsStranger word
+Reads unknown_option word = ReadsStranger word
 Reads plain word = ReadsPlain word
 
 -- a word of text has a character behind its minus sign
@@ -141,7 +141,7 @@ bundle_faults x xs h utf8 none =
 -- two minus signs, and a name
 marked : (rest n : Text) (value : Option Text) (d : ℕ) (ds : Text) → rest ≡ d ∷ ds → long_of (45 ∷ 45 ∷ rest) ≡ Some (n, value)
     → (j o : Bool) → bytes_eq (codes "job") n ≡ j → bytes_eq (codes "out") n ≡ o
-    → Reads (if j then named_kind as_job value else (if o then named_kind as_out value else stranger)) (45 ∷ 45 ∷ rest)
+    → Reads (if j then named_kind as_job value else (if o then named_kind as_out value else unknown_option)) (45 ∷ 45 ∷ rest)
 marked rest n None d ds is long true o e f = record { name = n; option = refl; marked = refl; no_end = rw is refl; long = long; rule = rw e refl }
 marked rest n (Some v) d ds is long true o e f = record { name = n; option = refl; marked = refl; no_end = rw is refl; long = long; rule = rw e refl }
 marked rest n None d ds is long false true e f = record { name = n; option = refl; marked = refl; no_end = rw is refl; long = long; rule = rw (e, f) refl }
@@ -152,9 +152,9 @@ two_marks : (word : Text) → Reads (kind_of (45 ∷ 45 ∷ word)) (45 ∷ 45 �
 two_marks [] = (refl, refl)
 two_marks (d ∷ ds) =
     let name = before_first is_equals (d ∷ ds) in
-    let out : option_or as_out (codes "out") (d ∷ ds) stranger ≡ cut_or as_out (codes "out") (d ∷ ds) stranger = option_or-cut as_out stranger (codes "out") (d ∷ ds) (refl, (refl, (refl, tt))) in
-    let both : kind_of (45 ∷ 45 ∷ d ∷ ds) ≡ cut_or as_job (codes "job") (d ∷ ds) (cut_or as_out (codes "out") (d ∷ ds) stranger) =
-    ap (option_or as_job (codes "job") (d ∷ ds)) out ∙ option_or-cut as_job (cut_or as_out (codes "out") (d ∷ ds) stranger) (codes "job") (d ∷ ds) (refl, (refl, (refl, tt))) in
+    let out : option_or as_out (codes "out") (d ∷ ds) unknown_option ≡ cut_or as_out (codes "out") (d ∷ ds) unknown_option = option_or-cut as_out unknown_option (codes "out") (d ∷ ds) (refl, (refl, (refl, tt))) in
+    let both : kind_of (45 ∷ 45 ∷ d ∷ ds) ≡ cut_or as_job (codes "job") (d ∷ ds) (cut_or as_out (codes "out") (d ∷ ds) unknown_option) =
+    ap (option_or as_job (codes "job") (d ∷ ds)) out ∙ option_or-cut as_job (cut_or as_out (codes "out") (d ∷ ds) unknown_option) (codes "job") (d ∷ ds) (refl, (refl, (refl, tt))) in
     subst (λ (k : Kind). Reads k (45 ∷ 45 ∷ d ∷ ds)) (sym both)
     (marked (d ∷ ds) name (cut (d ∷ ds)) d ds refl refl (bytes_eq (codes "job") name) (bytes_eq (codes "out") name) refl refl)
 

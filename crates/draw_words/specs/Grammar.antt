@@ -30,7 +30,7 @@ pub data Kind : Type 0 where
   -- `--job=V` or `--out=V`
   gives : Role → List ℕ → Kind
   -- any other word that begins with a minus sign, and is longer
-  stranger : Kind
+  unknown_option : Kind
   plain : Kind
 
 -- the option with this name, alone or with its value behind `=`; or else another kind
@@ -41,7 +41,7 @@ option_or role name word other =
 abbrev pub kind_of : List ℕ → Kind
 kind_of word =
     if bytes_eq word (codes "--") then ends
-    else option_or as_job (codes "--job") word (option_or as_out (codes "--out") word (if is_marked word then stranger else plain))
+    else option_or as_job (codes "--job") word (option_or as_out (codes "--out") word (if is_marked word then unknown_option else plain))
 
 -- ---- all words, from left to right
 -- a text, and what it is given as
@@ -60,7 +60,7 @@ abbrev pub given_at : Kind → List ℕ → List (List ℕ) → (Option Role →
 given_at ends word words next = Some (map (given as_part) words)
 given_at (opens role) word words next = next (Some role)
 given_at (gives role value) word words next = before (given role value) (next None)
-given_at stranger word words next = None
+given_at unknown_option word words next = None
 given_at plain word words next = before (given as_part word) (next None)
 
 -- what the words give, in order; None where one is refused. An option that waits takes the next word, unless that is

@@ -1,0 +1,4 @@
+pub mod OneCorner
+pub mod OneWeld
+pub mod OneFault
+pub mod OneSheet
