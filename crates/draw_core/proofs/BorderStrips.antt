@@ -19,7 +19,7 @@ use Rattle.geometry.specs.Parts.{Part, Face, IsClosed}
 use Rattle.geometry.specs.Pieces.{spot_sum}
 use Rattle.geometry.specs.Cuts.{crossing_of, start_corner, end_corner, IsOnBorder, GoesBeyond, border, step_of, IsOrdinaryInCut}
 use Rattle.geometry.proofs.Borders.{crossing_on_side, crossing_on_plane}
-use Rattle.draw_core.proofs.StepLines.{RunsAlong}
+use Rattle.geometry.proofs.StepLines.{RunsAlong}
 use Rattle.geometry.proofs.Sights.{sight_on}
 use Rattle.hiding.specs.Values.{IsSideOf}
 use Rattle.hiding.proofs.Ordinary.{side-edge}

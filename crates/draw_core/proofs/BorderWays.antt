@@ -15,7 +15,7 @@ use Rattle.geometry.specs.Faces.{normal, IsFlat, IsPointOfFace}
 use Rattle.geometry.specs.Parts.{Part, Face}
 use Rattle.geometry.specs.Cuts.{over_of, crossing_of, IsOnBorder, IsCrossed, border, step_of}
 use Rattle.geometry.proofs.Borders.{side_of_corner, over_beyond, over_before}
-use Rattle.draw_core.proofs.StepLines.{RunsAlong}
+use Rattle.geometry.proofs.StepLines.{RunsAlong}
 use Rattle.line_merge.proofs.Lists.{contains_map}
 use Rattle.cut_plane.specs.declared.segments.Segment.{Segment}
 use Rattle.cut_plane.specs.Loops.{IsSegmentOf, AreBorders}

@@ -2,7 +2,7 @@
 use Rattle.std.proofs.Common.{inl, inr}
 use Rattle.std.specs.Prelude.{Result, Ok, Err}
 use Rattle.draw_core.specs.declared.fault.Fault.{Fault}
-use Rattle.draw_core.specs.declared.fault.Fault.TheVariants.{Usage, ReadFault, JobTooLong, Job as JobUnread, NoPlotter, PartTooLong, Part as PartUnread, Nothing, Mesh, DoesNotFit, WriteFault, Memory}
+use Rattle.draw_core.specs.declared.fault.Fault.TheVariants.{Usage, ReadFault, JobTooLong, Job as JobUnread, NoPlotter, SampleRange, PartTooLong, Part as PartUnread, Nothing, Mesh, DoesNotFit, WriteFault, Memory}
 use Rattle.draw_core.specs.Run.{◌and_then◌, Refuses, Gives, IsMissing}
 
 -- what is refused by some steps is refused by others that refuse at least as much
@@ -13,6 +13,7 @@ refuses_as steps others h (ReadFault input) r = tt
 refuses_as steps others h JobTooLong r = h JobTooLong r
 refuses_as steps others h (JobUnread cause) r = h (JobUnread cause) r
 refuses_as steps others h (NoPlotter name) r = h (NoPlotter name) r
+refuses_as steps others h SampleRange r = h SampleRange r
 refuses_as steps others h PartTooLong r = h PartTooLong r
 refuses_as steps others h (PartUnread cause) r = h (PartUnread cause) r
 refuses_as steps others h Nothing r = h Nothing r
@@ -28,6 +29,7 @@ missing_as steps others h (ReadFault input) r = h (ReadFault input) r
 missing_as steps others h JobTooLong r = tt
 missing_as steps others h (JobUnread cause) r = tt
 missing_as steps others h (NoPlotter name) r = tt
+missing_as steps others h SampleRange r = tt
 missing_as steps others h PartTooLong r = tt
 missing_as steps others h (PartUnread cause) r = tt
 missing_as steps others h Nothing r = tt

@@ -10,8 +10,7 @@ use Rattle.geometry.proofs.BorderSteps.{ordinary_along_cut}
 use Rattle.span_slow.specs.declared.span.Span.{Span}
 use Rattle.span_slow.specs.declared.view.View.{View}
 use Rattle.span_slow.specs.declared.view.View.TheVariants.{Plain, Section}
-use Rattle.span_slow.specs.Places.{IsEarlier, IsBetween}
-use Rattle.span_slow.specs.Spans.{HasNoEndAt}
+use Rattle.geometry.specs.Places.{IsEarlier, IsBetween, HasNoEndAt}
 use Rattle.span_slow.specs.CutSpans.{CoverBeyond, AreCutSpans}
 use Rattle.span_slow.specs.Views.{AreSpansIn}
 use Rattle.span_slow.proofs.CutCovers.{CoverNothing, CoverBetween, cover_cases}

@@ -18,9 +18,10 @@ use Rattle.geometry.specs.Views.{IsDrawn, IsOrdinary, AreDrawnEdges}
 use Rattle.geometry.proofs.Borders.{on_plane_is_visible}
 use Rattle.geometry.proofs.BorderSteps.{ordinary_along_cut}
 use Rattle.geometry.proofs.EachEdge.{numbered_edge}
-use Rattle.draw_core.proofs.StepLines.{RunsAlong, one_line}
+use Rattle.geometry.proofs.StepLines.{RunsAlong, one_line}
 use Rattle.geometry.proofs.OnLines.{on_line_between}
 use Rattle.geometry.proofs.Shares.{edge_share}
+use Rattle.geometry.specs.Places.{HasNoEndAt}
 use Rattle.hiding.proofs.CutPlanes.{ordinary-in-plain}
 use Rattle.hiding.proofs.FrontEnds.{not-at-start, not-at-finish}
 use Rattle.line_merge.proofs.Zips.{zip_left, zip_right}
@@ -28,7 +29,6 @@ use Rattle.line_merge.specs.Merging.{AreStrips, LiesOnStrip, IsClear, AreMerged}
 use Rattle.cut_plane.specs.declared.segments.Segment.{Segment}
 use Rattle.cut_plane.specs.Loops.{IsSegmentOf, AreBorders}
 use Rattle.solid_mesh.proofs.PlaceLemmas.{share_on_edge}
-use Rattle.span_slow.specs.Spans.{HasNoEndAt}
 use Rattle.span_slow.specs.CutSpans.{IsAnswerInCut, AreCutSpans}
 use Rattle.draw_core.specs.Strips.{IsStripOf, IsBorderStrip, AreCutStrips}
 use Rattle.draw_core.proofs.BorderWays.{segment_of_point}

@@ -8,13 +8,12 @@ use Rattle.lattice.specs.Lines.{AreStripEnds}
 use Rattle.geometry.specs.Faces.{share_point, IsPointOfEdge}
 use Rattle.geometry.specs.Parts.{Part, Edge}
 use Rattle.geometry.specs.Views.{IsEndOn}
-use Rattle.draw_core.proofs.StepLines.{RunsAlong, edge_runs}
+use Rattle.geometry.proofs.StepLines.{RunsAlong, edge_runs}
 use Rattle.line_merge.specs.Merging.{LiesOnStrip}
 use Rattle.line_merge.proofs.Zips.{zip_left}
 use Rattle.solid_mesh.proofs.PlaceLemmas.{share_on_edge}
 use Rattle.span_slow.specs.declared.span.Span.{Span}
-use Rattle.span_slow.specs.Places.{IsEarlier, IsBetween}
-use Rattle.span_slow.specs.Spans.{HasNoEndAt}
+use Rattle.geometry.specs.Places.{IsEarlier, IsBetween, HasNoEndAt}
 use Rattle.draw_core.specs.Strips.{IsStripOf, AreStripsOf}
 use Rattle.draw_core.proofs.SpanPlaces.{StaysAlong}
 use Rattle.draw_core.proofs.SpanSums.{HasPlace, place_of_sum, sum_of_place}

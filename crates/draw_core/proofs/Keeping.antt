@@ -6,10 +6,10 @@ use Rattle.std.proofs.lemmas.Option.{slice_get-map}
 use Rattle.desk.specs.Files.{Files, Keeps}
 use Rattle.draw_core.specs.Kept.{LeavesOne, TargetsInOrder}
 use Rattle.draw_core.specs.Made.{file_seen}
-use Rattle.draw_core.specs.Outputs.{File, KeepsAll, MayKeep, LeavesAll, place_of}
+use Rattle.draw_core.specs.Outputs.{File, KeepsAll, MayKeep, LeavesUpTo, LeavesAll, place_of}
 use Rattle.draw_core.specs.declared.outputs.Output.{Output}
 use Rattle.draw_core.specs.declared.fault.Fault.{Fault}
-use Rattle.draw_core.specs.declared.fault.Fault.TheVariants.{Usage, ReadFault, JobTooLong, Job as JobUnread, NoPlotter, PartTooLong, Part as PartUnread, Nothing, Mesh, DoesNotFit, WriteFault, Memory}
+use Rattle.draw_core.specs.declared.fault.Fault.TheVariants.{Usage, ReadFault, JobTooLong, Job as JobUnread, NoPlotter, SampleRange, PartTooLong, Part as PartUnread, Nothing, Mesh, DoesNotFit, WriteFault, Memory}
 
 -- one file more
 pub keeps_more : (old between new : Files) (files : List File) (file : File) → KeepsAll old between files → Keeps between new file.0 file.1 → KeepsAll old new (files ++ file ∷ [])
@@ -31,11 +31,10 @@ module _ (outputs : List Output) (i : ℕ) where
       → KeepsAll old between (map file_seen (take i outputs)) → LeavesOne (Some fault) between new output → LeavesAll (Some fault) old new (map file_seen outputs)
   leaves_at (WriteFault target) old between new output places here kept (same, part) =
       let files = map file_seen outputs in
-      let P : ℕ → Type 0 = λ n. (mid : Files) × KeepsAll old mid (take n files) × MayKeep mid new (slice_get files n) in
-      let at : place_of target ≡ i = ap place_of same ∙ places i output here in
+      let at : place_of target ≡ Some i = ap place_of same ∙ places i output here in
       let before = subst (λ (fs : List File). KeepsAll old between fs) (sym (take-map file_seen i outputs)) kept in
       let found : slice_get files i ≡ Some (file_seen output) = slice_get-map file_seen outputs i ∙ ap (option_map file_seen) here in
-      subst P (sym at) (between, before, subst (MayKeep between new) (sym found) part)
+      subst (λ place. LeavesUpTo place old new files) (sym at) (between, before, subst (MayKeep between new) (sym found) part)
   leaves_at Memory old between new output places here kept same =
       (i, subst (λ (f : Files). KeepsAll old f (take i (map file_seen outputs))) (sym same) (subst (λ (fs : List File). KeepsAll old between fs) (sym (take-map file_seen i outputs)) kept))
   leaves_at Usage old between new output places here kept h = absurd h
@@ -43,6 +42,7 @@ module _ (outputs : List Output) (i : ℕ) where
   leaves_at JobTooLong old between new output places here kept h = absurd h
   leaves_at (JobUnread cause) old between new output places here kept h = absurd h
   leaves_at (NoPlotter name) old between new output places here kept h = absurd h
+  leaves_at SampleRange old between new output places here kept h = absurd h
   leaves_at PartTooLong old between new output places here kept h = absurd h
   leaves_at (PartUnread cause) old between new output places here kept h = absurd h
   leaves_at Nothing old between new output places here kept h = absurd h

@@ -9,19 +9,20 @@ use Rattle.draw_core.specs.Outputs.{File, plot_name, place_of}
 use Rattle.draw_core.specs.declared.outputs.Output.{Output}
 
 -- numbers that count on
-count_on : {A : Type 0} (f : A → ℕ) (m : ℕ) (xs : List A) (y : A) → ((k : ℕ) (x : A) → slice_get xs k ≡ Some x → f x ≡ m + k) → f y ≡ m + length xs
-    → (k : ℕ) (x : A) → slice_get (xs ++ y ∷ []) k ≡ Some x → f x ≡ m + k
+count_on : {A : Type 0} (f : A → Option ℕ) (m : ℕ) (xs : List A) (y : A) → ((k : ℕ) (x : A) → slice_get xs k ≡ Some x → f x ≡ Some (m + k)) → f y ≡ Some (m + length xs)
+    → (k : ℕ) (x : A) → slice_get (xs ++ y ∷ []) k ≡ Some x → f x ≡ Some (m + k)
 count_on f m [] y each last zero x here = let same : y ≡ x = cc in sym (ap f same) ∙ last
 count_on f m [] y each last (suc k) x here = absurd (cc)
 count_on f m (z ∷ zs) y each last zero x here = each zero x here
 count_on f m (z ∷ zs) y each last (suc k) x here =
-    let later : (j : ℕ) (w : _) → slice_get zs j ≡ Some w → f w ≡ suc m + j = λ j w at. each (suc j) w at ∙ omega arith in
-    count_on f (suc m) zs y later (last ∙ omega arith) k x here ∙ omega arith
+    let moved : (n : ℕ) → m + suc n ≡ suc m + n = λ n. omega arith in
+    let later : (j : ℕ) (w : _) → slice_get zs j ≡ Some w → f w ≡ Some (suc m + j) = λ j w at. each (suc j) w at ∙ ap Some (moved j) in
+    count_on f (suc m) zs y later (last ∙ ap Some (moved (length zs))) k x here ∙ ap Some (sym (moved k))
 
 module _ {B : Type 0} (plot_of : B → Plot) (out text : List ℕ) (boxes : List B) where
   -- one plotter's file more
   pub outputs_more : (i : ℕ) (b : B) (o : Output) (outputs new : List Output) → AreOutputs plot_of out text (take i boxes) outputs → slice_get boxes i ≡ Some b
-      → place_of o.target ≡ i + 1 → plot_name out (plot_of b).suffix ≡ o.name → text_of (plot_of b) ≡ Some o.bytes.items → new ≡ outputs ++ o ∷ []
+      → place_of o.target ≡ Some (i + 1) → plot_name out (plot_of b).suffix ≡ o.name → text_of (plot_of b) ≡ Some o.bytes.items → new ≡ outputs ++ o ∷ []
       → AreOutputs plot_of out text (take (i + 1) boxes) new
   outputs_more i b o outputs new done here place name bytes grown =
       let within = slice_get_within boxes i b here in
@@ -34,13 +35,14 @@ module _ {B : Type 0} (plot_of : B → Plot) (out text : List ℕ) (boxes : List
       record {
         files = ap (map file_seen) grown ∙ map-append file_seen outputs (o ∷ []) ∙ (λ j. done.files j ++ same j ∷ []) ∙ (λ j. (out, text) ∷ sym more j);
         places = λ k x at.
-            let each : (n : ℕ) (y : Output) → slice_get outputs n ≡ Some y → place_of y.target ≡ 0 + n = λ n y there. omega (arith, done.places n y there) in
-            let last : place_of o.target ≡ 0 + length outputs = omega (arith, place, many) in
-            let counted = count_on (λ (y : Output). place_of y.target) 0 outputs o each last k x (ap (λ (xs : List Output). slice_get xs k) (sym grown) ∙ at) in
-            omega (arith, counted);
+            let from_0 : (n : ℕ) → n ≡ 0 + n = λ n. omega arith in
+            let each : (n : ℕ) (y : Output) → slice_get outputs n ≡ Some y → place_of y.target ≡ Some (0 + n) = λ n y there. done.places n y there ∙ ap Some (from_0 n) in
+            let end : i + 1 ≡ 0 + length outputs = omega (arith, many) in
+            count_on (λ (y : Output). place_of y.target) 0 outputs o each (place ∙ ap Some end) k x (ap (λ (xs : List Output). slice_get xs k) (sym grown) ∙ at)
+            ∙ ap Some (sym (from_0 k));
       }
 
-  pub outputs_next : (i : ℕ) (o : Output) (outputs new : List Output) → AreOutputs plot_of out text (take i boxes) outputs → place_of o.target ≡ i + 1
+  pub outputs_next : (i : ℕ) (o : Output) (outputs new : List Output) → AreOutputs plot_of out text (take i boxes) outputs → place_of o.target ≡ Some (i + 1)
       → option_map (λ b. plot_name out (plot_of b).suffix) (slice_get boxes i) ≡ Some o.name → option_map (λ b. text_of (plot_of b)) (slice_get boxes i) ≡ Some (Some o.bytes.items)
       → new ≡ outputs ++ o ∷ [] → AreOutputs plot_of out text (take (i + 1) boxes) new
   outputs_next i o outputs new done place name bytes grown = go (slice_get boxes i) refl name bytes

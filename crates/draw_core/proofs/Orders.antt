@@ -5,9 +5,9 @@ use Rattle.desk.specs.Files.{Files}
 use Rattle.draw_words.specs.Names.{Named, named_by}
 use Rattle.job_file.specs.Documents.{JobValues, job_of_bytes}
 use Rattle.job_file.proofs.DocumentLemmas.{empty, usual}
-use Rattle.draw_core.specs.Run.{TakesMetJob, IsOfJob, IsOfPart, IsOfSheet, ComesTo, ReadsInOrder, RunsInOrder}
+use Rattle.draw_core.specs.Run.{sample_size, TakesMetJob, IsOfJob, IsOfSampleOr, IsOfPart, IsOfSheet, ComesTo, ReadsInOrder, RunsInOrder}
 use Rattle.draw_core.specs.declared.fault.Fault.{Fault}
-use Rattle.draw_core.specs.declared.fault.Fault.TheVariants.{Usage, ReadFault, JobTooLong, Job as JobUnread, NoPlotter, PartTooLong, Part as PartUnread, Nothing, Mesh, DoesNotFit, WriteFault, Memory}
+use Rattle.draw_core.specs.declared.fault.Fault.TheVariants.{Usage, ReadFault, JobTooLong, Job as JobUnread, NoPlotter, SampleRange, PartTooLong, Part as PartUnread, Nothing, Mesh, DoesNotFit, WriteFault, Memory}
 use Rattle.draw_core.specs.declared.fault.Input.TheVariants.{Job as TheJob, Part as ThePart}
 
 -- the usual job asks for no output
@@ -29,6 +29,7 @@ job_in_order suffixes files named Usage h = tt
 job_in_order suffixes files named JobTooLong h = tt
 job_in_order suffixes files named (JobUnread cause) h = tt
 job_in_order suffixes files named (NoPlotter name) h = tt
+job_in_order suffixes files named SampleRange h = tt
 job_in_order suffixes files named PartTooLong h = tt
 job_in_order suffixes files named (PartUnread cause) h = tt
 job_in_order suffixes files named Nothing h = tt
@@ -37,13 +38,23 @@ job_in_order suffixes files named (DoesNotFit need_w need_h have_w have_h) h = t
 job_in_order suffixes files named (WriteFault target) h = tt
 job_in_order suffixes files named Memory h = tt
 
-pub part_in_order : (suffixes : List (List ℕ)) (files : Files) (named : Named) (job : JobValues) → TakesMetJob suffixes files named.job (Ok job) → (e : Fault) → IsOfPart e → ReadsInOrder suffixes files named e
-part_in_order suffixes files named job taken (ReadFault TheJob) h = absurd h
-part_in_order suffixes files named job taken (ReadFault ThePart) h = (job, taken)
+-- a fault of reading a part is that of a file
+no_job : (size : Option (List ℕ)) → IsOfSampleOr size (ReadFault TheJob) → ⊥
+no_job None h = h
+no_job (Some size) h = h
+
+is_no_sample : (size : Option (List ℕ)) → IsOfSampleOr size (ReadFault ThePart) → size ≡ None
+is_no_sample None h = refl
+is_no_sample (Some size) h = absurd h
+
+pub part_in_order : (suffixes : List (List ℕ)) (files : Files) (named : Named) (job : JobValues) → TakesMetJob suffixes files named.job (Ok job) → (e : Fault) → IsOfPart named.part e → ReadsInOrder suffixes files named e
+part_in_order suffixes files named job taken (ReadFault TheJob) h = absurd (no_job (sample_size named.part) h)
+part_in_order suffixes files named job taken (ReadFault ThePart) h = (is_no_sample (sample_size named.part) h, job, taken)
 part_in_order suffixes files named job taken Usage h = tt
 part_in_order suffixes files named job taken JobTooLong h = tt
 part_in_order suffixes files named job taken (JobUnread cause) h = tt
 part_in_order suffixes files named job taken (NoPlotter name) h = tt
+part_in_order suffixes files named job taken SampleRange h = tt
 part_in_order suffixes files named job taken PartTooLong h = tt
 part_in_order suffixes files named job taken (PartUnread cause) h = tt
 part_in_order suffixes files named job taken Nothing h = tt
@@ -58,6 +69,7 @@ sheet_in_order suffixes files named Usage h = tt
 sheet_in_order suffixes files named JobTooLong h = tt
 sheet_in_order suffixes files named (JobUnread cause) h = tt
 sheet_in_order suffixes files named (NoPlotter name) h = tt
+sheet_in_order suffixes files named SampleRange h = tt
 sheet_in_order suffixes files named PartTooLong h = tt
 sheet_in_order suffixes files named (PartUnread cause) h = tt
 sheet_in_order suffixes files named Nothing h = tt
@@ -72,6 +84,7 @@ run_in_order suffixes words files named is Usage h = tt
 run_in_order suffixes words files named is JobTooLong h = tt
 run_in_order suffixes words files named is (JobUnread cause) h = tt
 run_in_order suffixes words files named is (NoPlotter name) h = tt
+run_in_order suffixes words files named is SampleRange h = tt
 run_in_order suffixes words files named is PartTooLong h = tt
 run_in_order suffixes words files named is (PartUnread cause) h = tt
 run_in_order suffixes words files named is Nothing h = tt

@@ -14,7 +14,7 @@ use Rattle.sheet_plan.proofs.Rooms.{length_shapes_of}
 use Rattle.draw_core.specs.Run.{PlansSheet, Refuses}
 use Rattle.draw_core.specs.Sheets.{IsSheetOf, IsNoSheetOf}
 use Rattle.draw_core.specs.declared.fault.Fault.{Fault}
-use Rattle.draw_core.specs.declared.fault.Fault.TheVariants.{Usage, ReadFault, JobTooLong, Job as JobUnread, NoPlotter, PartTooLong, Part as PartUnread, Nothing, Mesh, DoesNotFit, WriteFault, Memory}
+use Rattle.draw_core.specs.declared.fault.Fault.TheVariants.{Usage, ReadFault, JobTooLong, Job as JobUnread, NoPlotter, SampleRange, PartTooLong, Part as PartUnread, Nothing, Mesh, DoesNotFit, WriteFault, Memory}
 
 -- there is an extent for each view
 pub as_many_extents : (corners : List Corner) (views : List JobView) (extents : List Extent) → AreExtents corners views extents → length extents ≡ length views
@@ -33,6 +33,7 @@ refused_sheet job part (ReadFault input) none = absurd none
 refused_sheet job part JobTooLong none = absurd none
 refused_sheet job part (JobUnread cause) none = absurd none
 refused_sheet job part (NoPlotter name) none = absurd none
+refused_sheet job part SampleRange none = absurd none
 refused_sheet job part PartTooLong none = absurd none
 refused_sheet job part (PartUnread cause) none = absurd none
 refused_sheet job part Nothing none = absurd none

@@ -12,10 +12,10 @@ use Rattle.geometry.specs.Faces.{share_point}
 use Rattle.geometry.specs.Parts.{Part, Edge}
 use Rattle.line_merge.proofs.Lists.{contains_rest, contains_first}
 use Rattle.span_slow.specs.declared.span.Span.{Span}
-use Rattle.span_slow.specs.Places.{IsPlace, point_at, IsEarlier, IsBetween}
-use Rattle.span_slow.specs.Spans.{Follow, CoverEdge, HasNoEndAt}
-use Rattle.span_slow.proofs.Order.{less_less, less_most, between_inner}
-use Rattle.span_slow.proofs.Same.{same_between, same_earlier}
+use Rattle.geometry.specs.Places.{IsPlace, point_at, IsEarlier, IsBetween, HasNoEndAt}
+use Rattle.span_slow.specs.Spans.{Follow, CoverEdge}
+use Rattle.geometry.proofs.PlaceOrder.{less_less, less_most, between_inner}
+use Rattle.geometry.proofs.SamePlaces.{same_between, same_earlier}
 use Rattle.geometry.proofs.Shares.{one_place}
 
 -- ---- orders

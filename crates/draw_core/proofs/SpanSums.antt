@@ -10,8 +10,7 @@ use Rattle.lattice.specs.Points.{Point, OnOneSight}
 use Rattle.geometry.specs.Faces.{share_point}
 use Rattle.geometry.specs.Parts.{Part, Edge}
 use Rattle.span_slow.specs.declared.span.Span.{Span}
-use Rattle.span_slow.specs.Places.{IsEarlier, IsBetween}
-use Rattle.span_slow.specs.Spans.{HasNoEndAt}
+use Rattle.geometry.specs.Places.{IsEarlier, IsBetween, HasNoEndAt}
 use Rattle.geometry.proofs.Sights.{sight_on}
 use Rattle.geometry.proofs.Shares.{one_place}
 use Rattle.draw_core.proofs.SpanPlaces.{at_most_by, StaysAlong, not_at}

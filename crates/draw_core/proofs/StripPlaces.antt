@@ -13,8 +13,7 @@ use Rattle.geometry.proofs.EdgeLines.{share_on_line}
 use Rattle.geometry.proofs.Shares.{end_on, sum_is}
 use Rattle.line_merge.specs.Merging.{LiesOnStrip}
 use Rattle.span_slow.specs.declared.span.Span.{Span}
-use Rattle.span_slow.specs.Places.{point_at, IsEarlier}
-use Rattle.span_slow.specs.Spans.{HasNoEndAt}
+use Rattle.geometry.specs.Places.{point_at, IsEarlier, HasNoEndAt}
 use Rattle.draw_core.specs.Strips.{IsEdgeLine, IsStripOf}
 use Rattle.draw_core.proofs.SpanPlaces.{StaysAlong}
 use Rattle.draw_core.proofs.SpanSums.{LiesWithin}

@@ -11,7 +11,7 @@ use Rattle.plot_rack.specs.Choices.{first_with, AreChosen, IsFirstMissing}
 use Rattle.draw_core.specs.Outputs.{first_unmet}
 use Rattle.draw_core.specs.Run.{HasPlotters, Refuses, IsOfOutputs, IsOfUsualJob, IsOfJob}
 use Rattle.draw_core.specs.declared.fault.Fault.{Fault}
-use Rattle.draw_core.specs.declared.fault.Fault.TheVariants.{Usage, ReadFault, JobTooLong, Job as JobUnread, NoPlotter, PartTooLong, Part as PartUnread, Nothing, Mesh, DoesNotFit, WriteFault, Memory}
+use Rattle.draw_core.specs.declared.fault.Fault.TheVariants.{Usage, ReadFault, JobTooLong, Job as JobUnread, NoPlotter, SampleRange, PartTooLong, Part as PartUnread, Nothing, Mesh, DoesNotFit, WriteFault, Memory}
 
 -- ---- names and suffixes
 cond_map : {A B : Type 0} (f : A → B) (b : Bool) (x : A) (mapped : Option B) (plain : Option A) → mapped ≡ option_map f plain → cond b (Some (f x)) mapped ≡ option_map f (cond b (Some x) plain)
@@ -130,6 +130,7 @@ of_rack (Some text) Usage h usual = absurd h
 of_rack (Some text) (ReadFault input) h usual = absurd h
 of_rack (Some text) JobTooLong h usual = absurd h
 of_rack (Some text) (JobUnread cause) h usual = absurd h
+of_rack (Some text) SampleRange h usual = absurd h
 of_rack (Some text) PartTooLong h usual = absurd h
 of_rack (Some text) (PartUnread cause) h usual = absurd h
 of_rack (Some text) Nothing h usual = absurd h

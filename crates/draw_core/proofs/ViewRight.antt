@@ -14,16 +14,17 @@ use Rattle.geometry.specs.Pieces.{AreRight}
 use Rattle.geometry.specs.Scenes.{IsSeenAt}
 use Rattle.geometry.specs.Views.{IsHidden, IsOrdinary, IsDrawnPoint, AreDrawnEdges}
 use Rattle.geometry.proofs.EachEdge.{numbered_edge}
-use Rattle.draw_core.proofs.StepLines.{one_line}
+use Rattle.geometry.proofs.StepLines.{one_line}
 use Rattle.geometry.proofs.OnLines.{on_line_between}
 use Rattle.geometry.proofs.Scenes.{plain_of_scene}
 use Rattle.geometry.proofs.Shares.{edge_share}
 use Rattle.geometry.proofs.Sights.{ordinary_along}
+use Rattle.geometry.specs.Places.{HasNoOrdinaryEnd}
 use Rattle.line_merge.proofs.Zips.{zip_right}
 use Rattle.line_merge.specs.Merging.{AreStrips, LiesOnStrip, IsClear, AreMerged}
 use Rattle.solid_mesh.proofs.PlaceLemmas.{share_on_edge}
-use Rattle.span_slow.specs.Spans.{HasNoOrdinaryEnd, IsAnswer, AreSpans}
-use Rattle.draw_core.specs.Strips.{IsStripOf, AreEdgeStrips}
+use Rattle.span_slow.specs.Spans.{IsAnswer}
+use Rattle.draw_core.specs.Strips.{IsStripOf, TellHidden, AreEdgeStrips}
 use Rattle.draw_core.proofs.EdgeStrips.{Origin, origin_ends, origin_runs, off_strip_ends, point_of_strip, edge_under, strip_of_span}
 use Rattle.draw_core.proofs.SpanPlaces.{earlier_in, span_of_place, weak, inner_of_between}
 use Rattle.draw_core.proofs.StripLists.{edge_of_strip, strips_of_edge}
@@ -31,7 +32,7 @@ use Rattle.draw_core.proofs.StripScenes.{Shows, ShowAt, right_of_merged}
 
 module _ (d : Triple) (fraction : ℕ) (s : Part) (halves numbers : List ℕ) (strips : List Strip) (closed : IsClosed s)
     (there : (i : ℕ) → i < length halves → (e : Edge s) × IsNumbered halves i e)
-    (drawn : AreDrawnEdges d fraction s halves numbers) (given : AreEdgeStrips d {s = s} (AreSpans d) halves numbers strips) where
+    (drawn : AreDrawnEdges d fraction s halves numbers) (given : AreEdgeStrips d {s = s} (TellHidden d) halves numbers strips) where
   abbrev Drawn : Point → Type 0
   Drawn = IsDrawnPoint d fraction s
 
@@ -46,7 +47,7 @@ module _ (d : Triple) (fraction : ℕ) (s : Part) (halves numbers : List ℕ) (s
 
   origin : (y : Strip) → Contains strips y → FromEdge y
   origin y c =
-      let (i, here, n, in_here, of_i) = edge_of_strip d (AreSpans d) halves numbers strips given y c in
+      let (i, here, n, in_here, of_i) = edge_of_strip d (TellHidden d) halves numbers strips given y c in
       let (e, numbered) = there i (All-contains (λ k. k < length halves) numbers i drawn.within n) in
       let group = of_i e numbered in
       let (x, in_spans, is) = zip_right (IsStripOf d e) group.spans here group.each y in_here in
@@ -98,7 +99,7 @@ module _ (d : Triple) (fraction : ℕ) (s : Part) (halves numbers : List ℕ) (s
     strip_of : (q : Point) → IsSeenAt d Drawn p q → (y : Strip) × Contains strips y × LiesOnStrip d y p × Shown y q
     strip_of q (on_drawn, sight) =
         let (i, e, numbered, is_drawn, (k, j, some, q_is)) = numbered_edge s closed d fraction halves drawn.edges q on_drawn in
-        let (here, in_strips, of_i) = strips_of_edge d (AreSpans d) halves numbers strips given i ((drawn.exactly i e numbered).1 is_drawn) in
+        let (here, in_strips, of_i) = strips_of_edge d (TellHidden d) halves numbers strips given i ((drawn.exactly i e numbered).1 is_drawn) in
         let group = of_i e numbered in
         let at = q_is ∙ edge_share e.a e.b k j in
         let (whole, least, most) = within_one k j some in
@@ -107,7 +108,7 @@ module _ (d : Triple) (fraction : ℕ) (s : Part) (halves numbers : List ℕ) (s
         let (x, in_spans, within) = span_of_place d Ordinary (ordinary_along d s) e (pos j) (pos (k + j)) whole ordinary_here least most group.spans group.right.covers
         (λ x c. All-contains (λ x. HasNoOrdinaryEnd d e x.from x.to) group.spans x group.right.ends c) in
         let answer = All-contains (IsAnswer d e) group.spans x group.right.answers in_spans (pos j) (pos (k + j)) whole within ordinary_here in
-        let (y, c, on, shows) = strip_of_span d Drawn Hidden Ordinary e (AreSpans d) here group x in_spans p q (pos j) (pos (k + j)) whole least most within at sight on_drawn answer in
+        let (y, c, on, shows) = strip_of_span d Drawn Hidden Ordinary e (TellHidden d) here group x in_spans p q (pos j) (pos (k + j)) whole least most within at sight on_drawn answer in
         (y, in_strips y c, on, shows)
 
     shown : ShowAt d Drawn Hidden strips p

@@ -3,12 +3,21 @@ use Rattle.std.specs.Prelude.{◌≡◌, true}
 use Rattle.desk.specs.Files.{DeskState, Rose}
 
 -- nothing but the files, what was warned, and the faults of writing and warning changed
-abbrev pub OnlyWrites : DeskState → DeskState → Type 0
-OnlyWrites old new = new ≡ record old { files = new.files; warned = new.warned; write_faults = new.write_faults; warn_faults = new.warn_faults }
+abbrev pub OnlyFilesAndWarned : DeskState → DeskState → Type 0
+OnlyFilesAndWarned old new = new ≡ record old { files = new.files; warned = new.warned; write_faults = new.write_faults; warn_faults = new.warn_faults }
 
--- nothing but the files, what was warned and the faults changed
+-- nothing but what was said and warned, and the faults of writing and warning changed
+abbrev pub OnlySaidAndWarned : DeskState → DeskState → Type 0
+OnlySaidAndWarned old new = new ≡ record old { said = new.said; warned = new.warned; write_faults = new.write_faults; warn_faults = new.warn_faults }
+
+-- nothing but the files, what was said and warned, and the faults of writing and warning changed
+abbrev pub OnlyWrites : DeskState → DeskState → Type 0
+OnlyWrites old new = new ≡ record old { files = new.files; said = new.said; warned = new.warned; write_faults = new.write_faults; warn_faults = new.warn_faults }
+
+-- nothing but the files, what was said and warned, and the faults changed
 abbrev pub OnlyRuns : DeskState → DeskState → Type 0
-OnlyRuns old new = new ≡ record old { files = new.files; warned = new.warned; read_faults = new.read_faults; write_faults = new.write_faults; warn_faults = new.warn_faults }
+OnlyRuns old new =
+    new ≡ record old { files = new.files; said = new.said; warned = new.warned; read_faults = new.read_faults; write_faults = new.write_faults; warn_faults = new.warn_faults }
 
 -- the desk tells what was warned, always finds memory, and no warning failed
 pub record HearsAll (old new : DeskState) : Type 0 where

@@ -10,6 +10,7 @@ use Rattle.draw_core.specs.declared.drawing.Drawing.{Drawing}
 use Rattle.draw_core.specs.declared.outputs.Output.{Output}
 use Rattle.draw_core.specs.declared.fault.Fault.{Fault}
 use Rattle.draw_core.specs.declared.fault.Fault.TheVariants.{WriteFault, Memory}
+use Rattle.draw_core.specs.declared.fault.Target.TheVariants.{Summary}
 
 -- nothing but the files changed
 abbrev pub OnlyFiles : DeskState → DeskState → Type 0
@@ -22,9 +23,15 @@ LeavesOne (Some (WriteFault target)) old new output = (target ≡ output.target)
 LeavesOne (Some Memory) old new output = new ≡ old
 LeavesOne (Some fault) old new output = ⊥
 
+-- the faults of saying the summary
+abbrev pub IsOfSaying : Fault → Type 0
+IsOfSaying (WriteFault Summary) = Unit {0}
+IsOfSaying Memory = Unit {0}
+IsOfSaying fault = ⊥
+
 -- each file's target has its place
 abbrev pub TargetsInOrder : List Output → Type 0
-TargetsInOrder outputs = (i : ℕ) (output : Output) → slice_get outputs i ≡ Some output → place_of output.target ≡ i
+TargetsInOrder outputs = (i : ℕ) (output : Output) → slice_get outputs i ≡ Some output → place_of output.target ≡ Some i
 
 -- these are the files of the drawing, whatever the boxes of its rack were chosen from
 pub record AreRackFiles {B : Type 0} (plot_of : B → Plot) (rack : List B) (d : Drawing) (out : List ℕ) (outputs : List Output) : Type 0 where

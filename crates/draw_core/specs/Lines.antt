@@ -21,9 +21,9 @@ use Rattle.weld.specs.declared.fault.Word.TheVariants as word
 use Rattle.draw_core.specs.declared.fault.Input.{Input}
 use Rattle.draw_core.specs.declared.fault.Input.TheVariants as input
 use Rattle.draw_core.specs.declared.fault.Target.{Target}
-use Rattle.draw_core.specs.declared.fault.Target.TheVariants.{Out, Plot}
+use Rattle.draw_core.specs.declared.fault.Target.TheVariants.{Out, Plot, Summary}
 use Rattle.draw_core.specs.declared.fault.Fault.{Fault}
-use Rattle.draw_core.specs.declared.fault.Fault.TheVariants.{Usage, ReadFault, JobTooLong, Job, NoPlotter, PartTooLong, Part, Nothing, Mesh, DoesNotFit, WriteFault, Memory}
+use Rattle.draw_core.specs.declared.fault.Fault.TheVariants.{Usage, ReadFault, JobTooLong, Job, NoPlotter, SampleRange, PartTooLong, Part, Nothing, Mesh, DoesNotFit, WriteFault, Memory}
 
 -- a byte of a name that is told: a question mark stands for what isn't printable ASCII
 abbrev pub shown_byte : ℕ → ℕ
@@ -116,6 +116,7 @@ sheet_line need_w need_h have_w have_h =
 abbrev pub write_line : Target → List ℕ
 write_line Out = codes "draw: cannot write the drawing\n"
 write_line (Plot number) = codes "draw: cannot write plot " ⊕ decimal number ⊕ codes "\n"
+write_line Summary = codes "draw: cannot write the summary\n"
 
 abbrev pub fault_line : Fault → List ℕ
 fault_line Usage = codes "draw: usage: draw PART [--job JOB] [--out OUT]\n"
@@ -123,6 +124,7 @@ fault_line (ReadFault input) = read_line input
 fault_line JobTooLong = codes "draw: job: more than 65536 bytes\n"
 fault_line (Job fault) = job_line fault
 fault_line (NoPlotter name) = codes "draw: no plotter " ⊕ shown name ⊕ codes "\n"
+fault_line SampleRange = codes "draw: sample: outside 1 to 8\n"
 fault_line PartTooLong = codes "draw: part: more than 16777216 bytes\n"
 fault_line (Part fault) = part_line fault
 fault_line Nothing = codes "draw: part: no triangle\n"

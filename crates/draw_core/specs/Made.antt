@@ -15,4 +15,4 @@ file_of_plot out plot = (plot_name out plot.suffix, unwrap_or (text_of plot) [])
 -- the files of a drawing with this name and text, and of these boxes, each with its place
 pub record AreOutputs {B : Type 0} (plot_of : B → Plot) (out text : List ℕ) (boxes : List B) (outputs : List Output) : Type 0 where
   pub files : map file_seen outputs ≡ (out, text) ∷ map (λ b. file_of_plot out (plot_of b)) boxes
-  pub places : (i : ℕ) (output : Output) → slice_get outputs i ≡ Some output → place_of output.target ≡ i
+  pub places : (i : ℕ) (output : Output) → slice_get outputs i ≡ Some output → place_of output.target ≡ Some i

@@ -5,7 +5,7 @@ use Rattle.desk.specs.Files.{Files, Keeps, MayKeepFront, Rose}
 use Rattle.plot_rack.specs.Choices.{first_with}
 use Rattle.svg_page.specs.Texts.{◌⊕◌}
 use Rattle.draw_core.specs.declared.fault.Target.{Target}
-use Rattle.draw_core.specs.declared.fault.Target.TheVariants.{Out, Plot}
+use Rattle.draw_core.specs.declared.fault.Target.TheVariants.{Out, Plot, Summary}
 use Rattle.draw_core.specs.declared.fault.Fault.{Fault}
 use Rattle.draw_core.specs.declared.fault.Fault.TheVariants.{WriteFault, Memory}
 
@@ -36,17 +36,24 @@ abbrev pub MayKeep : Files → Files → Option File → Type 0
 MayKeep old new None = ⊥
 MayKeep old new (Some file) = MayKeepFront old new file.0 file.1
 
--- the drawing's file comes first, and then those of the plotters, in the order of the job's outputs
-abbrev pub place_of : Target → ℕ
-place_of Out = 0
-place_of (Plot number) = number + 1
+-- the drawing's file comes first, and then those of the plotters, in the order of the job's outputs; the summary is no file
+abbrev pub place_of : Target → Option ℕ
+place_of Out = Some 0
+place_of (Plot number) = Some (number + 1)
+place_of Summary = None
 
--- what a run that has a drawing leaves: all files whole; after a fault of writing those before that one whole, that one in
--- part, and the later ones as they were; after want of memory some first ones whole, and the others as they were
+-- what a fault of writing leaves: the files before the one at this place whole, that one in part, and the later ones as they
+-- were; and all files whole where it was at none of them
+abbrev pub LeavesUpTo : Option ℕ → Files → Files → List File → Type 0
+LeavesUpTo None old new files = KeepsAll old new files
+LeavesUpTo (Some place) old new files =
+    (between : Files) × KeepsAll old between (take place files) × MayKeep between new (slice_get files place)
+
+-- what a run that has a drawing leaves: all files whole; what its fault of writing leaves; after want of memory some first
+-- ones whole, and the others as they were
 abbrev pub LeavesAll : Option Fault → Files → Files → List File → Type 0
 LeavesAll None old new files = KeepsAll old new files
-LeavesAll (Some (WriteFault target)) old new files =
-    (between : Files) × KeepsAll old between (take (place_of target) files) × MayKeep between new (slice_get files (place_of target))
+LeavesAll (Some (WriteFault target)) old new files = LeavesUpTo (place_of target) old new files
 LeavesAll (Some Memory) old new files = (n : ℕ) × KeepsAll old new (take n files)
 LeavesAll (Some fault) old new files = ⊥
 

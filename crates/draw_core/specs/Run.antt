@@ -1,11 +1,14 @@
 -- What a run answers, from its words and the files at entry: steps in order, each with what it gives and what it refuses.
-use Rattle.std.specs.Prelude.{◌≡◌, ◌⊎◌, ◌<◌, ◌≤◌, ℕ, List, [], length, Option, Some, None, IsSome, IsSomeAnd, Result, Ok, Err, Bool, false, IsTrue}
+use Rattle.std.specs.Prelude.{◌≡◌, ◌⊎◌, ◌<◌, ◌≤◌, ◌-◌, ◌&&◌, nat_le, ℕ, List, [], ◌∷◌, length, map, codes, Option, Some, None, IsSome, IsSomeAnd, Result, Ok, Err, Bool, false, IsTrue, if◌then◌else◌}
 use Rattle.desk.specs.Files.{Files, Rose}
+use Rattle.draw_words.specs.Grammar.{behind}
 use Rattle.draw_words.specs.Names.{Named, named_by}
 use Rattle.geometry.specs.Parts.{Part}
 use Rattle.geometry.specs.Sound.{IsSound}
 use Rattle.job_file.specs.Documents.{JobValues, job_of_bytes}
 use Rattle.job_file.specs.declared.fault.JobFault.{JobFault}
+use Rattle.lattice.specs.Points.{of_corner}
+use Rattle.sample_part.specs.Boxes.{corners_of, triangles_of}
 use Rattle.weld.specs.Raw.{Raw}
 use Rattle.weld.specs.Welds.{IsWeldOf, proper_of}
 use Rattle.weld.specs.declared.fault.PartFault.{PartFault}
@@ -17,7 +20,7 @@ use Rattle.draw_core.specs.Sheets.{HasSheet, HasNoSheet}
 use Rattle.draw_core.specs.declared.fault.Input.{Input}
 use Rattle.draw_core.specs.declared.fault.Input.TheVariants.{Job as TheJob, Part as ThePart}
 use Rattle.draw_core.specs.declared.fault.Fault.{Fault}
-use Rattle.draw_core.specs.declared.fault.Fault.TheVariants.{Usage, ReadFault, JobTooLong, Job as JobUnread, NoPlotter, PartTooLong, Part as PartUnread, Nothing, Mesh, DoesNotFit, WriteFault, Memory}
+use Rattle.draw_core.specs.declared.fault.Fault.TheVariants.{Usage, ReadFault, JobTooLong, Job as JobUnread, NoPlotter, SampleRange, PartTooLong, Part as PartUnread, Nothing, Mesh, DoesNotFit, WriteFault, Memory}
 
 -- the most bytes that a file may have
 abbrev pub limit_of : Input → ℕ
@@ -90,9 +93,34 @@ ReadsSolid decimals bytes = ReadsPart decimals bytes and_then ChecksPart
 abbrev pub TakesReadJob : Files → Option (List ℕ) → Result JobValues Fault → Type 0
 TakesReadJob files name = TakesJob files name and_then ReadsJob
 
--- the part is taken, read with the job's decimals, and sound
+-- what stands behind `sample:`, where a name begins so: the size of a sample
+abbrev pub sample_size : List ℕ → Option (List ℕ)
+sample_size name = behind (codes "sample:") name
+
+-- how many cubes a size asks for along each axis: it is one of the digits 1 to 8
+abbrev pub cubes_along : List ℕ → Option ℕ
+cubes_along [] = None
+cubes_along (digit ∷ []) = if nat_le 49 digit && nat_le digit 56 then Some (digit - 48) else None
+cubes_along (digit ∷ more ∷ rest) = None
+
+-- the sample with n cubes along each axis
+pub record IsSample (n : ℕ) (part : Part) : Type 0 where
+  pub corners : map of_corner part.corners ≡ corners_of n
+  pub triangles : part.triangles ≡ triangles_of n
+
+-- the sample of a size is made
+abbrev pub MakesSample : List ℕ → Result Part Fault → Type 0
+MakesSample size (Ok part) = IsSomeAnd (cubes_along size) (λ n. IsSample n part)
+MakesSample size (Err e) = (e ≡ SampleRange) × (cubes_along size ≡ None)
+
+-- the part is a sample of this size, which is made, or the file of this name, which is taken and read with the job's decimals; it is sound
+abbrev pub TakesSampleOr : Option (List ℕ) → Files → List ℕ → ℕ → Result Part Fault → Type 0
+TakesSampleOr (Some size) files name decimals = MakesSample size and_then ChecksPart
+TakesSampleOr None files name decimals = TakesFile ThePart files name and_then ReadsSolid decimals
+
+-- the part that a name stands for
 abbrev pub TakesSolid : Files → List ℕ → ℕ → Result Part Fault → Type 0
-TakesSolid files name decimals = TakesFile ThePart files name and_then ReadsSolid decimals
+TakesSolid files name decimals = TakesSampleOr (sample_size name) files name decimals
 
 -- what is drawn
 pub record Drawn : Type 0 where
@@ -109,7 +137,7 @@ PlansSheet job part (Err e) = ⊥
 abbrev pub TakesMetJob : List (List ℕ) → Files → Option (List ℕ) → Result JobValues Fault → Type 0
 TakesMetJob suffixes files name = TakesReadJob files name and_then HasPlotters suffixes
 
--- the files that were named give the job, and then the part
+-- what was named gives the job, and then the part
 abbrev pub DrawsFiles : List (List ℕ) → Files → Named → Result Drawn Fault → Type 0
 DrawsFiles suffixes files named =
     TakesMetJob suffixes files named.job and_then λ job. (TakesSolid files named.part job.decimals and_then PlansSheet job)
@@ -128,6 +156,7 @@ Refuses steps Usage = steps (Err Usage)
 Refuses steps JobTooLong = steps (Err JobTooLong)
 Refuses steps (JobUnread cause) = steps (Err (JobUnread cause))
 Refuses steps (NoPlotter name) = steps (Err (NoPlotter name))
+Refuses steps SampleRange = steps (Err SampleRange)
 Refuses steps PartTooLong = steps (Err PartTooLong)
 Refuses steps (PartUnread cause) = steps (Err (PartUnread cause))
 Refuses steps Nothing = steps (Err Nothing)
@@ -162,15 +191,35 @@ abbrev pub IsOfJob : Option (List ℕ) → Fault → Type 0
 IsOfJob None fault = IsOfUsualJob fault
 IsOfJob (Some name) fault = IsOfNamedJob fault
 
--- the faults of a part
-abbrev pub IsOfPart : Fault → Type 0
-IsOfPart (ReadFault ThePart) = Unit {0}
-IsOfPart PartTooLong = Unit {0}
-IsOfPart (PartUnread cause) = Unit {0}
-IsOfPart Nothing = Unit {0}
-IsOfPart (Mesh fault) = Unit {0}
-IsOfPart Memory = Unit {0}
-IsOfPart fault = ⊥
+-- the faults of a surface
+abbrev pub IsOfMesh : Fault → Type 0
+IsOfMesh (Mesh fault) = Unit {0}
+IsOfMesh Memory = Unit {0}
+IsOfMesh fault = ⊥
+
+-- the faults of a sample of this size, and those of a file
+abbrev pub IsOfSample : List ℕ → Fault → Type 0
+IsOfSample size SampleRange = cubes_along size ≡ None
+IsOfSample size (Mesh fault) = IsSome (cubes_along size)
+IsOfSample size Memory = Unit {0}
+IsOfSample size fault = ⊥
+
+abbrev pub IsOfPartFile : Fault → Type 0
+IsOfPartFile (ReadFault ThePart) = Unit {0}
+IsOfPartFile PartTooLong = Unit {0}
+IsOfPartFile (PartUnread cause) = Unit {0}
+IsOfPartFile Nothing = Unit {0}
+IsOfPartFile (Mesh fault) = Unit {0}
+IsOfPartFile Memory = Unit {0}
+IsOfPartFile fault = ⊥
+
+abbrev pub IsOfSampleOr : Option (List ℕ) → Fault → Type 0
+IsOfSampleOr (Some size) fault = IsOfSample size fault
+IsOfSampleOr None fault = IsOfPartFile fault
+
+-- the faults of the part that a name stands for
+abbrev pub IsOfPart : List ℕ → Fault → Type 0
+IsOfPart name fault = IsOfSampleOr (sample_size name) fault
 
 -- the fault of a sheet
 abbrev pub IsOfSheet : Fault → Type 0
@@ -178,11 +227,11 @@ IsOfSheet (DoesNotFit need_w need_h have_w have_h) = Unit {0}
 IsOfSheet Memory = Unit {0}
 IsOfSheet fault = ⊥
 
--- the faults of the files that were named: of the job, of the part, or of the sheet
+-- the faults of what was named: of the job, of the part, or of the sheet
 abbrev pub IsOfFiles : Named → Fault → Type 0
-IsOfFiles named fault = IsOfJob named.job fault ⊎ IsOfPart fault ⊎ IsOfSheet fault
+IsOfFiles named fault = IsOfJob named.job fault ⊎ IsOfPart named.part fault ⊎ IsOfSheet fault
 
--- on every desk the words are refused exactly so, unless memory ran out, and the job is at fault only as it may be
+-- on every desk the words are refused exactly so, unless memory ran out, and the job and the part are at fault only as they may be
 abbrev pub AnswersWords : Option Named → Option Fault → Type 0
 AnswersWords named (Some Usage) = named ≡ None
 AnswersWords named (Some Memory) = Unit {0}
@@ -190,10 +239,10 @@ AnswersWords named (Some (WriteFault target)) = IsSome named
 AnswersWords named (Some fault) = IsSomeAnd named (λ names. IsOfFiles names fault)
 AnswersWords named None = IsSome named
 
--- the run comes to reading the job where it is named, and to the part once the job was taken
+-- the run comes to reading the job where it is named, and to a part that isn't a sample once the job was taken
 abbrev pub ComesTo : List (List ℕ) → Files → Named → Input → Type 0
 ComesTo suffixes files named TheJob = IsSome named.job
-ComesTo suffixes files named ThePart = (job : JobValues) × TakesMetJob suffixes files named.job (Ok job)
+ComesTo suffixes files named ThePart = (sample_size named.part ≡ None) × (job : JobValues) × TakesMetJob suffixes files named.job (Ok job)
 
 -- a fault of reading is answered only where the run comes to that
 abbrev pub ReadsInOrder : List (List ℕ) → Files → Named → Fault → Type 0
@@ -214,12 +263,36 @@ abbrev pub IsMissing : {A : Type 0} → (Result A Fault → Type 0) → Fault �
 IsMissing steps (ReadFault input) = steps (Err (ReadFault input))
 IsMissing steps fault = Unit {0}
 
+-- the fault is that of the steps, unless memory ran out: none where something is drawn, and else the refusal
+abbrev pub Answers : {A : Type 0} → Result A Fault → Option Fault → Type 0
+Answers (Ok drawn) fault = (fault ≡ None) ⊎ (fault ≡ Some Memory)
+Answers (Err e) fault = (fault ≡ Some e) ⊎ (fault ≡ Some Memory)
+
+-- so it is of each answer of the steps
+abbrev pub IsAnswerOf : {A : Type 0} → (Result A Fault → Type 0) → Option Fault → Type 0
+IsAnswerOf {A} steps fault = (r : Result A Fault) → steps r → Answers r fault
+
+-- a job that is named is there
+abbrev pub HasJobFile : Files → Option (List ℕ) → Type 0
+HasJobFile files None = Unit {0}
+HasJobFile files (Some name) = IsSome (files name)
+
+-- a part that isn't a sample is there
+abbrev pub HasSampleOr : Option (List ℕ) → Files → List ℕ → Type 0
+HasSampleOr (Some size) files name = Unit {0}
+HasSampleOr None files name = IsSome (files name)
+
+-- the files that were named to be read are there
+abbrev pub HasFiles : Files → Named → Type 0
+HasFiles files named = HasJobFile files named.job × HasSampleOr (sample_size named.part) files named.part
+
 abbrev pub status_of : Option Fault → ℕ
 status_of None = 0
 status_of (Some Usage) = 2
 status_of (Some JobTooLong) = 3
 status_of (Some (JobUnread cause)) = 3
 status_of (Some (NoPlotter name)) = 3
+status_of (Some SampleRange) = 3
 status_of (Some PartTooLong) = 4
 status_of (Some (PartUnread cause)) = 4
 status_of (Some Nothing) = 4

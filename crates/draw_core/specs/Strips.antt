@@ -1,5 +1,5 @@
 -- Strips that are the spans of edges, and those that are the segments of borders.
-use Rattle.std.specs.Prelude.{◌≡◌, ℕ, false, List, [], ◌∷◌, ◌++◌}
+use Rattle.std.specs.Prelude.{◌≡◌, ℕ, false, List, [], ◌∷◌, ◌++◌, All}
 use Rattle.std.specs.List.{AllZip}
 use Rattle.lattice.specs.declared.lines.Line.{Line}
 use Rattle.lattice.specs.declared.pieces.Strip.{Strip}
@@ -10,8 +10,15 @@ use Rattle.lattice.specs.Cuts.{Plane, toward_of}
 use Rattle.geometry.specs.Parts.{Part, Edge, IsNumbered}
 use Rattle.cut_plane.specs.declared.segments.Segment.{Segment}
 use Rattle.span_slow.specs.declared.span.Span.{Span}
-use Rattle.span_slow.specs.Places.{point_at}
+use Rattle.geometry.specs.Places.{point_at, HasNoOrdinaryEnd}
+use Rattle.span_slow.specs.Spans.{CoverEdge, IsAnswer}
 use Rattle.span_slow.specs.CutSpans.{AreCutSpans}
+
+-- the spans cover the edge, none of their ends is at an ordinary point, and at each ordinary point within a span what it tells is so
+pub record TellHidden (d : Triple) {s : Part} (e : Edge s) (spans : List Span) : Type 0 where
+  pub covers : CoverEdge spans
+  pub ends : All (λ x. HasNoOrdinaryEnd d e x.from x.to) spans
+  pub answers : All (IsAnswer d e) spans
 
 -- both corners of the edge are seen on the line
 pub record IsEdgeLine (d : Triple) {s : Part} (e : Edge s) (l : Line) : Type 0 where

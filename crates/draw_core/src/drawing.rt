@@ -1,16 +1,20 @@
 // What a run makes.
 use crate::fault::Fault;
+use cross_find::Meter;
 use job_file::Job;
 use lattice::{HatchLine, Piece, ViewSpec};
 use sheet_plan::Sheet;
 use solid_mesh::Solid;
+use span_count::EdgeSpans;
 
-/// One view: its pieces and the hatch lines of its section, in their order. A view of the whole part has no hatch lines.
+/// One view: its pieces and the hatch lines of its section, in their order, and how many faces are nearer along each drawn edge.
+/// A view of the whole part has no hatch lines, and the view of a cut has no counts.
 #[derive(Drop)]
 pub struct ViewDrawing {
     pub spec: ViewSpec,
     pub pieces: Vec<Piece>,
     pub hatches: Vec<HatchLine>,
+    pub counts: Vec<EdgeSpans>,
 }
 
 /// A part, the job that it is drawn by, the sheet, and the job's views in their order.
@@ -20,6 +24,10 @@ pub struct Drawing {
     pub job: Job,
     pub sheet: Sheet,
     pub views: Vec<ViewDrawing>,
+    /// The tests that were made for the counts of all views, at most as many as the bound.
+    pub meter: Meter,
+    /// The sum of the bounds of the plain views.
+    pub bound: u64,
 }
 
 /// How a run ended.
@@ -28,6 +36,6 @@ pub struct Outcome {
     /// The program's status: 0 with no fault.
     pub status: u8,
     pub fault: Option<Fault>,
-    /// Some with status 0 and 8, and with status 9 where the desk found no memory for a file.
+    /// Some with status 0 and 8, and perhaps with status 9, where the desk found no memory for a file or the summary.
     pub drawing: Option<Drawing>,
 }

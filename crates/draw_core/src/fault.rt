@@ -20,6 +20,8 @@ pub enum Target {
     Out,
     /// The text of the plotter for this output of the job, counted from 0.
     Plot(u32),
+    /// The line that is said of the drawing.
+    Summary,
 }
 
 /// Why a run refuses.
@@ -31,6 +33,8 @@ pub enum Fault {
     Job(JobFault),
     /// No plotter has this suffix, the first such output of the job.
     NoPlotter(Name),
+    /// What stands behind `sample:` isn't one of the digits 1 to 8.
+    SampleRange,
     PartTooLong,
     Part(PartFault),
     /// The part has no triangle.
@@ -60,6 +64,7 @@ impl Fault {
             Fault::JobTooLong => 3,
             Fault::Job(_) => 3,
             Fault::NoPlotter(_) => 3,
+            Fault::SampleRange => 3,
             Fault::PartTooLong => 4,
             Fault::Part(_) => 4,
             Fault::Nothing => 4,

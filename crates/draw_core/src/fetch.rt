@@ -11,7 +11,7 @@ use std::alloc::{AllocError, Global};
 const BLOCK: usize = 65_536;
 
 // Why a file wasn't fetched.
-#[derive(Clone, Copy, Debug, PartialEq, Eq)]
+#[derive(Clone, Copy)]
 pub(crate) enum FetchFault {
     // A fetch failed.
     Failed,
@@ -81,33 +81,4 @@ pub(crate) fn fetch_all<D: Desk>(
         }
     }
     Err(FetchFault::TooLong)
-}
-
-#[cfg(test)]
-mod tests {
-    use super::*;
-    use dec_text::Name;
-    use desk::MemoryDesk;
-    use std::test::Fail;
-
-    #[test]
-    fn a_file_is_fetched_up_to_the_limit(rt: HostRuntime) -> Result<(), Fail> {
-        let alloc = rt.alloc();
-        for (name, limit, fail, want) in [
-            ("p", 70_000, 9, Ok(70_000)),
-            ("p", 69_999, 9, Err(FetchFault::TooLong)),
-            ("p", 70_000, 0, Err(FetchFault::Failed)),
-            ("p", 70_000, 1, Err(FetchFault::Failed)),
-            ("p", 70_000, 2, Err(FetchFault::Failed)),
-            ("p", 70_000, 3, Ok(70_000)),
-            ("q", 70_000, 9, Err(FetchFault::Failed)),
-        ] {
-            let mut files = Vec::new(alloc);
-            files.push((Name::new(alloc, "p")?, vec![in alloc; 1u8; 70_000]?))?;
-            let mut desk = MemoryDesk::new(alloc, files, vec![in alloc; fail]?);
-            let got = fetch_all(alloc, &mut desk, name, limit).map(|bytes| bytes.len());
-            assert_eq!(rt; got, want, "{name} up to {limit}, call {fail} fails");
-        }
-        Ok(())
-    }
 }

@@ -47,6 +47,7 @@ pub(crate) fn line_of(alloc: Global, fault: &Fault) -> Result<Line, AllocError>
         Fault::JobTooLong => Ok(Line::Fixed("draw: job: more than 65536 bytes\n")),
         Fault::Job(fault) => job_line(alloc, fault),
         Fault::NoPlotter(name) => Ok(Line::Made(plotter_line(alloc, name.as_str())?)),
+        Fault::SampleRange => Ok(Line::Fixed("draw: sample: outside 1 to 8\n")),
         Fault::PartTooLong => Ok(Line::Fixed("draw: part: more than 16777216 bytes\n")),
         Fault::Nothing => Ok(Line::Fixed("draw: part: no triangle\n")),
         Fault::DoesNotFit {
@@ -83,6 +84,7 @@ fn write_line(alloc: Global, target: Target) -> Result<Line, AllocError>
     match target {
         Target::Out => Ok(Line::Fixed("draw: cannot write the drawing\n")),
         Target::Plot(number) => Ok(Line::Made(plot_line(alloc, number)?)),
+        Target::Summary => Ok(Line::Fixed("draw: cannot write the summary\n")),
     }
 }
 
@@ -285,174 +287,5 @@ fn word_text(word: &Word) -> &'static str
         Word::Vertex => "vertex",
         Word::Endloop => "endloop",
         Word::Endfacet => "endfacet",
-    }
-}
-
-#[cfg(test)]
-mod tests {
-    use super::*;
-    use dec_text::Name;
-    use std::test::Fail;
-
-    #[test]
-    fn each_fault_has_its_line(rt: HostRuntime) -> Result<(), Fail> {
-        let part = |kind| Fault::Part(PartFault { line: 7, kind });
-        // Bytes that aren't printable ASCII, and the ones beside them.
-        let name = "\u{1f} a~\u{7f}\u{e9}";
-        for (fault, line) in [
-            (Fault::ReadFault(Input::Job), "cannot read the job"),
-            (Fault::ReadFault(Input::Part), "cannot read the part"),
-            (Fault::JobTooLong, "job: more than 65536 bytes"),
-            (Fault::Job(JobFault::NotToml), "job: not TOML"),
-            (
-                Fault::Job(JobFault::Version(i64::MIN)),
-                "job: version -9223372036854775808",
-            ),
-            (
-                Fault::Job(JobFault::UnknownKey(Name::new(rt.alloc(), name)?)),
-                "job: unknown key ? a~???",
-            ),
-            (
-                Fault::Job(JobFault::Wrong(Key::Version)),
-                "job: wrong version",
-            ),
-            (
-                Fault::Job(JobFault::Wrong(Key::Decimals)),
-                "job: wrong decimals",
-            ),
-            (Fault::Job(JobFault::Wrong(Key::Angle)), "job: wrong angle"),
-            (Fault::Job(JobFault::Wrong(Key::Sheet)), "job: wrong sheet"),
-            (Fault::Job(JobFault::Wrong(Key::Scale)), "job: wrong scale"),
-            (
-                Fault::Job(JobFault::Wrong(Key::Crease)),
-                "job: wrong crease",
-            ),
-            (Fault::Job(JobFault::Wrong(Key::Title)), "job: wrong title"),
-            (
-                Fault::Job(JobFault::Wrong(Key::Outputs)),
-                "job: wrong outputs",
-            ),
-            (Fault::Job(JobFault::Wrong(Key::View)), "job: wrong view"),
-            (Fault::Job(JobFault::Wrong(Key::Name)), "job: wrong name"),
-            (
-                Fault::Job(JobFault::Wrong(Key::Toward)),
-                "job: wrong toward",
-            ),
-            (Fault::Job(JobFault::Wrong(Key::Cut)), "job: wrong cut"),
-            (Fault::Job(JobFault::Wrong(Key::At)), "job: wrong at"),
-            (Fault::Job(JobFault::Wrong(Key::From)), "job: wrong from"),
-            (
-                Fault::Job(JobFault::TooManyViews),
-                "job: more than 12 views",
-            ),
-            (
-                Fault::Job(JobFault::ZeroDirection(11)),
-                "job: view 11: zero direction",
-            ),
-            (
-                Fault::Job(JobFault::DirectionRange(0, Axis::X)),
-                "job: view 0: direction x outside -9 to 9",
-            ),
-            (
-                Fault::Job(JobFault::DirectionRange(1, Axis::Y)),
-                "job: view 1: direction y outside -9 to 9",
-            ),
-            (
-                Fault::Job(JobFault::DirectionRange(2, Axis::Z)),
-                "job: view 2: direction z outside -9 to 9",
-            ),
-            (
-                Fault::Job(JobFault::CutRange(3)),
-                "job: view 3: cut outside -1048576 to 1048576",
-            ),
-            (
-                Fault::NoPlotter(Name::new(rt.alloc(), "mill")?),
-                "no plotter mill",
-            ),
-            (Fault::PartTooLong, "part: more than 16777216 bytes"),
-            (part(PartKind::Binary), "part: line 7: binary"),
-            (part(PartKind::Prefixed), "part: line 7: prefixed OFF"),
-            (
-                part(PartKind::Missing(Want::Count)),
-                "part: line 7: missing count",
-            ),
-            (
-                part(PartKind::Missing(Want::Coordinate)),
-                "part: line 7: missing coordinate",
-            ),
-            (
-                part(PartKind::Missing(Want::FaceSize)),
-                "part: line 7: missing face size",
-            ),
-            (
-                part(PartKind::Missing(Want::Index)),
-                "part: line 7: missing index",
-            ),
-            (
-                part(PartKind::Missing(Want::Normal)),
-                "part: line 7: missing normal",
-            ),
-            (
-                part(PartKind::Missing(Want::Keyword(Word::Facet))),
-                "part: line 7: missing facet or endsolid",
-            ),
-            (part(PartKind::BadNumber), "part: line 7: bad number"),
-            (part(PartKind::TooLarge), "part: line 7: number too large"),
-            (part(PartKind::BadIndex(12)), "part: line 7: no vertex 12"),
-            (
-                part(PartKind::FaceSize(2)),
-                "part: line 7: face of 2 corners",
-            ),
-            (
-                part(PartKind::TooMany),
-                "part: line 7: too many vertices or triangles",
-            ),
-            (
-                part(PartKind::Trailing),
-                "part: line 7: text after the last face",
-            ),
-            (
-                part(PartKind::FaceUnseen(3)),
-                "part: line 7: face 3 is not seen whole from a corner",
-            ),
-            (
-                part(PartKind::Expected(Word::Endloop)),
-                "part: line 7: expected endloop",
-            ),
-            (Fault::Nothing, "part: no triangle"),
-            (Fault::Mesh(MeshFault::Flat(4)), "solid: triangle 4 is flat"),
-            (
-                Fault::Mesh(MeshFault::SameWay(0, 12)),
-                "solid: triangles 0 and 12 use a side the same way",
-            ),
-            (
-                Fault::Mesh(MeshFault::Unpaired(5, 1)),
-                "solid: side 1 of triangle 5 has no partner",
-            ),
-            (
-                Fault::Mesh(MeshFault::Double(0, 1)),
-                "solid: triangles 0 and 1 have the same corners",
-            ),
-            (
-                Fault::Mesh(MeshFault::Meet(7, 13)),
-                "solid: edge 7 meets triangle 13",
-            ),
-            (
-                Fault::DoesNotFit {
-                    need_w: 100_000,
-                    need_h: 80_000,
-                    have_w: -1,
-                    have_h: 15_000,
-                },
-                "sheet: needs 100000 by 80000, has -1 by 15000",
-            ),
-            (Fault::WriteFault(Target::Out), "cannot write the drawing"),
-            (Fault::WriteFault(Target::Plot(7)), "cannot write plot 7"),
-            (Fault::Memory, "out of memory"),
-        ] {
-            let line = format!(in rt.alloc(); "draw: {line}\n")?;
-            assert_eq!(rt; line_of(rt.alloc(), &fault)?.as_str(), line.as_str());
-        }
-        Ok(())
     }
 }

@@ -71,7 +71,7 @@ pub(crate) fn plot_output(
 ) -> Result<Output, OutOfMemory>
     requires within { number < length (boxes_of rack.now) }
     requires begun { (b : _) → slice_get (boxes_of rack.now) number ≡ Some b → IsSome (plot (b.vtable, b.value)).page }
-    ensures place { IfOk result (λ o. place_of o.target ≡ number + 1) }
+    ensures place { IfOk result (λ o. place_of o.target ≡ Some (number + 1)) }
     ensures name { IfOk result (λ o. option_map (λ b. plot_name out.now (plot (b.vtable, b.value)).suffix) (slice_get (boxes_of rack.now) number) ≡ Some o.name) }
     ensures bytes { IfOk result (λ o. option_map (λ b. text_of (plot (b.vtable, b.value))) (slice_get (boxes_of rack.now) number) ≡ Some (Some o.bytes.items)) }
 {

@@ -6,39 +6,44 @@ ghost use Rattle.draw_words.specs.Seen.{texts};
 ghost use Rattle.draw_core.specs.Taken.{drawn_of, HasItsSheet};
 ghost use Rattle.plot_rack.specs.Racks.{boxes_of};
 ghost use Rattle.draw_core.specs.Outputs.{CountsWrites, HasNoWriteFault};
-ghost use Rattle.draw_core.specs.Run.{Runs, Refuses, AnswersWords, RunsInOrder, CountsReads, IsMissing, HasDrawing, IsWriteOutcome, status_of};
+ghost use Rattle.draw_core.specs.Run.{Runs, Refuses, IsAnswerOf, AnswersWords, RunsInOrder, CountsReads, IsMissing, HasDrawing, HasFiles, IsWriteOutcome, status_of};
 ghost use Rattle.draw_core.specs.Desks.{OnlyWrites, OnlyRuns, HearsAll};
 ghost use Rattle.draw_core.specs.Lines.{NamesNothing, Warns, WarnsWhole};
 ghost use Rattle.draw_core.specs.Drawing.{drawn_in, IsDrawing, WritesNamed};
 ghost use Rattle.draw_core.specs.Kept.{AreRackFiles, WritesRack};
+ghost use Rattle.draw_core.specs.Summary.{IsSummaryOf, SaysSummary};
 
 use crate::drawing::{Drawing, Outcome};
 use crate::fault::Fault;
-use crate::keep::{keep_all, warn};
+use crate::keep::{warn, write_all};
 use crate::lines::{MEMORY_LINE, line_of};
 use crate::made::outputs_of;
 use crate::outputs::Output;
 use crate::strokes::strokes_of;
+use crate::summary::{Summary, summary_of};
 use crate::take::{Taken, take};
-use crate::views::views_of;
+use crate::views::{Views, views_of};
+use cross_find::Meter;
 use desk::Desk;
 use exact_frac::OutOfMemory;
 use plot_rack::Plotter;
 use std::alloc::Global;
 use svg_page::svg;
 
-/// A drawing and its files.
+/// A drawing, its files and its summary.
 #[derive(Drop)]
 struct Made {
     drawing: Drawing,
     outputs: Vec<Output>,
+    summary: Summary,
 }
 
-/// The drawing of what was taken, and its files.
+/// The drawing of what was taken, its files and its summary.
 fn drawing_of(alloc: Global, taken: Taken) -> Result<Made, OutOfMemory>
     requires { HasItsSheet taken }
     ensures drawn { IfOk result (λ made. drawn_in made.drawing ≡ drawn_of taken) }
     ensures shows { IfOk result (λ made. IsDrawing made.drawing) }
+    ensures summary { IfOk result (λ made. IsSummaryOf made.drawing (string_bytes made.summary.text)) }
     ensures files { IfOk result (λ made. AreRackFiles (λ b. plot (b.vtable, b.value)) (boxes_of taken.rack) made.drawing taken.out made.outputs.items) }
 {
     let Taken {
@@ -48,7 +53,11 @@ fn drawing_of(alloc: Global, taken: Taken) -> Result<Made, OutOfMemory>
         solid,
         sheet,
     } = taken;
-    let views = views_of(alloc, &solid, job.crease, sheet.spacing(), &job.views)?;
+    let Views {
+        views,
+        plain,
+        tests,
+    } = views_of(alloc, &solid, job.crease, sheet.spacing(), &job.views)?;
     let strokes = strokes_of(alloc, &sheet, &views)?;
     rack.draw(sheet.width, sheet.height, &strokes)?;
     let text = svg(alloc, &sheet, &job.title, &strokes)?;
@@ -58,8 +67,15 @@ fn drawing_of(alloc: Global, taken: Taken) -> Result<Made, OutOfMemory>
         job,
         sheet,
         views,
+        meter: Meter { tests },
+        bound: plain.bound,
     };
-    Ok(Made { drawing, outputs })
+    let summary = summary_of(alloc, &drawing, &plain)?;
+    Ok(Made {
+        drawing,
+        outputs,
+        summary,
+    })
 }
 
 /// An end without a drawing.
@@ -109,7 +125,7 @@ fn end_status(fault: &Option<Fault>) -> u8
     }
 }
 
-/// Draws what was taken, and writes the drawing.
+/// Draws what was taken, writes the drawing and says its summary.
 fn write_drawing<D: Desk>(alloc: Global, taken: Taken, desk: &mut D) -> Outcome
     requires { HasItsSheet taken }
     ensures status { result.status ≡ status_of result.fault }
@@ -120,6 +136,9 @@ fn write_drawing<D: Desk>(alloc: Global, taken: Taken, desk: &mut D) -> Outcome
     ensures files { (D.state desk.old).tells ≡ true →
         IfSome result.drawing (WritesRack (λ b. plot (b.vtable, b.value)) (boxes_of taken.rack) result.fault (D.state desk.old).files (D.state desk.new).files taken.out) }
     ensures untouched { IfNone result.drawing ((D.state desk.new).files ≡ (D.state desk.old).files) }
+    ensures said { (D.state desk.old).tells_said ≡ true →
+        IfSome result.drawing (SaysSummary result.fault (D.state desk.old).said (D.state desk.new).said) }
+    ensures unsaid { IfNone result.drawing ((D.state desk.new).said ≡ (D.state desk.old).said) }
     ensures firm { (D.state desk.old).firm ≡ true → result.fault ≡ Some Fault.Memory → result.drawing ≡ None }
     ensures writes { CountsWrites result.fault (D.state desk.old).write_faults (D.state desk.new).write_faults }
     ensures steady { (D.state desk.old).steady ≡ true → HasNoWriteFault result.fault }
@@ -133,7 +152,7 @@ fn write_drawing<D: Desk>(alloc: Global, taken: Taken, desk: &mut D) -> Outcome
         Ok(made) => made,
         Err(_) => return refuse(alloc, Fault::Memory, desk),
     };
-    let fault = keep_all(&made.outputs, desk);
+    let fault = write_all(&made.outputs, &made.summary, desk);
     Outcome {
         status: end_status(&fault),
         fault,
@@ -143,16 +162,18 @@ fn write_drawing<D: Desk>(alloc: Global, taken: Taken, desk: &mut D) -> Outcome
 
 /// Reads the job and the part that the words name, draws the job's views on their sheet and writes it under the name that
 /// they give, or `drawing.svg`, and beside it the texts of the plotters that the job's outputs choose out of `extras`; all
-/// others are dropped. Without a job it is the usual one: front, above and left. Of a fault it warns once, by one line.
+/// others are dropped. At the end it says the summary, a line with the drawing's numbers. Without a job it is the usual one:
+/// front, above and left. Of a fault it warns once, by one line.
 ///
-/// The faults are looked for in this order: the words, the job's bytes, its text, its outputs, the part's bytes, its text,
-/// whether it has a triangle, its surface, whether the views fit the sheet, the drawing's files, in their order. Want of
-/// memory may be answered at any place; then some first files stand whole, perhaps none, and the others are as before, and
-/// where there is no drawing no file has changed. Time is about linear in the bytes of the job and of the part; for the
-/// check that of sorting, and of one test for each pair of an edge and a triangle whose ranges of x meet, which for some parts
-/// is nearly every pair; and for each view, for the spans that of the product of the numbers of drawn edges and of triangles,
-/// in a cut view also a pass over the borders for each crossing of an edge with one, and for the pieces and the hatch lines
-/// that of sorting the spans and the crossings of borders with hatch lines.
+/// The faults are looked for in this order: the words, the job's bytes, its text, its outputs, a sample's size, the part's bytes, its
+/// text, whether it has a triangle, its surface, whether the views fit the sheet, the drawing's files, in their order, the summary.
+/// Want of memory may be answered at any place; then some first files stand whole, perhaps none, and the others are as before,
+/// nothing is said, and where there is no drawing no file has changed. Time is about linear in the bytes of the job and of the
+/// part; for the check that of sorting, and of one test for each pair of an edge and a triangle whose ranges of x meet, which
+/// for some parts is nearly every pair; and for each view, for the spans of a plain view that of its bound and of sorting each
+/// edge's crossings with outlines, for those of a cut view that of the product of the numbers of drawn edges and of triangles and
+/// of a pass over the borders for each crossing of an edge with one, and for the pieces and the hatch lines that of sorting the
+/// spans and the crossings of borders with hatch lines.
 pub fn draw<D: Desk>(
     alloc: Global,
     words: &[String],
@@ -176,6 +197,21 @@ pub fn draw<D: Desk>(
         IfSome result.fault (IsMissing (Runs (map (λ b. (plot b).suffix) extras.items) (texts words.now) (D.state desk.old).files)) }
     ensures steady { (D.state desk.old).steady ≡ true → HasNoWriteFault result.fault }
 
+    // Where no fault of reading or writing was counted, the answer is that of the steps, or want of memory.
+    ensures complete { (D.state desk.old).tells ≡ true →
+        (Rose (D.state desk.old).read_faults (D.state desk.new).read_faults → ⊥) →
+        (Rose (D.state desk.old).write_faults (D.state desk.new).write_faults → ⊥) →
+        IsAnswerOf (Runs (map (λ b. (plot b).suffix) extras.items) (texts words.now) (D.state desk.old).files) result.fault }
+
+    // On a steady desk it is so whatever was counted.
+    ensures exact { (D.state desk.old).steady ≡ true →
+        IsAnswerOf (Runs (map (λ b. (plot b).suffix) extras.items) (texts words.now) (D.state desk.old).files) result.fault }
+
+    // A steady desk that has the files that the words name to be read counts no fault.
+    ensures held { (D.state desk.old).steady ≡ true →
+        IfSome (named_by (texts words.now)) (HasFiles (D.state desk.old).files) →
+        ((D.state desk.new).read_faults ≡ (D.state desk.old).read_faults) × ((D.state desk.new).write_faults ≡ (D.state desk.old).write_faults) }
+
     // The drawing shows the part by the job, from the texts at entry, and its text is what the file holds.
     ensures drawn { HasDrawing result.fault (is_some result.drawing) }
     ensures part { (D.state desk.old).tells ≡ true →
@@ -185,6 +221,11 @@ pub fn draw<D: Desk>(
         IfSome result.drawing (WritesNamed (map (λ b. plot b) extras.items) (named_by (texts words.now)) result.fault (D.state desk.old).files (D.state desk.new).files) }
     ensures untouched { IfNone result.drawing ((D.state desk.new).files ≡ (D.state desk.old).files) }
     ensures firm { (D.state desk.old).firm ≡ true → result.fault ≡ Some Fault.Memory → result.drawing ≡ None }
+
+    // Of a drawing it says the summary, after its files.
+    ensures said { (D.state desk.old).tells_said ≡ true →
+        IfSome result.drawing (SaysSummary result.fault (D.state desk.old).said (D.state desk.new).said) }
+    ensures unsaid { IfNone result.drawing ((D.state desk.new).said ≡ (D.state desk.old).said) }
 
     // Of a fault it warns once, by its line.
     ensures warned { (D.state desk.old).tells_warned ≡ true →

@@ -1,21 +1,17 @@
-// The spans of the drawn edges as strips of lines, and the pieces that they are put together to.
+// The spans of the drawn edges as strips of lines.
 ghost use Rattle.std.specs.Prelude.{◌≡◌, ℕ, ◌<◌, List, ◌++◌, length, All, IfOk, OnOk};
 ghost use Rattle.std.specs.List.{AllZip};
-ghost use Rattle.lattice.specs.Creases.{fraction_of};
 ghost use Rattle.lattice.specs.declared.pieces.Strip.{Strip};
 ghost use Rattle.lattice.specs.Points.{of_dir};
-ghost use Rattle.geometry.specs.Pieces.{AreRight, AreInOrder};
 ghost use Rattle.geometry.specs.Views.{IsEndOn, AreDrawnEdges};
 ghost use Rattle.solid_mesh.specs.Solids.{solid_part, edge_halves};
-ghost use Rattle.span_slow.specs.Places.{IsEarlier};
+ghost use Rattle.geometry.specs.Places.{IsEarlier};
 ghost use Rattle.span_slow.specs.Views.{direction_in, IsViewOf, AreSpansIn};
 ghost use Rattle.edge_pick.specs.Edges.{OfEdge};
 ghost use Rattle.draw_core.specs.Strips.{IsEdgeLine, IsStripOf, AreEdgeStrips};
 
-use edge_pick::{Crease, pick};
 use exact_frac::OutOfMemory;
-use lattice::{Dir, Line, Piece, Strip};
-use line_merge::merge;
+use lattice::{Dir, Line, Strip};
 use solid_mesh::Solid;
 use span_slow::{Span, View, spans_slow};
 use std::alloc::Global;
@@ -47,7 +43,7 @@ fn strip_of(solid: &Solid, d: &Dir, edge: u32, line: &Line, span: &Span) -> Stri
 }
 
 /// Adds the spans of an edge as strips.
-fn add_strips(
+pub(crate) fn add_strips(
     strips: &mut Vec<Strip>,
     solid: &Solid,
     d: &Dir,
@@ -86,21 +82,4 @@ pub(crate) fn edge_strips(
         add_strips(&mut strips, solid, d, *edge, &spans)?;
     }
     Ok(strips)
-}
-
-/// The pieces of a view, visible lines solid and hidden ones dashed, in their order.
-///
-/// Finds the spans of each drawn edge over all triangles, and then sorts them along their lines.
-pub(crate) fn view_pieces(
-    alloc: Global,
-    solid: &Solid,
-    d: &Dir,
-    crease: Crease,
-) -> Result<Vec<Piece>, OutOfMemory>
-    ensures right { IfOk result (λ pieces. AreRight (of_dir d.now) (fraction_of crease) (solid_part solid.now) pieces.items) }
-    ensures order { IfOk result (λ pieces. AreInOrder (of_dir d.now) pieces.items) }
-{
-    let picked = pick(alloc, solid, d, crease)?;
-    let strips = edge_strips(alloc, solid, &View::Plain(*d), d, &picked.drawn)?;
-    merge(alloc, d, &strips)
 }

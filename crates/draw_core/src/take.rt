@@ -10,11 +10,12 @@ ghost use Rattle.draw_core.specs.Taken.{drawn_of, HasItsSheet, HasItsPlotters, G
 ghost use Rattle.plot_rack.specs.Choices.{AreChosen};
 ghost use Rattle.plot_rack.specs.Racks.{boxes_of};
 ghost use Rattle.draw_core.specs.Outputs.{HasNoWriteFault};
-ghost use Rattle.draw_core.specs.Run.{◌and_then◌, ReadsJob, HasPlotters, TakesReadJob, TakesSolid, PlansSheet, DrawsFiles, Runs, Gives, AnswersWords, IsOfOutputs, IsOfUsualJob, IsOfNamedJob, IsOfJob, IsOfPart, IsOfSheet, IsOfFiles, ReadsInOrder, RunsInOrder, CountsReads, IsMissing};
+ghost use Rattle.draw_core.specs.Run.{◌and_then◌, ReadsJob, HasPlotters, TakesReadJob, TakesSampleOr, TakesSolid, PlansSheet, DrawsFiles, Runs, Gives, AnswersWords, IsOfOutputs, IsOfUsualJob, IsOfNamedJob, IsOfJob, IsOfPartFile, IsOfPart, IsOfSheet, IsOfFiles, ReadsInOrder, RunsInOrder, CountsReads, IsMissing};
 
 use crate::fault::{Fault, Input};
 use crate::fetch::{FetchFault, fetch_all};
 use crate::part::solid_of;
+use crate::sample::{sample_size, sample_solid};
 use crate::sheets::sheet_of;
 use dec_text::Name;
 use desk::Desk;
@@ -127,6 +128,30 @@ fn take_job<D: Desk>(alloc: Global, name: &Option<Name>, desk: &mut D) -> Result
 }
 
 /// The solid of the file with this name, in units of 10^-`decimals` mm.
+fn file_solid<D: Desk>(
+    alloc: Global,
+    name: &Name,
+    decimals: u8,
+    desk: &mut D,
+) -> Result<Solid, Fault>
+    requires { decimals ≤ 6 }
+    ensures answer { (D.state desk.old).tells ≡ true →
+        Gives solid_part (TakesSampleOr None (D.state desk.old).files name.now decimals) result }
+    ensures of_part { IfErr result IsOfPartFile }
+    ensures reads { CountsReads (result_err result) (D.state desk.old).read_faults (D.state desk.new).read_faults }
+    ensures missing { (D.state desk.old).steady ≡ true →
+        IfErr result (IsMissing (TakesSampleOr None (D.state desk.old).files name.now decimals)) }
+    ensures changes { OnlyReads (D.state desk.old) (D.state desk.new) }
+{
+    match fetch_all(alloc, desk, name.as_str(), PART_LIMIT) {
+        Ok(bytes) => solid_of(alloc, &bytes, decimals),
+        Err(FetchFault::Failed) => Err(Fault::ReadFault(Input::Part)),
+        Err(FetchFault::TooLong) => Err(Fault::PartTooLong),
+        Err(FetchFault::Memory) => Err(Fault::Memory),
+    }
+}
+
+/// The solid of the part with this name: of the sample that it stands for, or of its file, in units of 10^-`decimals` mm.
 fn take_solid<D: Desk>(
     alloc: Global,
     name: &Name,
@@ -136,17 +161,15 @@ fn take_solid<D: Desk>(
     requires { decimals ≤ 6 }
     ensures answer { (D.state desk.old).tells ≡ true →
         Gives solid_part (TakesSolid (D.state desk.old).files name.now decimals) result }
-    ensures of_part { IfErr result IsOfPart }
+    ensures of_part { IfErr result (IsOfPart name.now) }
     ensures reads { CountsReads (result_err result) (D.state desk.old).read_faults (D.state desk.new).read_faults }
     ensures missing { (D.state desk.old).steady ≡ true →
         IfErr result (IsMissing (TakesSolid (D.state desk.old).files name.now decimals)) }
     ensures changes { OnlyReads (D.state desk.old) (D.state desk.new) }
 {
-    match fetch_all(alloc, desk, name.as_str(), PART_LIMIT) {
-        Ok(bytes) => solid_of(alloc, &bytes, decimals),
-        Err(FetchFault::Failed) => Err(Fault::ReadFault(Input::Part)),
-        Err(FetchFault::TooLong) => Err(Fault::PartTooLong),
-        Err(FetchFault::Memory) => Err(Fault::Memory),
+    match sample_size(name.as_str()) {
+        Some(size) => sample_solid(alloc, size),
+        None => file_solid(alloc, name, decimals, desk),
     }
 }
 

@@ -1,6 +1,6 @@
 // Sheets of cut views, with their hatching.
 use crate::parts::{APART, CUBE, HOLLOW, INWARD, TUBE};
-use crate::runs::{desk_of, sheet_of, words_of};
+use crate::runs::{desk_of, line_of, sheet_of, words_of};
 use crate::sheets::A3;
 use draw_core::draw;
 use std::alloc::Global;
@@ -222,13 +222,14 @@ hatch 11000 12000 12000 11000
 end
 ";
 
-// The part is drawn by the job on A3, with these strokes.
+// The part is drawn by the job on A3, with these strokes, and summed up by this line.
 fn check_sheet(
     rt: &impl Abort,
     alloc: Global,
     part: &str,
     job: &str,
     strokes: &str,
+    summary: &str,
 ) -> Result<(), Fail> {
     let mut desk = desk_of(alloc, part.as_bytes(), job.as_bytes(), 99)?;
     let outcome = draw(
@@ -240,25 +241,93 @@ fn check_sheet(
     assert_eq!(rt; outcome.status, 0, "{job}");
     let text = desk.file("drawing.svg").ok_or("no file")?;
     assert_eq!(rt; text, sheet_of(alloc, A3, strokes)?.as_bytes(), "{job}");
+    assert_eq!(rt;
+        desk.said_bytes(),
+        line_of(alloc, summary)?.as_bytes(),
+        "{job}"
+    );
     Ok(())
 }
 
 #[test]
 fn parts_are_cut(rt: HostRuntime) -> Result<(), Fail> {
     let alloc = rt.alloc();
-    for (part, axis, at, from, strokes) in [
-        (TUBE, "y", 15_000i64, "low", TUBE_LENGTHWISE),
-        (TUBE, "y", -1_000, "low", TUBE_UNCUT),
-        (TUBE, "z", 10_000, "high", TUBE_ACROSS),
-        (HOLLOW, "x", 5_000, "low", HOLLOW_BEFORE),
-        (HOLLOW, "z", 15_000, "high", HOLLOW_THROUGH),
-        (INWARD, "x", 5_000, "low", HOLLOW_BEFORE),
-        (INWARD, "z", 15_000, "high", HOLLOW_THROUGH),
-        (APART, "x", 5_000, "low", APART_CUT),
+    for (part, axis, at, from, strokes, summary) in [
+        (
+            TUBE,
+            "y",
+            15_000i64,
+            "low",
+            TUBE_LENGTHWISE,
+            "triangles 32 views 1 edges 0 runs 0 bound 0 solid 6 dashed 0 hatch 19",
+        ),
+        (
+            TUBE,
+            "y",
+            -1_000,
+            "low",
+            TUBE_UNCUT,
+            "triangles 32 views 1 edges 0 runs 0 bound 0 solid 4 dashed 2 hatch 0",
+        ),
+        (
+            TUBE,
+            "z",
+            10_000,
+            "high",
+            TUBE_ACROSS,
+            "triangles 32 views 1 edges 0 runs 0 bound 0 solid 8 dashed 0 hatch 26",
+        ),
+        (
+            HOLLOW,
+            "x",
+            5_000,
+            "low",
+            HOLLOW_BEFORE,
+            "triangles 24 views 1 edges 0 runs 0 bound 0 solid 4 dashed 4 hatch 19",
+        ),
+        (
+            HOLLOW,
+            "z",
+            15_000,
+            "high",
+            HOLLOW_THROUGH,
+            "triangles 24 views 1 edges 0 runs 0 bound 0 solid 8 dashed 0 hatch 26",
+        ),
+        (
+            INWARD,
+            "x",
+            5_000,
+            "low",
+            HOLLOW_BEFORE,
+            "triangles 24 views 1 edges 0 runs 0 bound 0 solid 4 dashed 4 hatch 19",
+        ),
+        (
+            INWARD,
+            "z",
+            15_000,
+            "high",
+            HOLLOW_THROUGH,
+            "triangles 24 views 1 edges 0 runs 0 bound 0 solid 8 dashed 0 hatch 26",
+        ),
+        (
+            APART,
+            "x",
+            5_000,
+            "low",
+            APART_CUT,
+            "triangles 36 views 1 edges 0 runs 0 bound 0 solid 11 dashed 1 hatch 12",
+        ),
     ] {
         let job = format!(in alloc; "[[view]]\ncut = \"{axis}\"\nat = {at}\nfrom = \"{from}\"\n")?;
-        check_sheet(&rt, alloc, part, &job, strokes)?;
+        check_sheet(&rt, alloc, part, &job, strokes, summary)?;
     }
     let job = "decimals = 0\nscale = \"10:1\"\n[[view]]\ncut = \"z\"\nat = 5\nfrom = \"high\"\n";
-    check_sheet(&rt, alloc, CUBE, job, CUBE_CUT)
+    check_sheet(
+        &rt,
+        alloc,
+        CUBE,
+        job,
+        CUBE_CUT,
+        "triangles 12 views 1 edges 0 runs 0 bound 0 solid 4 dashed 0 hatch 19",
+    )
 }

@@ -3,6 +3,8 @@
 #![tactic(auto)]
 
 #[cfg(test)]
+mod counts;
+#[cfg(test)]
 mod cuts;
 #[cfg(test)]
 mod parts;
@@ -12,6 +14,8 @@ mod plots;
 mod refusals;
 #[cfg(test)]
 mod runs;
+#[cfg(test)]
+mod samples;
 #[cfg(test)]
 mod sheets;
 #[cfg(test)]

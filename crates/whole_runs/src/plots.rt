@@ -90,6 +90,10 @@ fn the_piece_list_beside_the_drawing(rt: HostRuntime) -> Result<(), Fail> {
         let outcome = draw(alloc, &words_of(alloc, words)?, &mut desk, extras);
         assert_eq!(rt; outcome.status, 0);
         assert_eq!(rt; desk.file(name).ok_or("no list")?, PIECES.as_bytes());
+        assert_eq!(rt;
+            desk.said_bytes(),
+            b"triangles 20 views 1 edges 14 runs 4 bound 788 solid 7 dashed 2 hatch 0\n".as_slice()
+        );
     }
     Ok(())
 }
@@ -118,18 +122,27 @@ fn the_first_plotter_of_a_suffix(rt: HostRuntime) -> Result<(), Fail> {
     Ok(())
 }
 
-// Calls 0 and 1 fetch the job, 2 and 3 the part, 4 keeps the drawing, and 5 the list.
+// Calls 0 and 1 fetch the job, 2 and 3 the part, 4 keeps the drawing, 5 the list, and 6 says the summary.
 #[test]
-fn a_list_that_is_refused(rt: HostRuntime) -> Result<(), Fail> {
+fn a_file_or_a_summary_that_is_refused(rt: HostRuntime) -> Result<(), Fail> {
     let alloc = rt.alloc();
-    for (job, fail, status, line, drawn) in [
-        (LISTED, 4, 8, "draw: cannot write the drawing\n", false),
-        (LISTED, 5, 8, "draw: cannot write plot 0\n", true),
+    for (job, fail, status, line, drawn, listed) in [
+        (
+            LISTED,
+            4,
+            8,
+            "draw: cannot write the drawing\n",
+            false,
+            false,
+        ),
+        (LISTED, 5, 8, "draw: cannot write plot 0\n", true, false),
+        (LISTED, 6, 8, "draw: cannot write the summary\n", true, true),
         (
             "outputs = [\"mill\"]",
             99,
             3,
             "draw: no plotter mill\n",
+            false,
             false,
         ),
         (
@@ -137,6 +150,7 @@ fn a_list_that_is_refused(rt: HostRuntime) -> Result<(), Fail> {
             99,
             3,
             "draw: no plotter mill\n",
+            false,
             false,
         ),
     ] {
@@ -147,7 +161,7 @@ fn a_list_that_is_refused(rt: HostRuntime) -> Result<(), Fail> {
         assert_eq!(rt; outcome.status, status, "{job}");
         assert_eq!(rt; desk.warned_bytes(), line.as_bytes());
         assert_eq!(rt; desk.file("drawing.svg").is_some(), drawn);
-        assert!(rt; desk.file("drawing.pieces").is_none());
+        assert_eq!(rt; desk.file("drawing.pieces").is_some(), listed);
         assert_eq!(rt; desk.said_bytes(), b"".as_slice());
     }
     Ok(())

@@ -73,8 +73,44 @@ pub(crate) fn cubes(alloc: Global, places: &[[u32; 3]]) -> Result<String, AllocE
     Ok(text)
 }
 
+// Adds the corners of one of the 100 squares of each face of a cube, counterclockwise as seen from outside.
+fn add_square(alloc: Global, text: &mut String, square: u32) -> Result<(), AllocError> {
+    let (face, u, v) = (square / 100, square / 10 % 10, square % 10);
+    for (u, v) in [(u, v), (u + 1, v), (u + 1, v + 1), (u, v + 1)] {
+        let (x, y, z) = match face {
+            0 => (0, v, u),
+            1 => (10, u, v),
+            2 => (u, 0, v),
+            3 => (v, 10, u),
+            4 => (v, u, 0),
+            _ => (u, v, 10),
+        };
+        text.push_str(&format!(in alloc; "{x} {y} {z}\n")?)?;
+    }
+    Ok(())
+}
+
+// A text of a cube of 10 mm, each of its faces in squares of 1 mm, which are all split at the same two corners.
+pub(crate) fn cube_of_squares(alloc: Global) -> Result<String, AllocError> {
+    let mut text = String::from_str(alloc, "OFF 2400 600 0\n")?;
+    let mut faces = String::new(alloc);
+    for square in 0u32..600 {
+        add_square(alloc, &mut text, square)?;
+        let first = square * 4;
+        let (second, third, fourth) = (first + 1, first + 2, first + 3);
+        faces.push_str(&format!(in alloc; "4 {first} {second} {third} {fourth}\n")?)?;
+    }
+    text.push_str(&faces)?;
+    Ok(text)
+}
+
+// The line with this text.
+pub(crate) fn line_of(alloc: Global, text: &str) -> Result<String, AllocError> {
+    format!(in alloc; "{text}\n")
+}
+
 // A line of a sheet's text, from that of a table: the mark and the ends of a stroke, or the beginning or the end of a view.
-fn line_of(alloc: Global, line: &str) -> Result<String, AllocError> {
+fn sheet_line(alloc: Global, line: &str) -> Result<String, AllocError> {
     let mut words = line.split(' ');
     let pen = match words.next() {
         Some("solid") => "stroke-width=\"50\"",
@@ -94,7 +130,7 @@ fn line_of(alloc: Global, line: &str) -> Result<String, AllocError> {
 pub(crate) fn sheet_of(alloc: Global, head: &str, strokes: &str) -> Result<String, AllocError> {
     let mut text = String::from_str(alloc, head)?;
     for line in strokes.lines() {
-        text.push_str(&line_of(alloc, line)?)?;
+        text.push_str(&sheet_line(alloc, line)?)?;
     }
     text.push_str("</svg>\n")?;
     Ok(text)

@@ -1,5 +1,5 @@
 use Rattle.std.proofs.Common.{sym, subst}
-use Rattle.lattice.specs.Cuts.{Plane, plane_of}
+use Rattle.lattice.specs.Cuts.{Plane}
 use Rattle.cut_plane.specs.Loops.{AreBorders}
 use Rattle.solid_mesh.specs.Solids.{solid_part}
 use Rattle.solid_mesh.proofs.Facts.{in_range, sound}

@@ -1,12 +1,14 @@
-use Rattle.std.proofs.Common.{◌<◌, ◌^◌, ◌∷◌, ℤ, unsigned_abs, List, length, subst, ap, ◌∙◌, arith, FitsSigned}
+use Rattle.std.proofs.Common.{◌<◌, ◌^◌, ◌∷◌, ℕ, ℤ, unsigned_abs, List, length, refl, subst, ap, ◌∙◌, arith, FitsSigned}
 use Rattle.std.specs.Int.{w64}
 use Rattle.std.proofs.lemmas.Int.{ints, to_z-of_z}
 use Rattle.std.proofs.lemmas.Slice.Zip.{AllZip-long}
+use Rattle.std.specs.List.{AllZip}
 use Rattle.job_file.specs.declared.view.JobView.{JobView}
 use Rattle.plot_rack.specs.Racks.{boxes_of}
 use Rattle.plot_rack.proofs.Texts.{begun_after}
 use Rattle.solid_mesh.specs.Solids.{solid_part}
-use Rattle.draw_core.specs.Drawing.{ShowsView}
+use Rattle.draw_core.specs.Drawing.{ShowsView, spacing_on}
+use Rattle.draw_core.specs.Numbers.{SumsPlain}
 use Rattle.svg_page.specs.Svg.{svg_of}
 use Rattle.draw_core.specs.Strokes.{AreStrokes}
 use Rattle.draw_core.specs.declared.drawing.ViewDrawing.{ViewDrawing}
@@ -20,7 +22,8 @@ strokes_of-requires-clause-placed g c =
     let taken = c.args.taken in
     let asked = ap (length {A = JobView}) c.deref.ensures.value in
     let drawn = ap (length {A = ViewDrawing}) c.deref-2.ensures.value in
-    let many = drawn ∙ AllZip-long (ShowsView taken.solid taken.job.crease c.spacing.result) c.deref.result.now c.in_ok-views.views.items c.in_ok-views.ensures ∙ asked in
+    let R = ShowsView taken.solid taken.job.crease c.spacing.result in
+    let many = drawn ∙ AllZip-long R c.deref.result.now c.in_ok-views.field-0.views.items c.in_ok-views.ensures.shows ∙ asked in
     omega (arith, many, as_many_places taken.job (solid_part taken.solid).corners taken.sheet c.requires)
 
 pub strokes_of-requires-clause-few : goal.strokes_of-requires-clause-few
@@ -28,7 +31,8 @@ strokes_of-requires-clause-few g c =
     let taken = c.args.taken in
     let asked = ap (length {A = JobView}) c.deref.ensures.value in
     let drawn = ap (length {A = ViewDrawing}) c.deref-2.ensures.value in
-    let many = drawn ∙ AllZip-long (ShowsView taken.solid taken.job.crease c.spacing.result) c.deref.result.now c.in_ok-views.views.items c.in_ok-views.ensures ∙ asked in
+    let R = ShowsView taken.solid taken.job.crease c.spacing.result in
+    let many = drawn ∙ AllZip-long R c.deref.result.now c.in_ok-views.field-0.views.items c.in_ok-views.ensures.shows ∙ asked in
     omega (arith, many, taken.job.few_views)
 
 pub outputs_of-requires : goal.outputs_of-requires
@@ -57,4 +61,26 @@ returns-clause-files g c =
             ∙ (λ i. (out, text i) ∷ files_are (λ b. (goal.Plotter-dyn g (b.vtable, b.value)).plot b.value) all sheet strokes out job.outputs.items
             (boxes_of c.args.taken.rack) (boxes_of c.draw.new.self) chosen drew i),
       );
+    }
+
+pub summary_of-requires-clause-few : goal.summary_of-requires-clause-few
+summary_of-requires-clause-few g c =
+    let taken = c.args.taken in
+    let R = ShowsView taken.solid taken.job.crease c.spacing.result in
+    let asked = ap (length {A = JobView}) c.deref.ensures.value in
+    let many = AllZip-long R c.deref.result.now c.in_ok-views.field-0.views.items c.in_ok-views.ensures.shows ∙ asked in
+    omega (arith, many, taken.job.few_views)
+
+pub returns-clause-shows : goal.returns-clause-shows
+returns-clause-shows g c =
+    let taken = c.args.taken in
+    let R : ℕ → JobView → ViewDrawing → Type 0 = λ spacing. ShowsView taken.solid taken.job.crease spacing in
+    let asked = c.deref.result.now in
+    let views = c.in_ok-views.field-0.views.items in
+    let spaced = subst (λ (n : ℕ). AllZip (R n) asked views) c.spacing.ensures.value c.in_ok-views.ensures.shows in
+    record {
+      views = subst (λ (of : List JobView). AllZip (R (spacing_on taken.sheet)) of views) c.deref.ensures.value spaced;
+      sheet = c.requires;
+      bound = (c.in_ok-views.field-0.plain, subst (λ (of : List JobView). SumsPlain taken.solid taken.job.crease of c.in_ok-views.field-0.plain) c.deref.ensures.value c.in_ok-views.ensures.sums, refl);
+      tested = c.in_ok-views.ensures.tested;
     }

@@ -6,7 +6,7 @@ use Rattle.lattice.specs.declared.pieces.Strip.{Strip}
 use Rattle.lattice.specs.Points.{of_dir}
 use Rattle.line_merge.proofs.Zips.{zip_more}
 use Rattle.span_slow.specs.declared.span.Span.{Span}
-use Rattle.span_slow.specs.Places.{IsEarlier}
+use Rattle.geometry.specs.Places.{IsEarlier}
 use Rattle.draw_core.specs.Strips.{IsStripOf}
 use Rattle.draw_core.proofs.strips.add_strips.Goals as goal
 

@@ -9,7 +9,7 @@ use Rattle.geometry.specs.Views.{IsEndOn}
 use Rattle.solid_mesh.specs.Solids.{solid_part, edge_halves}
 use Rattle.solid_mesh.proofs.Facts.{edge_there}
 use Rattle.span_slow.specs.declared.span.Span.{Span}
-use Rattle.span_slow.specs.Places.{IsEarlier}
+use Rattle.geometry.specs.Places.{IsEarlier}
 use Rattle.span_slow.specs.Views.{direction_in, AreSpansIn}
 use Rattle.draw_core.specs.Strips.{IsStripOf, AreStripsOf, AreEdgeStrips}
 use Rattle.draw_core.proofs.CutPlaces.{view_earlier}

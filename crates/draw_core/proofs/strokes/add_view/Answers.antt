@@ -4,7 +4,7 @@ use Rattle.std.proofs.lemmas.List.{append_assoc}
 use Rattle.lattice.specs.declared.pieces.HatchLine.{HatchLine}
 use Rattle.lattice.specs.declared.pieces.Piece.{Piece}
 use Rattle.sheet_plan.specs.declared.sheet.Stroke.{Stroke}
-use Rattle.draw_core.specs.Strokes.{IsStrokeOn, IsHatchStrokeOn, AreStrokesOf}
+use Rattle.draw_core.specs.Strokes.{IsStrokeOn, IsHatchStrokeOn}
 use Rattle.draw_core.proofs.strokes.add_view.Goals as goal
 
 pub returns : goal.returns

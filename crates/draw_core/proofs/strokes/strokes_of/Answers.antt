@@ -1,7 +1,5 @@
 use Rattle.std.proofs.Common.{◌≡◌, ◌+◌, ◌++◌, List, take, get_or, length, sym, subst, arith}
-use Rattle.std.specs.List.{AllZip}
 use Rattle.std.proofs.lemmas.List.{take_all, take_more, length-take-le}
-use Rattle.lattice.specs.declared.pieces.Piece.{Piece}
 use Rattle.sheet_plan.specs.declared.sheet.Stroke.{Stroke}
 use Rattle.draw_core.specs.Strokes.{AreStrokesOf, AreStrokes}
 use Rattle.draw_core.specs.declared.drawing.ViewDrawing.{ViewDrawing}

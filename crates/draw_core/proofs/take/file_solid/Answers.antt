@@ -3,7 +3,7 @@ use Rattle.solid_mesh.specs.Solids.{solid_part}
 use Rattle.draw_core.specs.declared.fault.Input.TheVariants.{Part}
 use Rattle.draw_core.specs.Run.{TakesFile, ReadsSolid, Gives}
 use Rattle.draw_core.proofs.Chains.{gives_next}
-use Rattle.draw_core.proofs.take.take_solid.Goals as goal
+use Rattle.draw_core.proofs.take.file_solid.Goals as goal
 
 pub returns-in-Ok-clause-answer : goal.returns-in-Ok-clause-answer
 returns-in-Ok-clause-answer g c =
