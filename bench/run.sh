@@ -1,0 +1,32 @@
+#!/bin/sh
+# Times the built program, best of several runs by hyperfine, and measures its memory. Prints a table in Markdown.
+# Usage: bench/run.sh [PROGRAM] [RUNS]; PROGRAM is crates/draw_cli/out/draw_cli where it isn't given.
+set -eu
+cd "$(dirname "$0")"
+program=$(realpath "${1:-../crates/draw_cli/out/draw_cli}")
+runs=${2:-5}
+work=$(mktemp -d)
+trap 'rm -rf "$work"' EXIT
+for n in 20 40 80; do
+    ./bars.py "$n" >"$work/bars$n.off"
+done
+cp ../examples/pillow.off ../examples/flange.stl ../examples/pillow.toml ../examples/third-angle.toml "$work"
+cd "$work"
+measure() {
+    label=$1
+    shift
+    hyperfine --warmup 1 --runs "$runs" --shell none --export-json time.json "$program $* --out drawing.svg" >/dev/null 2>&1
+    seconds=$(python3 -c 'import json; print("%.3f" % json.load(open("time.json"))["results"][0]["min"])')
+    kilobytes=$(/usr/bin/time -f %M "$program" "$@" --out drawing.svg 2>&1 >said.txt | tail -1)
+    echo "| $label | $(cut -d ' ' -f 2 said.txt) | $(cut -d ' ' -f 6 said.txt) | $seconds | $((kilobytes / 1024)) |"
+}
+echo "| part, job | triangles | drawn edges | seconds | MB |"
+echo "|---|---|---|---|---|"
+for n in 3 5 8; do
+    measure "$n by $n by $n cubes, usual job" "sample:$n"
+done
+for n in 20 40 80; do
+    measure "$n bars across $n, usual job" "bars$n.off"
+done
+measure "flange.stl, third-angle.toml" flange.stl --job third-angle.toml
+measure "pillow.off, pillow.toml" pillow.off --job pillow.toml
