@@ -1,9 +1,11 @@
 #!/bin/sh
 # Times the built program, best of several runs by hyperfine, and measures its memory. Prints a table in Markdown.
 # Usage: bench/run.sh [PROGRAM] [RUNS]; PROGRAM is crates/draw_cli/out/draw_cli where it isn't given.
+# Needs hyperfine, Python 3 and GNU time (Debian's packages hyperfine, python3, time).
 set -eu
-cd "$(dirname "$0")"
-program=$(realpath "${1:-../crates/draw_cli/out/draw_cli}")
+here=$(dirname "$0")
+program=$(realpath "${1:-$here/../crates/draw_cli/out/draw_cli}")
+cd "$here"
 runs=${2:-5}
 work=$(mktemp -d)
 trap 'rm -rf "$work"' EXIT

@@ -2,8 +2,9 @@
 # Draws each sheet that sheets.txt names and compares it with the one that is kept in sheets/.
 # Usage: examples/check.sh [PROGRAM]; PROGRAM is the built program, crates/draw_cli/out/draw_cli where it isn't given.
 set -u
-cd "$(dirname "$0")" || exit 1
-program=$(realpath "${1:-../crates/draw_cli/out/draw_cli}") || exit 1
+here=$(dirname "$0")
+program=$(realpath "${1:-$here/../crates/draw_cli/out/draw_cli}") || exit 1
+cd "$here" || exit 1
 drawn=$(mktemp) || exit 1
 trap 'rm -f "$drawn"' EXIT
 wrong=0

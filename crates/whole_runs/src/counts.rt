@@ -57,6 +57,34 @@ fn tests_are_within_the_bound(rt: HostRuntime) -> Result<(), Fail> {
     Ok(())
 }
 
+// How many tests the counts of a drawing's plain views take, and their bounds, added up.
+fn tests_of_views(alloc: Global, drawing: &Drawing) -> Result<(u64, u64), Fail> {
+    let mut tests = 0_u64;
+    let mut most = 0_u64;
+    for view in &drawing.views {
+        if let ViewSpec::Plain(d) = &view.spec {
+            let (made, allowed) = tests_of(alloc, &drawing.solid, d, drawing.job.crease)?;
+            tests = tests.saturating_add(made);
+            most = most.saturating_add(allowed);
+        }
+    }
+    Ok((tests, most))
+}
+
+// Two plain views and one of a cut, in which no test is counted.
+#[test]
+fn tests_are_added_up(rt: HostRuntime) -> Result<(), Fail> {
+    let alloc = rt.alloc();
+    let part = cubes(alloc, &[[0, 0, 0], [5, 20, 5]])?;
+    let job =
+        "[[view]]\nname = \"front\"\n[[view]]\ntoward = [1, -1, 1]\n[[view]]\ncut = \"y\"\nat = 5000\nfrom = \"low\"\n";
+    let drawing = drawn(alloc, part.as_str(), job)?;
+    let sums = tests_of_views(alloc, &drawing)?;
+    assert_eq!(rt; drawing.views.len(), 3);
+    assert_eq!(rt; (drawing.meter.tests, drawing.bound), sums);
+    Ok(())
+}
+
 // The second cube's lower near edge is behind the first cube from its middle on.
 #[test]
 fn two_cubes_are_counted(rt: HostRuntime) -> Result<(), Fail> {
