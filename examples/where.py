@@ -48,7 +48,8 @@ def main(part, *asked):
     if asked and asked[0].isdigit():
         decimals, asked = int(asked[0]), asked[1:]
     lines = open(part, encoding="latin-1").read().split("\n")
-    read = of_stl if lines[0].split()[:1] == ["solid"] else of_off
+    first = next((line.split()[0] for line in lines if line.split()), "")
+    read = of_stl if first.lower() == "solid" else of_off
     triangles = [it for it in read(lines, decimals) if len(set(it[1])) == 3]
     sides = {}
     for number, (_, corners) in enumerate(triangles):
@@ -57,6 +58,8 @@ def main(part, *asked):
     edges = sorted(half for (a, b), half in sides.items() if half < sides.get((b, a), -1))
     shown = lambda corner: "(%s)" % ", ".join("%.*f" % (decimals, value / 10**decimals) for value in corner)
     for what, number in zip(asked[::2], map(int, asked[1::2])):
+        if number >= len(edges if what == "edge" else triangles):
+            sys.exit("there is no %s %d" % (what, number))
         half = edges[number] if what == "edge" else 3 * number
         line, corners = triangles[half // 3]
         if what == "edge":
@@ -64,4 +67,6 @@ def main(part, *asked):
         print("%s %d: line %d, %s" % (what, number, line, " - ".join(map(shown, corners))))
 
 
+if len(sys.argv) < 4:
+    sys.exit(__doc__)
 main(*sys.argv[1:])
