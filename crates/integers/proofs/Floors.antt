@@ -3,6 +3,7 @@ use Rattle.std.proofs.Common.{◌≡◌, [], ◌∷◌, refl, sym, subst, arith}
 use Rattle.std.specs.Prelude.{ℤ, pos, negsuc, ◌+ℤ◌, ◌-ℤ◌, ◌*ℤ◌, ◌≤ℤ◌, ◌<ℤ◌}
 use Rattle.std.proofs.lemmas.Int.{ints, by_lt_z}
 use Rattle.integers.specs.Floors.{IsFloor, floor_of}
+use Rattle.integers.proofs.Comparisons.{at_most_of_gap, gap_of_at_most, not_negative_of_positive, sum_not_negative}
 use Rattle.integers.proofs.Ring.{var, con, ◌⊕◌, ◌⊖◌, ◌⊗◌, ring, less_by, gap_of_less}
 use Rattle.integers.proofs.Signs.{mul_nonneg, mul_pos}
 
@@ -20,19 +21,13 @@ crossed : (q n d p m e : ℤ) → pos 0 <ℤ d → pos 0 <ℤ e → IsFloor q n 
 crossed q n d p m e hd he f g h less =
     let de = mul_pos d e hd he in
     let first = mul_nonneg ((q -ℤ p) -ℤ pos 1) (d *ℤ e) (omega (arith, ints, less)) (omega (arith, ints, de)) in
-    let second = mul_pos ((p *ℤ e +ℤ e) -ℤ m) d (positive m (p *ℤ e +ℤ e) g.rest_below) hd in
-    let third = mul_nonneg (n -ℤ (q *ℤ d)) e (not_negative (q *ℤ d) n f.at_most) (omega (arith, ints, he)) in
-    no_sum _ _ _ _ first second third (not_negative (n *ℤ e) (m *ℤ d) h)
+    let second = mul_pos ((p *ℤ e +ℤ e) -ℤ m) d (gap_of_less m (p *ℤ e +ℤ e) g.rest_below) hd in
+    let third = mul_nonneg (n -ℤ (q *ℤ d)) e (gap_of_at_most (q *ℤ d) n f.at_most) (omega (arith, ints, he)) in
+    no_sum _ _ _ _ first second third (gap_of_at_most (n *ℤ e) (m *ℤ d) h)
     (ring (q ∷ n ∷ d ∷ p ∷ m ∷ e ∷ [])
     ((((((var 0 ⊖ var 3) ⊖ con (pos 1)) ⊗ (var 2 ⊗ var 5)) ⊕ ((((var 3 ⊗ var 5) ⊕ var 5) ⊖ var 4) ⊗ var 2)) ⊕ ((var 1 ⊖ (var 0 ⊗ var 2)) ⊗ var 5)) ⊕ ((var 4 ⊗ var 2) ⊖ (var 1 ⊗ var 5)))
     (con (pos 0)) refl)
   where
-    positive : (a b : ℤ) → a <ℤ b → pos 0 <ℤ (b -ℤ a)
-    positive a b h = omega (arith, ints)
-
-    not_negative : (a b : ℤ) → a ≤ℤ b → pos 0 ≤ℤ (b -ℤ a)
-    not_negative a b h = omega (arith, ints)
-
     no_sum : (a b c z : ℤ) → pos 0 ≤ℤ a → pos 0 <ℤ b → pos 0 ≤ℤ c → pos 0 ≤ℤ z → ((a +ℤ b) +ℤ c) +ℤ z ≡ pos 0 → ⊥
     no_sum a b c z ha hb hc hz e = omega (arith, ints)
 
@@ -57,20 +52,14 @@ pub floor_of-ordered : (n d m e : ℤ) → pos 0 <ℤ d → pos 0 <ℤ e → (n 
 floor_of-ordered n d m e hd he h = IsFloor-ordered (floor_of n d) n d (floor_of m e) m e hd he (floor_of-is n d hd) (floor_of-is m e he) h
 
 -- ---- a division in two steps, with what is left over
-at_least : (a b : ℤ) → pos 0 ≤ℤ (b -ℤ a) → a ≤ℤ b
-at_least a b h = omega (arith, ints)
-
-no_less : (a b : ℤ) → a ≤ℤ b → pos 0 ≤ℤ (b -ℤ a)
-no_less a b h = omega (arith, ints)
-
 below : (a b : ℤ) → a <ℤ b → pos 0 ≤ℤ (b -ℤ a -ℤ pos 1)
 below a b h = omega (arith, ints)
 
 -- a whole part is set aside: n is a * w + r
 pub IsFloor-shifted : (c f a r w n : ℤ) → n ≡ a *ℤ w +ℤ r → IsFloor c (f *ℤ r) w → IsFloor (f *ℤ a +ℤ c) (f *ℤ n) w
 IsFloor-shifted c f a r w n e h = let P : ℤ → Type 0 = λ z. IsFloor (f *ℤ a +ℤ c) (f *ℤ z) w in subst P (sym e) (record {
-  at_most = at_least _ _ (subst (λ (z : ℤ). pos 0 ≤ℤ z) (ring (c ∷ f ∷ a ∷ r ∷ w ∷ []) ((var 1 ⊗ var 3) ⊖ (var 0 ⊗ var 4))
-      ((var 1 ⊗ ((var 2 ⊗ var 4) ⊕ var 3)) ⊖ (((var 1 ⊗ var 2) ⊕ var 0) ⊗ var 4)) refl) (no_less _ _ h.at_most));
+  at_most = at_most_of_gap _ _ (subst (λ (z : ℤ). pos 0 ≤ℤ z) (ring (c ∷ f ∷ a ∷ r ∷ w ∷ []) ((var 1 ⊗ var 3) ⊖ (var 0 ⊗ var 4))
+      ((var 1 ⊗ ((var 2 ⊗ var 4) ⊕ var 3)) ⊖ (((var 1 ⊗ var 2) ⊕ var 0) ⊗ var 4)) refl) (gap_of_at_most _ _ h.at_most));
   rest_below = less_by _ _ _ (ring (c ∷ f ∷ a ∷ r ∷ w ∷ []) (((((var 1 ⊗ var 2) ⊕ var 0) ⊗ var 4) ⊕ var 4) ⊖ (var 1 ⊗ ((var 2 ⊗ var 4) ⊕ var 3)))
       (((var 0 ⊗ var 4) ⊕ var 4) ⊖ (var 1 ⊗ var 3)) refl) (gap_of_less _ _ h.rest_below);
 })
@@ -78,23 +67,17 @@ IsFloor-shifted c f a r w n e h = let P : ℤ → Type 0 = λ z. IsFloor (f *ℤ
 -- the floor of x / w, with b more, by m, is what comes of one division by m * w
 pub IsFloor-nested : (q p x b w m : ℤ) → pos 0 <ℤ w → IsFloor p x w → IsFloor q (p +ℤ b) m → IsFloor q (x +ℤ b *ℤ w) (m *ℤ w)
 IsFloor-nested q p x b w m hw inner outer =
-    let up = mul_nonneg ((p +ℤ b) -ℤ (q *ℤ m)) w (no_less _ _ outer.at_most) (not_below hw) in
-    let down = mul_nonneg (((q *ℤ m +ℤ m) -ℤ (p +ℤ b)) -ℤ pos 1) w (below _ _ outer.rest_below) (not_below hw) in
+    let up = mul_nonneg ((p +ℤ b) -ℤ (q *ℤ m)) w (gap_of_at_most _ _ outer.at_most) (not_negative_of_positive w hw) in
+    let down = mul_nonneg (((q *ℤ m +ℤ m) -ℤ (p +ℤ b)) -ℤ pos 1) w (below _ _ outer.rest_below) (not_negative_of_positive w hw) in
     record {
-      at_most = at_least _ _ (subst (λ (z : ℤ). pos 0 ≤ℤ z) (ring (q ∷ p ∷ x ∷ b ∷ w ∷ m ∷ [])
+      at_most = at_most_of_gap _ _ (subst (λ (z : ℤ). pos 0 ≤ℤ z) (ring (q ∷ p ∷ x ∷ b ∷ w ∷ m ∷ [])
           (((((var 1 ⊕ var 3) ⊖ (var 0 ⊗ var 5)) ⊗ var 4)) ⊕ (var 2 ⊖ (var 1 ⊗ var 4)))
-          ((var 2 ⊕ (var 3 ⊗ var 4)) ⊖ (var 0 ⊗ (var 5 ⊗ var 4))) refl) (sum_nonneg _ _ up (no_less _ _ inner.at_most)));
+          ((var 2 ⊕ (var 3 ⊗ var 4)) ⊖ (var 0 ⊗ (var 5 ⊗ var 4))) refl) (sum_not_negative _ _ up (gap_of_at_most _ _ inner.at_most)));
       rest_below = less_by _ _ _ (ring (q ∷ p ∷ x ∷ b ∷ w ∷ m ∷ [])
           (((var 0 ⊗ (var 5 ⊗ var 4)) ⊕ (var 5 ⊗ var 4)) ⊖ (var 2 ⊕ (var 3 ⊗ var 4)))
           ((((((var 0 ⊗ var 5) ⊕ var 5) ⊖ (var 1 ⊕ var 3)) ⊖ con (pos 1)) ⊗ var 4) ⊕ (((var 1 ⊗ var 4) ⊕ var 4) ⊖ var 2)) refl)
           (sum_pos _ _ down (gap_of_less _ _ inner.rest_below));
     }
   where
-    not_below : pos 0 <ℤ w → pos 0 ≤ℤ w
-    not_below h = omega (arith, ints)
-
-    sum_nonneg : (a b : ℤ) → pos 0 ≤ℤ a → pos 0 ≤ℤ b → pos 0 ≤ℤ (a +ℤ b)
-    sum_nonneg a b h k = omega (arith, ints)
-
     sum_pos : (a b : ℤ) → pos 0 ≤ℤ a → pos 0 <ℤ b → pos 0 <ℤ (a +ℤ b)
     sum_pos a b h k = omega (arith, ints)

@@ -1,7 +1,11 @@
+pub mod Absolutes
 pub mod Chains
+pub mod Comparisons
 pub mod Divisors
-pub mod Floors
 pub mod FloorSizes
+pub mod Floors
+pub mod Lists
+pub mod Logic
 pub mod Orders
 pub mod Passing
 pub mod Ring

@@ -21,6 +21,18 @@ mul_neg (pos (suc a)) (pos b) p q = absurd (omega (arith, ints))
 mul_neg (pos (suc a)) (negsuc b) p q = omega (arith, ints)
 mul_neg (negsuc a) b p q = absurd (omega (arith, ints))
 
+pub mul_two_neg : (a b : ℤ) → a <ℤ pos 0 → b <ℤ pos 0 → pos 0 <ℤ (a *ℤ b)
+mul_two_neg (pos n) b p q = absurd (omega (arith, ints))
+mul_two_neg (negsuc n) (pos m) p q = absurd (omega (arith, ints))
+mul_two_neg (negsuc n) (negsuc m) p q = omega (arith, ints)
+
+pub mul_nonpos_first : (a b : ℤ) → a ≤ℤ pos 0 → pos 0 ≤ℤ b → (a *ℤ b) ≤ℤ pos 0
+mul_nonpos_first (pos zero) b p q = omega (arith, ints)
+mul_nonpos_first (pos (suc n)) b p q = absurd (omega (arith, ints))
+mul_nonpos_first (negsuc n) (pos zero) p q = omega (arith, ints)
+mul_nonpos_first (negsuc n) (pos (suc m)) p q = omega (arith, ints)
+mul_nonpos_first (negsuc n) (negsuc m) p q = absurd (omega (arith, ints))
+
 -- from the sign of a product with a positive factor
 pub nonneg_of_mul : (k a : ℤ) → pos 0 <ℤ k → pos 0 ≤ℤ (k *ℤ a) → pos 0 ≤ℤ a
 nonneg_of_mul k a p h = by_lt_z a (pos 0) (λ n. absurd (let m = mul_neg k a p n in omega (arith, ints))) (λ q. q)

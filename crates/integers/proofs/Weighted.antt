@@ -2,6 +2,7 @@
 use Rattle.std.proofs.Common.{◌≡◌, ℕ, zero, suc, ◌+◌, ◌<◌, List, [], ◌∷◌, refl, unsigned_abs, arith}
 use Rattle.std.specs.Prelude.{ℤ, pos, ◌+ℤ◌, ◌-ℤ◌, ◌*ℤ◌, ◌<ℤ◌}
 use Rattle.std.proofs.lemmas.Int.{ints}
+use Rattle.integers.proofs.Absolutes.{abs_of_positive}
 use Rattle.integers.proofs.Ring.{var, con, ◌⊕◌, ◌⊖◌, ◌⊗◌, ring, by_one, by_two, less_by, gap_of_less}
 use Rattle.integers.proofs.Signs.{mul_pos, mul_nonneg}
 
@@ -64,9 +65,6 @@ pub record HasWeights (n m n' m' k l : ℤ) : Type 0 where
   pub some : 0 < i + j
   pub same : ((pos i *ℤ n) +ℤ (pos j *ℤ n')) *ℤ l ≡ k *ℤ ((pos i *ℤ m) +ℤ (pos j *ℤ m'))
 
-size_of : (u : ℤ) → pos 0 <ℤ u → pos (unsigned_abs u) ≡ u
-size_of u h = omega (arith, ints)
-
 some_of : (u v : ℤ) → pos 0 <ℤ u → 0 < unsigned_abs u + unsigned_abs v
 some_of u v h = omega (arith, ints)
 
@@ -81,7 +79,7 @@ weights_between n m n' m' k l after before =
       i = unsigned_abs u;
       j = unsigned_abs v;
       some = some_of u v first;
-      same = weighted n m n' m' k l (pos (unsigned_abs u)) (pos (unsigned_abs v)) (size_of u first) (size_of v second);
+      same = weighted n m n' m' k l (pos (unsigned_abs u)) (pos (unsigned_abs v)) (abs_of_positive u first) (abs_of_positive v second);
     }
 
 -- with positive numbers the sum is positive
