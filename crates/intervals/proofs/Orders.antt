@@ -1,5 +1,6 @@
 -- A total order: what comes before what, and where a cut goes.
 use Rattle.std.proofs.Common.{◌≡◌, Bool, true, false, refl, sym, ◌∙◌, ap, true≢false, ◌⊎◌, inl, inr}
+use Rattle.std.proofs.lemmas.Bool.{not-true}
 use Rattle.std.specs.Prelude.{not}
 use Rattle.std.specs.declared.cmp.Ordering.{Ordering}
 use Rattle.std.specs.declared.cmp.Ordering.TheVariants.{Less, Equal, Greater}
@@ -23,10 +24,6 @@ is_less : (r : Ordering) → is_lt r ≡ true → r ≡ Less
 is_less Less e = refl
 is_less Equal e = cc
 is_less Greater e = cc
-
-pub not_true_is : (b : Bool) → not b ≡ true → b ≡ false
-not_true_is true h = sym h
-not_true_is false h = refl
 
 not_is_true : (b : Bool) → ¬ (b ≡ true) → not b ≡ true
 not_is_true true h = absurd (h refl)
@@ -91,4 +88,4 @@ module _ {T : Type 0} {cmp : T → T → Ordering} (o : IsTotalOrder cmp) where
   before_value t x y h k = ap is_lt (not_after_less x y t k (is_less (cmp y t) h))
 
   pub up_to_value : (t : T) → IsCut cmp (λ x. not (is_lt (cmp t x)))
-  up_to_value t x y h k = not_is_true (is_lt (cmp t x)) (λ e. true≢false (sym (ap is_lt (less_not_after t x y (is_less (cmp t x) e) k)) ∙ not_true_is (is_lt (cmp t y)) h))
+  up_to_value t x y h k = not_is_true (is_lt (cmp t x)) (λ e. true≢false (sym (ap is_lt (less_not_after t x y (is_less (cmp t x) e) k)) ∙ not-true (is_lt (cmp t y)) h))

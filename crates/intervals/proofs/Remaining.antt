@@ -4,7 +4,7 @@ use Rattle.std.specs.Prelude.{All, Any, Contains, not}
 use Rattle.std.specs.declared.cmp.Ordering.{Ordering}
 use Rattle.std.specs.declared.cmp.Ordering.TheVariants.{Less}
 use Rattle.std.specs.Cmp.{IsTotalOrder}
-use Rattle.std.proofs.lemmas.Bool.{cases_lt}
+use Rattle.std.proofs.lemmas.Bool.{cases_lt, not-true}
 use Rattle.std.proofs.lemmas.Cmp.{tied_itself}
 use Rattle.std.proofs.lemmas.List.{append_assoc, get_or_default}
 use Rattle.std.proofs.lemmas.List.Elements.{All-nil, All-push, All-weaker, All-append, All-contains}
@@ -13,7 +13,7 @@ use Rattle.intervals.specs.declared.interval.Interval.{Interval}
 use Rattle.intervals.specs.Cuts.{IsNotAfter, IsCut, IsProper, AreApart, Crosses, CrossesAny, IsEndOf, AreRest}
 use Rattle.intervals.specs.Steps.{IsAdded, IsRestAdded, EndBefore}
 use Rattle.intervals.proofs.Lists.{any_of, any_left, any_right, any_cases, any_push, any_last, none, one, of_one, pairs_append}
-use Rattle.intervals.proofs.Orders.{either, not_true, not_less, not_true_is, not_after, less, itself, not_after_less, less_not_after, not_after_not_after, cut_false, before_value, up_to_value}
+use Rattle.intervals.proofs.Orders.{either, not_true, not_less, not_after, less, itself, not_after_less, less_not_after, not_after_not_after, cut_false, before_value, up_to_value}
 
 abbrev pub IsKnown : {T : Type 0} → List (Interval T) → List (Interval T) → T → Type 0
 IsKnown whole parts t = IsEndOf whole t ⊎ IsEndOf parts t
@@ -194,7 +194,7 @@ module _ {T : Type 0} {cmp : T → T → Ordering} (o : IsTotalOrder cmp) where
   begins_within x rest within proper r here =
       let cut : T → Bool = λ t. not (is_lt (cmp r.from t)) in
       let through = of_one (Crosses cut) x (within cut (up_to_value o r.from) (any_of (Crosses cut) rest r here (ap (λ b. not (is_lt b)) (tied_itself o r.from), ap (λ b. not (is_lt b)) (All-contains (IsProper cmp) rest r proper here)))) in
-      not_after o r.from x.from (not_less _ (not_true_is _ through.0))
+      not_after o r.from x.from (not_less _ (not-true _ through.0))
 
   pub rest_none : (parts : List (Interval T)) → AreRest cmp [] parts []
   rest_none parts = record {

@@ -8,6 +8,7 @@ use Rattle.std.specs.Ordering.{int_eq}
 use Rattle.std.proofs.lemmas.Bool.Decides.{Decides-and, Decides-int_eq, Decides-like, same_from_decides}
 use Rattle.std.proofs.lemmas.List.{length-append, length-map, map-append, get_or-map}
 use Rattle.std.proofs.Math.Seq.{get_or-append_seam}
+use Rattle.std.proofs.lemmas.Bool.{not-true, not-false}
 use Rattle.std.proofs.lemmas.List.Elements.{All-contains}
 use Rattle.std.proofs.lemmas.Map.Made.{AllPairs-from_IsDistinct, is_member-Decides, length-le_from_is_member}
 use Rattle.std.proofs.lemmas.Option.{slice_get-get_or, slice_get-map}
@@ -50,14 +51,6 @@ pub different_by_tests : (p q r : Place) (x y z : Bool) → x ≡ not (same_plac
 different_by_tests p q r x y z e f g =
     λ i. (e ∙ ap not (same_is_one p q)) i && (f ∙ ap not (same_is_one q r)) i && (g ∙ ap not (same_is_one r p)) i
 
-true_of_not : (b : Bool) → not b ≡ false → b ≡ true
-true_of_not true h = refl
-true_of_not false h = cc
-
-false_of_not : (b : Bool) → not b ≡ true → b ≡ false
-false_of_not true h = cc
-false_of_not false h = refl
-
 -- a key that no test finds would stand at the end
 position_past : {A : Type 0} (test : A → Bool) (xs : List A) → list_any test xs ≡ false → position_or_len test xs ≡ length xs
 position_past test [] h = refl
@@ -75,7 +68,7 @@ module _ (keys new : List Place) (corners : List Corner) (v : Place) (p : Triple
   -- a place that was there has its number
   pub numbers_known : (k : Place) → slice_get new n ≡ Some k → same_place v k ≡ true → not (list_any (same_place v) keys) ≡ false → Numbers (map of_corner corners) (map of_corner corners) p n
   numbers_known k at same known =
-      let stay : new ≡ keys = inserted ∙ ap (λ (b : Bool). if b then keys else keys ++ v ∷ []) (true_of_not (list_any (same_place v) keys) known) in
+      let stay : new ≡ keys = inserted ∙ ap (λ (b : Bool). if b then keys else keys ++ v ∷ []) (not-false (list_any (same_place v) keys) known) in
       record {
         at =
             ap (λ (ps : List Triple). slice_get ps n) (sym tied) ∙ slice_get-map of_place keys n
@@ -89,7 +82,7 @@ module _ (keys new : List Place) (corners : List Corner) (v : Place) (p : Triple
   numbers_new c after here added number unknown =
       let grown : map of_corner after ≡ map of_corner corners ++ p ∷ [] = ap (map of_corner) added ∙ map-append of_corner corners (c ∷ []) ∙ ap (λ (q : Triple). map of_corner corners ++ q ∷ []) here in
       let last : n ≡ length (map of_corner corners) =
-      number ∙ position_past (same_place v) keys (false_of_not (list_any (same_place v) keys) unknown) ∙ sym (length-map keys of_place) ∙ ap length tied in
+      number ∙ position_past (same_place v) keys (not-true (list_any (same_place v) keys) unknown) ∙ sym (length-map keys of_place) ∙ ap length tied in
       record {
         at = ap (λ (ps : List Triple). slice_get ps n) grown ∙ ap (slice_get (map of_corner corners ++ p ∷ [])) last ∙ slice_get_seam (map of_corner corners) p;
         grown = inr (grown, last);
