@@ -5,28 +5,28 @@ use Rattle.std.proofs.lemmas.Int.{ints, by_lt_z}
 use Rattle.lattice.specs.Triple.{Triple}
 use Rattle.lattice.specs.Points.{Point, of_spot, across_of, upward_of}
 use Rattle.cut_plane.specs.declared.segments.Segment.{Segment}
-use Rattle.cut_plane.specs.Sides.{IsRightOf, IsNotAbove, IsBelow, IsFromTo}
+use Rattle.cut_plane.specs.inner.Sides.{IsRightOf, IsNotAbove, IsLower, IsUpwardBetween}
 use Rattle.cut_plane.proofs.Lists.{not_true}
 
 module _ (d : Triple) where
-  pub not_both : (p q : Point) → IsNotAbove d p q → IsBelow d q p → ⊥
+  pub not_both : (p q : Point) → IsNotAbove d p q → IsLower d q p → ⊥
   not_both p q h k = go (upward_of d p *ℤ q.w) (upward_of d q *ℤ p.w) h k
     where
       go : (x y : ℤ) → x ≤ℤ y → y <ℤ x → ⊥
       go x y h k = omega (arith, ints)
 
-  pub below_of_not : (p q : Point) → ¬ IsNotAbove d p q → IsBelow d q p
+  pub below_of_not : (p q : Point) → ¬ IsNotAbove d p q → IsLower d q p
   below_of_not p q h = by_lt_z (upward_of d q *ℤ p.w) (upward_of d p *ℤ q.w) (λ less. less) (λ least. absurd (h least))
 
   module _ (x : Segment) (p : Point) (s t : Bool) (first : IsTrue s ↔ IsNotAbove d (of_spot x.a) p) (second : IsTrue t ↔ IsNotAbove d (of_spot x.b) p) where
-    pub apart_of_beside : IsFromTo d (of_spot x.a) (of_spot x.b) p ⊎ IsFromTo d (of_spot x.b) (of_spot x.a) p → s ≢ t
+    pub apart_of_beside : IsUpwardBetween d (of_spot x.a) (of_spot x.b) p ⊎ IsUpwardBetween d (of_spot x.b) (of_spot x.a) p → s ≢ t
     apart_of_beside (inl h) e = not_both (of_spot x.b) p (second.0 (sym e ∙ first.1 h.0)) h.1
     apart_of_beside (inr h) e = not_both (of_spot x.a) p (first.0 (e ∙ second.1 h.0)) h.1
 
-    pub beside_of_apart : s ≢ t → IsFromTo d (of_spot x.a) (of_spot x.b) p ⊎ IsFromTo d (of_spot x.b) (of_spot x.a) p
+    pub beside_of_apart : s ≢ t → IsUpwardBetween d (of_spot x.a) (of_spot x.b) p ⊎ IsUpwardBetween d (of_spot x.b) (of_spot x.a) p
     beside_of_apart apart = by s t refl refl
       where
-        by : (m n : Bool) → s ≡ m → t ≡ n → IsFromTo d (of_spot x.a) (of_spot x.b) p ⊎ IsFromTo d (of_spot x.b) (of_spot x.a) p
+        by : (m n : Bool) → s ≡ m → t ≡ n → IsUpwardBetween d (of_spot x.a) (of_spot x.b) p ⊎ IsUpwardBetween d (of_spot x.b) (of_spot x.a) p
         by true true e f = absurd (apart (e ∙ sym f))
         by true false e f = inl (first.0 e, below_of_not (of_spot x.b) p (λ h. not_true t f (second.1 h)))
         by false true e f = inr (second.0 f, below_of_not (of_spot x.a) p (λ h. not_true s e (first.1 h)))

@@ -18,7 +18,8 @@ use Rattle.geometry.specs.Faces.{difference, normal, IsFlat}
 use Rattle.geometry.specs.Cuts.{over_of}
 use Rattle.geometry.proofs.Borders.{over_beyond, over_before}
 use Rattle.geometry.proofs.BorderSteps.{along_normal}
-use Rattle.cut_plane.specs.Borders.{HaveBothSides, IsBorderLine}
+use Rattle.cut_plane.specs.inner.Borders.{HaveBothSides}
+use Rattle.cut_plane.specs.Loops.{IsBorderLine}
 
 -- ---- the axes of a cut view are at right angles, and of length 1
 abbrev unit : ℤ → ℤ → ℤ → Letters

@@ -11,9 +11,9 @@ use Rattle.geometry.proofs.Listed.{same_element, face_at}
 use Rattle.geometry.proofs.Borders.{not_both_sides}
 use Rattle.cut_plane.specs.declared.segments.Corners.{Corners}
 use Rattle.cut_plane.specs.declared.segments.Segment.{Segment}
-use Rattle.cut_plane.specs.Borders.{HasCorners, IsFaceAt, corner_from, corner_to, CrossesAt, IsOnOneSide, IsSegmentAt, IsBorderLine, LeadsOver}
-use Rattle.cut_plane.specs.Loops.{IsSegmentOf}
-use Rattle.cut_plane.specs.Walks.{IsCrossedAt, Follows}
+use Rattle.cut_plane.specs.inner.Borders.{HasCorners, IsFaceAt, corner_from, corner_to, CrossesBySides, IsOnOneSide, IsSegmentAt, LeadsOver}
+use Rattle.cut_plane.specs.Loops.{IsBorderLine, IsSegmentOf}
+use Rattle.cut_plane.specs.inner.Walks.{IsCrossedAt, Follows}
 
 half_at : (i n : ℕ) → n < 3 → ((3 * i + n) / 3 ≡ i) × ((3 * i + n) % 3 ≡ n)
 half_at i n h = (omega arith, omega arith)
@@ -68,11 +68,11 @@ module _ {s : Part} where
   to_is f x h (suc zero) = sym h.c
   to_is f x h (suc (suc n)) = sym h.a
 
-  goes_at : (c : Plane) (f : Face s) (x : Corners) → HasCorners f x → (first second : ℕ) → CrossesAt c x first second → GoesBeyond c (start_corner f first) (end_corner f first)
+  goes_at : (c : Plane) (f : Face s) (x : Corners) → HasCorners f x → (first second : ℕ) → CrossesBySides c x first second → GoesBeyond c (start_corner f first) (end_corner f first)
   goes_at c f x at first second h =
       subst (λ (p : Corner). GoesBeyond c p (end_corner f first)) (from_is f x at first) (subst (λ (q : Corner). GoesBeyond c (corner_from x first) q) (to_is f x at first) h.goes)
 
-  pub returns_at : (c : Plane) (f : Face s) (x : Corners) → HasCorners f x → (first second : ℕ) → CrossesAt c x first second → GoesBeyond c (end_corner f second) (start_corner f second)
+  pub returns_at : (c : Plane) (f : Face s) (x : Corners) → HasCorners f x → (first second : ℕ) → CrossesBySides c x first second → GoesBeyond c (end_corner f second) (start_corner f second)
   returns_at c f x at first second h =
       subst (λ (p : Corner). GoesBeyond c p (start_corner f second)) (to_is f x at second) (subst (λ (q : Corner). GoesBeyond c (corner_to x second) q) (from_is f x at second) h.returns)
 
@@ -82,7 +82,7 @@ module _ {s : Part} where
   crossed_by c f (suc zero) h = record { before = inr (inl h.0); beyond = inr (inr h.1) }
   crossed_by c f (suc (suc n)) h = record { before = inr (inr h.0); beyond = inl h.1 }
 
-  pub crossed_at : (c : Plane) (tri : ℕ) (x : Corners) (first second : ℕ) → IsFaceAt s tri x → CrossesAt c x first second → IsCrossedAt c s tri
+  pub crossed_at : (c : Plane) (tri : ℕ) (x : Corners) (first second : ℕ) → IsFaceAt s tri x → CrossesBySides c x first second → IsCrossedAt c s tri
   crossed_at c tri x first second at h = (at.face, at.number, crossed_by c at.face first (goes_at c at.face x at.corners first second h))
 
   -- a triangle with corners on both sides isn't on one side
@@ -119,7 +119,7 @@ module _ {s : Part} where
           none (inr (inr q)) = before g.c x.c (sym d) q k.2
 
   -- ---- the segment
-  pub segment_is : (c : Plane) (tri : ℕ) (x : Corners) (first second : ℕ) (y : Segment) → IsFaceAt s tri x → CrossesAt c x first second → IsSegmentAt c tri x first second y → IsSegmentOf c s y
+  pub segment_is : (c : Plane) (tri : ℕ) (x : Corners) (first second : ℕ) (y : Segment) → IsFaceAt s tri x → CrossesBySides c x first second → IsSegmentAt c tri x first second y → IsSegmentOf c s y
   segment_is c tri x first second y at h is =
       let f = at.face in
       let k = from_is f x at.corners in

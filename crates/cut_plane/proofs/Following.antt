@@ -11,7 +11,7 @@ use Rattle.geometry.proofs.Listed.{same_element}
 use Rattle.geometry.proofs.Borders.{not_both_sides}
 use Rattle.cut_plane.specs.declared.segments.Segment.{Segment}
 use Rattle.cut_plane.specs.Loops.{IsSegmentOf}
-use Rattle.cut_plane.specs.Walks.{IsCrossedAt, Follows}
+use Rattle.cut_plane.specs.inner.Walks.{IsCrossedAt, Follows}
 use Rattle.cut_plane.proofs.FaceCorners.{same_start, same_end, crossed_by}
 
 -- ---- one side of a face goes beyond the plane, and one comes back

@@ -2,6 +2,7 @@ pub mod BorderLines
 pub mod FaceCorners
 pub mod Following
 pub mod Lists
+pub mod Comparisons
 pub mod Rounds
 pub mod Sweeps
 pub mod Floors
@@ -9,6 +10,7 @@ pub mod Beside
 pub mod BorderPoints
 pub mod RightOf
 pub mod Counting
+pub mod BySegments
 pub mod Parities
 pub mod Odd
 pub mod Apart

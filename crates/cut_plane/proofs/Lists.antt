@@ -7,7 +7,7 @@ use Rattle.std.proofs.lemmas.List.Elements.{All-append}
 use Rattle.std.proofs.lemmas.List.Kept.{AllPairs-cons}
 use Rattle.cut_plane.specs.declared.segments.Segment.{Segment}
 use Rattle.cut_plane.specs.Loops.{triangles_of}
-use Rattle.cut_plane.specs.Walks.{IsMarked, unmarked}
+use Rattle.cut_plane.specs.inner.Walks.{IsMarked, unmarked}
 
 module _ {A : Type 0} where
   pub contains_rest : (w : A) (xs : List A) (x : A) → Contains xs x → Contains (w ∷ xs) x

@@ -1,29 +1,22 @@
 -- An odd number of segments are to the right of a point exactly where the point is in the section.
-use Rattle.std.proofs.Common.{◌≡◌, ◌↔◌, ◌⊎◌, inl, inr, ℕ, zero, suc, ◌+◌, ◌%◌, ◌<◌, List, [], ◌∷◌, Contains, length, get_or, slice_get, Some, refl, sym, subst, ap, ◌∙◌, arith}
+use Rattle.std.proofs.Common.{◌≡◌, ◌↔◌, ◌⊎◌, inl, inr, ℕ, zero, suc, ◌+◌, ◌%◌, ◌<◌, List, [], ◌∷◌, refl, sym, subst, ◌∙◌, arith}
 use Rattle.std.specs.Prelude.{ℤ, pos, ◌+ℤ◌, ◌-ℤ◌, ◌*ℤ◌, ◌<ℤ◌, ◌≤ℤ◌}
-use Rattle.std.proofs.lemmas.Bool.{cases_eq}
 use Rattle.std.proofs.lemmas.Int.{ints, by_lt_z}
-use Rattle.std.proofs.lemmas.List.Elements.{All-contains}
-use Rattle.std.proofs.lemmas.Option.{slice_get-get_or, slice_get_within, get_or_from_slice_get}
 use Rattle.integers.proofs.Ring.{var, con, ◌⊕◌, ◌⊖◌, ◌⊗◌, ring, by_one}
 use Rattle.integers.proofs.Signs.{mul_pos, mul_nonneg}
 use Rattle.lattice.specs.declared.points.Corner.{Corner}
-use Rattle.lattice.specs.declared.soup.Tri.{Tri}
 use Rattle.lattice.specs.Triple.{Triple}
 use Rattle.lattice.specs.Points.{Point, IsPoint, of_spot, point_of, across_of, upward_of}
 use Rattle.lattice.specs.Cuts.{Plane, toward_of, IsOnPlane, IsBeyond, IsBeforePlane}
 use Rattle.geometry.specs.Faces.{face_sum, IsPointOfFace}
 use Rattle.geometry.specs.Parts.{Part, Face}
-use Rattle.geometry.specs.Cuts.{over_of, IsOnBorder, IsCrossed, IsLeftOfBorder, IsCount, HasBorderRightOf, IsInSection}
+use Rattle.geometry.specs.Cuts.{over_of, IsOnBorder, IsCrossed, IsLeftOfBorder, IsCount, IsInSection}
 use Rattle.geometry.proofs.Borders.{face_rise, rise_on, over_beyond, over_before, side_of_corner}
-use Rattle.geometry.proofs.Counts.{count_of}
 use Rattle.cut_plane.specs.declared.segments.Segment.{Segment}
-use Rattle.cut_plane.specs.Loops.{IsSegmentOf, triangles_of, AreBorders}
-use Rattle.cut_plane.specs.Sides.{IsRightOf, IsNotAbove, IsBelow, IsFromTo}
+use Rattle.cut_plane.specs.Loops.{AreBorders}
+use Rattle.cut_plane.specs.inner.Sides.{IsRightOf, IsNotAbove, IsLower, IsUpwardBetween}
 use Rattle.cut_plane.proofs.Beside.{not_both}
-use Rattle.cut_plane.proofs.FaceCorners.{have_same}
-use Rattle.cut_plane.proofs.Counting.{count_map, distinct_of_pairs, count_same, places, places_distinct, place_within, count_places, count_of_places}
-use Rattle.cut_plane.proofs.Lists.{segment_at, contains_first, contains_rest, contains_cases, contains_none}
+use Rattle.cut_plane.proofs.BySegments.{odd_alike}
 use Rattle.cut_plane.proofs.RightOf.{left_of_right, right_of_left}
 
 -- ---- a face with a point on the plane has corners on both sides
@@ -108,111 +101,32 @@ decide_right c x p =
     b : Point
     b = of_spot x.b
 
-    order : (q : Point) → IsNotAbove d q p ⊎ IsBelow d p q
+    order : (q : Point) → IsNotAbove d q p ⊎ IsLower d p q
     order q = by_lt_z (upward_of d p *ℤ q.w) (upward_of d q *ℤ p.w) inr inl
 
     apart : (x y : ℤ) → y ≤ℤ x → x <ℤ y → ⊥
     apart x y h k = omega (arith, ints)
 
-    from_sides : ((x.line.a *ℤ across_of d p) +ℤ (x.line.b *ℤ upward_of d p)) <ℤ (x.line.c *ℤ p.w) → IsNotAbove d a p ⊎ IsBelow d p a → IsNotAbove d b p ⊎ IsBelow d p b → IsRightOf d x p ⊎ ¬ IsRightOf d x p
+    from_sides : ((x.line.a *ℤ across_of d p) +ℤ (x.line.b *ℤ upward_of d p)) <ℤ (x.line.c *ℤ p.w) → IsNotAbove d a p ⊎ IsLower d p a → IsNotAbove d b p ⊎ IsLower d p b → IsRightOf d x p ⊎ ¬ IsRightOf d x p
     from_sides before (inl h) (inr k) = inl (record { beside = inl (h, k); before = before })
     from_sides before (inr h) (inl k) = inl (record { beside = inr (k, h); before = before })
     from_sides before (inl h) (inl k) = inr (λ right. none right.beside)
       where
-        none : IsFromTo d a b p ⊎ IsFromTo d b a p → ⊥
+        none : IsUpwardBetween d a b p ⊎ IsUpwardBetween d b a p → ⊥
         none (inl g) = not_both d b p k g.1
         none (inr g) = not_both d a p h g.1
     from_sides before (inr h) (inr k) = inr (λ right. none right.beside)
       where
-        none : IsFromTo d a b p ⊎ IsFromTo d b a p → ⊥
+        none : IsUpwardBetween d a b p ⊎ IsUpwardBetween d b a p → ⊥
         none (inl g) = not_both d a p g.0 h
         none (inr g) = not_both d b p g.0 k
 
--- ---- counts of segments and of triangles
-module _ (c : Plane) (s : Part) (segments : List Segment) (starts : List ℕ) (borders : AreBorders c s segments starts) (p : Point) (positive : IsPoint p) where
-  -- the border of the triangle with this number is to the right of p
-  abbrev HasNumber : ℕ → Type 0
-  HasNumber i = (f : Face s) × (f.number ≡ i) × IsLeftOfBorder c f p
-
-  of_segment : (x : Segment) → IsSegmentOf c s x → IsRightOf (toward_of c) x p ↔ HasNumber x.tri
-  of_segment x h = (
-    (λ right. (h.face, h.number, left_of_right c s x h p positive right)),
-    (λ (f, number, left). back f number left),
-  )
-    where
-      back : (f : Face s) → f.number ≡ x.tri → IsLeftOfBorder c f p → IsRightOf (toward_of c) x p
-      back f number left = let same = have_same f h.face (number ∙ sym h.number) in right_of_left c s x h p positive (moved c f h.face p same.a same.b same.c left)
-
-  of_triangle : (i : ℕ) (d : Tri) → i < length s.triangles → HasBorderRightOf c s p (get_or s.triangles i d) ↔ HasNumber (0 + i)
-  of_triangle i d less = (
-    (λ (f, tri, left). there f tri left),
-    (λ (f, number, left). (f, sym (get_or_from_slice_get s.triangles f.number f.tri d f.listed) ∙ ap (λ (k : ℕ). get_or s.triangles k d) (number ∙ none i), left)),
-  )
-    where
-      none : (i : ℕ) → 0 + i ≡ i
-      none i = omega arith
-
-      there : (f : Face s) → f.tri ≡ get_or s.triangles i d → IsLeftOfBorder c f p → HasNumber (0 + i)
-      there f tri left =
-          let g : Face s = record {
-            number = i;
-            tri = f.tri;
-            a = f.a;
-            b = f.b;
-            c = f.c;
-            listed = subst (λ (t : Tri). slice_get s.triangles i ≡ Some t) (sym tri) (slice_get-get_or s.triangles i d less);
-            at_a = f.at_a;
-            at_b = f.at_b;
-            at_c = f.at_c;
-          } in
-          (g, sym (none i), moved c f g p refl refl refl left)
-
-  listed_number : (i : ℕ) → HasNumber i → Contains (triangles_of segments) i
-  listed_number i (f, number, left) = subst (Contains (triangles_of segments)) number (borders.all f (crossed_of_point c f left.right left.right_on))
-
-  decide_contains : (xs : List ℕ) (i : ℕ) → Contains xs i ⊎ ¬ Contains xs i
-  decide_contains [] i = inr (contains_none i)
-  decide_contains (x ∷ xs) i = by (cases_eq x i) (decide_contains xs i)
-    where
-      by : (x ≡ i) ⊎ (¬ (x ≡ i)) → Contains xs i ⊎ ¬ Contains xs i → Contains (x ∷ xs) i ⊎ ¬ Contains (x ∷ xs) i
-      by (inl same) rest = inl (subst (Contains (x ∷ xs)) same (contains_first xs x))
-      by (inr other) (inl there) = inl (contains_rest x xs i there)
-      by (inr other) (inr none) = inr (λ there. neither (contains_cases x xs i there))
-        where
-          neither : (x ≡ i) ⊎ Contains xs i → ⊥
-          neither (inl same) = other same
-          neither (inr there) = none there
-
-  decide_number : (i : ℕ) → HasNumber i ⊎ ¬ HasNumber i
-  decide_number i = by (decide_contains (triangles_of segments) i)
-    where
-      from : (x : Segment) → Contains segments x → x.tri ≡ i → IsRightOf (toward_of c) x p ⊎ ¬ IsRightOf (toward_of c) x p → HasNumber i ⊎ ¬ HasNumber i
-      from x there same (inl right) = inl (subst HasNumber same ((of_segment x (All-contains (IsSegmentOf c s) segments x borders.each there)).0 right))
-      from x there same (inr none) = inr (λ h. none ((of_segment x (All-contains (IsSegmentOf c s) segments x borders.each there)).1 (subst HasNumber (sym same) h)))
-
-      by : Contains (triangles_of segments) i ⊎ ¬ Contains (triangles_of segments) i → HasNumber i ⊎ ¬ HasNumber i
-      by (inl there) = let (x, found, same) = segment_at segments i there in from x found same (decide_right c x p)
-      by (inr none) = inr (λ h. none (listed_number i h))
-
-  decide_triangle : (n : ℕ) → IsCount Tri (HasBorderRightOf c s p) s.triangles n → (m : ℕ) → IsCount Segment (λ x. IsRightOf (toward_of c) x p) segments m → m ≡ n
-  decide_triangle n triangles m listed =
-      count_same HasNumber (triangles_of segments) (places 0 s.triangles) m n (distinct_of_pairs (triangles_of segments) borders.once) (places_distinct 0 s.triangles)
-      (λ i (f, number, left) there. subst (Contains (places 0 s.triangles)) (none f.number ∙ number) (place_within 0 s.triangles f.number (slice_get_within s.triangles f.number f.tri f.listed)))
-      (λ i h there. listed_number i h)
-      (count_map (λ (x : Segment). x.tri) segments m (λ x there. of_segment x (All-contains (IsSegmentOf c s) segments x borders.each there)) listed)
-      (count_places (HasBorderRightOf c s p) HasNumber 0 s.triangles n of_triangle triangles)
-    where
-      none : (i : ℕ) → 0 + i ≡ i
-      none i = omega arith
-
-  -- the section by the segments
-  pub in_section : (n : ℕ) → IsCount Segment (λ x. IsRightOf (toward_of c) x p) segments n → (n % 2 ≡ 1) ↔ IsInSection c s p
-  in_section n listed = (
-    (λ odd. let (m, count) = triangle_count in (m, count, subst (λ (k : ℕ). k % 2 ≡ 1) (decide_triangle m count n listed) odd)),
-    (λ (m, count, odd). subst (λ (k : ℕ). k % 2 ≡ 1) (sym (decide_triangle m count n listed)) odd),
-  )
-    where
-      triangle_count : (n : ℕ) × IsCount Tri (HasBorderRightOf c s p) s.triangles n
-      triangle_count =
-          let (m, count) = count_of decide_number (places 0 s.triangles) in
-          (m, count_of_places (HasBorderRightOf c s p) HasNumber 0 s.triangles m of_triangle count)
+-- ---- the section by the segments
+pub in_section : (c : Plane) (s : Part) (segments : List Segment) (starts : List ℕ) → AreBorders c s segments starts → (p : Point) → IsPoint p
+    → (n : ℕ) → IsCount Segment (λ x. IsRightOf (toward_of c) x p) segments n → (n % 2 ≡ 1) ↔ IsInSection c s p
+in_section c s segments starts borders p positive =
+    odd_alike c s segments starts borders (λ x. IsRightOf (toward_of c) x p) (λ f. IsLeftOfBorder c f p)
+    (λ f g ea eb ec. moved c f g p ea eb ec)
+    (λ f left. crossed_of_point c f left.right left.right_on)
+    (λ x h. (left_of_right c s x h p positive, right_of_left c s x h p positive))
+    (λ x. decide_right c x p)

@@ -17,10 +17,23 @@ use Rattle.geometry.specs.Parts.{Part, Face}
 use Rattle.geometry.specs.Cuts.{IsOnBorder, IsLeftOfBorder}
 use Rattle.cut_plane.specs.declared.segments.Segment.{Segment}
 use Rattle.cut_plane.specs.Loops.{IsSegmentOf}
-use Rattle.cut_plane.specs.Sides.{IsRightOf, IsNotAbove, IsBelow, IsFromTo}
+use Rattle.cut_plane.specs.inner.Sides.{IsRightOf, IsNotAbove, IsLower, IsUpwardBetween}
 use Rattle.cut_plane.proofs.BorderPoints.{IsMixOf, AreEnds, border_ends}
 
 -- ---- sums
+-- with one weight it is that point
+pub first_alone : (p q : Point) → weighted_sum (pos 1) p (pos 0) q ≡ p
+first_alone p q = λ t. record { x = alone p.x q.x t; y = alone p.y q.y t; z = alone p.z q.z t; w = alone p.w q.w t }
+  where
+    alone : (x y : ℤ) → (pos 1 *ℤ x) +ℤ (pos 0 *ℤ y) ≡ x
+    alone x y = ring (x ∷ y ∷ []) ((con (pos 1) ⊗ var 0) ⊕ (con (pos 0) ⊗ var 1)) (var 0) refl
+
+pub second_alone : (p q : Point) → weighted_sum (pos 0) p (pos 1) q ≡ q
+second_alone p q = λ t. record { x = alone p.x q.x t; y = alone p.y q.y t; z = alone p.z q.z t; w = alone p.w q.w t }
+  where
+    alone : (x y : ℤ) → (pos 0 *ℤ x) +ℤ (pos 1 *ℤ y) ≡ y
+    alone x y = ring (x ∷ y ∷ []) ((con (pos 0) ⊗ var 0) ⊕ (con (pos 1) ⊗ var 1)) (var 1) refl
+
 pub mix_product : (r : Triple) (p q m : Point) (h : IsMixOf p q m) → (pos h.i *ℤ dot r (scaled p)) +ℤ (pos h.j *ℤ dot r (scaled q)) ≡ h.k *ℤ dot r (scaled m)
 mix_product r p q m h =
     by_three _ _ ((pos h.i *ℤ p.x) +ℤ (pos h.j *ℤ q.x)) (h.k *ℤ m.x) r.x ((pos h.i *ℤ p.y) +ℤ (pos h.j *ℤ q.y)) (h.k *ℤ m.y) r.y ((pos h.i *ℤ p.z) +ℤ (pos h.j *ℤ q.z)) (h.k *ℤ m.z) r.z
@@ -125,7 +138,7 @@ module _ (c : Plane) {s : Part} (f : Face s) (l : Line) (p : Point) (positive : 
   d = toward_of c
 
   -- from a lower end to an upper end
-  module _ (low high : Point) (low_positive : IsPoint low) (high_positive : IsPoint high) (low_on : IsOnLine d l low) (high_on : IsOnLine d l high) (beside : IsFromTo d low high p) where
+  module _ (low high : Point) (low_positive : IsPoint low) (high_positive : IsPoint high) (low_on : IsOnLine d l low) (high_on : IsOnLine d l high) (beside : IsUpwardBetween d low high p) where
     line_across : pos 0 <ℤ l.a
     line_across =
         leads_across l.a l.b l.c (across_of d low) (upward_of d low) low.w (across_of d high) (upward_of d high) high.w l.leads low_on high_on
@@ -202,7 +215,7 @@ module _ (c : Plane) {s : Part} (f : Face s) (l : Line) (p : Point) (positive : 
         (mul_pos l.a _ line_across (gap_of_less _ _ h.more_across))))
 
   -- ---- how the V of the two ends are to that of p
-  beside_of_border : (a b : Point) → AreEnds c f.a f.b f.c a b → IsLeftOfBorder c f p → IsFromTo d a b p ⊎ IsFromTo d b a p
+  beside_of_border : (a b : Point) → AreEnds c f.a f.b f.c a b → IsLeftOfBorder c f p → IsUpwardBetween d a b p ⊎ IsUpwardBetween d b a p
   beside_of_border a b ends h =
       by_lt_z (pos 0) gap_a (λ above. by_lt_z (pos 0) gap_b (λ also. absurd (zero_sum right.i right.j above also right.some (level_sum right))) (λ below. inr (not_above b below, is_above a above)))
       (λ below. inl (not_above a below, is_above b (by_lt_z (pos 0) gap_b (λ higher. higher) (λ low. absurd (positive_sum high.i high.j below low (upper_sum high))))))
@@ -258,7 +271,7 @@ module _ (c : Plane) {s : Part} (f : Face s) (l : Line) (p : Point) (positive : 
           go : (x y : ℤ) → (x -ℤ y) ≤ℤ pos 0 → x ≤ℤ y
           go x y h = omega (arith, ints)
 
-      is_above : (q : Point) → pos 0 <ℤ gap q → IsBelow d p q
+      is_above : (q : Point) → pos 0 <ℤ gap q → IsLower d p q
       is_above q h = less_of_gap (upward_of d p *ℤ q.w) (upward_of d q *ℤ p.w) h
 
 -- ---- segments
@@ -275,34 +288,22 @@ module _ (c : Plane) (s : Part) (x : Segment) (h : IsSegmentOf c s x) (p : Point
   on_line : (r : Point) → IsOnBorder c h.face r → IsOnLine (toward_of c) x.line r
   on_line r on = h.line r on.0 on.1
 
-  first_alone : weighted_sum (pos 1) a (pos 0) b ≡ a
-  first_alone t = record { x = alone a.x b.x t; y = alone a.y b.y t; z = alone a.z b.z t; w = alone a.w b.w t }
-    where
-      alone : (x y : ℤ) → (pos 1 *ℤ x) +ℤ (pos 0 *ℤ y) ≡ x
-      alone x y = ring (x ∷ y ∷ []) ((con (pos 1) ⊗ var 0) ⊕ (con (pos 0) ⊗ var 1)) (var 0) refl
-
-  second_alone : weighted_sum (pos 0) a (pos 1) b ≡ b
-  second_alone t = record { x = alone a.x b.x t; y = alone a.y b.y t; z = alone a.z b.z t; w = alone a.w b.w t }
-    where
-      alone : (x y : ℤ) → (pos 0 *ℤ x) +ℤ (pos 1 *ℤ y) ≡ y
-      alone x y = ring (x ∷ y ∷ []) ((con (pos 0) ⊗ var 0) ⊕ (con (pos 1) ⊗ var 1)) (var 1) refl
-
   pub first_on : IsOnLine (toward_of c) x.line (of_spot x.a)
-  first_on = subst (IsOnLine (toward_of c) x.line) first_alone (on_line (weighted_sum (pos 1) a (pos 0) b) (ends.on_face 1 0 (omega arith), ends.on_plane 1 0))
+  first_on = subst (IsOnLine (toward_of c) x.line) (first_alone a b) (on_line (weighted_sum (pos 1) a (pos 0) b) (ends.on_face 1 0 (omega arith), ends.on_plane 1 0))
 
   pub second_on : IsOnLine (toward_of c) x.line (of_spot x.b)
-  second_on = subst (IsOnLine (toward_of c) x.line) second_alone (on_line (weighted_sum (pos 0) a (pos 1) b) (ends.on_face 0 1 (omega arith), ends.on_plane 0 1))
+  second_on = subst (IsOnLine (toward_of c) x.line) (second_alone a b) (on_line (weighted_sum (pos 0) a (pos 1) b) (ends.on_face 0 1 (omega arith), ends.on_plane 0 1))
 
   pub left_of_right : IsRightOf (toward_of c) x p → IsLeftOfBorder c h.face p
   left_of_right right = by right.beside
     where
-      by : IsFromTo (toward_of c) a b p ⊎ IsFromTo (toward_of c) b a p → IsLeftOfBorder c h.face p
+      by : IsUpwardBetween (toward_of c) a b p ⊎ IsUpwardBetween (toward_of c) b a p → IsLeftOfBorder c h.face p
       by (inl beside) = left_of_border c h.face x.line p positive a b x.a.positive x.b.positive first_on second_on beside ends right.before
       by (inr beside) = left_of_border c h.face x.line p positive b a x.b.positive x.a.positive second_on first_on beside (ends_turned c h.face a b ends) right.before
 
   pub right_of_left : IsLeftOfBorder c h.face p → IsRightOf (toward_of c) x p
   right_of_left left = let beside = beside_of_border c h.face x.line p positive a b ends left in record { beside = beside; before = by beside }
     where
-      by : IsFromTo (toward_of c) a b p ⊎ IsFromTo (toward_of c) b a p → ((x.line.a *ℤ across_of (toward_of c) p) +ℤ (x.line.b *ℤ upward_of (toward_of c) p)) <ℤ (x.line.c *ℤ p.w)
+      by : IsUpwardBetween (toward_of c) a b p ⊎ IsUpwardBetween (toward_of c) b a p → ((x.line.a *ℤ across_of (toward_of c) p) +ℤ (x.line.b *ℤ upward_of (toward_of c) p)) <ℤ (x.line.c *ℤ p.w)
       by (inl beside) = left_of_line c h.face x.line p positive a b x.a.positive x.b.positive first_on second_on beside left (on_line left.right left.right_on)
       by (inr beside) = left_of_line c h.face x.line p positive b a x.b.positive x.a.positive second_on first_on beside left (on_line left.right left.right_on)

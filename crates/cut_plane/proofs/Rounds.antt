@@ -9,7 +9,7 @@ use Rattle.lattice.specs.Cuts.{Plane}
 use Rattle.geometry.specs.Parts.{Part, HasNoSideTwice}
 use Rattle.cut_plane.specs.declared.segments.Segment.{Segment}
 use Rattle.cut_plane.specs.Loops.{IsSegmentOf, triangles_of, LeadFrom}
-use Rattle.cut_plane.specs.Walks.{Follows, IsMarked, unmarked, AreFollowing, IsStep, IsRound}
+use Rattle.cut_plane.specs.inner.Walks.{Follows, IsMarked, unmarked, AreFollowing, IsStep, IsRound}
 use Rattle.cut_plane.proofs.Following.{EntersAt, segment_enters, segment_leaves, one_follows}
 use Rattle.cut_plane.proofs.Lists.{contains_first, contains_cases, contains_none, pairs_none, pairs_append, marked_set, unmarked_set}
 

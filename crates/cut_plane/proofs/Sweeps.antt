@@ -1,5 +1,5 @@
 -- Loops that are followed one after the other, from their least triangles on, are all borders.
-use Rattle.std.proofs.Common.{◌≡◌, ◌≢◌, ℕ, zero, suc, ◌+◌, ◌<◌, ◌≤◌, ◌⊎◌, inl, inr, Bool, false, List, [], ◌∷◌, ◌++◌, Contains, length, replicate, append_assoc, append-nil, refl, sym, subst, ap, ◌∙◌, arith, length-append}
+use Rattle.std.proofs.Common.{◌≡◌, ◌≢◌, ℕ, zero, suc, ◌+◌, ◌<◌, ◌≤◌, ◌⊎◌, inl, inr, ◌↔◌, Bool, false, List, [], ◌∷◌, ◌++◌, Contains, length, replicate, append_assoc, append-nil, refl, sym, subst, ap, ◌∙◌, arith, length-append}
 use Rattle.std.specs.List.{All, AllPairs}
 use Rattle.std.proofs.lemmas.Bool.{cases_lt, cases_eq}
 use Rattle.std.proofs.lemmas.List.{map-append, length-replicate}
@@ -10,9 +10,25 @@ use Rattle.geometry.specs.Parts.{Part, Face}
 use Rattle.geometry.specs.Cuts.{IsCrossed}
 use Rattle.cut_plane.specs.declared.segments.Segment.{Segment}
 use Rattle.cut_plane.specs.Loops.{IsSegmentOf, triangles_of, IsLoop, BeginsBefore, joined, places_from, AreBorders}
-use Rattle.cut_plane.specs.Walks.{IsCrossedAt, IsMarked, IsRound, AreSwept}
+use Rattle.cut_plane.specs.inner.Walks.{IsCrossedAt, IsMarked, unmarked, AreFollowing, IsRound}
 use Rattle.cut_plane.proofs.Following.{segment_crossed}
 use Rattle.cut_plane.proofs.Lists.{segment_at, contains_first, contains_rest, contains_none, each_contains, pairs_first, pairs_none, pairs_append, unmarked_none, none_marked}
+
+-- ---- all loops that begin at a triangle below n
+pub record AreSwept (c : Plane) (s : Part) (n : ℕ) (marks : List Bool) (segments : List Segment) (places : List ℕ) : Type 0 where
+  pub lists : List (List Segment)
+  pub together : segments ≡ joined lists
+  pub begin : places ≡ places_from 0 lists
+  pub closed : All IsLoop lists
+  pub ascending : AllPairs BeginsBefore lists
+  pub below : (x : Segment) (xs : List Segment) → Contains lists (x ∷ xs) → x.tri < n
+  pub each : All (IsSegmentOf c s) segments
+  pub once : AllPairs (λ i j. i ≢ j) (triangles_of segments)
+  pub marked : (i : ℕ) → IsMarked marks i ↔ Contains (triangles_of segments) i
+  pub following : AreFollowing c s marks
+  pub done : (f : Face s) → IsCrossed c f → f.number < n → IsMarked marks f.number
+  pub long : length marks ≡ length s.triangles
+  pub count : unmarked marks + length segments ≡ length s.triangles
 
 -- ---- one more list
 joined_push : (lists : List (List Segment)) (xs : List Segment) → joined (lists ++ xs ∷ []) ≡ joined lists ++ xs

@@ -1,4 +1,2 @@
-pub mod Borders
 pub mod Loops
-pub mod Walks
-pub mod Sides
+pub mod inner

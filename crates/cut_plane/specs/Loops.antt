@@ -1,11 +1,18 @@
 -- When segments are the borders of a part, loop by loop.
 use Rattle.std.specs.Prelude.{◌≡◌, ◌≢◌, ℕ, ◌+◌, ◌<◌, List, [], ◌∷◌, ◌++◌, Contains, All, AllPairs, length, map}
+use Rattle.lattice.specs.declared.points.Corner.{Corner}
+use Rattle.lattice.specs.declared.lines.Line.{Line}
+use Rattle.lattice.specs.Lines.{IsOnLine}
 use Rattle.lattice.specs.Points.{Point, of_spot}
-use Rattle.lattice.specs.Cuts.{Plane}
+use Rattle.lattice.specs.Cuts.{Plane, toward_of, IsOnPlane}
+use Rattle.geometry.specs.Faces.{IsPointOfFace}
 use Rattle.geometry.specs.Parts.{Part, Face}
 use Rattle.geometry.specs.Cuts.{IsBorderOf, IsCrossed}
 use Rattle.cut_plane.specs.declared.segments.Segment.{Segment}
-use Rattle.cut_plane.specs.Borders.{IsBorderLine}
+
+-- the points of the face on the plane are seen on the line
+abbrev pub IsBorderLine : Plane → Corner → Corner → Corner → Line → Type 0
+IsBorderLine c k l m line = (p : Point) → IsPointOfFace k l m p → IsOnPlane c p → IsOnLine (toward_of c) line p
 
 -- the segment is the border of the triangle with its number, and that triangle's points on the plane are seen on its line
 pub record IsSegmentOf (c : Plane) (s : Part) (x : Segment) : Type 0 where

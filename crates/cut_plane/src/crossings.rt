@@ -5,7 +5,8 @@ ghost use Rattle.lattice.specs.Cuts.{plane_of, toward_of};
 ghost use Rattle.lattice.specs.Lines.{IsOnLine};
 ghost use Rattle.geometry.specs.Faces.{IsFlat};
 ghost use Rattle.geometry.specs.Cuts.{over_of, crossing_of, GoesBeyond};
-ghost use Rattle.cut_plane.specs.Borders.{HaveBothSides, IsBorderLine};
+ghost use Rattle.cut_plane.specs.inner.Borders.{HaveBothSides};
+ghost use Rattle.cut_plane.specs.Loops.{IsBorderLine};
 
 use crate::seen::{level, seen_corner, seen_normal};
 use lattice::{Corner, Cut, Line, Spot, Vector, cross};

@@ -3,7 +3,7 @@ ghost use Rattle.std.specs.Prelude.{◌≡◌, ◌<◌, ◌↔◌, length, IsTru
 ghost use Rattle.lattice.specs.Cuts.{plane_of};
 ghost use Rattle.solid_mesh.specs.Solids.{solid_part};
 ghost use Rattle.cut_plane.specs.Loops.{AreBorders};
-ghost use Rattle.cut_plane.specs.Walks.{IsCrossedAt, IsMarked, AreFollowing, IsStep, IsRound};
+ghost use Rattle.cut_plane.specs.inner.Walks.{IsCrossedAt, IsMarked, AreFollowing, IsStep, IsRound};
 
 use crate::segments::{Segment, across_side, corners_of, segment_of, sides_of};
 use exact_frac::OutOfMemory;

@@ -6,7 +6,7 @@ ghost use Rattle.lattice.specs.Cuts.{plane_of};
 ghost use Rattle.geometry.specs.Parts.{Part};
 ghost use Rattle.geometry.specs.Cuts.{IsInSection};
 ghost use Rattle.cut_plane.specs.Loops.{AreBorders};
-ghost use Rattle.cut_plane.specs.Sides.{IsRightOf, IsNotAbove};
+ghost use Rattle.cut_plane.specs.inner.Sides.{IsRightOf, IsNotAbove};
 
 use crate::loops::Section;
 use crate::segments::Segment;

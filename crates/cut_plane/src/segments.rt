@@ -6,7 +6,7 @@ ghost use Rattle.geometry.specs.Faces.{IsFlat};
 ghost use Rattle.geometry.specs.Parts.{part_with};
 ghost use Rattle.geometry.specs.Cuts.{over_of};
 ghost use Rattle.solid_mesh.specs.Solids.{solid_part};
-ghost use Rattle.cut_plane.specs.Borders.{IsFaceAt, corner_from, corner_to, CrossesAt, IsOnOneSide, IsSegmentAt, LeadsOver};
+ghost use Rattle.cut_plane.specs.inner.Borders.{IsFaceAt, corner_from, corner_to, CrossesBySides, IsOnOneSide, IsSegmentAt, LeadsOver};
 
 use crate::crossings::{border_line, crossing, over};
 use lattice::{Corner, Cut, Line, Spot, Tri};
@@ -59,7 +59,7 @@ fn is_before(cut: &Cut, k: &Corner) -> bool
 
 /// The sides that cross the plane, if any do.
 pub(crate) fn sides_of(cut: &Cut, corners: &Corners) -> Option<Sides>
-    ensures some { IfSome result (λ x. CrossesAt (plane_of cut.now) corners.now x.first x.second) }
+    ensures some { IfSome result (λ x. CrossesBySides (plane_of cut.now) corners.now x.first x.second) }
     ensures none { IsNone result → IsOnOneSide (plane_of cut.now) corners.now }
 {
     let Corners { a, b, c } = *corners;
@@ -91,7 +91,7 @@ fn ends(corners: &Corners, side: u32) -> (Corner, Corner)
 /// The border segment of a triangle with these corners, which are not in one line.
 pub(crate) fn segment_of(cut: &Cut, tri: u32, corners: &Corners, sides: Sides) -> Segment
     requires whole { ¬ IsFlat corners.now.a corners.now.b corners.now.c }
-    requires crosses { CrossesAt (plane_of cut.now) corners.now sides.first sides.second }
+    requires crosses { CrossesBySides (plane_of cut.now) corners.now sides.first sides.second }
     ensures { IsSegmentAt (plane_of cut.now) tri corners.now sides.first sides.second result }
 {
     let (k, l) = ends(corners, sides.first);

@@ -13,10 +13,10 @@ use Rattle.intervals.specs.declared.interval.Interval.{Interval}
 use Rattle.lattice.specs.Triple.{Triple}
 use Rattle.cut_plane.specs.declared.segments.Segment.{Segment}
 use Rattle.hatch_fill.specs.declared.places.Place.{Place}
-use Rattle.hatch_fill.specs.Laws.{place_order_total}
-use Rattle.hatch_fill.specs.Numbers.{IsFirstNumber}
-use Rattle.hatch_fill.specs.Places.{place_order}
-use Rattle.hatch_fill.specs.Stretches.{between, AreEndsAlong, IsStretchOf, HasStretch, AreStretches}
+use Rattle.hatch_fill.specs.inner.Laws.{place_order_total}
+use Rattle.hatch_fill.specs.inner.Numbers.{IsFirstNumber}
+use Rattle.hatch_fill.specs.inner.Places.{place_order}
+use Rattle.hatch_fill.specs.inner.Stretches.{between, AreEndsAlong, IsStretchOf, HasStretch, AreStretches}
 use Rattle.hatch_fill.proofs.MeetingLists.{numbers_apart}
 
 -- the first number from a U - V on that a hatch line has is that line's

@@ -26,9 +26,9 @@ use Rattle.cut_plane.proofs.BorderPoints.{IsMixOf}
 use Rattle.cut_plane.proofs.Lists.{contains_cases, contains_none}
 use Rattle.section_parity.proofs.Roots.{some_number}
 use Rattle.hatch_fill.specs.declared.places.Place.{Place}
-use Rattle.hatch_fill.specs.Parts.{AreJoined}
-use Rattle.hatch_fill.specs.Places.{IsNear}
-use Rattle.hatch_fill.specs.Stretches.{IsPlaceOf, IsSpotOn, AreEndsAlong, IsStretchOf, HasStretch, AreStretches}
+use Rattle.hatch_fill.specs.inner.Parts.{AreJoined}
+use Rattle.hatch_fill.specs.inner.Places.{IsNear}
+use Rattle.hatch_fill.specs.inner.Stretches.{IsPlaceOf, IsSpotOn, AreEndsAlong, IsStretchOf, HasStretch, AreStretches}
 use Rattle.hatch_fill.proofs.Crossed.{meets_of, upward_at, same_sight}
 use Rattle.hatch_fill.proofs.Cuts.{is_not_after, crosses_after}
 use Rattle.hatch_fill.proofs.Meets.{size_of_some, same_quotient}

@@ -8,7 +8,7 @@ use Rattle.std.proofs.lemmas.List.Elements.{All-contains}
 use Rattle.std.proofs.lemmas.List.Sorted.{sum_by-IsPermutation}
 use Rattle.geometry.specs.Cuts.{IsCount, nothing, counted, skipped}
 use Rattle.cut_plane.proofs.Lists.{contains_first, contains_rest, contains_cases, contains_none, pairs_first, pairs_rest}
-use Rattle.hatch_fill.specs.Parts.{AreJoined}
+use Rattle.hatch_fill.specs.inner.Parts.{AreJoined}
 
 abbrev pub one_if : Bool → ℕ
 one_if false = 0

@@ -11,7 +11,7 @@ use Rattle.exact_frac.specs.Frac.{order_of}
 use Rattle.intervals.specs.declared.interval.Interval.{Interval}
 use Rattle.intervals.specs.Cuts.{IsCut, Crosses}
 use Rattle.hatch_fill.specs.declared.places.Place.{Place}
-use Rattle.hatch_fill.specs.Places.{place_order}
+use Rattle.hatch_fill.specs.inner.Places.{place_order}
 
 before_most : (r s t : Ordering) → Chains r s t → is_le s ≡ true → ¬ (r ≡ Greater) → is_le t ≡ true
 before_most Less Less t h e k = ap is_le (h.less refl refl)

@@ -27,12 +27,12 @@ use Rattle.cut_plane.proofs.Lists.{contains_first, contains_rest, contains_cases
 use Rattle.line_merge.proofs.Zips.{zip_left, zip_right}
 use Rattle.section_parity.specs.Diagonals.{IsUnderBorder}
 use Rattle.hatch_fill.specs.declared.places.Place.{Place}
-use Rattle.hatch_fill.specs.Crossings.{AreCrossings}
+use Rattle.hatch_fill.specs.inner.Crossings.{AreCrossings}
 use Rattle.hatch_fill.specs.Hatching.{IsLeftOf, IsHatchLine, LiesOnHatch, IsOffBorder, AreApart, StandsBefore, IsHatching}
-use Rattle.hatch_fill.specs.Lines.{IsLineOver}
-use Rattle.hatch_fill.specs.Parts.{AreJoined}
-use Rattle.hatch_fill.specs.Places.{place_order}
-use Rattle.hatch_fill.specs.Stretches.{between, pairs_of, IsStretchOf, AreStretches}
+use Rattle.hatch_fill.specs.inner.Lines.{IsLineOver}
+use Rattle.hatch_fill.specs.inner.Parts.{AreJoined}
+use Rattle.hatch_fill.specs.inner.Places.{place_order}
+use Rattle.hatch_fill.specs.inner.Stretches.{between, pairs_of, IsStretchOf, AreStretches}
 use Rattle.hatch_fill.proofs.Along.{by_less}
 use Rattle.hatch_fill.proofs.AlongBorders.{covered}
 use Rattle.hatch_fill.proofs.Crossed.{same_sight}

@@ -5,7 +5,7 @@ use Rattle.std.proofs.lemmas.Int.{ints, by_lt_z}
 use Rattle.integers.specs.Floors.{IsFloor}
 use Rattle.integers.proofs.Ring.{var, con, ◌⊖◌, ◌⊗◌, ring}
 use Rattle.integers.proofs.Signs.{mul_nonneg, mul_pos}
-use Rattle.hatch_fill.specs.Numbers.{IsFirstNumber}
+use Rattle.hatch_fill.specs.inner.Numbers.{IsFirstNumber}
 
 -- a multiple of a positive number, by the factor
 most : (a b k : ℤ) → pos 0 <ℤ k → a ≤ℤ b → (a *ℤ k) ≤ℤ (b *ℤ k)

@@ -1,7 +1,7 @@
 -- Lists that are put together of parts, one part more.
 use Rattle.std.proofs.Common.{◌≡◌, ℕ, ◌+◌, ◌<◌, List, [], ◌∷◌, ◌++◌, length, take, get_or, refl, sym, ap, subst, ◌∙◌}
 use Rattle.std.proofs.lemmas.List.{append-nil, append_assoc, take_more}
-use Rattle.hatch_fill.specs.Parts.{AreJoined, AreAdded}
+use Rattle.hatch_fill.specs.inner.Parts.{AreJoined, AreAdded}
 
 module _ {A B : Type 0} (R : A → List B → Type 0) where
   joined_push : (xs : List A) (x : A) (all part : List B) → AreJoined R xs all → R x part → AreJoined R (xs ++ x ∷ []) (all ++ part)

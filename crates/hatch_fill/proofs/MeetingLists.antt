@@ -8,8 +8,8 @@ use Rattle.integers.proofs.Signs.{mul_pos}
 use Rattle.intervals.proofs.Lists.{pairs_append}
 use Rattle.lattice.specs.declared.lines.Line.{Line}
 use Rattle.hatch_fill.specs.declared.places.Place.{Place}
-use Rattle.hatch_fill.specs.Meetings.{IsMeeting, HasMeeting}
-use Rattle.hatch_fill.specs.Crossings.{IsMeetingAmong, AreMeetings}
+use Rattle.hatch_fill.specs.inner.Meetings.{IsMeeting, HasMeeting}
+use Rattle.hatch_fill.specs.inner.Crossings.{IsMeetingAmong, AreMeetings}
 use Rattle.hatch_fill.proofs.Ratios.{less_not_same}
 
 -- hatch lines with different numbers are apart

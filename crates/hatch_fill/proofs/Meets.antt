@@ -7,8 +7,8 @@ use Rattle.integers.proofs.Signs.{zero_of_times}
 use Rattle.exact_frac.specs.declared.Frac.{Frac}
 use Rattle.lattice.specs.declared.lines.Line.{Line}
 use Rattle.hatch_fill.specs.declared.places.Place.{Place}
-use Rattle.hatch_fill.specs.Places.{IsPlaceAt, HasSpot}
-use Rattle.hatch_fill.specs.Meetings.{MeetsAt, IsMeeting, HasMeeting}
+use Rattle.hatch_fill.specs.inner.Places.{IsPlaceAt, HasSpot}
+use Rattle.hatch_fill.specs.inner.Meetings.{MeetsAt, IsMeeting, HasMeeting}
 use Rattle.hatch_fill.proofs.Near.{near_same, upward_same}
 
 pub size_of_some : (m : ℤ) → m ≢ pos 0 → 0 < unsigned_abs m

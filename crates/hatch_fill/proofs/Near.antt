@@ -3,7 +3,7 @@ use Rattle.std.proofs.Common.{◌≡◌, ℕ, ◌*◌, ◌<◌, ◌≤◌, ◌^�
 use Rattle.std.specs.Prelude.{ℤ, pos, ◌-ℤ◌, ◌*ℤ◌, ◌<ℤ◌}
 use Rattle.std.proofs.lemmas.Int.{ints, unsigned_abs-mul}
 use Rattle.integers.proofs.Ring.{var, con, ◌⊖◌, ◌⊗◌, ring, by_one}
-use Rattle.hatch_fill.specs.Places.{IsNear, HasSpot}
+use Rattle.hatch_fill.specs.inner.Places.{IsNear, HasSpot}
 
 some_size : (m : ℤ) → pos 0 <ℤ m → 0 < unsigned_abs m
 some_size m h = omega (arith, ints)

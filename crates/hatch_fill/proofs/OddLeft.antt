@@ -1,12 +1,8 @@
 -- The segments that cross a diagonal left of a point are as many as the triangles whose borders do.
-use Rattle.std.proofs.Common.{◌≡◌, ◌↔◌, ◌⊎◌, inl, inr, ℕ, zero, suc, ◌+◌, ◌%◌, ◌<◌, List, [], ◌∷◌, Contains, length, get_or, slice_get, Some, refl, sym, subst, ap, ◌∙◌, arith}
+use Rattle.std.proofs.Common.{◌≡◌, ◌↔◌, ◌⊎◌, inl, inr, ℕ, zero, suc, ◌%◌, List, sym, subst, ◌∙◌, arith}
 use Rattle.std.specs.Prelude.{ℤ, pos, ◌*ℤ◌, ◌<ℤ◌, ◌≤ℤ◌}
-use Rattle.std.proofs.lemmas.Bool.{cases_eq}
 use Rattle.std.proofs.lemmas.Int.{ints, by_lt_z}
-use Rattle.std.proofs.lemmas.List.Elements.{All-contains}
-use Rattle.std.proofs.lemmas.Option.{slice_get-get_or, slice_get_within, get_or_from_slice_get}
 use Rattle.lattice.specs.declared.points.Corner.{Corner}
-use Rattle.lattice.specs.declared.soup.Tri.{Tri}
 use Rattle.lattice.specs.Triple.{Triple}
 use Rattle.lattice.specs.Points.{Point, of_spot}
 use Rattle.lattice.specs.Cuts.{Plane, toward_of}
@@ -15,13 +11,12 @@ use Rattle.geometry.specs.Cuts.{IsBorderOf, IsCount, GoesBeyond, crossing_of, st
 use Rattle.geometry.proofs.Borders.{crossed_of_border}
 use Rattle.geometry.proofs.Counts.{count_of}
 use Rattle.cut_plane.specs.declared.segments.Segment.{Segment}
-use Rattle.cut_plane.specs.Loops.{IsSegmentOf, triangles_of, AreBorders}
-use Rattle.cut_plane.proofs.FaceCorners.{have_same}
+use Rattle.cut_plane.specs.Loops.{IsSegmentOf, AreBorders}
+use Rattle.cut_plane.proofs.BySegments.{odd_alike}
 use Rattle.cut_plane.proofs.Following.{one_goes, one_returns}
-use Rattle.cut_plane.proofs.Counting.{count_map, distinct_of_pairs, count_same, places, places_distinct, place_within, count_places, count_of_places}
-use Rattle.cut_plane.proofs.Lists.{segment_at, contains_first, contains_rest, contains_cases, contains_none}
-use Rattle.section_parity.specs.Sights.{sight_of, turn_of}
-use Rattle.section_parity.specs.Diagonals.{diagonal_of, GoesOver, CrossesLeftOf, HasCrossingLeftOf, HasOddLeft}
+use Rattle.section_parity.proofs.Sights.{sight_of, turn_of}
+use Rattle.section_parity.specs.Diagonals.{diagonal_of}
+use Rattle.section_parity.proofs.OverDiagonals.{GoesOver, CrossesLeftOf, HasOddLeft}
 
 -- ---- borders of faces with the same corners
 module _ (c : Plane) {s : Part} (f g : Face s) (ea : f.a ≡ g.a) (eb : f.b ≡ g.b) (ec : f.c ≡ g.c) where
@@ -88,98 +83,28 @@ module _ (d : Triple) (p : Point) where
 abbrev pub SegmentCrosses : Plane → Point → Segment → Type 0
 SegmentCrosses c p x = CrossesLeftOf (toward_of c) (of_spot x.a) (of_spot x.b) p
 
--- ---- counts of segments and of triangles
+-- ---- the law by the segments
 module _ (c : Plane) (s : Part) (segments : List Segment) (starts : List ℕ) (borders : AreBorders c s segments starts) (p : Point) where
-  -- the border of the triangle with this number crosses to the left of p
-  abbrev HasNumber : ℕ → Type 0
-  HasNumber i = (f : Face s) × (f.number ≡ i) × ((k : Point) × (l : Point) × IsBorderOf c f k l × CrossesLeftOf (toward_of c) k l p)
+  -- the face's border crosses to the left of p
+  abbrev Crosses : Face s → Type 0
+  Crosses f = (k : Point) × (l : Point) × IsBorderOf c f k l × CrossesLeftOf (toward_of c) k l p
 
-  of_segment : (x : Segment) → IsSegmentOf c s x → SegmentCrosses c p x ↔ HasNumber x.tri
-  of_segment x h = (
-    (λ crosses. (h.face, h.number, (of_spot x.a, of_spot x.b, h.border, crosses))),
-    (λ (f, number, (k, l, border, crosses)). back f number k l border crosses),
+  decide_segment : (x : Segment) → SegmentCrosses c p x ⊎ ¬ SegmentCrosses c p x
+  decide_segment x = decide_crosses (toward_of c) p (of_spot x.a) (of_spot x.b)
+
+  of_face : (x : Segment) (h : IsSegmentOf c s x) → SegmentCrosses c p x ↔ Crosses h.face
+  of_face x h = (
+    (λ crosses. (of_spot x.a, of_spot x.b, h.border, crosses)),
+    (λ (k, l, border, crosses).
+        let one = one_border c h.face k l (of_spot x.a) (of_spot x.b) border h.border in
+        subst (λ (q : Point). CrossesLeftOf (toward_of c) q (of_spot x.b) p) one.0 (subst (λ (q : Point). CrossesLeftOf (toward_of c) k q p) one.1 crosses)),
   )
-    where
-      back : (f : Face s) → f.number ≡ x.tri → (k l : Point) → IsBorderOf c f k l → CrossesLeftOf (toward_of c) k l p → SegmentCrosses c p x
-      back f number k l border crosses =
-          let same = have_same f h.face (number ∙ sym h.number) in
-          let one = one_border c h.face k l (of_spot x.a) (of_spot x.b) (border_moved c f h.face same.a same.b same.c k l border) h.border in
-          subst (λ (q : Point). CrossesLeftOf (toward_of c) q (of_spot x.b) p) one.0 (subst (λ (q : Point). CrossesLeftOf (toward_of c) k q p) one.1 crosses)
-
-  of_triangle : (i : ℕ) (o : Tri) → i < length s.triangles → HasCrossingLeftOf c s p (get_or s.triangles i o) ↔ HasNumber (0 + i)
-  of_triangle i o less = (
-    (λ (f, tri, rest). there f tri rest),
-    (λ (f, number, rest). (f, sym (get_or_from_slice_get s.triangles f.number f.tri o f.listed) ∙ ap (λ (k : ℕ). get_or s.triangles k o) (number ∙ none i), rest)),
-  )
-    where
-      none : (i : ℕ) → 0 + i ≡ i
-      none i = omega arith
-
-      there : (f : Face s) → f.tri ≡ get_or s.triangles i o → ((k : Point) × (l : Point) × IsBorderOf c f k l × CrossesLeftOf (toward_of c) k l p) → HasNumber (0 + i)
-      there f tri (k, l, border, crosses) =
-          let g : Face s = record {
-            number = i;
-            tri = f.tri;
-            a = f.a;
-            b = f.b;
-            c = f.c;
-            listed = subst (λ (t : Tri). slice_get s.triangles i ≡ Some t) (sym tri) (slice_get-get_or s.triangles i o less);
-            at_a = f.at_a;
-            at_b = f.at_b;
-            at_c = f.at_c;
-          } in
-          (g, sym (none i), (k, l, border_moved c f g refl refl refl k l border, crosses))
-
-  listed_number : (i : ℕ) → HasNumber i → Contains (triangles_of segments) i
-  listed_number i (f, number, (k, l, border, crosses)) = subst (Contains (triangles_of segments)) number (borders.all f (crossed_of_border c f k l border))
-
-  decide_contains : (xs : List ℕ) (i : ℕ) → Contains xs i ⊎ ¬ Contains xs i
-  decide_contains [] i = inr (contains_none i)
-  decide_contains (x ∷ xs) i = by (cases_eq x i) (decide_contains xs i)
-    where
-      by : (x ≡ i) ⊎ (¬ (x ≡ i)) → Contains xs i ⊎ ¬ Contains xs i → Contains (x ∷ xs) i ⊎ ¬ Contains (x ∷ xs) i
-      by (inl same) rest = inl (subst (Contains (x ∷ xs)) same (contains_first xs x))
-      by (inr other) (inl there) = inl (contains_rest x xs i there)
-      by (inr other) (inr none) = inr (λ there. neither (contains_cases x xs i there))
-        where
-          neither : (x ≡ i) ⊎ Contains xs i → ⊥
-          neither (inl same) = other same
-          neither (inr there) = none there
-
-  decide_number : (i : ℕ) → HasNumber i ⊎ ¬ HasNumber i
-  decide_number i = by (decide_contains (triangles_of segments) i)
-    where
-      from : (x : Segment) → Contains segments x → x.tri ≡ i → SegmentCrosses c p x ⊎ ¬ SegmentCrosses c p x → HasNumber i ⊎ ¬ HasNumber i
-      from x there same (inl crosses) = inl (subst HasNumber same ((of_segment x (All-contains (IsSegmentOf c s) segments x borders.each there)).0 crosses))
-      from x there same (inr none) = inr (λ h. none ((of_segment x (All-contains (IsSegmentOf c s) segments x borders.each there)).1 (subst HasNumber (sym same) h)))
-
-      by : Contains (triangles_of segments) i ⊎ ¬ Contains (triangles_of segments) i → HasNumber i ⊎ ¬ HasNumber i
-      by (inl there) = let (x, found, same) = segment_at segments i there in from x found same (decide_crosses (toward_of c) p (of_spot x.a) (of_spot x.b))
-      by (inr none) = inr (λ h. none (listed_number i h))
-
-  same_count : (n : ℕ) → IsCount Tri (HasCrossingLeftOf c s p) s.triangles n → (m : ℕ) → IsCount Segment (SegmentCrosses c p) segments m → m ≡ n
-  same_count n triangles m listed =
-      count_same HasNumber (triangles_of segments) (places 0 s.triangles) m n (distinct_of_pairs (triangles_of segments) borders.once) (places_distinct 0 s.triangles)
-      (λ i (f, number, rest) there. subst (Contains (places 0 s.triangles)) (none f.number ∙ number) (place_within 0 s.triangles f.number (slice_get_within s.triangles f.number f.tri f.listed)))
-      (λ i h there. listed_number i h)
-      (count_map (λ (x : Segment). x.tri) segments m (λ x there. of_segment x (All-contains (IsSegmentOf c s) segments x borders.each there)) listed)
-      (count_places (HasCrossingLeftOf c s p) HasNumber 0 s.triangles n of_triangle triangles)
-    where
-      none : (i : ℕ) → 0 + i ≡ i
-      none i = omega arith
 
   -- there is such a count
   pub segment_count : (n : ℕ) × IsCount Segment (SegmentCrosses c p) segments n
-  segment_count = count_of (λ x. decide_crosses (toward_of c) p (of_spot x.a) (of_spot x.b)) segments
+  segment_count = count_of decide_segment segments
 
-  -- the law by the segments
   pub odd_left : (n : ℕ) → IsCount Segment (SegmentCrosses c p) segments n → (n % 2 ≡ 1) ↔ HasOddLeft c s p
-  odd_left n listed = (
-    (λ odd. let (m, count) = triangle_count in (m, count, subst (λ (k : ℕ). k % 2 ≡ 1) (same_count m count n listed) odd)),
-    (λ (m, count, odd). subst (λ (k : ℕ). k % 2 ≡ 1) (sym (same_count m count n listed)) odd),
-  )
-    where
-      triangle_count : (n : ℕ) × IsCount Tri (HasCrossingLeftOf c s p) s.triangles n
-      triangle_count =
-          let (m, count) = count_of decide_number (places 0 s.triangles) in
-          (m, count_of_places (HasCrossingLeftOf c s p) HasNumber 0 s.triangles m of_triangle count)
+  odd_left =
+      odd_alike c s segments starts borders (SegmentCrosses c p) Crosses (λ f g ea eb ec (k, l, border, crosses). (k, l, border_moved c f g ea eb ec k l border, crosses))
+      (λ f (k, l, border, crosses). crossed_of_border c f k l border) of_face decide_segment

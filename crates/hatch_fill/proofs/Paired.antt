@@ -3,7 +3,7 @@ use Rattle.std.proofs.Common.{◌≡◌, ◌↔◌, ◌⊎◌, inl, inr, ℕ, �
 use Rattle.std.specs.Prelude.{ℤ, pos, ◌*ℤ◌, ◌<ℤ◌, ◌≤ℤ◌, ◌&&◌}
 use Rattle.std.specs.Cmp.{int_ranks, int_cmp_is}
 use Rattle.std.proofs.lemmas.List.Elements.{Contains-append_cases}
-use Rattle.hatch_fill.specs.Laws.{place_order_total}
+use Rattle.hatch_fill.specs.inner.Laws.{place_order_total}
 use Rattle.std.specs.Ordering.{int_cmp, ordering_reverse, ordering_then, is_lt, is_eq, MatchOrdering}
 use Rattle.std.specs.declared.cmp.Ordering.{Ordering}
 use Rattle.std.specs.declared.cmp.Ordering.TheVariants.{Less, Equal, Greater}
@@ -15,8 +15,8 @@ use Rattle.intervals.proofs.Lists.{any_left, any_right, any_cases, none, one, of
 use Rattle.exact_frac.specs.Frac.{order_of}
 use Rattle.cut_plane.proofs.Lists.{contains_first, contains_rest, contains_cases, contains_none}
 use Rattle.hatch_fill.specs.declared.places.Place.{Place}
-use Rattle.hatch_fill.specs.Places.{place_order}
-use Rattle.hatch_fill.specs.Stretches.{between, pairs_of}
+use Rattle.hatch_fill.specs.inner.Places.{place_order}
+use Rattle.hatch_fill.specs.inner.Stretches.{between, pairs_of}
 use Rattle.hatch_fill.proofs.Along.{by_less}
 use Rattle.hatch_fill.proofs.Counts.{one_if, passing, passing_none}
 use Rattle.hatch_fill.proofs.Cuts.{is_before, before_is_cut, on_lesser, on_greater, on_line, less_of}

@@ -22,9 +22,9 @@ use Rattle.geometry.specs.Pieces.{spot_sum}
 use Rattle.geometry.proofs.OnLines.{sum_is_point}
 use Rattle.section_parity.specs.Diagonals.{diagonal_of}
 use Rattle.hatch_fill.specs.declared.places.Place.{Place}
-use Rattle.hatch_fill.specs.Places.{place_order}
+use Rattle.hatch_fill.specs.inner.Places.{place_order}
 use Rattle.hatch_fill.specs.Hatching.{IsHatchLine, LiesOnHatch, IsLeftOf}
-use Rattle.hatch_fill.specs.Lines.{IsSpotAt, IsLineOver}
+use Rattle.hatch_fill.specs.inner.Lines.{IsSpotAt, IsLineOver}
 use Rattle.hatch_fill.proofs.Crossed.{same_sight}
 use Rattle.hatch_fill.proofs.Ratios.{from_first, until_second, halved_first, halved_second, doubled_first, doubled_second, doubled_both}
 use Rattle.hatch_fill.proofs.Seen.{across_seen, upward_seen, height_seen}

@@ -22,11 +22,11 @@ use Rattle.cut_plane.specs.Loops.{IsSegmentOf, AreBorders}
 use Rattle.cut_plane.proofs.Lists.{contains_first, contains_rest, pairs_first, pairs_rest}
 use Rattle.section_parity.specs.Diagonals.{IsUnderBorder}
 use Rattle.hatch_fill.specs.declared.places.Place.{Place}
-use Rattle.hatch_fill.specs.Laws.{place_order_total}
-use Rattle.hatch_fill.specs.Parts.{AreJoined}
-use Rattle.hatch_fill.specs.Places.{place_order}
-use Rattle.hatch_fill.specs.Lines.{triple_along, point_over}
-use Rattle.hatch_fill.specs.Crossings.{AreCrossings}
+use Rattle.hatch_fill.specs.inner.Laws.{place_order_total}
+use Rattle.hatch_fill.specs.inner.Parts.{AreJoined}
+use Rattle.hatch_fill.specs.inner.Places.{place_order}
+use Rattle.hatch_fill.specs.inner.Lines.{triple_along, point_over}
+use Rattle.hatch_fill.specs.inner.Crossings.{AreCrossings}
 use Rattle.section_parity.proofs.Diagonals.{section_on_diagonal}
 use Rattle.hatch_fill.proofs.Counts.{one_if, passing, passing_permuted, some_passes, joined_count}
 use Rattle.hatch_fill.proofs.OddLeft.{SegmentCrosses, segment_count, odd_left}

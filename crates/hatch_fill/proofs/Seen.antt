@@ -11,8 +11,8 @@ use Rattle.lattice.specs.declared.points.Corner.{Corner}
 use Rattle.lattice.specs.Points.{of_spot, point_of, across_of, upward_of, height_of}
 use Rattle.lattice.specs.Cuts.{Plane, toward_of, side_of, level_of, plane_height}
 use Rattle.geometry.specs.Cuts.{over_of, crossing_of}
-use Rattle.hatch_fill.specs.Places.{IsNear}
-use Rattle.hatch_fill.specs.Lines.{triple_along, point_over}
+use Rattle.hatch_fill.specs.inner.Places.{IsNear}
+use Rattle.hatch_fill.specs.inner.Lines.{triple_along, point_over}
 
 -- ---- what is seen of a point that is made of it
 pub across_seen : (axis : Axis) (b : Bool) (u v h w : ℤ) → across_of (side_of axis b) (point_over (triple_along axis b u v h) w) ≡ u

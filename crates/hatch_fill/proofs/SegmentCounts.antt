@@ -11,12 +11,13 @@ use Rattle.lattice.specs.Points.{Point, IsPoint, of_spot, across_of}
 use Rattle.lattice.specs.Lines.{IsOnLine}
 use Rattle.lattice.specs.Cuts.{Plane, toward_of}
 use Rattle.cut_plane.specs.declared.segments.Segment.{Segment}
-use Rattle.section_parity.specs.Sights.{sight_of}
-use Rattle.section_parity.specs.Diagonals.{diagonal_of, GoesOver, CrossesLeftOf}
+use Rattle.section_parity.proofs.Sights.{sight_of}
+use Rattle.section_parity.specs.Diagonals.{diagonal_of}
+use Rattle.section_parity.proofs.OverDiagonals.{GoesOver, CrossesLeftOf}
 use Rattle.hatch_fill.specs.declared.places.Place.{Place}
-use Rattle.hatch_fill.specs.Numbers.{IsFirstNumber}
-use Rattle.hatch_fill.specs.Meetings.{IsMeeting}
-use Rattle.hatch_fill.specs.Crossings.{IsMeetingAmong, AreMeetings, AreCrossings}
+use Rattle.hatch_fill.specs.inner.Numbers.{IsFirstNumber}
+use Rattle.hatch_fill.specs.inner.Meetings.{IsMeeting}
+use Rattle.hatch_fill.specs.inner.Crossings.{IsMeetingAmong, AreMeetings, AreCrossings}
 use Rattle.hatch_fill.proofs.Counts.{passing, passing_append, some_passes, one_passes, Tally, tally_either}
 use Rattle.hatch_fill.proofs.Crossed.{has_meeting}
 use Rattle.hatch_fill.proofs.MeetingLists.{numbers_apart}

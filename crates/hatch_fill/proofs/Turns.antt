@@ -8,9 +8,10 @@ use Rattle.lattice.specs.declared.lines.Line.{Line}
 use Rattle.lattice.specs.Triple.{Triple}
 use Rattle.lattice.specs.Points.{Point, IsPoint, across_of}
 use Rattle.lattice.specs.Lines.{IsOnLine}
-use Rattle.section_parity.specs.Sights.{Sight, sight_of, turn_of}
-use Rattle.section_parity.specs.Diagonals.{diagonal_of, GoesOver}
-use Rattle.hatch_fill.specs.Meetings.{MeetsAt}
+use Rattle.section_parity.proofs.Sights.{Sight, sight_of, turn_of}
+use Rattle.section_parity.specs.Diagonals.{diagonal_of}
+use Rattle.section_parity.proofs.OverDiagonals.{GoesOver}
+use Rattle.hatch_fill.specs.inner.Meetings.{MeetsAt}
 use Rattle.hatch_fill.proofs.Meets.{size_of_some}
 
 abbrev three : Sight → Sight → Sight → ℤ → ℤ → ℤ → List ℤ

@@ -4,7 +4,7 @@ use Rattle.std.specs.Prelude.{ℤ, pos, ◌+ℤ◌, ◌-ℤ◌, ◌*ℤ◌, ◌<
 use Rattle.std.specs.List.{All}
 use Rattle.std.proofs.lemmas.Int.{ints}
 use Rattle.std.proofs.lemmas.List.Elements.{All-contains, Contains-append_cases}
-use Rattle.integers.proofs.Ring.{var, con, ◌⊕◌, ◌⊖◌, ◌⊗◌, ring}
+use Rattle.integers.proofs.Ring.{var, ◌⊕◌, ◌⊖◌, ◌⊗◌, ring}
 use Rattle.integers.proofs.Signs.{pos_of_mul}
 use Rattle.integers.proofs.Weighted.{HasWeights, weighted, sum_pos}
 use Rattle.intervals.specs.declared.interval.Interval.{Interval}
@@ -24,13 +24,13 @@ use Rattle.cut_plane.proofs.BorderPoints.{IsMixOf, AreEnds, border_ends}
 use Rattle.cut_plane.proofs.FaceCorners.{have_same}
 use Rattle.cut_plane.proofs.Lists.{segment_at, contains_first, contains_rest, contains_none}
 use Rattle.cut_plane.proofs.Parities.{crossed_of_point}
-use Rattle.cut_plane.proofs.RightOf.{first_on, second_on}
+use Rattle.cut_plane.proofs.RightOf.{first_alone, second_alone, first_on, second_on}
 use Rattle.section_parity.specs.Diagonals.{IsUnderBorder}
 use Rattle.hatch_fill.specs.declared.places.Place.{Place}
-use Rattle.hatch_fill.specs.Parts.{AreJoined}
-use Rattle.hatch_fill.specs.Places.{IsNear}
-use Rattle.hatch_fill.specs.Crossings.{IsMeetingAmong, AreCrossings}
-use Rattle.hatch_fill.specs.Stretches.{IsPlaceOf, AreEndsAlong, IsStretchOf}
+use Rattle.hatch_fill.specs.inner.Parts.{AreJoined}
+use Rattle.hatch_fill.specs.inner.Places.{IsNear}
+use Rattle.hatch_fill.specs.inner.Crossings.{IsMeetingAmong, AreCrossings}
+use Rattle.hatch_fill.specs.inner.Stretches.{IsPlaceOf, AreEndsAlong, IsStretchOf}
 use Rattle.hatch_fill.proofs.Crossed.{same_sight, weight, weight', some_weight, mid_seen}
 use Rattle.hatch_fill.proofs.Near.{near_same}
 use Rattle.hatch_fill.proofs.Seen.{across_near, near_sum}
@@ -53,18 +53,6 @@ turned i j p q = λ t. record { x = swap (i *ℤ p.x) (j *ℤ q.x) t; y = swap (
   where
     swap : (a b : ℤ) → a +ℤ b ≡ b +ℤ a
     swap a b = omega (arith, ints)
-
-first_alone : (p q : Point) → weighted_sum (pos 1) p (pos 0) q ≡ p
-first_alone p q = λ t. record { x = alone p.x q.x t; y = alone p.y q.y t; z = alone p.z q.z t; w = alone p.w q.w t }
-  where
-    alone : (x y : ℤ) → (pos 1 *ℤ x) +ℤ (pos 0 *ℤ y) ≡ x
-    alone x y = ring (x ∷ y ∷ []) ((con (pos 1) ⊗ var 0) ⊕ (con (pos 0) ⊗ var 1)) (var 0) refl
-
-second_alone : (p q : Point) → weighted_sum (pos 0) p (pos 1) q ≡ q
-second_alone p q = λ t. record { x = alone p.x q.x t; y = alone p.y q.y t; z = alone p.z q.z t; w = alone p.w q.w t }
-  where
-    alone : (x y : ℤ) → (pos 0 *ℤ x) +ℤ (pos 1 *ℤ y) ≡ y
-    alone x y = ring (x ∷ y ∷ []) ((con (pos 0) ⊗ var 0) ⊕ (con (pos 1) ⊗ var 1)) (var 1) refl
 
 -- a sum of two points of a hatch line is on it
 pub sum_at : (d : Triple) (i j diagonal : ℤ) (p q : Point) → IsAt d diagonal p → IsAt d diagonal q → IsAt d diagonal (weighted_sum i p j q)

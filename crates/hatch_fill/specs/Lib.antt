@@ -1,9 +1,2 @@
-pub mod Crossings
 pub mod Hatching
-pub mod Laws
-pub mod Lines
-pub mod Meetings
-pub mod Numbers
-pub mod Parts
-pub mod Places
-pub mod Stretches
+pub mod inner

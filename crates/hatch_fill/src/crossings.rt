@@ -1,8 +1,8 @@
 // Where the borders of a section cross hatch lines.
 ghost use Rattle.std.specs.Prelude.{◌≡◌, ◌≤◌, ◌^◌, unsigned_abs, IfOk, OnOk};
 ghost use Rattle.lattice.specs.Points.{of_dir};
-ghost use Rattle.hatch_fill.specs.Crossings.{AreMeetings, AreCrossings};
-ghost use Rattle.hatch_fill.specs.Parts.{AreJoined, AreAdded};
+ghost use Rattle.hatch_fill.specs.inner.Crossings.{AreMeetings, AreCrossings};
+ghost use Rattle.hatch_fill.specs.inner.Parts.{AreJoined, AreAdded};
 
 use crate::meetings::meeting;
 use crate::numbers::{diagonal, diagonal_at, first_number};

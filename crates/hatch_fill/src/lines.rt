@@ -3,7 +3,7 @@ ghost use Rattle.std.specs.Prelude.{◌≡◌, ℕ, ◌*◌, ◌<◌, ◌≤◌,
 ghost use Rattle.std.specs.List.{AllZip};
 ghost use Rattle.lattice.specs.Triple.{IsWithin};
 ghost use Rattle.lattice.specs.Cuts.{plane_of, plane_height};
-ghost use Rattle.hatch_fill.specs.Lines.{IsSpotAt, IsLineOver, triple_seen};
+ghost use Rattle.hatch_fill.specs.inner.Lines.{IsSpotAt, IsLineOver, triple_seen};
 
 use crate::places::Place;
 use exact_frac::OutOfMemory;

@@ -1,6 +1,6 @@
 // Where lines meet hatch lines.
 ghost use Rattle.std.specs.Prelude.{◌≡◌, ◌≢◌, ◌<◌, ◌≤◌, ◌^◌, pos, ◌+ℤ◌, ◌*ℤ◌, unsigned_abs, IsNone, IfSome};
-ghost use Rattle.hatch_fill.specs.Meetings.{IsMeeting, HasMeeting};
+ghost use Rattle.hatch_fill.specs.inner.Meetings.{IsMeeting, HasMeeting};
 
 use crate::places::Place;
 use exact_frac::Frac;

@@ -3,7 +3,7 @@ ghost use Rattle.std.specs.Prelude.{◌≡◌, ◌*◌, ◌<◌, ◌≤◌, ◌^
 ghost use Rattle.integers.specs.Floors.{IsFloor};
 ghost use Rattle.lattice.specs.Points.{of_dir, of_spot, IsRatio};
 ghost use Rattle.section_parity.specs.Diagonals.{diagonal_of};
-ghost use Rattle.hatch_fill.specs.Numbers.{IsFirstNumber};
+ghost use Rattle.hatch_fill.specs.inner.Numbers.{IsFirstNumber};
 
 use exact_frac::Frac;
 use lattice::{Dir, Spot, across, upward};

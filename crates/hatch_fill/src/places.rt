@@ -19,7 +19,7 @@ pub(crate) struct Place {
 }
 
 impl Place {
-    ghost use Rattle.hatch_fill.specs.Places.{IsPlaceAt, HasSpot};
+    ghost use Rattle.hatch_fill.specs.inner.Places.{IsPlaceAt, HasSpot};
 
     /// The place with this U - V and this U, if a spot can be there.
     pub(crate) fn new(diagonal: i64, across: &Frac) -> Option<Place>
@@ -69,8 +69,8 @@ fn upward(diagonal: i64, across: &Frac) -> i128
 }
 
 impl Ord for Place {
-    ghost use Rattle.hatch_fill.specs.Places.{place_order};
-    ghost use Rattle.hatch_fill.specs.Laws.{place_order_total};
+    ghost use Rattle.hatch_fill.specs.inner.Places.{place_order};
+    ghost use Rattle.hatch_fill.specs.inner.Laws.{place_order_total};
 
     ghost cmp = { place_order };
 
@@ -90,8 +90,8 @@ impl Ord for Place {
 }
 
 impl PartialOrd for Place {
-    ghost use Rattle.hatch_fill.specs.Places.{place_order};
-    ghost use Rattle.hatch_fill.specs.Laws.{place_order_total};
+    ghost use Rattle.hatch_fill.specs.inner.Places.{place_order};
+    ghost use Rattle.hatch_fill.specs.inner.Laws.{place_order_total};
 
     ghost partial_cmp = { as_partial_cmp place_order };
 
@@ -103,14 +103,14 @@ impl PartialOrd for Place {
 }
 
 impl Eq for Place {
-    ghost use Rattle.hatch_fill.specs.Laws.{place_order_total};
+    ghost use Rattle.hatch_fill.specs.inner.Laws.{place_order_total};
 
     ghost laws = { eq_by_cmp_equiv place_order_total };
 }
 
 impl PartialEq for Place {
-    ghost use Rattle.hatch_fill.specs.Places.{place_order};
-    ghost use Rattle.hatch_fill.specs.Laws.{place_order_total};
+    ghost use Rattle.hatch_fill.specs.inner.Places.{place_order};
+    ghost use Rattle.hatch_fill.specs.inner.Laws.{place_order_total};
 
     ghost eq = { eq_by_cmp place_order };
 

@@ -2,8 +2,8 @@
 ghost use Rattle.std.specs.Prelude.{◌≡◌, ◌++◌, ◌↔◌, ◌≤◌, ◌*ℤ◌, IsTrue, IsNone, IfSome, IfOk, OnOk};
 ghost use Rattle.lattice.specs.Points.{of_dir, of_spot};
 ghost use Rattle.section_parity.specs.Diagonals.{diagonal_of};
-ghost use Rattle.hatch_fill.specs.Parts.{AreJoined, AreAdded};
-ghost use Rattle.hatch_fill.specs.Stretches.{between, pairs_of, IsPlaceOf, IsSpotOn, AreEndsAlong, HasStretch, AreStretches};
+ghost use Rattle.hatch_fill.specs.inner.Parts.{AreJoined, AreAdded};
+ghost use Rattle.hatch_fill.specs.inner.Stretches.{between, pairs_of, IsPlaceOf, IsSpotOn, AreEndsAlong, HasStretch, AreStretches};
 
 use crate::numbers::{diagonal, diagonal_at, first_number};
 use crate::places::Place;

@@ -14,7 +14,7 @@ use Rattle.lattice.proofs.Vectors.{Letters, letters, dots}
 use Rattle.geometry.specs.Faces.{difference, normal, share_point, IsPointOfFace}
 use Rattle.geometry.specs.Parts.{Part, Face, Edge, IsClosed}
 use Rattle.geometry.specs.Cuts.{over_of, IsInSection}
-use Rattle.section_parity.specs.Sights.{Sight, sight_of, turn_of, crossing_sight}
+use Rattle.section_parity.proofs.Sights.{Sight, sight_of, turn_of, crossing_sight}
 use Rattle.section_parity.specs.Crossings.{CrossesAt}
 use Rattle.section_parity.proofs.Lies.{IsAcross, up, down}
 use Rattle.section_parity.proofs.Planes.{IsClearOf}

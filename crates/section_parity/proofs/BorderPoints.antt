@@ -14,7 +14,7 @@ use Rattle.geometry.specs.Faces.{face_sum, edge_sum, IsPointOfFace}
 use Rattle.geometry.specs.Parts.{Part, Face}
 use Rattle.geometry.specs.Cuts.{over_of, IsLeftOfBorder}
 use Rattle.geometry.proofs.Borders.{face_rise, rise_on, on_of_rise}
-use Rattle.section_parity.specs.Sights.{Sight, sight_of, right_by, above_by, crossing_sight}
+use Rattle.section_parity.proofs.Sights.{Sight, sight_of, right_by, above_by, crossing_sight}
 use Rattle.section_parity.proofs.Planes.{IsBeside}
 
 -- ---- values of sums

@@ -6,16 +6,8 @@ use Rattle.std.specs.Ordering.{int_cmp, is_le, MatchOrdering}
 use Rattle.std.specs.declared.cmp.Ordering.{Ordering}
 use Rattle.std.specs.declared.cmp.Ordering.TheVariants.{Less, Equal, Greater}
 use Rattle.std.proofs.lemmas.Int.{ints}
-use Rattle.cut_plane.proofs.Lists.{not_true}
-use Rattle.section_parity.specs.Crossings.{IsAmid}
-
-told : (x y : ℤ) (b : Bool) → b ≡ is_le (int_cmp x y) → IsTrue b ↔ (x ≤ℤ y)
-told x y b e = by (int_cmp x y) (int_ranks x y) e
-  where
-    by : (r : Ordering) → MatchOrdering r (x <ℤ y) (x ≡ y) (y <ℤ x) → b ≡ is_le r → IsTrue b ↔ (x ≤ℤ y)
-    by Less h f = ((λ t. omega (arith, ints)), (λ t. f))
-    by Equal h f = ((λ t. omega (arith, ints)), (λ t. f))
-    by Greater h f = ((λ t. absurd (not_true b f t)), (λ t. absurd (omega (arith, ints))))
+use Rattle.cut_plane.proofs.Comparisons.{at_most_of_le}
+use Rattle.section_parity.specs.inner.Crossings.{IsAmid}
 
 ranked : (x y : ℤ) (r : Ordering) → int_cmp x y ≡ r → MatchOrdering r (x <ℤ y) (x ≡ y) (y <ℤ x)
 ranked x y r e = subst (λ (o : Ordering). MatchOrdering o (x <ℤ y) (x ≡ y) (y <ℤ x)) e (int_ranks x y)
@@ -35,7 +27,7 @@ module _ (n m n' m' k l : ℤ) where
       less = ranked (n *ℤ l) (k *ℤ m) Less e
 
       second : IsTrue b ↔ ((k *ℤ m') ≤ℤ (n' *ℤ l))
-      second = told (k *ℤ m') (n' *ℤ l) b at_most
+      second = at_most_of_le (k *ℤ m') (n' *ℤ l) b at_most
 
       by : IsAmid n m n' m' k l → IsTrue b
       by (inl (p, q)) = second.1 q
@@ -49,7 +41,7 @@ module _ (n m n' m' k l : ℤ) where
       less = ranked (n *ℤ l) (k *ℤ m) Greater e
 
       second : IsTrue b ↔ ((n' *ℤ l) ≤ℤ (k *ℤ m'))
-      second = told (n' *ℤ l) (k *ℤ m') b at_most
+      second = at_most_of_le (n' *ℤ l) (k *ℤ m') b at_most
 
       by : IsAmid n m n' m' k l → IsTrue b
       by (inl (p, q)) = absurd (clash (k *ℤ m) (n *ℤ l) less p)

@@ -8,8 +8,8 @@ use Rattle.integers.proofs.Ring.{con, var, ◌⊖◌, ◌⊗◌, ring}
 use Rattle.integers.proofs.Signs.{mul_pos, mul_nonneg, nonneg_of_mul, pos_of_mul}
 use Rattle.lattice.specs.Triple.{Triple}
 use Rattle.lattice.specs.Points.{Point}
-use Rattle.section_parity.specs.Diagonals.{GoesOver, CrossesLeftOf}
-use Rattle.section_parity.specs.Sights.{Sight, sight_of, right_by, above_by, turn_of, counts, counts_at}
+use Rattle.section_parity.proofs.OverDiagonals.{GoesOver, CrossesLeftOf}
+use Rattle.section_parity.proofs.Sights.{Sight, sight_of, right_by, above_by, turn_of, counts, counts_at}
 use Rattle.section_parity.proofs.Tested.{less_of, most_of, of_less, of_most}
 use Rattle.section_parity.proofs.Xors.{xor, xor-none}
 use Rattle.section_parity.proofs.Lies.{weaker, up_down, down_up, down_down, nonpos_of_mul, neg_of_mul, counts-swapped}

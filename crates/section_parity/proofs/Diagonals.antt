@@ -15,8 +15,9 @@ use Rattle.geometry.specs.Faces.{IsPointOfFace}
 use Rattle.geometry.specs.Parts.{Part, Face, IsClosed}
 use Rattle.geometry.specs.Cuts.{border, start_corner, end_corner, over_of, GoesBeyond, IsBorderOf, IsCrossed, IsInSection, PassesUnder}
 use Rattle.geometry.proofs.Borders.{over_before, over_beyond, side_of_corner, not_both_sides, border_of_crossed}
-use Rattle.section_parity.specs.Diagonals.{CrossesLeftOf, HasCrossingLeftOf, HasOddLeft, IsUnderBorder}
-use Rattle.section_parity.specs.Sights.{Sight, sight_of, right_by, above_by, turn_of, counts_at, crossing_sight, is_before, left_by, left_of_border, left_of_triangle, if_apart}
+use Rattle.section_parity.proofs.OverDiagonals.{CrossesLeftOf, HasCrossingLeftOf, HasOddLeft}
+use Rattle.section_parity.specs.Diagonals.{IsUnderBorder}
+use Rattle.section_parity.proofs.Sights.{Sight, sight_of, right_by, above_by, turn_of, counts_at, crossing_sight, is_before, left_by, left_of_border, left_of_triangle, if_apart}
 use Rattle.section_parity.proofs.Tested.{of_less, of_most}
 use Rattle.section_parity.proofs.Xors.{xor, xor-none, xor-comm, odd_in, odd_in_decides}
 use Rattle.section_parity.proofs.Lies.{weaker}

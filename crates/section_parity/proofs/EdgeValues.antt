@@ -6,7 +6,8 @@ use Rattle.std.specs.Int.Signed.{lt_z}
 use Rattle.std.proofs.lemmas.Int.{ints}
 use Rattle.integers.proofs.Ring.{var, con, ◌⊕◌, ◌⊖◌, ◌⊗◌, ring}
 use Rattle.exact_frac.specs.declared.Frac.{Frac}
-use Rattle.section_parity.specs.Crossings.{IsRootOf, IsShort}
+use Rattle.section_parity.specs.inner.Crossings.{IsRootOf}
+use Rattle.section_parity.specs.Crossings.{IsShort}
 use Rattle.section_parity.proofs.Found.{rising_root, falling_root, no_root}
 
 -- ---- at the ends

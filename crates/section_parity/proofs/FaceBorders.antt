@@ -1,9 +1,8 @@
 -- A face's border counts at a point exactly where the face's corners say so, and at two points alike, but for the sides that cross the plane to the right of the way between them.
-use Rattle.std.proofs.Common.{◌≡◌, ℕ, zero, suc, ◌+◌, ◌<◌, Bool, true, false, refl, sym, subst, ap, ◌∙◌, arith, unsigned_abs}
+use Rattle.std.proofs.Common.{◌≡◌, ℕ, zero, suc, ◌+◌, ◌<◌, Bool, true, false, refl, sym, subst, ap, ◌∙◌, arith, unsigned_abs, inl, inr}
 use Rattle.std.specs.Prelude.{ℤ, pos, ◌+ℤ◌, ◌*ℤ◌, ◌<ℤ◌, ◌≤ℤ◌, ◌⊎◌}
 use Rattle.std.specs.Bool.{Decides}
 use Rattle.std.specs.Int.Signed.{lt_z}
-use Rattle.std.proofs.Common.{inl, inr}
 use Rattle.std.proofs.lemmas.Bool.{false≢true}
 use Rattle.std.proofs.lemmas.Int.{ints}
 use Rattle.integers.proofs.Signs.{mul_nonneg, mul_pos, mul_neg}
@@ -15,7 +14,7 @@ use Rattle.geometry.specs.Parts.{Part, Face}
 use Rattle.geometry.specs.Cuts.{over_of, IsLeftOfBorder}
 use Rattle.geometry.proofs.Borders.{face_rise, rise_on, over_beyond, over_before, side_of_corner}
 use Rattle.geometry.proofs.Shares.{edge_turned}
-use Rattle.section_parity.specs.Sights.{Sight, sight_of, crossing_sight, counts_at, is_before, left_of_border, left_by, beside_way, if_apart, crosses_beside}
+use Rattle.section_parity.proofs.Sights.{Sight, sight_of, crossing_sight, counts_at, is_before, left_of_border, left_by, beside_way, if_apart, crosses_beside}
 use Rattle.section_parity.proofs.Tested.{less_of}
 use Rattle.section_parity.proofs.Xors.{xor, xor-none, xor-comm}
 use Rattle.section_parity.proofs.Lies.{up_down, balanced}

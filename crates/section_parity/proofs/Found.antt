@@ -13,8 +13,9 @@ use Rattle.geometry.specs.Parts.{Part, Face, Edge}
 use Rattle.geometry.specs.Cuts.{IsBorderOf}
 use Rattle.geometry.proofs.Shares.{one_place}
 use Rattle.geometry.proofs.Sights.{sight_on}
-use Rattle.cut_plane.specs.Borders.{IsBorderLine}
-use Rattle.section_parity.specs.Crossings.{CrossesAt, line_value, IsSeenBetween, IsRootOf, IsShort, IsCrossingOf}
+use Rattle.cut_plane.specs.Loops.{IsBorderLine}
+use Rattle.section_parity.specs.Crossings.{CrossesAt, IsShort}
+use Rattle.section_parity.specs.inner.Crossings.{line_value, IsSeenBetween, IsRootOf, IsCrossingOf}
 use Rattle.section_parity.proofs.Segments.{root_of_crossing, crossing_of_root}
 
 -- a place of the same value is crossed too

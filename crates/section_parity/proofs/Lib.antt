@@ -1,3 +1,5 @@
+pub mod Sights
+pub mod OverDiagonals
 pub mod Tested
 pub mod Xors
 pub mod Lies

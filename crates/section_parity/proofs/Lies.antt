@@ -5,7 +5,7 @@ use Rattle.std.specs.Int.Signed.{lt_z}
 use Rattle.std.proofs.lemmas.Int.{ints, by_lt_z}
 use Rattle.integers.proofs.Ring.{var, con, ◌⊖◌, ◌⊗◌, ring}
 use Rattle.integers.proofs.Signs.{mul_nonneg, mul_pos, mul_neg, nonneg_of_mul}
-use Rattle.section_parity.specs.Sights.{counts}
+use Rattle.section_parity.proofs.Sights.{counts}
 use Rattle.section_parity.proofs.Tested.{less_of, most_of, same_test}
 use Rattle.section_parity.proofs.Xors.{xor, xor-twice, xor-comm}
 

@@ -5,7 +5,7 @@ use Rattle.std.proofs.lemmas.Bool.{cases_lt}
 use Rattle.std.proofs.lemmas.Int.{ints, by_lt_z}
 use Rattle.integers.proofs.Ring.{var, con, ◌⊕◌, ◌⊖◌, ◌⊗◌, ring}
 use Rattle.integers.proofs.Weighted.{sum_pos}
-use Rattle.section_parity.specs.Sights.{Sight, turn_of}
+use Rattle.section_parity.proofs.Sights.{Sight, turn_of}
 use Rattle.section_parity.proofs.Lies.{IsClear, first_up, first_down, second_up, second_down, in_line, IsAcross, up, down}
 use Rattle.section_parity.proofs.Planes.{seen, turns, four}
 

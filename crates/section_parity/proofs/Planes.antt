@@ -6,7 +6,7 @@ use Rattle.std.proofs.lemmas.Bool.{false≢true}
 use Rattle.std.proofs.lemmas.Int.{ints, by_lt_z}
 use Rattle.integers.proofs.Ring.{Expr, var, con, ◌⊕◌, ◌⊖◌, ◌⊗◌, ring, by_two}
 use Rattle.integers.proofs.Signs.{mul_pos, mul_neg, mul_nonpos, pos_of_mul}
-use Rattle.section_parity.specs.Sights.{Sight, right_by, above_by, turn_of, counts, counts_at}
+use Rattle.section_parity.proofs.Sights.{Sight, right_by, above_by, turn_of, counts, counts_at}
 use Rattle.section_parity.proofs.Tested.{less_of, most_of, of_less, of_most}
 use Rattle.section_parity.proofs.Lies.{Lie, IsClear, weaker, neg_of_mul, pos_of_times, turned, up_down}
 

@@ -18,8 +18,8 @@ use Rattle.geometry.specs.Faces.{difference, normal, IsFlat, face_sum, edge_sum,
 use Rattle.geometry.specs.Parts.{Part, Face}
 use Rattle.geometry.specs.Cuts.{over_of, crossing_of, IsOnBorder}
 use Rattle.geometry.proofs.Borders.{edge_rise, on_of_rise}
-use Rattle.section_parity.specs.Sights.{is_before}
-use Rattle.section_parity.specs.Crossings.{line_value}
+use Rattle.section_parity.proofs.Sights.{is_before}
+use Rattle.section_parity.specs.inner.Crossings.{line_value}
 use Rattle.section_parity.proofs.BorderPoints.{IsAlone, before, beyond, size_up, size_down}
 use Rattle.section_parity.proofs.FaceBorders.{turn_face, beyond_of, before_of, not_all_before, not_all_beyond}
 use Rattle.section_parity.proofs.Steps.{border_gap, seen_det, normal_turned}

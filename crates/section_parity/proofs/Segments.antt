@@ -18,9 +18,11 @@ use Rattle.lattice.proofs.Vectors.{letters, dots}
 use Rattle.geometry.specs.Faces.{difference, IsFlat, share_point, IsPointOfFace}
 use Rattle.geometry.specs.Parts.{Part, Face, Edge}
 use Rattle.geometry.specs.Cuts.{border, IsOnBorder, IsBorderOf, PassesUnder}
-use Rattle.cut_plane.specs.Borders.{IsBorderLine}
+use Rattle.cut_plane.specs.Loops.{IsBorderLine}
+use Rattle.cut_plane.proofs.RightOf.{first_alone, second_alone}
 use Rattle.cut_plane.proofs.BorderPoints.{IsMixOf, AreEnds, border_ends}
-use Rattle.section_parity.specs.Crossings.{CrossesAt, line_value, IsAmid, IsSeenBetween, IsRootOf}
+use Rattle.section_parity.specs.Crossings.{CrossesAt}
+use Rattle.section_parity.specs.inner.Crossings.{line_value, IsAmid, IsSeenBetween, IsRootOf}
 use Rattle.section_parity.proofs.Lies.{IsAcross, up, down}
 use Rattle.section_parity.proofs.Meetings.{Sides, both_up, both_down, apart, sides}
 use Rattle.section_parity.proofs.Roots.{Apex, apex_of, value_share, parallel_of_same, same_of_parallel, some_number}
@@ -175,18 +177,6 @@ module _ (a b x y u v : ℤ) (some_line : a ≡ pos 0 → b ≡ pos 0 → ⊥) (
       }
 
 -- ---- points and sums
-only_first : (p q : Point) → weighted_sum (pos 1) p (pos 0) q ≡ p
-only_first p q = λ t. record { x = alone p.x q.x t; y = alone p.y q.y t; z = alone p.z q.z t; w = alone p.w q.w t }
-  where
-    alone : (x y : ℤ) → (pos 1 *ℤ x) +ℤ (pos 0 *ℤ y) ≡ x
-    alone x y = ring (x ∷ y ∷ []) ((con (pos 1) ⊗ var 0) ⊕ (con (pos 0) ⊗ var 1)) (var 0) refl
-
-only_second : (p q : Point) → weighted_sum (pos 0) p (pos 1) q ≡ q
-only_second p q = λ t. record { x = alone p.x q.x t; y = alone p.y q.y t; z = alone p.z q.z t; w = alone p.w q.w t }
-  where
-    alone : (x y : ℤ) → (pos 0 *ℤ x) +ℤ (pos 1 *ℤ y) ≡ y
-    alone x y = ring (x ∷ y ∷ []) ((con (pos 0) ⊗ var 0) ⊕ (con (pos 1) ⊗ var 1)) (var 1) refl
-
 point_of_face : (a b k : Corner) (r : Point) → IsPointOfFace a b k r → IsPoint r
 point_of_face a b k r (i, j, n, some, is) = subst IsPoint (sym is) (there (i + j + n) some)
   where
@@ -245,10 +235,10 @@ module _ (c : Plane) {s : Part} (f : Face s) (whole : ¬ IsFlat f.a f.b f.c) (k 
   are_ends = border_ends c f k l ends
 
   first_on : IsOnBorder c f k
-  first_on = subst (IsOnBorder c f) (only_first k l) (are_ends.on_face 1 0 (omega arith), are_ends.on_plane 1 0)
+  first_on = subst (IsOnBorder c f) (first_alone k l) (are_ends.on_face 1 0 (omega arith), are_ends.on_plane 1 0)
 
   second_on : IsOnBorder c f l
-  second_on = subst (IsOnBorder c f) (only_second k l) (are_ends.on_face 0 1 (omega arith), are_ends.on_plane 0 1)
+  second_on = subst (IsOnBorder c f) (second_alone k l) (are_ends.on_face 0 1 (omega arith), are_ends.on_plane 0 1)
 
   apex : Apex c f
   apex = apex_of c f k first_on

@@ -11,7 +11,7 @@ use Rattle.lattice.proofs.Vectors.{Letters, letters, dots, crosses}
 use Rattle.lattice.proofs.SightLines.{right_axis-is}
 use Rattle.geometry.specs.Faces.{difference, normal, edge_sum, share_point}
 use Rattle.geometry.specs.Cuts.{over_of}
-use Rattle.section_parity.specs.Sights.{Sight, sight_of, right_by, above_by, turn_of, crossing_sight}
+use Rattle.section_parity.proofs.Sights.{Sight, sight_of, right_by, above_by, turn_of, crossing_sight}
 use Rattle.section_parity.proofs.Planes.{seen, rights, aboves, turns}
 use Rattle.section_parity.proofs.BorderPoints.{IsAlone, before, beyond, edge_value, two_weights, size_up, size_down}
 

@@ -1,9 +1,7 @@
 -- Where the border of a section crosses an edge, as they are seen.
-use Rattle.std.specs.Prelude.{◌≡◌, ◌≢◌, ◌⊎◌, ◌≤◌, ◌^◌, ℤ, pos, ◌+ℤ◌, ◌-ℤ◌, ◌*ℤ◌, ◌<ℤ◌, ◌≤ℤ◌, unsigned_abs, Option, Some, IfSome, List, All, Contains}
+use Rattle.std.specs.Prelude.{◌≡◌, ◌≢◌, ◌≤◌, ◌^◌, ℤ, pos, ◌*ℤ◌, ◌<ℤ◌, ◌≤ℤ◌, unsigned_abs, List, All, Contains}
 use Rattle.exact_frac.specs.declared.Frac.{Frac}
-use Rattle.lattice.specs.declared.lines.Line.{Line}
-use Rattle.lattice.specs.Triple.{Triple, det}
-use Rattle.lattice.specs.Points.{Point, across_of, upward_of}
+use Rattle.lattice.specs.Triple.{det}
 use Rattle.lattice.specs.Cuts.{Plane, toward_of}
 use Rattle.geometry.specs.Faces.{share_point}
 use Rattle.geometry.specs.Parts.{Part, Face, Edge}
@@ -14,35 +12,11 @@ pub record CrossesAt (c : Plane) {s : Part} (f : Face s) (e : Edge s) (n m : ℤ
   pub passes : PassesUnder c (border f) (share_point e.a e.b n m)
   pub turns : det (toward_of c) (step_of c (edge e)) (step_of c (border f)) ≢ pos 0
 
--- what a U + b V is worth at the point beyond c, times w: 0 on the line
-abbrev pub line_value : Triple → Line → Point → ℤ
-line_value d l p = ((l.a *ℤ across_of d p) +ℤ (l.b *ℤ upward_of d p)) -ℤ (l.c *ℤ p.w)
-
--- ---- in the code's terms
--- k / l is from n / m to n' / m', in one order or the other
-abbrev pub IsAmid : ℤ → ℤ → ℤ → ℤ → ℤ → ℤ → Type 0
-IsAmid n m n' m' k l = (((n *ℤ l) ≤ℤ (k *ℤ m)) × ((k *ℤ m') ≤ℤ (n' *ℤ l))) ⊎ (((n' *ℤ l) ≤ℤ (k *ℤ m')) × ((k *ℤ m) ≤ℤ (n *ℤ l)))
-
--- the U of r is from that of p to that of q, and so is its V
-pub record IsSeenBetween (d : Triple) (p q r : Point) : Type 0 where
-  pub across : IsAmid (across_of d p) p.w (across_of d q) q.w (across_of d r) r.w
-  pub upward : IsAmid (upward_of d p) p.w (upward_of d q) q.w (upward_of d r) r.w
-
--- n / m is where a value that is linear along an edge, x at 0 and y at 1, changes its sign
-pub record IsRootOf (x y n m : ℤ) : Type 0 where
-  pub root : ((m -ℤ n) *ℤ x) +ℤ (n *ℤ y) ≡ pos 0
-  pub changes : x ≢ y
-
 -- a place of the edge, with a short divisor
 pub record IsShort (r : Frac) : Type 0 where
   pub least : pos 0 ≤ℤ r.num
   pub most : r.num ≤ℤ r.den
   pub small : unsigned_abs r.den ≤ 2 ^ 66
-
--- where the face's border crosses the edge, if it does between its corners
-pub record IsCrossingOf (c : Plane) {s : Part} (f : Face s) (e : Edge s) (found : Option Frac) : Type 0 where
-  pub found_is : IfSome found (λ r. IsShort r × CrossesAt c f e r.num r.den)
-  pub all : (n m : ℤ) → pos 0 <ℤ m → pos 0 ≤ℤ n → n ≤ℤ m → CrossesAt c f e n m → (r : Frac) × (found ≡ Some r) × (n *ℤ r.den ≡ r.num *ℤ m)
 
 -- each of the places is a crossing, and each crossing between the edge's corners is at one of them
 pub record AreCrossings (c : Plane) {s : Part} (e : Edge s) (places : List Frac) : Type 0 where

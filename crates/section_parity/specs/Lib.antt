@@ -1,3 +1,3 @@
-pub mod Sights
 pub mod Crossings
 pub mod Diagonals
+pub mod inner

@@ -5,7 +5,8 @@ ghost use Rattle.lattice.specs.Cuts.{plane_of, toward_of};
 ghost use Rattle.geometry.specs.Parts.{Edge, IsNumbered};
 ghost use Rattle.solid_mesh.specs.Solids.{solid_part, edge_halves};
 ghost use Rattle.cut_plane.specs.Loops.{IsSegmentOf, AreBorders};
-ghost use Rattle.section_parity.specs.Crossings.{line_value, IsAmid, IsSeenBetween, IsRootOf, IsShort, IsCrossingOf, AreCrossings};
+ghost use Rattle.section_parity.specs.inner.Crossings.{line_value, IsAmid, IsSeenBetween, IsRootOf, IsCrossingOf};
+ghost use Rattle.section_parity.specs.Crossings.{IsShort, AreCrossings};
 
 use cut_plane::{InView, Section, Segment, seen_corner};
 use exact_frac::{Frac, OutOfMemory};

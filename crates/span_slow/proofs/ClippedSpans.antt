@@ -4,27 +4,28 @@ use Rattle.std.specs.Prelude.{ℤ, pos, ◌*ℤ◌, ◌<ℤ◌, All, Contains}
 use Rattle.std.proofs.lemmas.List.{append_assoc, append-nil, drop_more, drop_all}
 use Rattle.std.proofs.lemmas.List.Elements.{All-nil, All-cons}
 use Rattle.exact_frac.specs.declared.Frac.{Frac}
-use Rattle.span_slow.specs.declared.interval.Interval.{Interval}
+use Rattle.intervals.specs.declared.interval.Interval.{Interval}
 use Rattle.span_slow.specs.declared.span.Span.{Span}
 use Rattle.geometry.specs.Places.{IsSame, IsEarlier, IsBetween}
 use Rattle.span_slow.specs.Spans.{Follow, CoverEdge, Alternate}
+use Rattle.span_slow.specs.Hidden.{IsStretch}
 use Rattle.span_slow.specs.Steps.{IsSpanAdded, IsLaterOf, IsEarlierOf, IsClippedAdded, IsClippedEnd, IsClippedSpan, AreClipped}
 use Rattle.geometry.proofs.PlaceOrder.{weaken, less_most, most_less, IsNotLater, not_later_of_not, earlier_not_later, not_later_earlier, not_later_not_later, not_later_self, not_both, zero_not_later, not_later_one}
 use Rattle.geometry.proofs.SamePlaces.{same, same_back, same_trans, same_between, same_earlier, same_not_later}
 
 -- ---- what each of the spans adds, one after another
-abbrev pub AreClippedEach : Interval → List Span → List Span → Type 0
+abbrev pub AreClippedEach : Interval Frac → List Span → List Span → Type 0
 AreClippedEach part [] new = new ≡ []
 AreClippedEach part (x ∷ xs) new = (first : List Span) × (rest : List Span) × (new ≡ first ++ rest) × IsClippedAdded part x [] first × AreClippedEach part xs rest
 
-added_alone : (part : Interval) (x : Span) (old new : List Span) → IsClippedAdded part x old new → (first : List Span) × (new ≡ old ++ first) × IsClippedAdded part x [] first
+added_alone : (part : Interval Frac) (x : Span) (old new : List Span) → IsClippedAdded part x old new → (first : List Span) × (new ≡ old ++ first) × IsClippedAdded part x [] first
 added_alone part x old new (from, to, later, earlier, inl (less, (y, is_from, is_to, is, all))) = (y ∷ [], all, (from, to, later, earlier, inl (less, (y, is_from, is_to, is, refl))))
 added_alone part x old new (from, to, later, earlier, inr (none, all)) = ([], all ∙ sym (append-nil old), (from, to, later, earlier, inr (none, refl)))
 
-pub each_none : (part : Interval) (spans now : List Span) → now ≡ [] → (more : List Span) → AreClippedEach part spans more → AreClippedEach part spans (now ++ more)
+pub each_none : (part : Interval Frac) (spans now : List Span) → now ≡ [] → (more : List Span) → AreClippedEach part spans more → AreClippedEach part spans (now ++ more)
 each_none part spans now none more h = subst (λ (xs : List Span). AreClippedEach part spans (xs ++ more)) (sym none) h
 
-module _ (part : Interval) (spans : List Span) (k : ℕ) where
+module _ (part : Interval Frac) (spans : List Span) (k : ℕ) where
   pub each_more : (x : Span) → k < length spans → get_or spans k x ≡ x → (now : List Span)
       → ((more : List Span) → AreClippedEach part (drop k spans) more → AreClippedEach part spans (now ++ more))
       → (new : List Span) → IsClippedAdded part x now new → (more : List Span) → AreClippedEach part (drop (k + 1) spans) more → AreClippedEach part spans (new ++ more)
@@ -56,7 +57,7 @@ later_same a b c r s moved (inr (none, is)) (inl (less, is_too)) = absurd (none 
 later_same a b c r s moved (inr (none, is)) (inr (none_too, is_too)) = same_trans r a s is (same_back s a is_too)
 
 -- ---- one span
-module _ (part : Interval) (x : Span) (f t : Frac) (later : IsLaterOf part.from x.from f) (earlier : IsEarlierOf part.to x.to t) where
+module _ (part : Interval Frac) (x : Span) (f t : Frac) (later : IsLaterOf part.from x.from f) (earlier : IsEarlierOf part.to x.to t) where
   module _ (less : IsEarlier f t) (y : Span) (is_from : IsSame y.from f) (is_to : IsSame y.to t) (is : y.hidden ≡ x.hidden) where
     y_inside : IsEarlier y.from y.to
     y_inside = same_earlier f t y.from y.to (same_back y.from f is_from) (same_back y.to t is_to) less
@@ -93,11 +94,11 @@ module _ (part : Interval) (x : Span) (f t : Frac) (later : IsLaterOf part.from 
     }
 
 -- ---- all of them
-abbrev IsFromOne : Interval → List Span → Span → Type 0
+abbrev IsFromOne : Interval Frac → List Span → Span → Type 0
 IsFromOne part spans y = (x : Span) × Contains spans x × IsClippedSpan part x y
 
 -- the same from a place within the part on
-record AreClippedFrom (part : Interval) (from : Frac) (spans clipped : List Span) : Type 0 where
+record AreClippedFrom (part : Interval Frac) (from : Frac) (spans clipped : List Span) : Type 0 where
   covers : Follow from clipped part.to
   each : All (IsFromOne part spans) clipped
   alternate : Alternate clipped
@@ -106,14 +107,14 @@ alternate_rest : (x : Span) (xs : List Span) → Alternate (x ∷ xs) → Altern
 alternate_rest x [] h = tt
 alternate_rest x (y ∷ ys) h = h.1
 
-from_rest : (part : Interval) (x : Span) (xs new : List Span) → All (IsFromOne part xs) new → All (IsFromOne part (x ∷ xs)) new
+from_rest : (part : Interval Frac) (x : Span) (xs new : List Span) → All (IsFromOne part xs) new → All (IsFromOne part (x ∷ xs)) new
 from_rest part x xs new each k d within = let one = each k d within in (one.0, (suc one.1.0, later one.1.0 one.1.1, one.1.2), one.2)
   where
     later : (k : ℕ) → k < length xs → suc k < length (x ∷ xs)
     later k h = omega arith
 
 -- nothing of what begins at the part's last place or after it
-none_after : (part : Interval) (xs : List Span) (from to : Frac) (new : List Span) → Follow from xs to → IsNotLater part.to from → AreClippedEach part xs new → new ≡ []
+none_after : (part : Interval Frac) (xs : List Span) (from to : Frac) (new : List Span) → Follow from xs to → IsNotLater part.to from → AreClippedEach part xs new → new ≡ []
 none_after part [] from to new follow late each = each
 none_after part (x ∷ xs) from to new (at, inside, follow) late (first, rest, all, added, each) =
     all ∙ (λ i. nothing added i ++ none_after part xs x.to to rest follow last each i)
@@ -131,7 +132,7 @@ none_after part (x ∷ xs) from to new (at, inside, follow) late (first, rest, a
     nothing (f, t, later, earlier, inr (none, all)) = all
 
 -- the first of them tells what the first of the spans does, if that reaches into the part
-differ_next : (part : Interval) (y x : Span) (xs : List Span) (to : Frac) (rest : List Span) → y.hidden ≡ x.hidden → Alternate (x ∷ xs) → Follow x.to xs to
+differ_next : (part : Interval Frac) (y x : Span) (xs : List Span) (to : Frac) (rest : List Span) → y.hidden ≡ x.hidden → Alternate (x ∷ xs) → Follow x.to xs to
     → IsEarlier part.from x.to → IsEarlier x.to part.to → AreClippedEach part xs rest → Alternate rest → Alternate (y ∷ rest)
 differ_next part y x [] to rest is turns follow after before each alternate = subst (λ (zs : List Span). Alternate (y ∷ zs)) (sym each) tt
 differ_next part y x (z ∷ zs) to rest is turns (at, inside, follow) after before (first, others, all, added, each) alternate = go added
@@ -149,7 +150,7 @@ differ_next part y x (z ∷ zs) to rest is turns (at, inside, follow) after befo
         reaches (inr (l, f_is)) earlier = absurd (l (same_earlier part.from x.to part.from z.from (same part.from) (same_back z.from x.to at) after))
 
 -- one span more, before what the others add
-module _ (part : Interval) (x : Span) (xs : List Span) (to g : Frac) (start : Frac) (at : IsSame x.from start) (inside : IsEarlier x.from x.to) (follow : Follow x.to xs to)
+module _ (part : Interval Frac) (x : Span) (xs : List Span) (to g : Frac) (start : Frac) (at : IsSame x.from start) (inside : IsEarlier x.from x.to) (follow : Follow x.to xs to)
     (turns : Alternate (x ∷ xs)) (begins : IsLaterOf part.from start g) (less : IsEarlier g part.to) (rest : List Span) (each : AreClippedEach part xs rest)
     (next : (s : Frac) → IsLaterOf part.from x.to s → IsEarlier s part.to → AreClippedFrom part s xs rest) where
   module _ (f t : Frac) (later : IsLaterOf part.from x.from f) (earlier : IsEarlierOf part.to x.to t) where
@@ -205,7 +206,7 @@ module _ (part : Interval) (x : Span) (xs : List Span) (to g : Frac) (start : Fr
     one_more (inl (before, t_is)) = ends_within before t_is
     one_more (inr (late, t_is)) = ends_after late t_is
 
-clipped_from : (part : Interval) (xs : List Span) (from to g : Frac) (new : List Span) → Follow from xs to → Alternate xs → IsNotLater part.to to → IsLaterOf part.from from g → IsEarlier g part.to
+clipped_from : (part : Interval Frac) (xs : List Span) (from to g : Frac) (new : List Span) → Follow from xs to → Alternate xs → IsNotLater part.to to → IsLaterOf part.from from g → IsEarlier g part.to
     → AreClippedEach part xs new → AreClippedFrom part g xs new
 clipped_from part [] from to g new at turns reach begins less each =
     absurd (not_both g part.to less (not_later_not_later part.to to g reach (same_not_later from g to g at (same g) (later_least part.from from g begins).1)))
@@ -215,11 +216,11 @@ clipped_from part (x ∷ xs) from to g new (at, inside, follow) turns reach begi
     (λ s s_is before. clipped_from part xs x.to to s rest follow (alternate_rest x xs turns) reach s_is before each)
     f t later earlier earlier first added)
 
-pub clipped_right : (part : Interval) → IsEarlier part.from part.to → (spans clipped : List Span) → CoverEdge spans → Alternate spans → AreClippedEach part spans clipped → AreClipped part spans clipped
-clipped_right part ordered spans clipped (from, to, zero, one, follow) turns each =
-    let right = clipped_from part spans from to part.from clipped follow turns (not_later_one part.to to one part.to_place.most)
-    (inr (not_after, same part.from)) ordered each in
+pub clipped_right : (part : Interval Frac) → IsStretch part → (spans clipped : List Span) → CoverEdge spans → Alternate spans → AreClippedEach part spans clipped → AreClipped part spans clipped
+clipped_right part stretch spans clipped (from, to, zero, one, follow) turns each =
+    let right = clipped_from part spans from to part.from clipped follow turns (not_later_one part.to to one stretch.to_place.most)
+    (inr (not_after, same part.from)) stretch.earlier each in
     record { covers = right.covers; each = right.each; alternate = right.alternate }
   where
     not_after : ¬ IsEarlier part.from from
-    not_after h = not_both part.from from h (zero_not_later from part.from zero part.from_place.least)
+    not_after h = not_both part.from from h (zero_not_later from part.from zero stretch.from_place.least)

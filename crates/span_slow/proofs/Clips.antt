@@ -7,9 +7,9 @@ use Rattle.integers.proofs.Ring.{var, con, ◌⊕◌, ◌⊖◌, ◌⊗◌, ring
 use Rattle.integers.proofs.Signs.{mul_nonneg, mul_pos}
 use Rattle.exact_frac.specs.declared.Frac.{Frac}
 use Rattle.hiding.specs.Values.{value_at}
-use Rattle.span_slow.specs.declared.interval.Interval.{Interval}
-use Rattle.span_slow.specs.declared.interval.Linear.{Linear}
-use Rattle.geometry.specs.Places.{IsSame, IsEarlier}
+use Rattle.intervals.specs.declared.interval.Interval.{Interval}
+use Rattle.span_slow.specs.declared.linear.Linear.{Linear}
+use Rattle.geometry.specs.Places.{IsPlace, IsSame, IsEarlier}
 use Rattle.span_slow.specs.Hidden.{AreNonnegative, HasRoot, IsRootOrEnd, IsWhereNonnegative}
 use Rattle.span_slow.specs.Steps.{IsClipped}
 use Rattle.geometry.proofs.PlaceOrder.{weaken, room, most_most, not_later_of_not}
@@ -100,13 +100,13 @@ same_cut vs a b p h = elim h [
 ]
 
 -- ---- an interval, clipped to where one value is at least 0
-module _ (x : Interval) (v : Linear) where
+module _ (x : Interval Frac) (v : Linear) (from_place : IsPlace x.from) (to_place : IsPlace x.to) where
   module _ (root : Frac) (start : v.start <ℤ pos 0) (end : pos 0 ≤ℤ v.end) (num : root.num ≡ pos 0 -ℤ v.start) (den : root.den ≡ v.end -ℤ v.start) where
     root_is : IsRootOrEnd (v ∷ []) root
     root_is = inr (inr (inl (differ v.start v.end (less_of v.start v.end start end), rising_zero v.start v.end root.num root.den num den)))
 
-    pub behind_cut : (new : Interval) → IsSame new.from root → IsSame new.to x.to → IsEarlier x.from root → IsClipped x v new
-    behind_cut new from to earlier = record {
+    pub behind_cut : (new : Interval Frac) → IsSame new.from root → IsSame new.to x.to → IsPlace new.from → IsPlace new.to → IsEarlier x.from root → IsClipped x v new
+    behind_cut new from to place_from place_to earlier = record {
       exactly = λ n m up least most. (
         λ h.
             let r = same_from_to new.from new.to root x.to n m from to h in (
@@ -117,6 +117,8 @@ module _ (x : Interval) (v : Linear) where
       );
       from_end = inr (same_cut (v ∷ []) new.from root from root_is);
       to_end = inl to;
+      from_place = place_from;
+      to_place = place_to;
     }
 
     pub behind_kept : ¬ IsEarlier x.from root → IsClipped x v x
@@ -131,14 +133,16 @@ module _ (x : Interval) (v : Linear) where
       );
       from_end = inl (same x.from);
       to_end = inl (same x.to);
+      from_place = from_place;
+      to_place = to_place;
     }
 
   module _ (root : Frac) (start : pos 0 ≤ℤ v.start) (end : v.end <ℤ pos 0) (num : root.num ≡ v.start) (den : root.den ≡ v.start -ℤ v.end) where
     end_is : IsRootOrEnd (v ∷ []) root
     end_is = inr (inr (inl (differ_back v.start v.end (less_of v.end v.start end start), falling_zero v.start v.end root.num root.den num den)))
 
-    pub fall_cut : (new : Interval) → IsSame new.from x.from → IsSame new.to root → IsEarlier root x.to → IsClipped x v new
-    fall_cut new from to earlier = record {
+    pub fall_cut : (new : Interval Frac) → IsSame new.from x.from → IsSame new.to root → IsPlace new.from → IsPlace new.to → IsEarlier root x.to → IsClipped x v new
+    fall_cut new from to place_from place_to earlier = record {
       exactly = λ n m up least most. (
         λ h.
             let r = same_from_to new.from new.to x.from root n m from to h in (
@@ -149,6 +153,8 @@ module _ (x : Interval) (v : Linear) where
       );
       from_end = inl from;
       to_end = inr (same_cut (v ∷ []) new.to root to end_is);
+      from_place = place_from;
+      to_place = place_to;
     }
 
     pub fall_kept : ¬ IsEarlier root x.to → IsClipped x v x
@@ -163,6 +169,8 @@ module _ (x : Interval) (v : Linear) where
       );
       from_end = inl (same x.from);
       to_end = inl (same x.to);
+      from_place = from_place;
+      to_place = to_place;
     }
 
   pub all_kept : pos 0 ≤ℤ v.start → pos 0 ≤ℤ v.end → IsClipped x v x
@@ -170,16 +178,20 @@ module _ (x : Interval) (v : Linear) where
     exactly = λ n m up least most. (λ h. (h, both_least v.start v.end n m start end least most), λ h. h.0);
     from_end = inl (same x.from);
     to_end = inl (same x.to);
+    from_place = from_place;
+    to_place = to_place;
   }
 
-  pub none_kept : (new : Interval) → v.start <ℤ pos 0 → v.end <ℤ pos 0 → new.from.num ≡ new.from.den → new.to.num ≡ pos 0 → IsClipped x v new
-  none_kept new start end from to = record {
+  pub none_kept : (new : Interval Frac) → v.start <ℤ pos 0 → v.end <ℤ pos 0 → new.from.num ≡ new.from.den → new.to.num ≡ pos 0 → IsPlace new.from → IsPlace new.to → IsClipped x v new
+  none_kept new start end from to place_from place_to = record {
     exactly = λ n m up least most. (
       λ h. absurd (nothing new.from.num new.from.den new.to.num new.to.den n m from to new.from.positive new.to.positive up h.0 h.1),
       λ h. absurd (both_below v.start v.end n m start end up least most h.1),
     );
     from_end = inr (inr (inl from));
     to_end = inr (inl to);
+    from_place = place_from;
+    to_place = place_to;
   }
 
 -- ---- one value more
@@ -211,7 +223,7 @@ cut_more vs v old new h k = elim k [
   ]
 ]
 
-pub clipped_more : (vs : List Linear) (v : Linear) (x y : Interval) → IsWhereNonnegative vs x → IsClipped x v y → IsWhereNonnegative (vs ++ v ∷ []) y
+pub clipped_more : (vs : List Linear) (v : Linear) (x y : Interval Frac) → IsWhereNonnegative vs x → IsClipped x v y → IsWhereNonnegative (vs ++ v ∷ []) y
 clipped_more vs v x y h c = record {
   exactly = λ n m up least most.
       let old = h.exactly n m up least most in
@@ -221,6 +233,8 @@ clipped_more vs v x y h c = record {
       );
   from_end = cut_more vs v x.from y.from h.from_end c.from_end;
   to_end = cut_more vs v x.to y.to h.to_end c.to_end;
+  from_place = c.from_place;
+  to_place = c.to_place;
 }
 
 -- ---- a number that was tested

@@ -1,46 +1,73 @@
 -- Spans that are right for the united intervals are right for those that were united.
-use Rattle.std.proofs.Common.{List, get_or, inl, inr, ⊎_elim}
-use Rattle.std.specs.Prelude.{ℤ, pos, ◌<ℤ◌, Contains, IsPermutation}
+use Rattle.std.proofs.Common.{◌≡◌, ◌⊎◌, inl, inr, ⊎_elim, ◌↔◌, Bool, true, false, List, get_or, sym, ap, subst, ◌∙◌, arith}
+use Rattle.std.specs.Prelude.{ℤ, pos, ◌*ℤ◌, ◌<ℤ◌, ◌≤ℤ◌, All, Contains}
+use Rattle.std.specs.Int.Signed.{lt_z}
+use Rattle.std.specs.Cmp.{int_cmp_is}
+use Rattle.std.specs.declared.cmp.Ordering.TheVariants.{Less, Greater}
+use Rattle.std.proofs.lemmas.Int.{ints, by_lt_z}
 use Rattle.std.proofs.lemmas.List.Elements.{All-contains}
-use Rattle.std.proofs.lemmas.List.Sorted.{Contains-permutation, IsPermutation-sym}
+use Rattle.integers.proofs.Orders.{less_of_cmp}
 use Rattle.exact_frac.specs.declared.Frac.{Frac}
-use Rattle.span_slow.specs.declared.interval.Interval.{Interval}
-use Rattle.span_slow.specs.declared.span.Span.{Span}
-use Rattle.geometry.specs.Places.{IsValue}
-use Rattle.span_slow.specs.Hidden.{IsAtEnd, IsIntervalEnd, TellsWithin, AreSpansOf}
-use Rattle.span_slow.specs.Steps.{AreUnited}
-use Rattle.geometry.proofs.PlaceOrder.{between_inner, between_last, zero_value, one_value, not_zero, not_self}
+use Rattle.exact_frac.specs.Frac.{order_of}
+use Rattle.intervals.specs.declared.interval.Interval.{Interval}
+use Rattle.intervals.specs.Cuts.{IsCut, IsProper, IsEndOf, Crosses, CrossesAny, AreUnited}
+use Rattle.intervals.proofs.Lists.{any_of}
+use Rattle.geometry.specs.Places.{IsPlace, IsSame, IsValue, IsBetween}
+use Rattle.geometry.proofs.PlaceFractions.{strict}
+use Rattle.geometry.proofs.PlaceOrder.{weaken, most_less, between_inner, between_last, zero_value, one_value, not_zero, not_self}
 use Rattle.geometry.proofs.SamePlaces.{same_value}
+use Rattle.section_parity.proofs.Tested.{less_of, most_of, of_less, of_most}
+use Rattle.span_slow.specs.declared.span.Span.{Span}
+use Rattle.span_slow.specs.Hidden.{IsStretch, IsWithinAny, IsAtEnd, IsIntervalEnd, TellsWithin, AreSpansOf}
 use Rattle.span_slow.proofs.Same.{same_known}
 
--- ---- the same intervals in another order
-module _ (xs ys : List Interval) (moved : IsPermutation xs ys) where
-  forth : (x : Interval) → Contains xs x → Contains ys x
-  forth x h = Contains-permutation xs ys x moved h
+-- ---- the places before n / m are a cut of the fractions
+abbrev is_before : ℤ → ℤ → Frac → Bool
+is_before n m r = lt_z (r.num *ℤ m) (n *ℤ r.den)
 
-  back : (x : Interval) → Contains ys x → Contains xs x
-  back x h = Contains-permutation ys xs x (IsPermutation-sym xs ys moved) h
+before_is_cut : (n m : ℤ) → pos 0 <ℤ m → IsCut order_of (is_before n m)
+before_is_cut n m up x y at forth =
+    of_less (x.num *ℤ m) (n *ℤ x.den) (most_less x.num x.den y.num y.den n m x.positive y.positive up first (less_of (y.num *ℤ m) (n *ℤ y.den) at))
+  where
+    first : (x.num *ℤ y.den) ≤ℤ (y.num *ℤ x.den)
+    first = by_lt_z (y.num *ℤ x.den) (x.num *ℤ y.den) (λ less. absurd (forth (sym (int_cmp_is (x.num *ℤ y.den) (y.num *ℤ x.den) Greater less)))) (λ most. most)
 
-  known_back : (r : Frac) → IsIntervalEnd ys r → IsIntervalEnd xs r
-  known_back r h = ⊎_elim (λ z. inl z) (λ k. inr (⊎_elim (λ z. inl z) (λ e. inr (e.0, back e.0 e.1, e.2)) k)) h
+-- ---- what is given
+pub given_proper : (xs : List (Interval Frac)) → All IsStretch xs → All (IsProper order_of) xs
+given_proper xs stretches k d h =
+    let x = get_or xs k d in sym (int_cmp_is (x.from.num *ℤ x.to.den) (x.to.num *ℤ x.from.den) Less (stretches k d h).earlier)
 
-  pub united_permuted : (united : List Interval) → AreUnited ys united → AreUnited xs united
-  united_permuted united u = record {
-    apart = u.apart;
-    ends = λ k d h. (known_back (get_or united k d).from (u.ends k d h).0, known_back (get_or united k d).to (u.ends k d h).1);
-    within = λ n m up off.
-        let w = u.within n m up (λ e. off (e.0, back e.0 e.1, e.2)) in (
-          λ h. let y = w.0 h in (y.0, back y.0 y.1, y.2),
-          λ h. w.1 (h.0, forth h.0 h.1, h.2),
-        );
-  }
+-- what holds of the ends of all intervals holds of an end of one
+of_end : (P : Frac → Type 0) (xs : List (Interval Frac)) → All (λ x. P x.from × P x.to) xs → (r : Frac) → IsEndOf xs r → P r
+of_end P xs all r (k, x, within, at, is) =
+    let both = All-contains (λ x. P x.from × P x.to) xs x all (k, within, at) in
+    ⊎_elim (λ e. subst P e both.0) (λ e. subst P e both.1) is
 
 -- ---- through the united intervals
-module _ (xs united : List Interval) (u : AreUnited xs united) where
+module _ (xs united : List (Interval Frac)) (u : AreUnited order_of xs united) where
+  pub united_stretches : All IsStretch xs → All IsStretch united
+  united_stretches stretches k d h = record {
+    from_place = of_end IsPlace xs places (get_or united k d).from (u.ends k d h).0;
+    to_place = of_end IsPlace xs places (get_or united k d).to (u.ends k d h).1;
+    earlier = less_of_cmp _ _ (u.apart.inside k d h);
+  }
+    where
+      places : All (λ x. IsPlace x.from × IsPlace x.to) xs
+      places k d h = ((stretches k d h).from_place, (stretches k d h).to_place)
+
+  known_end : (r : Frac) → IsEndOf xs r → IsIntervalEnd xs r
+  known_end r (k, x, within, at, is) = inr (inr (x, (k, within, at), ⊎_elim (λ e. inl (same_of x.from e)) (λ e. inr (same_of x.to e)) is))
+    where
+      same_of : (q : Frac) → q ≡ r → IsSame r q
+      same_of q e = (sym (ap (λ (p : Frac). p.num) e), sym (ap (λ (p : Frac). p.den) e))
+
+  known : All (λ x. IsIntervalEnd xs x.from × IsIntervalEnd xs x.to) united
+  known k d h = (known_end (get_or united k d).from (u.ends k d h).0, known_end (get_or united k d).to (u.ends k d h).1)
+
   known_through : (r : Frac) → IsIntervalEnd united r → IsIntervalEnd xs r
   known_through r h = ⊎_elim (λ z. inl z) (λ k. ⊎_elim (λ z. inr (inl z)) (λ e.
-      let known = All-contains (λ (x : Interval). IsIntervalEnd xs x.from × IsIntervalEnd xs x.to) united e.0 u.ends e.1 in
-      ⊎_elim (λ s. same_known xs r e.0.from s known.0) (λ s. same_known xs r e.0.to s known.1) e.2) k) h
+      let ends = All-contains (λ (x : Interval Frac). IsIntervalEnd xs x.from × IsIntervalEnd xs x.to) united e.0 known e.1 in
+      ⊎_elim (λ s. same_known xs r e.0.from s ends.0) (λ s. same_known xs r e.0.to s ends.1) e.2) k) h
 
   -- a place that is not 0 or 1 is at a known place only where it is at an end
   at_known : (r : Frac) (n m : ℤ) → pos 0 <ℤ n → n <ℤ m → IsIntervalEnd xs r → IsValue r n m → IsAtEnd xs n m
@@ -51,17 +78,34 @@ module _ (xs united : List Interval) (u : AreUnited xs united) where
 
   end_through : (n m : ℤ) → pos 0 <ℤ n → n <ℤ m → IsAtEnd united n m → IsAtEnd xs n m
   end_through n m first last h =
-      let known = All-contains (λ (x : Interval). IsIntervalEnd xs x.from × IsIntervalEnd xs x.to) united h.0 u.ends h.1 in
-      ⊎_elim (λ is. at_known h.0.from n m first last known.0 is) (λ is. at_known h.0.to n m first last known.1 is) h.2
+      let ends = All-contains (λ (x : Interval Frac). IsIntervalEnd xs x.from × IsIntervalEnd xs x.to) united h.0 known h.1 in
+      ⊎_elim (λ is. at_known h.0.from n m first last ends.0 is) (λ is. at_known h.0.to n m first last ends.1 is) h.2
+
+  -- ---- a place that is at no end is within an interval exactly where its cut goes through one
+  module _ (n m : ℤ) (up : pos 0 <ℤ m) where
+    through : (ys : List (Interval Frac)) → IsWithinAny ys n m → CrossesAny (is_before n m) ys
+    through ys (x, listed, between) =
+        any_of (Crosses (is_before n m)) ys x listed (of_less (x.from.num *ℤ m) (n *ℤ x.from.den) between.0, of_most (x.to.num *ℤ m) (n *ℤ x.to.den) (weaken (n *ℤ x.to.den) (x.to.num *ℤ m) between.1))
+
+    within : (ys : List (Interval Frac)) → ¬ IsAtEnd ys n m → CrossesAny (is_before n m) ys → IsWithinAny ys n m
+    within ys off (k, x, long, at, crosses) = (
+      x,
+      (k, long, at),
+      (
+        less_of (x.from.num *ℤ m) (n *ℤ x.from.den) crosses.0,
+        strict (most_of (x.to.num *ℤ m) (n *ℤ x.to.den) crosses.1) (λ e. off (x, (k, long, at), inr e)),
+      ),
+    )
 
   tells_through : (x : Span) → TellsWithin united x → TellsWithin xs x
   tells_through x tells n m up between off =
       let first = between_inner x.from x.to n m up between x.from_place.least in
       let last = between_last x.from x.to n m up between x.to_place.most in
-      let told = tells n m up between (λ e. off (end_through n m first last e)) in
-      let within = u.within n m up off in (
-        λ h. within.0 (told.0 h),
-        λ h. told.1 (within.1 h),
+      let off_united : ¬ IsAtEnd united n m = λ e. off (end_through n m first last e) in
+      let told = tells n m up between off_united in
+      let crossed = u.within (is_before n m) (before_is_cut n m up) in (
+        λ h. within n m up xs off (crossed.0 (through n m up united (told.0 h))),
+        λ h. told.1 (within n m up united off_united (crossed.1 (through n m up xs h))),
       )
 
   pub spans_through : (spans : List Span) → AreSpansOf united spans → AreSpansOf xs spans

@@ -2,6 +2,8 @@
 use Rattle.std.proofs.Common.{◌≡◌, ◌⊎◌, inl, inr, ⊎_elim, ℕ, ◌+◌, ◌<◌, ◌≤◌, List, [], ◌∷◌, All, Contains, length, get_or, is_lt, refl, sym, subst, ◌∙◌, arith}
 use Rattle.std.specs.Prelude.{ℤ, pos, ◌+ℤ◌, ◌-ℤ◌, ◌*ℤ◌, ◌<ℤ◌, ◌≤ℤ◌, ◌↔◌, IsPermutation}
 use Rattle.std.specs.List.Sorted.{IsSorted}
+use Rattle.std.specs.Cmp.{int_cmp_is}
+use Rattle.std.specs.declared.cmp.Ordering.TheVariants.{Less}
 use Rattle.std.proofs.lemmas.Bool.{cases_lt}
 use Rattle.std.proofs.lemmas.Int.{ints}
 use Rattle.std.proofs.lemmas.List.{get_or_default}
@@ -13,6 +15,7 @@ use Rattle.integers.proofs.Signs.{mul_nonneg}
 use Rattle.exact_frac.specs.declared.Frac.{Frac}
 use Rattle.exact_frac.specs.Frac.{order_of}
 use Rattle.exact_frac.specs.Laws.{order_of_total}
+use Rattle.intervals.proofs.Orders.{not_less}
 use Rattle.lattice.specs.Triangles.{IsBelow}
 use Rattle.lattice.specs.Cuts.{Plane, toward_of}
 use Rattle.geometry.specs.Faces.{share_point}
@@ -24,11 +27,10 @@ use Rattle.section_parity.specs.Crossings.{CrossesAt, IsShort, AreCrossings}
 use Rattle.section_parity.proofs.Between.{section_between, crossing_not_ordinary}
 use Rattle.section_parity.proofs.Found.{crosses_same}
 use Rattle.geometry.specs.Places.{IsEarlier, IsBetween}
-use Rattle.span_slow.proofs.Unions.{not_less}
 use Rattle.span_slow.specs.CutHidden.{IsOrdinaryBeyond}
 use Rattle.span_slow.specs.Sections.{mediant_point, IsApartFrom}
 use Rattle.geometry.proofs.PlaceFractions.{weaker, no_less}
-use Rattle.geometry.proofs.PlaceOrder.{clash, less_most, most_less, IsNotLater, between_inner, between_last, zero_value, one_value, zero_not_later, room}
+use Rattle.geometry.proofs.PlaceOrder.{clash, less_most, most_less, IsNotLater, not_later_of_not, between_inner, between_last, zero_value, one_value, zero_not_later, room}
 
 -- ---- the places in order
 -- no place is strictly between the two
@@ -47,7 +49,12 @@ reached_start places short from zero j d h = (
 
 module _ (places : List Frac) (up : IsSorted order_of places) where
   far : (i j : ℕ) (d : Frac) → i ≤ j → j < length places → IsNotLater (get_or places i d) (get_or places j d)
-  far i j d order within = not_less _ _ (sorted_far (λ (x y : Frac). is_lt (order_of x y)) (ranks_by order_of_total (λ (x : Frac). x)) places up i j d order within)
+  far i j d order within =
+      let sooner = get_or places i d in
+      let later = get_or places j d in
+      not_later_of_not later sooner (λ less.
+      not_less (order_of later sooner) (sorted_far (λ (x y : Frac). is_lt (order_of x y)) (ranks_by order_of_total (λ (x : Frac). x)) places up i j d order within)
+      (sym (int_cmp_is (later.num *ℤ sooner.den) (sooner.num *ℤ later.den) Less less)))
 
   module _ (k : ℕ) (x : Frac) (within : k < length places) (at : get_or places k x ≡ x) where
     here : (d : Frac) → get_or places k d ≡ x

@@ -1,14 +1,16 @@
 -- What spans cover in a cut view, in the words of spans alone: nothing, or what is between two places.
 use Rattle.std.proofs.Common.{◌≡◌, ◌⊎◌, inl, inr, ◌↔◌, zero, suc, ℕ, ◌<◌, List, [], ◌∷◌, get_or, refl, sym, subst, arith}
 use Rattle.std.specs.Prelude.{ℤ, pos, ◌<ℤ◌}
+use Rattle.std.proofs.lemmas.List.Elements.{All-head}
 use Rattle.exact_frac.specs.declared.Frac.{Frac}
 use Rattle.lattice.specs.Cuts.{Plane, IsBeyond}
 use Rattle.geometry.specs.Faces.{share_point}
 use Rattle.geometry.specs.Parts.{Part, Edge}
-use Rattle.span_slow.specs.declared.interval.Interval.{Interval}
+use Rattle.intervals.specs.declared.interval.Interval.{Interval}
 use Rattle.span_slow.specs.declared.span.Span.{Span}
 use Rattle.geometry.specs.Places.{IsPlace, IsBetween}
 use Rattle.span_slow.specs.Spans.{Follow}
+use Rattle.span_slow.specs.Hidden.{IsStretch}
 use Rattle.span_slow.specs.CutHidden.{IsPartBeyond}
 use Rattle.span_slow.specs.CutSpans.{CoverPart, CoverBeyond}
 
@@ -30,20 +32,20 @@ module _ (c : Plane) {s : Part} (e : Edge s) (spans : List Span) where
   pub cover_cases : CoverBeyond c e spans → CoverNothing ⊎ CoverBetween
   cover_cases (xs, part, cover) = by xs part cover
     where
-      alone : (k : ℕ) (v x : Interval) → k < 1 → get_or (v ∷ []) k x ≡ x → v ≡ x
+      alone : (k : ℕ) (v x : Interval Frac) → k < 1 → get_or (v ∷ []) k x ≡ x → v ≡ x
       alone zero v x below is = is
       alone (suc k) v x below is = absurd (omega arith)
 
-      by : (xs : List Interval) → IsPartBeyond c e xs → CoverPart xs spans → CoverNothing ⊎ CoverBetween
+      by : (xs : List (Interval Frac)) → IsPartBeyond c e xs → CoverPart xs spans → CoverNothing ⊎ CoverBetween
       by [] part none = inl (record { none = none; before = λ n m up down beyond. let (x, (k, below, is), between) = (part.exactly n m up down).0 beyond in omega (arith, below) })
       by (v ∷ []) part follow = inr (record {
         from = v.from;
         to = v.to;
-        from_place = v.from_place;
-        to_place = v.to_place;
+        from_place = (All-head IsStretch v [] part.stretches).from_place;
+        to_place = (All-head IsStretch v [] part.stretches).to_place;
         follow = follow;
         exactly = λ n m up down. (
-          λ beyond. let (x, (k, below, is), between) = (part.exactly n m up down).0 beyond in subst (λ (y : Interval). IsBetween y.from y.to n m) (sym (alone k v x below is)) between,
+          λ beyond. let (x, (k, below, is), between) = (part.exactly n m up down).0 beyond in subst (λ (y : Interval Frac). IsBetween y.from y.to n m) (sym (alone k v x below is)) between,
           λ between. (part.exactly n m up down).1 (v, (0, omega arith, refl), between),
         );
       })

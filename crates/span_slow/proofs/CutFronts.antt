@@ -17,8 +17,9 @@ use Rattle.hiding.proofs.Values.{side-share}
 use Rattle.hiding.proofs.CutFronts.{hides-in-cut, under-share, not-at-border}
 use Rattle.hiding.proofs.CutPlanes.{ordinary-in-plain}
 use Rattle.hiding.proofs.FrontEnds.{not-at-start, not-at-finish}
-use Rattle.span_slow.specs.declared.interval.Interval.{Interval}
-use Rattle.span_slow.specs.declared.interval.Linear.{Linear}
+use Rattle.exact_frac.specs.declared.Frac.{Frac}
+use Rattle.intervals.specs.declared.interval.Interval.{Interval}
+use Rattle.span_slow.specs.declared.linear.Linear.{Linear}
 use Rattle.geometry.specs.Places.{IsEarlier}
 use Rattle.span_slow.specs.Hidden.{AreNonnegative, IsWhereNonnegative, AreWhere}
 use Rattle.span_slow.specs.CutHidden.{IsOrdinaryBeyond, AreWhereBeyond}
@@ -104,6 +105,6 @@ module _ (c : Plane) (s : Part) (sound : IsSound s) (in_range : All (IsBelow (le
               )),
             )
 
-        pub cut_front_where : (x : Interval) → IsWhereNonnegative (under ∷ plain) x → (o : Option Interval) → IfSome o (λ y. (y ≡ x) × IsEarlier x.from x.to) → IfNone o (¬ IsEarlier x.from x.to)
+        pub cut_front_where : (x : Interval Frac) → IsWhereNonnegative (under ∷ plain) x → (o : Option (Interval Frac)) → IfSome o (λ y. (y ≡ x) × IsEarlier x.from x.to) → IfNone o (¬ IsEarlier x.from x.to)
             → AreWhereBeyond c e (FaceHidesInCut c f) (option_to_list o)
         cut_front_where x least o kept dropped = where_proper (IsOrdinaryBeyond c s) e (FaceHidesInCut c f) (under ∷ plain) cut_inside cut_end_apart x least o kept dropped

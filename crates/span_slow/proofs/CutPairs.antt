@@ -20,8 +20,9 @@ use Rattle.hiding.proofs.CutPlanes.{square-one, cut-somewhere, ordinary-in-plain
 use Rattle.hiding.proofs.CutSides.{reach-share, side-reaches, side-reaches-turned, not-at-reach}
 use Rattle.hiding.proofs.FrontEnds.{not-at-start, not-at-finish}
 use Rattle.hiding.proofs.SideEnds.{one-sight, in-line-over, not-at-ends}
-use Rattle.span_slow.specs.declared.interval.Interval.{Interval}
-use Rattle.span_slow.specs.declared.interval.Linear.{Linear}
+use Rattle.exact_frac.specs.declared.Frac.{Frac}
+use Rattle.intervals.specs.declared.interval.Interval.{Interval}
+use Rattle.span_slow.specs.declared.linear.Linear.{Linear}
 use Rattle.geometry.specs.Places.{IsEarlier}
 use Rattle.span_slow.specs.Hidden.{AreNonnegative, IsWhereNonnegative, AreWhere}
 use Rattle.span_slow.specs.CutHidden.{IsOrdinaryBeyond, AreWhereBeyond, AreAddedBeyond, PairHides, SomeSideReaches}
@@ -64,7 +65,7 @@ reaches_renamed c k l x y p (inr (a, b)) = (
   (λ h. reaches_turned c l k p (subst (λ (i : Corner). WideSideReaches c i k p) a (subst (λ (j : Corner). WideSideReaches c x j p) b h))),
 )
 
-pub pair_renamed : (c : Plane) {s : Part} (e : Edge s) (k l m n x y u v : Corner) → AreTwoEnds k l x y → AreTwoEnds m n u v → (xs : List Interval)
+pub pair_renamed : (c : Plane) {s : Part} (e : Edge s) (k l m n x y u v : Corner) → AreTwoEnds k l x y → AreTwoEnds m n u v → (xs : List (Interval Frac))
     → AreWhereBeyond c e (PairHides c x y u v) xs → AreWhereBeyond c e (PairHides c k l m n) xs
 pair_renamed c {s} e k l m n x y u v first second xs h =
     where_alike (IsOrdinaryBeyond c s) e (PairHides c x y u v) (PairHides c k l m n) xs (λ i j hi hj ordinary.
@@ -196,13 +197,13 @@ module _ (c : Plane) (axis : Triple) (s : Part) (sound : IsSound s) (in_range : 
               )),
             )
 
-        pub pair_where : (x : Interval) → IsWhereNonnegative (reach ∷ second_past ∷ second_short ∷ plain) x → (o : Option Interval) → IfSome o (λ y. (y ≡ x) × IsEarlier x.from x.to) → IfNone o (¬ IsEarlier x.from x.to)
+        pub pair_where : (x : Interval Frac) → IsWhereNonnegative (reach ∷ second_past ∷ second_short ∷ plain) x → (o : Option (Interval Frac)) → IfSome o (λ y. (y ≡ x) × IsEarlier x.from x.to) → IfNone o (¬ IsEarlier x.from x.to)
             → AreWhereBeyond c e (PairHides c k l m n) (option_to_list o)
         pair_where x least o kept dropped = where_proper (IsOrdinaryBeyond c s) e (PairHides c k l m n) (reach ∷ second_past ∷ second_short ∷ plain) pair_inside pair_end_apart x least o kept dropped
 
 -- ---- the pairs of a face
 -- one side with each of the three
-pub pairs_added : (c : Plane) {s : Part} (e : Edge s) (k l i j g : Corner) (old first second new : List Interval)
+pub pairs_added : (c : Plane) {s : Part} (e : Edge s) (k l i j g : Corner) (old first second new : List (Interval Frac))
     → AreAddedBeyond c e (PairHides c k l i j) old first → AreAddedBeyond c e (PairHides c k l j g) first second → AreAddedBeyond c e (PairHides c k l g i) second new
     → AreAddedBeyond c e (λ p. WideSideHides (toward_of c) k l p × SomeSideReaches c i j g p) old new
 pairs_added c {s} e k l i j g old first second new x y z =
@@ -248,7 +249,7 @@ module _ (c : Plane) {s : Part} (closed : IsClosed s) (e : Edge s) (f : Face s) 
       back (inr (inl h)) r = inl (inr (h, r))
       back (inr (inr h)) r = inr (h, r)
 
-  pub edge_on_added : (old first second new : List Interval) → AreAddedBeyond c e (WithSide i j) old first → AreAddedBeyond c e (WithSide j g) first second → AreAddedBeyond c e (WithSide g i) second new
+  pub edge_on_added : (old first second new : List (Interval Frac)) → AreAddedBeyond c e (WithSide i j) old first → AreAddedBeyond c e (WithSide j g) first second → AreAddedBeyond c e (WithSide g i) second new
       → AreAddedBeyond c e (FaceHidesInCut c f) old new
   edge_on_added old first second new x y z =
       added_alike (IsOrdinaryBeyond c s) e (λ p. (WithSide i j p ⊎ WithSide j g p) ⊎ WithSide g i p) (FaceHidesInCut c f) old new

@@ -14,10 +14,10 @@ use Rattle.hiding.specs.CutValues.{below_of}
 use Rattle.hiding.proofs.CutPlanes.{below-beyond, below-on, corner-not-level, below-share, ordinary-in-plain}
 use Rattle.hiding.proofs.FrontEnds.{not-at-start, not-at-finish}
 use Rattle.hiding.proofs.SidePoints.{share-of-edge}
-use Rattle.span_slow.specs.declared.interval.Interval.{Interval}
-use Rattle.span_slow.specs.declared.interval.Linear.{Linear}
+use Rattle.intervals.specs.declared.interval.Interval.{Interval}
+use Rattle.span_slow.specs.declared.linear.Linear.{Linear}
 use Rattle.geometry.specs.Places.{point_at, IsPlace, IsEarlier, IsBetween, IsFromTo}
-use Rattle.span_slow.specs.Hidden.{IsRootOrEnd, IsWhereNonnegative}
+use Rattle.span_slow.specs.Hidden.{IsRootOrEnd, IsWhereNonnegative, IsStretch}
 use Rattle.span_slow.specs.CutHidden.{IsPartEnd, IsPartBeyond}
 use Rattle.span_slow.proofs.LinearValues.{level_value}
 use Rattle.geometry.proofs.PlaceFractions.{weaker, no_less, strict, positive_of, earlier_between}
@@ -76,7 +76,7 @@ module _ (c : Plane) {s : Part} (e : Edge s) (v : Linear) (tells : Tells e v (be
   at : (n m : ℤ) → value_at v.start v.end n m ≡ below_of c (share_point e.a e.b n m)
   at n m = told e v (below_of c) n m tells (below-share c e.a e.b n m)
 
-  module _ (x : Interval) (least : IsWhereNonnegative (v ∷ []) x) where
+  module _ (x : Interval Frac) (least : IsWhereNonnegative (v ∷ []) x) where
     value_least : (n m : ℤ) → pos 0 <ℤ m → pos 0 ≤ℤ n → n ≤ℤ m → IsFromTo x.from x.to n m → pos 0 ≤ℤ value_at v.start v.end n m
     value_least n m positive first last within = ((least.exactly n m positive first last).0 within).0
 
@@ -102,8 +102,8 @@ module _ (c : Plane) {s : Part} (e : Edge s) (v : Linear) (tells : Tells e v (be
         let positive = positive_of n m hn hm in
         (below-beyond c (share_point e.a e.b n m)).1 (subst (λ (z : ℤ). pos 0 <ℤ z) (at n m) (strict (value_least n m positive (weaker hn) (weaker hm) (weaker after, weaker before)) (λ zero.
         let same = level_all v.start v.end n m x.from.num x.from.den x.to.num x.to.den positive after before
-        (value_least x.from.num x.from.den x.from.positive x.from_place.least x.from_place.most (no_less refl, weaker earlier))
-        (value_least x.to.num x.to.den x.to.positive x.to_place.least x.to_place.most (weaker earlier, no_less refl)) (sym zero) in
+        (value_least x.from.num x.from.den x.from.positive least.from_place.least least.from_place.most (no_less refl, weaker earlier))
+        (value_least x.to.num x.to.den x.to.positive least.to_place.least least.to_place.most (weaker earlier, no_less refl)) (sym zero) in
         corner-not-level c e.a (sym tells.0 ∙ zero_of_mul m v.start positive (sym (level_value v.start v.end n m same) ∙ sym zero)))))
 
     part_end : (r : Frac) → IsRootOrEnd (v ∷ []) r → IsPartEnd c e r
@@ -114,14 +114,14 @@ module _ (c : Plane) {s : Part} (e : Edge s) (v : Linear) (tells : Tells e v (be
 
     part_one : IsEarlier x.from x.to → IsPartBeyond c e (x ∷ [])
     part_one earlier = record {
-      ordered = all_one (λ x. IsEarlier x.from x.to) x earlier;
+      stretches = all_one IsStretch x (record { from_place = least.from_place; to_place = least.to_place; earlier = earlier });
       ends = all_one (λ x. IsPartEnd c e x.from × IsPartEnd c e x.to) x (part_end x.from least.from_end, part_end x.to least.to_end);
       exactly = λ n m hn hm. ((λ beyond. (within_one x n m).0 (there n m hn hm beyond)), (λ within. back earlier n m hn hm ((within_one x n m).1 within)));
     }
 
     part_none : ¬ IsEarlier x.from x.to → IsPartBeyond c e []
     part_none later = record {
-      ordered = λ k y h. absurd (omega arith);
+      stretches = λ k y h. absurd (omega arith);
       ends = λ k y h. absurd (omega arith);
       exactly = λ n m hn hm. (
         (λ beyond.
@@ -131,8 +131,8 @@ module _ (c : Plane) {s : Part} (e : Edge s) (v : Linear) (tells : Tells e v (be
       );
     }
 
-    pub part_is : (o : Option Interval) → IfSome o (λ y. (y ≡ x) × IsEarlier x.from x.to) → IfNone o (¬ IsEarlier x.from x.to) → IsPartBeyond c e (option_to_list o)
-    part_is (Some y) (same, earlier) dropped = subst (λ (z : Interval). IsPartBeyond c e (z ∷ [])) (sym same) (part_one earlier)
+    pub part_is : (o : Option (Interval Frac)) → IfSome o (λ y. (y ≡ x) × IsEarlier x.from x.to) → IfNone o (¬ IsEarlier x.from x.to) → IsPartBeyond c e (option_to_list o)
+    part_is (Some y) (same, earlier) dropped = subst (λ (z : Interval Frac). IsPartBeyond c e (z ∷ [])) (sym same) (part_one earlier)
     part_is None kept later = part_none later
 
 -- no end of the part is at an ordinary point

@@ -10,10 +10,10 @@ use Rattle.geometry.specs.Parts.{Part, Edge}
 use Rattle.geometry.specs.Cuts.{IsHiddenInCut, IsOrdinaryInCut}
 use Rattle.geometry.proofs.BorderSteps.{ordinary_along_cut}
 use Rattle.geometry.proofs.Shares.{one_place}
-use Rattle.span_slow.specs.declared.interval.Interval.{Interval}
+use Rattle.intervals.specs.declared.interval.Interval.{Interval}
 use Rattle.span_slow.specs.declared.span.Span.{Span}
 use Rattle.geometry.specs.Places.{point_at, IsPlace, IsSame, IsBetween, HasNoEndAt}
-use Rattle.span_slow.specs.Hidden.{IsAtEnd, IsIntervalEnd, TellsWithin, AreSpansOf}
+use Rattle.span_slow.specs.Hidden.{IsStretch, IsAtEnd, IsIntervalEnd, TellsWithin, AreSpansOf}
 use Rattle.span_slow.specs.CutHidden.{IsPartEnd, IsPartBeyond, IsOrdinaryBeyond, AreWhereBeyond}
 use Rattle.span_slow.specs.CutSpans.{IsAnswerInCut, AreCutSpans}
 use Rattle.span_slow.specs.Steps.{IsClippedEnd, IsClippedSpan, AreClipped}
@@ -36,18 +36,21 @@ no_spans c {s} e none = record {
   alternate = tt;
 }
 
-module _ (c : Plane) (s : Part) (e : Edge s) (part : Interval) (beyond : IsPartBeyond c e (part ∷ [])) where
+module _ (c : Plane) (s : Part) (e : Edge s) (part : Interval Frac) (beyond : IsPartBeyond c e (part ∷ [])) where
+  stretch : IsStretch part
+  stretch = All-head IsStretch part [] beyond.stretches
+
   -- what is strictly within the part is beyond the plane
   inside : (n m : ℤ) → pos 0 <ℤ m → IsBetween part.from part.to n m → IsBeyond c (share_point e.a e.b n m)
   inside n m positive between =
-      (beyond.exactly n m (after_start part.from.num part.from.den n m part.from_place.least part.from.positive positive between.0)
-      (before_finish part.to.num part.to.den n m part.to_place.most part.to.positive positive between.1)).1 ((within_one part n m).0 between)
+      (beyond.exactly n m (after_start part.from.num part.from.den n m stretch.from_place.least part.from.positive positive between.0)
+      (before_finish part.to.num part.to.den n m stretch.to_place.most part.to.positive positive between.1)).1 ((within_one part n m).0 between)
 
   part_ends : IsPartEnd c e part.from × IsPartEnd c e part.to
-  part_ends = All-head (λ (x : Interval). IsPartEnd c e x.from × IsPartEnd c e x.to) part [] beyond.ends
+  part_ends = All-head (λ (x : Interval Frac). IsPartEnd c e x.from × IsPartEnd c e x.to) part [] beyond.ends
 
-  module _ (xs : List Interval) (hidden : AreWhereBeyond c e (IsHiddenInCut c s) xs) where
-    ends_apart : (x : Interval) → Contains xs x → HasNoEndAt (IsOrdinaryBeyond c s) e x.from x.to
+  module _ (xs : List (Interval Frac)) (hidden : AreWhereBeyond c e (IsHiddenInCut c s) xs) where
+    ends_apart : (x : Interval Frac) → Contains xs x → HasNoEndAt (IsOrdinaryBeyond c s) e x.from x.to
     ends_apart x listed = All-contains (λ x. HasNoEndAt (IsOrdinaryBeyond c s) e x.from x.to) xs x hidden.ends listed
 
     -- an end of an interval strictly within the part is not at an ordinary point
@@ -74,8 +77,8 @@ module _ (c : Plane) (s : Part) (e : Edge s) (part : Interval) (beyond : IsPartB
       known = All-contains (λ (x : Span). IsIntervalEnd xs x.from × IsIntervalEnd xs x.to) spans x told.ends listed
 
       end_apart : (r : Frac) → IsPlace r → IsClippedEnd part x r → ¬ IsOrdinaryInCut c s (point_at e r)
-      end_apart r place (inl (inl same)) = λ ordinary. part_end_apart c s e part.from part.from_place part_ends.0 (at_same (IsOrdinaryInCut c s) e r part.from same ordinary)
-      end_apart r place (inl (inr same)) = λ ordinary. part_end_apart c s e part.to part.to_place part_ends.1 (at_same (IsOrdinaryInCut c s) e r part.to same ordinary)
+      end_apart r place (inl (inl same)) = λ ordinary. part_end_apart c s e part.from stretch.from_place part_ends.0 (at_same (IsOrdinaryInCut c s) e r part.from same ordinary)
+      end_apart r place (inl (inr same)) = λ ordinary. part_end_apart c s e part.to stretch.to_place part_ends.1 (at_same (IsOrdinaryInCut c s) e r part.to same ordinary)
       end_apart r place (inr (between, inl same)) = known_apart r place between (same_known xs r x.from same known.0)
       end_apart r place (inr (between, inr same)) = known_apart r place between (same_known xs r x.to same known.1)
 

@@ -9,7 +9,8 @@ use Rattle.geometry.specs.Faces.{FaceHides, IsFlat, facing_of}
 use Rattle.geometry.specs.Parts.{Part, Face, Edge, IsClosed}
 use Rattle.geometry.specs.Views.{IsOrdinary}
 use Rattle.hiding.specs.Values.{WideSideHides, SideHides}
-use Rattle.span_slow.specs.declared.interval.Interval.{Interval}
+use Rattle.exact_frac.specs.declared.Frac.{Frac}
+use Rattle.intervals.specs.declared.interval.Interval.{Interval}
 use Rattle.span_slow.specs.Hidden.{AreWhere}
 use Rattle.hiding.proofs.Values.{facing-turned}
 use Rattle.hiding.proofs.Hiding.{wide-side-hides, face-hides}
@@ -50,7 +51,7 @@ module _ (d : Triple) (somewhere : ¬ IsZero d) {s : Part} (closed : IsClosed s)
       some (inr (inl h)) = inr (inl h.1)
       some (inr (inr h)) = inr (inr h.1)
 
-  pub edge_on_where : (xs ys zs : List Interval) → AreWhere d e (WideSideHides d a b) xs → AreWhere d e (WideSideHides d b c) ys → AreWhere d e (WideSideHides d c a) zs
+  pub edge_on_where : (xs ys zs : List (Interval Frac)) → AreWhere d e (WideSideHides d a b) xs → AreWhere d e (WideSideHides d b c) ys → AreWhere d e (WideSideHides d c a) zs
       → AreWhere d e (FaceHides d f.a f.b f.c) (xs ++ (ys ++ zs))
   edge_on_where xs ys zs x y z =
       where_alike (IsOrdinary d s) e BySide (FaceHides d f.a f.b f.c) (xs ++ (ys ++ zs)) (λ n m hn hm ordinary. by_side _ (positive_of n m hn hm))

@@ -12,8 +12,9 @@ use Rattle.geometry.specs.Parts.{Part, Face, Edge}
 use Rattle.geometry.specs.Views.{IsOrdinary}
 use Rattle.geometry.specs.Sound.{IsSound}
 use Rattle.hiding.specs.Values.{value_at, side_of, depth_of, IsBehind, AreCornersOf}
-use Rattle.span_slow.specs.declared.interval.Interval.{Interval}
-use Rattle.span_slow.specs.declared.interval.Linear.{Linear}
+use Rattle.exact_frac.specs.declared.Frac.{Frac}
+use Rattle.intervals.specs.declared.interval.Interval.{Interval}
+use Rattle.span_slow.specs.declared.linear.Linear.{Linear}
 use Rattle.geometry.specs.Places.{IsEarlier}
 use Rattle.span_slow.specs.Hidden.{AreNonnegative, IsWhereNonnegative, AreWhere}
 use Rattle.hiding.proofs.Values.{side-share, depth-share}
@@ -134,6 +135,6 @@ module _ (d : Triple) (s : Part) (sound : IsSound s) (in_range : All (IsBelow (l
                 end_apart n m positive (weaker hn) (weaker hm) (h_ab, (h_bc, (h_ca, (h_depth, u)))) (inr (inr (inr (inr (inr (inl root)))))) ordinary));
           }
 
-      pub front_where : (x : Interval) → IsWhereNonnegative linears x → (o : Option Interval) → IfSome o (λ y. (y ≡ x) × IsEarlier x.from x.to) → IfNone o (¬ IsEarlier x.from x.to)
+      pub front_where : (x : Interval Frac) → IsWhereNonnegative linears x → (o : Option (Interval Frac)) → IfSome o (λ y. (y ≡ x) × IsEarlier x.from x.to) → IfNone o (¬ IsEarlier x.from x.to)
           → AreWhere d e (FaceHides d f.a f.b f.c) (option_to_list o)
       front_where x least o kept dropped = where_proper (IsOrdinary d s) e (FaceHides d f.a f.b f.c) linears inside end_apart x least o kept dropped

@@ -12,7 +12,7 @@ use Rattle.solid_mesh.specs.Solids.{solid_part, edge_halves}
 use Rattle.solid_mesh.specs.declared.solid.Solid.{Solid}
 use Rattle.solid_mesh.proofs.Facts as facts
 use Rattle.section_parity.specs.Crossings.{IsShort, AreCrossings}
-use Rattle.span_slow.specs.declared.interval.Interval.{Interval}
+use Rattle.intervals.specs.declared.interval.Interval.{Interval}
 use Rattle.geometry.specs.Places.{IsPlace}
 use Rattle.span_slow.specs.CutHidden.{IsOrdinaryBeyond, AreWhereBeyond}
 use Rattle.span_slow.specs.Sections.{IsStretchAdded, AreWhereUpTo}
@@ -25,8 +25,14 @@ short_end r place one = record { least = place.least; most = place.most; small =
     small : (n : ℤ) → n ≡ pos 1 → unsigned_abs n ≤ 2 ^ 66
     small n e = omega (arith, ints)
 
+place_of_short : (r : Frac) → IsShort r → IsPlace r
+place_of_short r short = record { least = short.least; most = short.most; small = smaller r.den short.small }
+  where
+    smaller : (n : ℤ) → unsigned_abs n ≤ 2 ^ 66 → unsigned_abs n < 2 ^ 69
+    smaller n h = omega arith
+
 -- the places before number k are not after this one, and the intervals are right up to it
-abbrev pub AreRightUpTo : Plane → Solid → ℕ → List Frac → ℕ → Frac → List Interval → Type 0
+abbrev pub AreRightUpTo : Plane → Solid → ℕ → List Frac → ℕ → Frac → List (Interval Frac) → Type 0
 AreRightUpTo c solid edge places k from xs =
     let s = solid_part solid in
     IsShort from × IsReached places k from × ((e : Edge s) → IsNumbered (edge_halves solid) edge e → AreWhereUpTo (IsOrdinaryBeyond c s) e (IsInSection c s) from xs)
@@ -52,8 +58,8 @@ module _ (c : Plane) (solid : Solid) (edge : ℕ) (there : edge < length (edge_h
     λ e numbered. let s = solid_part solid in up_to_start (IsOrdinaryBeyond c s) e (IsInSection c s) from zero (start_apart c s e from zero),
   )
 
-  module _ (k : ℕ) (from : Frac) (old : List Interval) (right : AreRightUpTo c solid edge places k from old) where
-    pub right_next : (x : Frac) → k < length places → get_or places k x ≡ x → (new : List Interval)
+  module _ (k : ℕ) (from : Frac) (old : List (Interval Frac)) (right : AreRightUpTo c solid edge places k from old) where
+    pub right_next : (x : Frac) → k < length places → get_or places k x ≡ x → (new : List (Interval Frac))
         → ((e : Edge (solid_part solid)) → IsNumbered (edge_halves solid) edge e → IsStretchAdded e (IsInSection c (solid_part solid)) from x old new)
         → AreRightUpTo c solid edge places (k + 1) x new
     right_next x within at new added = (
@@ -63,14 +69,14 @@ module _ (c : Plane) (solid : Solid) (edge : ℕ) (there : edge < length (edge_h
           let s = solid_part solid in
           up_to_next (IsOrdinaryBeyond c s) e (IsInSection c s) from x (not_earlier places up k x within at from right.1) (crossing_apart c s e places (are e numbered) x (k, within, at))
           (alike_between c s e places (are e numbered) from x right.0.least (short_at k x within at).most (neighbours places up k x within at from right.1) (facts.closed solid) (facts.in_range solid))
-          old (right.2 e numbered) new (added e numbered),
+          old (right.2 e numbered) (place_of_short from right.0) (place_of_short x (short_at k x within at)) new (added e numbered),
     )
 
-    pub right_all : length places ≤ k → (to : Frac) → IsShort to → to.num ≡ to.den → (new : List Interval) (e : Edge (solid_part solid)) → IsNumbered (edge_halves solid) edge e
+    pub right_all : length places ≤ k → (to : Frac) → IsShort to → to.num ≡ to.den → (new : List (Interval Frac)) (e : Edge (solid_part solid)) → IsNumbered (edge_halves solid) edge e
         → IsStretchAdded e (IsInSection c (solid_part solid)) from to old new → AreWhereBeyond c e (IsInSection c (solid_part solid)) new
     right_all all to short one new e numbered added =
         let s = solid_part solid in
         up_to_finish (IsOrdinaryBeyond c s) e (IsInSection c s) to one new
         (up_to_next (IsOrdinaryBeyond c s) e (IsInSection c s) from to (not_after_finish from to right.0.most one) (finish_apart c s e to one)
         (alike_between c s e places (are e numbered) from to right.0.least short.most (neighbours_last places k from to all right.1) (facts.closed solid) (facts.in_range solid))
-        old (right.2 e numbered) new added)
+        old (right.2 e numbered) (place_of_short from right.0) (place_of_short to short) new added)

@@ -2,7 +2,6 @@ pub mod Same
 pub mod Lists
 pub mod Clips
 pub mod Within
-pub mod Unions
 pub mod Turns
 pub mod Composed
 pub mod Axes

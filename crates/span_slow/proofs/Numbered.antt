@@ -14,7 +14,8 @@ use Rattle.solid_mesh.specs.Solids.{solid_part}
 use Rattle.solid_mesh.specs.declared.solid.Solid.{Solid}
 use Rattle.solid_mesh.proofs.EdgeLemmas.{same_element, face_at}
 use Rattle.solid_mesh.proofs.Facts.{in_range}
-use Rattle.span_slow.specs.declared.interval.Interval.{Interval}
+use Rattle.exact_frac.specs.declared.Frac.{Frac}
+use Rattle.intervals.specs.declared.interval.Interval.{Interval}
 use Rattle.span_slow.specs.Hidden.{AreWhereAt, AreWhere, AreAddedAt, AreAdded}
 use Rattle.span_slow.proofs.Fronts.{read_corners}
 use Rattle.span_slow.proofs.Where.{where_alike, where_either, where_none}
@@ -60,10 +61,10 @@ module _ (O : Point → Type 0) {s : Part} (e : Edge s) (H : Face s → Point �
   pub holds_none : AreWhereAt O e (HoldsBelow H 0) []
   holds_none = where_none O e (HoldsBelow H 0) (λ n m hn hm ordinary (f, h, hides). omega arith)
 
-  pub holds_next : IsByCorners H → (k : ℕ) (f : Face s) → f.number ≡ k → (old new : List Interval) → AreWhereAt O e (HoldsBelow H k) old → AreAddedAt O e (H f) old new
+  pub holds_next : IsByCorners H → (k : ℕ) (f : Face s) → f.number ≡ k → (old new : List (Interval Frac)) → AreWhereAt O e (HoldsBelow H k) old → AreAddedAt O e (H f) old new
       → AreWhereAt O e (HoldsBelow H (k + 1)) new
   holds_next by_corners k f at old new before more =
-      subst (λ (xs : List Interval). AreWhereAt O e (HoldsBelow H (k + 1)) xs) (sym more.all)
+      subst (λ (xs : List (Interval Frac)). AreWhereAt O e (HoldsBelow H (k + 1)) xs) (sym more.all)
       (where_alike O e (λ p. HoldsBelow H k p ⊎ H f p) (HoldsBelow H (k + 1)) (old ++ more.added) (λ n m hn hm ordinary. (up _, down _))
       (where_either O e (HoldsBelow H k) (H f) old more.added before more.right))
     where
@@ -83,7 +84,7 @@ module _ (O : Point → Type 0) {s : Part} (e : Edge s) (H : Face s → Point �
           by (inl here) = inr (same g p here hides)
           by (inr below) = inl (g, below, hides)
 
-  pub holds_all : (k : ℕ) → length s.triangles ≤ k → (xs : List Interval) → AreWhereAt O e (HoldsBelow H k) xs → AreWhereAt O e (λ p. (f : Face s) × H f p) xs
+  pub holds_all : (k : ℕ) → length s.triangles ≤ k → (xs : List (Interval Frac)) → AreWhereAt O e (HoldsBelow H k) xs → AreWhereAt O e (λ p. (f : Face s) × H f p) xs
   holds_all k all xs h = where_alike O e (HoldsBelow H k) (λ p. (f : Face s) × H f p) xs (λ n m hn hm ordinary. (
     (λ (f, below, hides). (f, hides)),
     (λ (f, hides). let within = slice_get_within s.triangles f.number f.tri f.listed in (f, omega arith, hides)),
@@ -96,9 +97,9 @@ module _ (d : Triple) {s : Part} (e : Edge s) where
   pub below_none : AreWhere d e (HidesBelow d s 0) []
   below_none = holds_none (IsOrdinary d s) e hides
 
-  pub below_next : (k : ℕ) (f : Face s) → f.number ≡ k → (old new : List Interval) → AreWhere d e (HidesBelow d s k) old → AreAdded d e (FaceHides d f.a f.b f.c) old new
+  pub below_next : (k : ℕ) (f : Face s) → f.number ≡ k → (old new : List (Interval Frac)) → AreWhere d e (HidesBelow d s k) old → AreAdded d e (FaceHides d f.a f.b f.c) old new
       → AreWhere d e (HidesBelow d s (k + 1)) new
   below_next = holds_next (IsOrdinary d s) e hides (λ f g p p_a p_b p_c. read_corners d p f.a f.b f.c g.a g.b g.c p_a p_b p_c)
 
-  pub below_all : (k : ℕ) → length s.triangles ≤ k → (xs : List Interval) → AreWhere d e (HidesBelow d s k) xs → AreWhere d e (IsHidden d s) xs
+  pub below_all : (k : ℕ) → length s.triangles ≤ k → (xs : List (Interval Frac)) → AreWhere d e (HidesBelow d s k) xs → AreWhere d e (IsHidden d s) xs
   below_all = holds_all (IsOrdinary d s) e hides

@@ -13,7 +13,8 @@ use Rattle.geometry.specs.Parts.{Part, Face, Edge}
 use Rattle.geometry.specs.Cuts.{over_of, FaceHidesInCut}
 use Rattle.geometry.proofs.Borders.{face_rise, rise_beyond, over_before, over_beyond}
 use Rattle.hiding.proofs.CutPlanes.{ordinary-in-plain}
-use Rattle.span_slow.specs.declared.interval.Interval.{Interval}
+use Rattle.exact_frac.specs.declared.Frac.{Frac}
+use Rattle.intervals.specs.declared.interval.Interval.{Interval}
 use Rattle.span_slow.specs.Hidden.{AreAdded}
 use Rattle.span_slow.specs.CutHidden.{IsOrdinaryBeyond, AreAddedBeyond}
 use Rattle.span_slow.proofs.Where.{where_none, added_one}
@@ -40,7 +41,7 @@ before_all c a b k at_a at_b at_k p (i, j, n, some, is) beyond =
 
 -- so none of its points hides one
 pub nothing_hidden : (c : Plane) {s : Part} (e : Edge s) (f : Face s) (a b k : Corner) → f.a ≡ a → f.b ≡ b → f.c ≡ k
-    → IsBeforePlane c (point_of a) → IsBeforePlane c (point_of b) → IsBeforePlane c (point_of k) → (old : List Interval) → AreAddedBeyond c e (FaceHidesInCut c f) old old
+    → IsBeforePlane c (point_of a) → IsBeforePlane c (point_of b) → IsBeforePlane c (point_of k) → (old : List (Interval Frac)) → AreAddedBeyond c e (FaceHidesInCut c f) old old
 nothing_hidden c {s} e f a b k of_a of_b of_k at_a at_b at_k old =
     added_one (IsOrdinaryBeyond c s) e (FaceHidesInCut c f) old old None
     (where_none (IsOrdinaryBeyond c s) e (FaceHidesInCut c f) (λ n m hn hm ordinary hides.
@@ -85,13 +86,13 @@ beyond_all c a b k at_a at_b at_k p (i, j, n, some, is) =
 
 -- so it hides the same points of an edge beyond the plane as in the plain view
 pub hidden_alike : (c : Plane) {s : Part} (e : Edge s) (f : Face s) (a b k : Corner) → f.a ≡ a → f.b ≡ b → f.c ≡ k
-    → IsBeyond c (point_of a) → IsBeyond c (point_of b) → IsBeyond c (point_of k) → (old new : List Interval)
+    → IsBeyond c (point_of a) → IsBeyond c (point_of b) → IsBeyond c (point_of k) → (old new : List (Interval Frac))
     → AreAdded (toward_of c) e (FaceHides (toward_of c) f.a f.b f.c) old new → AreAddedBeyond c e (FaceHidesInCut c f) old new
 hidden_alike c {s} e f a b k of_a of_b of_k at_a at_b at_k old new h = record {
   added = h.added;
   all = h.all;
   right = record {
-    ordered = h.right.ordered;
+    stretches = h.right.stretches;
     ends = λ j x within. let (first, second) = h.right.ends j x within in ((λ o. first (ordinary-in-plain c s _ o.0)), (λ o. second (ordinary-in-plain c s _ o.0)));
     exactly = λ n m least most ordinary.
         let both = h.right.exactly n m least most (ordinary-in-plain c s (share_point e.a e.b n m) ordinary.0) in

@@ -4,10 +4,10 @@ use Rattle.std.specs.Prelude.{List}
 use Rattle.exact_frac.specs.declared.Frac.{Frac}
 use Rattle.geometry.specs.Places.{IsSame}
 use Rattle.geometry.proofs.SamePlaces.{same_trans}
-use Rattle.span_slow.specs.declared.interval.Interval.{Interval}
+use Rattle.intervals.specs.declared.interval.Interval.{Interval}
 use Rattle.span_slow.specs.Hidden.{IsIntervalEnd}
 
-pub same_known : (xs : List Interval) (a b : Frac) → IsSame a b → IsIntervalEnd xs b → IsIntervalEnd xs a
+pub same_known : (xs : List (Interval Frac)) (a b : Frac) → IsSame a b → IsIntervalEnd xs b → IsIntervalEnd xs a
 same_known xs a b p h = elim h [
   | inl z ↦ inl (p.0 ∙ z)
   | inr k ↦ elim k [

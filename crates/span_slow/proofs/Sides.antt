@@ -11,8 +11,9 @@ use Rattle.geometry.specs.Parts.{Part, Face, Edge}
 use Rattle.geometry.specs.Views.{IsOrdinary}
 use Rattle.geometry.specs.Sound.{IsSound}
 use Rattle.hiding.specs.Values.{value_at, past_of, short_of, behind_of, IsBehindSide, IsAhead, IsInLine, IsSideOf, WideSideHides}
-use Rattle.span_slow.specs.declared.interval.Interval.{Interval}
-use Rattle.span_slow.specs.declared.interval.Linear.{Linear}
+use Rattle.exact_frac.specs.declared.Frac.{Frac}
+use Rattle.intervals.specs.declared.interval.Interval.{Interval}
+use Rattle.span_slow.specs.declared.linear.Linear.{Linear}
 use Rattle.geometry.specs.Places.{IsEarlier}
 use Rattle.span_slow.specs.Hidden.{AreNonnegative, IsWhereNonnegative, AreWhere}
 use Rattle.hiding.proofs.Values.{past-share, short-share, behind-share}
@@ -36,7 +37,7 @@ side_turned f k l (inr (inl (inr (p, q)))) = inr (inl (inl (q, p)))
 side_turned f k l (inr (inr (inl (p, q)))) = inr (inr (inr (q, p)))
 side_turned f k l (inr (inr (inr (p, q)))) = inr (inr (inl (q, p)))
 
-pub where_turned : (d : Triple) {s : Part} (e : Edge s) (k l : Corner) (xs : List Interval) → AreWhere d e (WideSideHides d l k) xs → AreWhere d e (WideSideHides d k l) xs
+pub where_turned : (d : Triple) {s : Part} (e : Edge s) (k l : Corner) (xs : List (Interval Frac)) → AreWhere d e (WideSideHides d l k) xs → AreWhere d e (WideSideHides d k l) xs
 where_turned d {s} e k l xs h = where_alike (IsOrdinary d s) e (WideSideHides d l k) (WideSideHides d k l) xs (λ n m hn hm ordinary. (turned d l k _, turned d k l _)) h
 
 -- ---- the edge's corners
@@ -144,6 +145,6 @@ module _ (d axis : Triple) (somewhere : ¬ IsZero d) (s : Part) (sound : IsSound
                   end_apart n m positive (weaker hn) (weaker hm) (h_past, (h_short, (h_behind, u))) (inr (inr (inr (inr (inl root))))) ordinary));
             }
 
-        pub side_where : (x : Interval) → IsWhereNonnegative linears x → (o : Option Interval) → IfSome o (λ y. (y ≡ x) × IsEarlier x.from x.to) → IfNone o (¬ IsEarlier x.from x.to)
+        pub side_where : (x : Interval Frac) → IsWhereNonnegative linears x → (o : Option (Interval Frac)) → IfSome o (λ y. (y ≡ x) × IsEarlier x.from x.to) → IfNone o (¬ IsEarlier x.from x.to)
             → AreWhere d e (WideSideHides d k l) (option_to_list o)
         side_where x least o kept dropped = where_proper (IsOrdinary d s) e (WideSideHides d k l) linears inside end_apart x least o kept dropped

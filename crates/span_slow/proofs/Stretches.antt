@@ -9,9 +9,9 @@ use Rattle.exact_frac.specs.declared.Frac.{Frac}
 use Rattle.lattice.specs.Points.{Point}
 use Rattle.geometry.specs.Faces.{share_point}
 use Rattle.geometry.specs.Parts.{Part, Edge}
-use Rattle.span_slow.specs.declared.interval.Interval.{Interval}
-use Rattle.geometry.specs.Places.{IsEarlier, IsSame, IsBetween, HasNoEndAt}
-use Rattle.span_slow.specs.Hidden.{IsWithinAny, AreWhereAt}
+use Rattle.intervals.specs.declared.interval.Interval.{Interval}
+use Rattle.geometry.specs.Places.{IsPlace, IsEarlier, IsSame, IsBetween, HasNoEndAt}
+use Rattle.span_slow.specs.Hidden.{IsWithinAny, IsStretch, AreWhereAt}
 use Rattle.span_slow.specs.Sections.{mediant_point, IsKept, IsStretchAdded, IsApartFrom, AreWhereUpTo}
 use Rattle.geometry.proofs.PlaceFractions.{weaker, no_less, positive_of}
 use Rattle.geometry.proofs.PlaceOrder.{clash, three, less_most, most_most, IsNotLater, between_earlier}
@@ -23,9 +23,9 @@ module _ (O : Point → Type 0) {s : Part} (e : Edge s) (P : Point → Type 0) w
   -- nothing is before 0
   pub up_to_start : (to : Frac) → to.num ≡ pos 0 → IsApartFrom O e to → AreWhereUpTo O e P to []
   up_to_start to zero apart = record {
-    ordered = All-nil (λ (x : Interval). IsEarlier x.from x.to);
-    ends = All-nil (λ (x : Interval). HasNoEndAt O e x.from x.to);
-    before = All-nil (λ (x : Interval). IsNotLater x.to to);
+    stretches = All-nil IsStretch;
+    ends = All-nil (λ (x : Interval Frac). HasNoEndAt O e x.from x.to);
+    before = All-nil (λ (x : Interval Frac). IsNotLater x.to to);
     apart = apart;
     exactly = λ n m first last less ordinary. absurd (none (n *ℤ to.den) m (mul_nonneg n to.den (weaker first) (weaker to.positive)) (subst (λ v. (n *ℤ to.den) <ℤ (v *ℤ m)) zero less));
   }
@@ -34,9 +34,9 @@ module _ (O : Point → Type 0) {s : Part} (e : Edge s) (P : Point → Type 0) w
       none x m h k = omega (arith, ints)
 
   -- all is before 1
-  pub up_to_finish : (to : Frac) → to.num ≡ to.den → (xs : List Interval) → AreWhereUpTo O e P to xs → AreWhereAt O e P xs
+  pub up_to_finish : (to : Frac) → to.num ≡ to.den → (xs : List (Interval Frac)) → AreWhereUpTo O e P to xs → AreWhereAt O e P xs
   up_to_finish to one xs h = record {
-    ordered = h.ordered;
+    stretches = h.stretches;
     ends = h.ends;
     exactly = λ n m first last. h.exactly n m first last (subst (λ v. (n *ℤ to.den) <ℤ (v *ℤ m)) (sym one) (less n m to.den last to.positive));
   }
@@ -47,7 +47,7 @@ module _ (O : Point → Type 0) {s : Part} (e : Edge s) (P : Point → Type 0) w
   -- ---- from one place to the next: if P holds at a place between the two, it holds at all of them
   module _ (from to : Frac) (later : IsNotLater from to) (apart : IsApartFrom O e to)
       (alike : IsEarlier from to → (n m : ℤ) → pos 0 <ℤ m → IsBetween from to n m → P (share_point e.a e.b n m) ↔ P (mediant_point e from to))
-      (old : List Interval) (before : AreWhereUpTo O e P from old) where
+      (old : List (Interval Frac)) (before : AreWhereUpTo O e P from old) where
     -- n / m is before both, or strictly between them
     side : (n m : ℤ) → pos 0 <ℤ n → n <ℤ m → O (share_point e.a e.b n m) → (n *ℤ to.den) <ℤ (to.num *ℤ m) → ((n *ℤ from.den) <ℤ (from.num *ℤ m)) ⊎ IsBetween from to n m
     side n m first last here less = ⊎_elim
@@ -59,14 +59,14 @@ module _ (O : Point → Type 0) {s : Part} (e : Edge s) (P : Point → Type 0) w
     not_both n m less between = clash (n *ℤ from.den) (from.num *ℤ m) less (weaker between.0)
 
     old_less : (n m : ℤ) → pos 0 <ℤ m → IsWithinAny old n m → (n *ℤ from.den) <ℤ (from.num *ℤ m)
-    old_less n m up (x, listed, between) = less_most n m x.to.num x.to.den from.num from.den up x.to.positive from.positive between.1 (All-contains (λ (x : Interval). IsNotLater x.to from) old x before.before listed)
+    old_less n m up (x, listed, between) = less_most n m x.to.num x.to.den from.num from.den up x.to.positive from.positive between.1 (All-contains (λ (x : Interval Frac). IsNotLater x.to from) old x before.before listed)
 
     still_before : All (λ x. IsNotLater x.to to) old
     still_before k d h = let x = get_or old k d in most_most x.to.num x.to.den from.num from.den to.num to.den x.to.positive from.positive to.positive (before.before k d h) later
 
     none_kept : ¬ IsKept e P from to → AreWhereUpTo O e P to old
     none_kept not = record {
-      ordered = before.ordered;
+      stretches = before.stretches;
       ends = before.ends;
       before = still_before;
       apart = apart;
@@ -78,14 +78,14 @@ module _ (O : Point → Type 0) {s : Part} (e : Edge s) (P : Point → Type 0) w
           )) (side n m first last here less);
     }
 
-    one_kept : IsKept e P from to → (x : Interval) → IsSame x.from from → IsSame x.to to → AreWhereUpTo O e P to (old ++ x ∷ [])
-    one_kept kept x same_from same_to = record {
-      ordered = All-push (λ (x : Interval). IsEarlier x.from x.to) old x before.ordered (same_earlier from to x.from x.to back_from back_to kept.0);
-      ends = All-push (λ (x : Interval). HasNoEndAt O e x.from x.to) old x before.ends (
-        before.apart x.from.num x.from.den x.from.positive x.from_place.least x.from_place.most (same_value x.from from x.from.num x.from.den same_from refl),
-        apart x.to.num x.to.den x.to.positive x.to_place.least x.to_place.most at_to,
+    one_kept : IsKept e P from to → (x : Interval Frac) → IsSame x.from from → IsSame x.to to → IsPlace x.from × IsPlace x.to → AreWhereUpTo O e P to (old ++ x ∷ [])
+    one_kept kept x same_from same_to places = record {
+      stretches = All-push IsStretch old x before.stretches (record { from_place = places.0; to_place = places.1; earlier = same_earlier from to x.from x.to back_from back_to kept.0 });
+      ends = All-push (λ (x : Interval Frac). HasNoEndAt O e x.from x.to) old x before.ends (
+        before.apart x.from.num x.from.den x.from.positive places.0.least places.0.most (same_value x.from from x.from.num x.from.den same_from refl),
+        apart x.to.num x.to.den x.to.positive places.1.least places.1.most at_to,
       );
-      before = All-push (λ (x : Interval). IsNotLater x.to to) old x still_before (no_less at_to);
+      before = All-push (λ (x : Interval Frac). IsNotLater x.to to) old x still_before (no_less at_to);
       apart = apart;
       exactly = λ n m first last less here. ⊎_elim (λ l.
           let known = before.exactly n m first last l here in (
@@ -106,7 +106,7 @@ module _ (O : Point → Type 0) {s : Part} (e : Edge s) (P : Point → Type 0) w
         at_to : x.to.num *ℤ to.den ≡ to.num *ℤ x.to.den
         at_to = same_value x.to to x.to.num x.to.den same_to refl
 
-    pub up_to_next : (new : List Interval) → IsStretchAdded e P from to old new → AreWhereUpTo O e P to new
-    up_to_next new added = ⊎_elim
-        (λ h. subst (λ xs. AreWhereUpTo O e P to xs) (sym h.1.3) (one_kept h.0 h.1.0 h.1.1 h.1.2))
+    pub up_to_next : IsPlace from → IsPlace to → (new : List (Interval Frac)) → IsStretchAdded e P from to old new → AreWhereUpTo O e P to new
+    up_to_next from_place to_place new added = ⊎_elim
+        (λ h. subst (λ xs. AreWhereUpTo O e P to xs) (sym h.1) (one_kept h.0 (record { from = from; to = to }) (refl, refl) (refl, refl) (from_place, to_place)))
         (λ h. subst (λ xs. AreWhereUpTo O e P to xs) (sym h.1) (none_kept h.0)) added

@@ -12,7 +12,7 @@ use Rattle.geometry.specs.Views.{IsHidden, IsOrdinary}
 use Rattle.solid_mesh.specs.Solids.{HasNumbers}
 use Rattle.solid_mesh.specs.declared.solid.Edge.{Edge}
 use Rattle.geometry.proofs.Listed.{same_element}
-use Rattle.span_slow.specs.declared.interval.Interval.{Interval}
+use Rattle.intervals.specs.declared.interval.Interval.{Interval}
 use Rattle.span_slow.specs.declared.span.Span.{Span}
 use Rattle.geometry.specs.Places.{point_at, IsPlace, IsSame, HasNoOrdinaryEnd}
 use Rattle.span_slow.specs.Spans.{IsAnswer, AreSpans}
@@ -30,9 +30,9 @@ read_ends s e given a b h at_a at_b = (same_element s.corners e.m given.a e.a a 
 same_ordinary : (d : Triple) (a b : Corner) (n m k l : ℤ) → pos 0 <ℤ l → n *ℤ l ≡ k *ℤ m → (s : Part) → IsOrdinary d s (share_point a b n m) → IsOrdinary d s (share_point a b k l)
 same_ordinary d a b n m k l positive same s h = ordinary_along d s (share_point a b n m) (share_point a b k l) positive (one_place d a b k l n m (sym same)) h
 
-module _ (d : Triple) (s : Part) (e : parts.Edge s) (xs : List Interval) (hidden : AreWhere d e (IsHidden d s) xs) where
+module _ (d : Triple) (s : Part) (e : parts.Edge s) (xs : List (Interval Frac)) (hidden : AreWhere d e (IsHidden d s) xs) where
   -- no interval ends at an ordinary point
-  ends_apart : (x : Interval) → Contains xs x → HasNoOrdinaryEnd d e x.from x.to
+  ends_apart : (x : Interval Frac) → Contains xs x → HasNoOrdinaryEnd d e x.from x.to
   ends_apart x listed = All-contains (λ x. HasNoOrdinaryEnd d e x.from x.to) xs x hidden.ends listed
 
   same_numbers : (r q : Frac) → IsSame r q → IsOrdinary d s (point_at e r) → IsOrdinary d s (point_at e q)

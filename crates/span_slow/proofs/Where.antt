@@ -9,10 +9,10 @@ use Rattle.lattice.specs.Points.{Point, point_of}
 use Rattle.geometry.specs.Faces.{share_point}
 use Rattle.geometry.specs.Parts.{Part, Edge}
 use Rattle.hiding.specs.Values.{value_at}
-use Rattle.span_slow.specs.declared.interval.Interval.{Interval}
-use Rattle.span_slow.specs.declared.interval.Linear.{Linear}
+use Rattle.intervals.specs.declared.interval.Interval.{Interval}
+use Rattle.span_slow.specs.declared.linear.Linear.{Linear}
 use Rattle.geometry.specs.Places.{IsPlace, IsEarlier, IsValue, IsBetween, IsFromTo, HasNoEndAt}
-use Rattle.span_slow.specs.Hidden.{AreNonnegative, HasRoot, IsRootOrEnd, IsWhereNonnegative, IsWithinAny, AreWhereAt, AreAddedAt}
+use Rattle.span_slow.specs.Hidden.{AreNonnegative, HasRoot, IsRootOrEnd, IsWhereNonnegative, IsWithinAny, IsStretch, AreWhereAt, AreAddedAt}
 use Rattle.span_slow.proofs.LinearValues.{same_root}
 use Rattle.geometry.proofs.PlaceFractions.{weaker, no_less, strict, positive_of, value_at_start, value_at_finish, earlier_between}
 
@@ -20,27 +20,27 @@ use Rattle.geometry.proofs.PlaceFractions.{weaker, no_less, strict, positive_of,
 pub within_none : (n m : ℤ) → ¬ IsWithinAny [] n m
 within_none n m (x, (k, h, is), between) = omega arith
 
-pub all_one : (P : Interval → Type 0) (x : Interval) → P x → All P (x ∷ [])
+pub all_one : (P : Interval Frac → Type 0) (x : Interval Frac) → P x → All P (x ∷ [])
 all_one P x h zero y within = h
 all_one P x h (suc k) y within = absurd (omega arith)
 
-pub within_one : (x : Interval) (n m : ℤ) → IsBetween x.from x.to n m ↔ IsWithinAny (x ∷ []) n m
+pub within_one : (x : Interval Frac) (n m : ℤ) → IsBetween x.from x.to n m ↔ IsWithinAny (x ∷ []) n m
 within_one x n m = (
   (λ h. (x, (0, omega arith, refl), h)),
   (λ (y, listed, h). only y listed h),
 )
   where
-    only : (y : Interval) → Contains (x ∷ []) y → IsBetween y.from y.to n m → IsBetween x.from x.to n m
-    only y (zero, h, is) between = subst (λ (z : Interval). IsBetween z.from z.to n m) (sym is) between
+    only : (y : Interval Frac) → Contains (x ∷ []) y → IsBetween y.from y.to n m → IsBetween x.from x.to n m
+    only y (zero, h, is) between = subst (λ (z : Interval Frac). IsBetween z.from z.to n m) (sym is) between
     only y (suc k, h, is) between = absurd (omega arith)
 
-within_either : (xs ys : List Interval) (n m : ℤ) → IsWithinAny (xs ++ ys) n m ↔ (IsWithinAny xs n m ⊎ IsWithinAny ys n m)
+within_either : (xs ys : List (Interval Frac)) (n m : ℤ) → IsWithinAny (xs ++ ys) n m ↔ (IsWithinAny xs n m ⊎ IsWithinAny ys n m)
 within_either xs ys n m = (
   (λ (x, listed, h). parts x h (Contains-append_cases xs ys x listed)),
   whole,
 )
   where
-    parts : (x : Interval) → IsBetween x.from x.to n m → Contains xs x ⊎ Contains ys x → IsWithinAny xs n m ⊎ IsWithinAny ys n m
+    parts : (x : Interval Frac) → IsBetween x.from x.to n m → Contains xs x ⊎ Contains ys x → IsWithinAny xs n m ⊎ IsWithinAny ys n m
     parts x h (inl listed) = inl (x, listed, h)
     parts x h (inr listed) = inr (x, listed, h)
 
@@ -50,11 +50,11 @@ within_either xs ys n m = (
 
 -- ---- where one thing is so, or another
 module _ (O : Point → Type 0) {s : Part} (e : Edge s) where
-  pub where_alike : (P Q : Point → Type 0) (xs : List Interval)
+  pub where_alike : (P Q : Point → Type 0) (xs : List (Interval Frac))
       → ((n m : ℤ) → pos 0 <ℤ n → n <ℤ m → O (share_point e.a e.b n m) → P (share_point e.a e.b n m) ↔ Q (share_point e.a e.b n m))
       → AreWhereAt O e P xs → AreWhereAt O e Q xs
   where_alike P Q xs alike h = record {
-    ordered = h.ordered;
+    stretches = h.stretches;
     ends = h.ends;
     exactly = λ n m least most ordinary.
         let both = alike n m least most ordinary in
@@ -66,14 +66,14 @@ module _ (O : Point → Type 0) {s : Part} (e : Edge s) where
       → ((n m : ℤ) → pos 0 <ℤ n → n <ℤ m → O (share_point e.a e.b n m) → ¬ P (share_point e.a e.b n m))
       → AreWhereAt O e P []
   where_none P never = record {
-    ordered = λ k x h. absurd (omega arith);
+    stretches = λ k x h. absurd (omega arith);
     ends = λ k x h. absurd (omega arith);
     exactly = λ n m least most ordinary. ((λ p. absurd (never n m least most ordinary p)), (λ within. absurd (within_none n m within)));
   }
 
-  pub where_either : (P Q : Point → Type 0) (xs ys : List Interval) → AreWhereAt O e P xs → AreWhereAt O e Q ys → AreWhereAt O e (λ p. P p ⊎ Q p) (xs ++ ys)
+  pub where_either : (P Q : Point → Type 0) (xs ys : List (Interval Frac)) → AreWhereAt O e P xs → AreWhereAt O e Q ys → AreWhereAt O e (λ p. P p ⊎ Q p) (xs ++ ys)
   where_either P Q xs ys h k = record {
-    ordered = All-append (λ x. IsEarlier x.from x.to) xs ys h.ordered k.ordered;
+    stretches = All-append IsStretch xs ys h.stretches k.stretches;
     ends = All-append (λ x. HasNoEndAt O e x.from x.to) xs ys h.ends k.ends;
     exactly = λ n m least most ordinary. either n m (h.exactly n m least most ordinary) (k.exactly n m least most ordinary);
   }
@@ -92,17 +92,17 @@ module _ (O : Point → Type 0) {s : Part} (e : Edge s) where
 
 -- ---- intervals that are added one after another
 module _ (O : Point → Type 0) {s : Part} (e : Edge s) where
-  pub added_one : (P : Point → Type 0) (old new : List Interval) (o : Option Interval) → AreWhereAt O e P (option_to_list o) → new ≡ old ++ option_to_list o → AreAddedAt O e P old new
+  pub added_one : (P : Point → Type 0) (old new : List (Interval Frac)) (o : Option (Interval Frac)) → AreWhereAt O e P (option_to_list o) → new ≡ old ++ option_to_list o → AreAddedAt O e P old new
   added_one P old new o right all = record { added = option_to_list o; all = all; right = right }
 
-  pub added_then : (P Q : Point → Type 0) (old mid new : List Interval) → AreAddedAt O e P old mid → AreAddedAt O e Q mid new → AreAddedAt O e (λ p. P p ⊎ Q p) old new
+  pub added_then : (P Q : Point → Type 0) (old mid new : List (Interval Frac)) → AreAddedAt O e P old mid → AreAddedAt O e Q mid new → AreAddedAt O e (λ p. P p ⊎ Q p) old new
   added_then P Q old mid new first second = record {
     added = first.added ++ second.added;
-    all = second.all ∙ ap (λ (xs : List Interval). xs ++ second.added) first.all ∙ append_assoc old first.added second.added;
+    all = second.all ∙ ap (λ (xs : List (Interval Frac)). xs ++ second.added) first.all ∙ append_assoc old first.added second.added;
     right = where_either O e P Q first.added second.added first.right second.right;
   }
 
-  pub added_alike : (P Q : Point → Type 0) (old new : List Interval)
+  pub added_alike : (P Q : Point → Type 0) (old new : List (Interval Frac))
       → ((n m : ℤ) → pos 0 <ℤ n → n <ℤ m → O (share_point e.a e.b n m) → P (share_point e.a e.b n m) ↔ Q (share_point e.a e.b n m))
       → AreAddedAt O e P old new → AreAddedAt O e Q old new
   added_alike P Q old new alike h = record { added = h.added; all = h.all; right = where_alike O e P Q h.added alike h.right }
@@ -142,7 +142,7 @@ cut_at linears r n m same (inr (inr h)) = inr (inr (root_at linears r n m same h
 module _ (O : Point → Type 0) {s : Part} (e : Edge s) (P : Point → Type 0) (linears : List Linear)
     (inside : (n m : ℤ) → pos 0 <ℤ n → n <ℤ m → O (share_point e.a e.b n m) → P (share_point e.a e.b n m) ↔ AreNonnegative linears n m)
     (apart : (n m : ℤ) → pos 0 <ℤ m → pos 0 ≤ℤ n → n ≤ℤ m → AreNonnegative linears n m → IsRootOrEndAt linears n m → ¬ O (share_point e.a e.b n m))
-    (x : Interval) (least : IsWhereNonnegative linears x) where
+    (x : Interval Frac) (least : IsWhereNonnegative linears x) where
   -- so a point of O where P holds is not at an end
   is_between : (n m : ℤ) → pos 0 <ℤ n → n <ℤ m → O (share_point e.a e.b n m) → P (share_point e.a e.b n m) → IsBetween x.from x.to n m
   is_between n m hn hm ordinary p =
@@ -164,8 +164,8 @@ module _ (O : Point → Type 0) {s : Part} (e : Edge s) (P : Point → Type 0) (
 
   where_one : IsEarlier x.from x.to → AreWhereAt O e P (x ∷ [])
   where_one earlier = record {
-    ordered = all_one (λ x. IsEarlier x.from x.to) x earlier;
-    ends = all_one (λ x. HasNoEndAt O e x.from x.to) x (at_end x.from x.from_place least.from_end (no_less refl, weaker earlier), at_end x.to x.to_place least.to_end (weaker earlier, no_less refl));
+    stretches = all_one IsStretch x (record { from_place = least.from_place; to_place = least.to_place; earlier = earlier });
+    ends = all_one (λ x. HasNoEndAt O e x.from x.to) x (at_end x.from least.from_place least.from_end (no_less refl, weaker earlier), at_end x.to least.to_place least.to_end (weaker earlier, no_less refl));
     exactly = λ n m hn hm ordinary.
         ((λ p. (within_one x n m).0 (is_between n m hn hm ordinary p)), (λ within. holds_between n m hn hm ordinary ((within_one x n m).1 within)));
   }
@@ -176,6 +176,6 @@ module _ (O : Point → Type 0) {s : Part} (e : Edge s) (P : Point → Type 0) (
       later (earlier_between x.from.num x.from.den x.to.num x.to.den n m x.from.positive x.to.positive (positive_of n m hn hm) between.0 between.1))
 
   -- kept if it has an inside
-  pub where_proper : (o : Option Interval) → IfSome o (λ y. (y ≡ x) × IsEarlier x.from x.to) → IfNone o (¬ IsEarlier x.from x.to) → AreWhereAt O e P (option_to_list o)
-  where_proper (Some y) (same, earlier) dropped = subst (λ (z : Interval). AreWhereAt O e P (z ∷ [])) (sym same) (where_one earlier)
+  pub where_proper : (o : Option (Interval Frac)) → IfSome o (λ y. (y ≡ x) × IsEarlier x.from x.to) → IfNone o (¬ IsEarlier x.from x.to) → AreWhereAt O e P (option_to_list o)
+  where_proper (Some y) (same, earlier) dropped = subst (λ (z : Interval Frac). AreWhereAt O e P (z ∷ [])) (sym same) (where_one earlier)
   where_proper None kept later = where_no_inside later

@@ -3,11 +3,11 @@ use Rattle.std.proofs.Common.{List, [], ◌∷◌, ◌++◌, sym, subst, ◌⊎�
 use Rattle.std.specs.Prelude.{ℤ}
 use Rattle.std.proofs.lemmas.List.Elements.{Contains-push, Contains-push_cases, Contains-append_left}
 use Rattle.exact_frac.specs.declared.Frac.{Frac}
-use Rattle.span_slow.specs.declared.interval.Interval.{Interval}
+use Rattle.intervals.specs.declared.interval.Interval.{Interval}
 use Rattle.geometry.specs.Places.{IsBetween}
 use Rattle.span_slow.specs.Hidden.{IsWithinAny, IsAtEnd, IsIntervalEnd}
 
-module _ (xs : List Interval) (x : Interval) where
+module _ (xs : List (Interval Frac)) (x : Interval Frac) where
   pub within_old : (n m : ℤ) → IsWithinAny xs n m → IsWithinAny (xs ++ x ∷ []) n m
   within_old n m h = (h.0, Contains-append_left xs (x ∷ []) h.0 h.1, h.2)
 
@@ -15,7 +15,7 @@ module _ (xs : List Interval) (x : Interval) where
   within_new n m h = (x, Contains-push xs x, h)
 
   pub within_cases : (n m : ℤ) → IsWithinAny (xs ++ x ∷ []) n m → IsWithinAny xs n m ⊎ IsBetween x.from x.to n m
-  within_cases n m h = ⊎_elim (λ k. inl (h.0, k, h.2)) (λ e. inr (subst (λ (y : Interval). IsBetween y.from y.to n m) (sym e) h.2)) (Contains-push_cases xs x h.0 h.1)
+  within_cases n m h = ⊎_elim (λ k. inl (h.0, k, h.2)) (λ e. inr (subst (λ (y : Interval Frac). IsBetween y.from y.to n m) (sym e) h.2)) (Contains-push_cases xs x h.0 h.1)
 
   pub at_old_end : (n m : ℤ) → IsAtEnd xs n m → IsAtEnd (xs ++ x ∷ []) n m
   at_old_end n m h = (h.0, Contains-append_left xs (x ∷ []) h.0 h.1, h.2)

@@ -10,9 +10,9 @@ use Rattle.geometry.specs.Parts.{Part, Face, Edge}
 use Rattle.geometry.specs.Cuts.{FaceHidesInCut, IsOrdinaryInCut}
 use Rattle.hiding.specs.Values.{WideSideHides, IsInLine}
 use Rattle.hiding.specs.CutValues.{WideSideReaches}
-use Rattle.span_slow.specs.declared.interval.Interval.{Interval}
-use Rattle.geometry.specs.Places.{point_at, IsEarlier}
-use Rattle.span_slow.specs.Hidden.{IsWithinAny, AreWhereAt, AreAddedAt}
+use Rattle.intervals.specs.declared.interval.Interval.{Interval}
+use Rattle.geometry.specs.Places.{point_at}
+use Rattle.span_slow.specs.Hidden.{IsWithinAny, IsStretch, AreWhereAt, AreAddedAt}
 
 -- ---- the part beyond the plane
 -- 0, 1, or where the edge meets the plane
@@ -20,8 +20,8 @@ abbrev pub IsPartEnd : Plane → {s : Part} → Edge s → Frac → Type 0
 IsPartEnd c e r = (r.num ≡ pos 0) ⊎ (r.num ≡ r.den) ⊎ IsOnPlane c (point_at e r)
 
 -- each inner point of the edge is beyond the plane exactly if it is strictly within an interval
-pub record IsPartBeyond (c : Plane) {s : Part} (e : Edge s) (xs : List Interval) : Type 0 where
-  pub ordered : All (λ x. IsEarlier x.from x.to) xs
+pub record IsPartBeyond (c : Plane) {s : Part} (e : Edge s) (xs : List (Interval Frac)) : Type 0 where
+  pub stretches : All IsStretch xs
   pub ends : All (λ x. IsPartEnd c e x.from × IsPartEnd c e x.to) xs
   pub exactly : (n m : ℤ) → pos 0 <ℤ n → n <ℤ m → IsBeyond c (share_point e.a e.b n m) ↔ IsWithinAny xs n m
 
@@ -30,11 +30,11 @@ abbrev pub IsOrdinaryBeyond : Plane → Part → Point → Type 0
 IsOrdinaryBeyond c s p = IsOrdinaryInCut c s p × IsBeyond c p
 
 -- at each ordinary inner point of the edge beyond the plane P holds exactly if it is strictly within an interval; no interval ends at such a point
-abbrev pub AreWhereBeyond : Plane → {s : Part} → Edge s → (Point → Type 0) → List Interval → Type 0
+abbrev pub AreWhereBeyond : Plane → {s : Part} → Edge s → (Point → Type 0) → List (Interval Frac) → Type 0
 AreWhereBeyond c {s = s} e P xs = AreWhereAt (IsOrdinaryBeyond c s) e P xs
 
 -- the new list is the old one with such intervals
-abbrev pub AreAddedBeyond : Plane → {s : Part} → Edge s → (Point → Type 0) → List Interval → List Interval → Type 0
+abbrev pub AreAddedBeyond : Plane → {s : Part} → Edge s → (Point → Type 0) → List (Interval Frac) → List (Interval Frac) → Type 0
 AreAddedBeyond c {s = s} e P old new = AreAddedAt (IsOrdinaryBeyond c s) e P old new
 
 -- what the plane leaves of some face hides the point

@@ -4,21 +4,22 @@ use Rattle.lattice.specs.Cuts.{Plane}
 use Rattle.geometry.specs.Faces.{share_point}
 use Rattle.geometry.specs.Parts.{Part, Edge}
 use Rattle.geometry.specs.Cuts.{IsHiddenInCut, IsOrdinaryInCut}
-use Rattle.span_slow.specs.declared.interval.Interval.{Interval}
+use Rattle.exact_frac.specs.declared.Frac.{Frac}
+use Rattle.intervals.specs.declared.interval.Interval.{Interval}
 use Rattle.span_slow.specs.declared.span.Span.{Span}
 use Rattle.geometry.specs.Places.{IsBetween, HasNoEndAt}
 use Rattle.span_slow.specs.Spans.{Follow, Alternate}
 use Rattle.span_slow.specs.CutHidden.{IsPartBeyond}
 
 -- the spans follow one another over the part, if there is one
-abbrev pub CoverPart : List Interval → List Span → Type 0
+abbrev pub CoverPart : List (Interval Frac) → List Span → Type 0
 CoverPart [] spans = spans ≡ []
 CoverPart (x ∷ []) spans = Follow x.from spans x.to
 CoverPart (x ∷ y ∷ xs) spans = ⊥
 
 -- over the part of the edge that is beyond the plane
 abbrev pub CoverBeyond : Plane → {s : Part} → Edge s → List Span → Type 0
-CoverBeyond c e spans = (xs : List Interval) × IsPartBeyond c e xs × CoverPart xs spans
+CoverBeyond c e spans = (xs : List (Interval Frac)) × IsPartBeyond c e xs × CoverPart xs spans
 
 -- at each ordinary point strictly within the span, what it tells is so
 abbrev pub IsAnswerInCut : Plane → {s : Part} → Edge s → Span → Type 0

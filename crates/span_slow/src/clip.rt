@@ -1,13 +1,15 @@
 // What of the spans of an edge is within a part of it.
 ghost use Rattle.std.specs.Prelude.{IfOk, OnOk};
-ghost use Rattle.geometry.specs.Places.{IsPlace, IsEarlier};
+ghost use Rattle.geometry.specs.Places.{IsPlace};
+ghost use Rattle.span_slow.specs.Hidden.{IsStretch};
 ghost use Rattle.span_slow.specs.Spans.{CoverEdge, Alternate};
 ghost use Rattle.span_slow.specs.Steps.{AreClipped, IsLaterOf, IsEarlierOf, IsClippedAdded};
 
-use crate::interval::{Interval, is_earlier};
+use crate::alternating::add_span;
+use crate::interval::is_earlier;
 use crate::span::Span;
-use crate::united::add_span;
 use exact_frac::{Frac, OutOfMemory};
+use intervals::Interval;
 use std::alloc::Global;
 
 /// What of the spans is within the part: they follow one another from its first place to its last, by these very numbers.
@@ -15,11 +17,11 @@ use std::alloc::Global;
 pub(crate) fn clipped(
     alloc: Global,
     spans: &[Span],
-    part: &Interval,
+    part: &Interval<Frac>,
 ) -> Result<Vec<Span>, OutOfMemory>
     requires cover { CoverEdge spans.now }
     requires alternate { Alternate spans.now }
-    requires ordered { IsEarlier part.now.from part.now.to }
+    requires stretch { IsStretch part.now }
     ensures { IfOk result (λ clipped. AreClipped part.now spans.now clipped.items) }
 {
     let mut clipped = Vec::new(alloc);
@@ -30,7 +32,12 @@ pub(crate) fn clipped(
 }
 
 /// Adds what of the span is within the part, if that has an inside.
-fn add_clipped(clipped: &mut Vec<Span>, span: &Span, part: &Interval) -> Result<(), OutOfMemory>
+fn add_clipped(
+    clipped: &mut Vec<Span>,
+    span: &Span,
+    part: &Interval<Frac>,
+) -> Result<(), OutOfMemory>
+    requires { IsStretch part.now }
     ensures { OnOk result (IsClippedAdded part.now span.now clipped.old.items clipped.new.items) }
 {
     let from = later(part.from, span.from);

@@ -15,18 +15,20 @@ ghost use Rattle.span_slow.specs.CutHidden.{IsPartBeyond, AreWhereBeyond, AreAdd
 
 use crate::cut_seen::{CutEdge, below, beyond, reach, under};
 use crate::faces::{add, add_face, is_in_line, proper};
-use crate::interval::{Interval, Linear};
+use crate::interval::where_nonnegative;
+use crate::linear::Linear;
 use crate::seen::{SeenEdge, behind, depth, past, short, side};
-use exact_frac::OutOfMemory;
+use exact_frac::{Frac, OutOfMemory};
+use intervals::Interval;
 use lattice::{Corner, Cut, Tri, Vector, view_cross};
 use solid_mesh::Solid;
 use std::alloc::Global;
 
 /// The part of the edge that is beyond the plane, if there is one.
-pub(crate) fn part_beyond(edge: &CutEdge) -> Option<Interval>
+pub(crate) fn part_beyond(edge: &CutEdge) -> Option<Interval<Frac>>
     ensures { (s : Part) → (e : Edge s) → e.a ≡ edge.now.seen.a → e.b ≡ edge.now.seen.b → IsPartBeyond (plane_of edge.now.cut) e (option_to_list result) }
 {
-    proper(Interval::where_nonnegative(&[beyond(edge)]))
+    proper(where_nonnegative(&[beyond(edge)]))
 }
 
 /// The intervals in which what the plane leaves of the faces hides the edge. Goes once over the triangles.
@@ -34,7 +36,7 @@ pub(crate) fn hidden_by_faces(
     alloc: Global,
     solid: &Solid,
     edge: &CutEdge,
-) -> Result<Vec<Interval>, OutOfMemory>
+) -> Result<Vec<Interval<Frac>>, OutOfMemory>
     ensures { (e : Edge (solid_part solid.now)) → e.a ≡ edge.now.seen.a → e.b ≡ edge.now.seen.b →
         IfOk result (λ xs. AreWhereBeyond (plane_of edge.now.cut) e (IsHiddenByFaces (plane_of edge.now.cut) (solid_part solid.now)) xs.items) }
 {
@@ -48,7 +50,7 @@ pub(crate) fn hidden_by_faces(
 /// Adds the intervals in which what the plane leaves of the triangle hides the edge: at most nine, and those of the plain view
 /// where the plane leaves all of it.
 fn add_cut_face(
-    hidden: &mut Vec<Interval>,
+    hidden: &mut Vec<Interval<Frac>>,
     solid: &Solid,
     edge: &CutEdge,
     triangle: u32,
@@ -112,7 +114,7 @@ fn is_corner_before(cut: &Cut, p: &Corner) -> bool
 
 /// Where the edge is hidden by a face whose corners are seen counterclockwise: within its three sides, behind its plane,
 /// and where its point is beyond the plane of the cut.
-fn front_interval(edge: &CutEdge, a: &Corner, b: &Corner, c: &Corner) -> Option<Interval>
+fn front_interval(edge: &CutEdge, a: &Corner, b: &Corner, c: &Corner) -> Option<Interval<Frac>>
     requires { pos 0 <ℤ facing_of (of_dir edge.now.seen.d) a.now b.now c.now }
     ensures { (s : Part) → IsSound s → All (IsBelow (length s.corners)) s.triangles → (e : Edge s) → e.a ≡ edge.now.seen.a → e.b ≡ edge.now.seen.b →
         (f : Face s) → AreCornersOf f a.now b.now c.now →
@@ -126,7 +128,7 @@ fn front_interval(edge: &CutEdge, a: &Corner, b: &Corner, c: &Corner) -> Option<
     if !has_positive_end(under) {
         return None;
     }
-    proper(Interval::where_nonnegative(&[
+    proper(where_nonnegative(&[
         under,
         side(&edge.seen, a, b),
         side(&edge.seen, b, c),
@@ -145,7 +147,7 @@ fn has_positive_end(v: Linear) -> bool
 /// Adds the intervals in which a side of a face that is edge-on hides the edge, and a side of it is beyond the plane. Most
 /// sides hide nothing, and need one look.
 fn add_pairs(
-    hidden: &mut Vec<Interval>,
+    hidden: &mut Vec<Interval<Frac>>,
     edge: &CutEdge,
     k: &Corner,
     l: &Corner,
@@ -179,7 +181,13 @@ fn may_hide(edge: &CutEdge, k: &Corner, l: &Corner) -> bool
 }
 
 /// Where the side from `k` to `l` hides the edge, and the one from `m` to `n` is beyond the plane.
-fn pair_interval(edge: &CutEdge, k: &Corner, l: &Corner, m: &Corner, n: &Corner) -> Option<Interval>
+fn pair_interval(
+    edge: &CutEdge,
+    k: &Corner,
+    l: &Corner,
+    m: &Corner,
+    n: &Corner,
+) -> Option<Interval<Frac>>
     ensures { (s : Part) → IsSound s → All (IsBelow (length s.corners)) s.triangles → (e : Edge s) → e.a ≡ edge.now.seen.a → e.b ≡ edge.now.seen.b →
         (f : Face s) → IsSideOf f k.now l.now → IsSideOf f m.now n.now →
         AreWhereBeyond (plane_of edge.now.cut) e (PairHides (plane_of edge.now.cut) k.now l.now m.now n.now) (option_to_list result) }
@@ -212,7 +220,13 @@ fn forward_side(seen: &SeenEdge, k: &Corner, l: &Corner) -> Option<(Corner, Corn
 }
 
 /// The same as `pair_interval`, of two sides in line with the edge, that go forward as the edge does.
-fn forward_pair(edge: &CutEdge, k: &Corner, l: &Corner, m: &Corner, n: &Corner) -> Option<Interval>
+fn forward_pair(
+    edge: &CutEdge,
+    k: &Corner,
+    l: &Corner,
+    m: &Corner,
+    n: &Corner,
+) -> Option<Interval<Frac>>
     requires first_in_line { IsInLine (of_dir edge.now.seen.d) edge.now.seen.a edge.now.seen.b k.now l.now }
     requires first_forward { pos 0 <ℤ dot (of_vector edge.now.seen.axis) (difference k.now l.now) }
     requires second_in_line { IsInLine (of_dir edge.now.seen.d) edge.now.seen.a edge.now.seen.b m.now n.now }
@@ -225,7 +239,7 @@ fn forward_pair(edge: &CutEdge, k: &Corner, l: &Corner, m: &Corner, n: &Corner) 
     if !has_positive_end(behind) {
         return None;
     }
-    proper(Interval::where_nonnegative(&[
+    proper(where_nonnegative(&[
         reach(edge, m, n),
         past(&edge.seen, m),
         short(&edge.seen, n),

@@ -5,7 +5,7 @@ ghost use Rattle.lattice.specs.Points.{of_dir, of_corner, of_vector, of_normal, 
 ghost use Rattle.lattice.specs.Cuts.{plane_of, unit_of, toward_of, level_of};
 ghost use Rattle.hiding.specs.CutValues.{below_of, under_of, reach_of};
 
-use crate::interval::Linear;
+use crate::linear::Linear;
 use crate::seen::SeenEdge;
 use lattice::{Axis, Corner, Cut, Normal, Vector, cross, det3};
 

@@ -12,9 +12,10 @@ ghost use Rattle.hiding.specs.Values.{side_of, AreCornersOf, IsSideOf, WideSideH
 ghost use Rattle.geometry.specs.Places.{IsEarlier};
 ghost use Rattle.span_slow.specs.Hidden.{AreWhere, AreAdded};
 
-use crate::interval::{Interval, Linear, is_earlier};
+use crate::interval::{is_earlier, where_nonnegative};
 use crate::seen::{SeenEdge, behind, depth, past, short, side};
-use exact_frac::OutOfMemory;
+use exact_frac::{Frac, OutOfMemory};
+use intervals::Interval;
 use lattice::{Corner, Tri, Vector, view_cross};
 use solid_mesh::Solid;
 use std::alloc::Global;
@@ -24,7 +25,7 @@ pub(crate) fn hidden_intervals(
     alloc: Global,
     solid: &Solid,
     seen: &SeenEdge,
-) -> Result<Vec<Interval>, OutOfMemory>
+) -> Result<Vec<Interval<Frac>>, OutOfMemory>
     ensures { (e : Edge (solid_part solid.now)) → e.a ≡ seen.now.a → e.b ≡ seen.now.b →
         IfOk result (λ xs. AreWhere (of_dir seen.now.d) e (IsHidden (of_dir seen.now.d) (solid_part solid.now)) xs.items) }
 {
@@ -37,7 +38,7 @@ pub(crate) fn hidden_intervals(
 
 /// Adds the intervals in which the triangle hides the edge: at most three.
 pub(crate) fn add_face(
-    hidden: &mut Vec<Interval>,
+    hidden: &mut Vec<Interval<Frac>>,
     solid: &Solid,
     seen: &SeenEdge,
     triangle: u32,
@@ -62,7 +63,10 @@ pub(crate) fn add_face(
 }
 
 /// One more interval, if there is one.
-pub(crate) fn add(hidden: &mut Vec<Interval>, x: Option<Interval>) -> Result<(), OutOfMemory>
+pub(crate) fn add(
+    hidden: &mut Vec<Interval<Frac>>,
+    x: Option<Interval<Frac>>,
+) -> Result<(), OutOfMemory>
     ensures { OnOk result (hidden.new.items ≡ hidden.old.items ++ option_to_list x) }
 {
     if let Some(x) = x {
@@ -72,7 +76,7 @@ pub(crate) fn add(hidden: &mut Vec<Interval>, x: Option<Interval>) -> Result<(),
 }
 
 /// Where the edge is hidden by a face whose corners are seen counterclockwise: within its three sides and behind its plane.
-fn front_interval(seen: &SeenEdge, a: &Corner, b: &Corner, c: &Corner) -> Option<Interval>
+fn front_interval(seen: &SeenEdge, a: &Corner, b: &Corner, c: &Corner) -> Option<Interval<Frac>>
     requires { pos 0 <ℤ facing_of (of_dir seen.now.d) a.now b.now c.now }
     ensures { (s : Part) → IsSound s → All (IsBelow (length s.corners)) s.triangles → (e : Edge s) → e.a ≡ seen.now.a → e.b ≡ seen.now.b →
         (f : Face s) → AreCornersOf f a.now b.now c.now →
@@ -82,16 +86,11 @@ fn front_interval(seen: &SeenEdge, a: &Corner, b: &Corner, c: &Corner) -> Option
     if depth.start <= 0 && depth.end <= 0 {
         return None;
     }
-    proper(Interval::where_nonnegative(&[
-        side(seen, a, b),
-        side(seen, b, c),
-        side(seen, c, a),
-        depth,
-    ]))
+    proper(where_nonnegative(&[side(seen, a, b), side(seen, b, c), side(seen, c, a), depth]))
 }
 
 /// Where the edge is hidden by a side of a face that is edge-on.
-fn side_interval(seen: &SeenEdge, k: &Corner, l: &Corner) -> Option<Interval>
+fn side_interval(seen: &SeenEdge, k: &Corner, l: &Corner) -> Option<Interval<Frac>>
     ensures { (s : Part) → IsSound s → All (IsBelow (length s.corners)) s.triangles → (e : Edge s) → e.a ≡ seen.now.a → e.b ≡ seen.now.b →
         (f : Face s) → IsSideOf f k.now l.now →
         AreWhere (of_dir seen.now.d) e (WideSideHides (of_dir seen.now.d) k.now l.now) (option_to_list result) }
@@ -121,7 +120,7 @@ pub(crate) fn is_in_line(seen: &SeenEdge, k: &Corner) -> bool
 }
 
 /// The same, of a side in line with the edge, that goes forward as the edge does.
-fn forward_interval(seen: &SeenEdge, k: &Corner, l: &Corner) -> Option<Interval>
+fn forward_interval(seen: &SeenEdge, k: &Corner, l: &Corner) -> Option<Interval<Frac>>
     requires in_line { IsInLine (of_dir seen.now.d) seen.now.a seen.now.b k.now l.now }
     requires forward { pos 0 <ℤ dot (of_vector seen.now.axis) (difference k.now l.now) }
     ensures { (s : Part) → IsSound s → All (IsBelow (length s.corners)) s.triangles → (e : Edge s) → e.a ≡ seen.now.a → e.b ≡ seen.now.b →
@@ -132,11 +131,11 @@ fn forward_interval(seen: &SeenEdge, k: &Corner, l: &Corner) -> Option<Interval>
     if behind.start <= 0 && behind.end <= 0 {
         return None;
     }
-    proper(Interval::where_nonnegative(&[past(seen, k), short(seen, l), behind]))
+    proper(where_nonnegative(&[past(seen, k), short(seen, l), behind]))
 }
 
 /// The interval, if it has an inside.
-pub(crate) fn proper(x: Interval) -> Option<Interval>
+pub(crate) fn proper(x: Interval<Frac>) -> Option<Interval<Frac>>
     ensures kept { IfSome result (λ y. (y ≡ x) × IsEarlier x.from x.to) }
     ensures dropped { IfNone result (¬ IsEarlier x.from x.to) }
 {

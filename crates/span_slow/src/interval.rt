@@ -1,26 +1,12 @@
 // Where values that are linear along an edge are at least 0.
-ghost use Rattle.std.specs.Prelude.{◌≡◌, ◌<◌, ◌^◌, ◌↔◌, pos, ◌-ℤ◌, ◌<ℤ◌, ◌≤ℤ◌, unsigned_abs, IsTrue};
+ghost use Rattle.std.specs.Prelude.{[], ◌≡◌, ◌↔◌, pos, ◌-ℤ◌, ◌<ℤ◌, ◌≤ℤ◌, IsTrue};
 ghost use Rattle.geometry.specs.Places.{IsPlace, IsEarlier};
+ghost use Rattle.span_slow.specs.Hidden.{IsWhereNonnegative};
+ghost use Rattle.span_slow.specs.Steps.{IsClipped};
 
+use crate::linear::Linear;
 use exact_frac::Frac;
-
-/// A value that is linear along an edge: `start` at its first corner, `end` at its second.
-#[derive(Clone, Copy)]
-pub(crate) struct Linear {
-    pub start: i128,
-    pub end: i128,
-    ghost start_small: { unsigned_abs start < 2 ^ 68 },
-    ghost end_small: { unsigned_abs end < 2 ^ 68 },
-}
-
-/// The places of an edge from one to the other; none where `to` is less than `from`.
-#[derive(Clone, Copy)]
-pub(crate) struct Interval {
-    pub from: Frac,
-    pub to: Frac,
-    ghost from_place: { IsPlace from },
-    ghost to_place: { IsPlace to },
-}
+use intervals::Interval;
 
 /// The first place is less than the second.
 pub(crate) fn is_earlier(a: Frac, b: Frac) -> bool
@@ -75,88 +61,90 @@ fn falling_root(linear: Linear) -> Frac
     }
 }
 
-impl Interval {
-    ghost use Rattle.std.specs.Prelude.{[], ◌∷◌};
-    ghost use Rattle.span_slow.specs.Hidden.{IsWhereNonnegative};
-    ghost use Rattle.span_slow.specs.Steps.{IsClipped};
-
-    /// The places where all the values are at least 0.
-    pub(crate) fn where_nonnegative(linears: &[Linear]) -> Interval
-        ensures { IsWhereNonnegative linears.now result }
-    {
-        let mut x = Interval::whole();
-        for linear in linears {
-            x = x.clip(*linear);
-        }
-        x
+/// The places where all the values are at least 0; none where `to` is less than `from`.
+pub(crate) fn where_nonnegative(linears: &[Linear]) -> Interval<Frac>
+    ensures { IsWhereNonnegative linears.now result }
+{
+    let mut x = whole();
+    for linear in linears {
+        x = clip(x, *linear);
     }
+    x
+}
 
-    /// All places of the edge.
-    fn whole() -> Interval
-        ensures { IsWhereNonnegative [] result }
-    {
-        Interval {
-            from: start(),
-            to: finish(),
-        }
+/// All places of the edge.
+fn whole() -> Interval<Frac>
+    ensures { IsWhereNonnegative [] result }
+{
+    Interval {
+        from: start(),
+        to: finish(),
     }
+}
 
-    /// No place.
-    fn nowhere() -> Interval
-        ensures from { result.from.num ≡ result.from.den }
-        ensures to { result.to.num ≡ pos 0 }
-    {
-        Interval {
-            from: finish(),
-            to: start(),
-        }
+/// No place.
+fn nowhere() -> Interval<Frac>
+    ensures from { result.from.num ≡ result.from.den }
+    ensures to { result.to.num ≡ pos 0 }
+    ensures from_place { IsPlace result.from }
+    ensures to_place { IsPlace result.to }
+{
+    Interval {
+        from: finish(),
+        to: start(),
     }
+}
 
-    /// The places of the interval where the value is at least 0.
-    fn clip(self, linear: Linear) -> Interval
-        ensures { IsClipped self linear result }
-    {
-        if linear.start < 0 {
-            if linear.end < 0 {
-                return Interval::nowhere();
-            }
-            return self.clip_rising(linear);
-        }
+/// The places of the interval where the value is at least 0.
+fn clip(x: Interval<Frac>, linear: Linear) -> Interval<Frac>
+    requires from { IsPlace x.from }
+    requires to { IsPlace x.to }
+    ensures { IsClipped x linear result }
+{
+    if linear.start < 0 {
         if linear.end < 0 {
-            return self.clip_falling(linear);
+            return nowhere();
         }
-        self
+        return clip_rising(x, linear);
     }
+    if linear.end < 0 {
+        return clip_falling(x, linear);
+    }
+    x
+}
 
-    /// The same, of a value that rises through 0.
-    fn clip_rising(self, linear: Linear) -> Interval
-        requires start { linear.start <ℤ pos 0 }
-        requires end { pos 0 ≤ℤ linear.end }
-        ensures { IsClipped self linear result }
-    {
-        let root = rising_root(linear);
-        if is_earlier(self.from, root) {
-            return Interval {
-                from: root,
-                to: self.to,
-            };
-        }
-        self
+/// The same, of a value that rises through 0.
+fn clip_rising(x: Interval<Frac>, linear: Linear) -> Interval<Frac>
+    requires from { IsPlace x.from }
+    requires to { IsPlace x.to }
+    requires start { linear.start <ℤ pos 0 }
+    requires end { pos 0 ≤ℤ linear.end }
+    ensures { IsClipped x linear result }
+{
+    let root = rising_root(linear);
+    if is_earlier(x.from, root) {
+        return Interval {
+            from: root,
+            to: x.to,
+        };
     }
+    x
+}
 
-    /// The same, of a value that falls through 0.
-    fn clip_falling(self, linear: Linear) -> Interval
-        requires start { pos 0 ≤ℤ linear.start }
-        requires end { linear.end <ℤ pos 0 }
-        ensures { IsClipped self linear result }
-    {
-        let root = falling_root(linear);
-        if is_earlier(root, self.to) {
-            return Interval {
-                from: self.from,
-                to: root,
-            };
-        }
-        self
+/// The same, of a value that falls through 0.
+fn clip_falling(x: Interval<Frac>, linear: Linear) -> Interval<Frac>
+    requires from { IsPlace x.from }
+    requires to { IsPlace x.to }
+    requires start { pos 0 ≤ℤ linear.start }
+    requires end { linear.end <ℤ pos 0 }
+    ensures { IsClipped x linear result }
+{
+    let root = falling_root(linear);
+    if is_earlier(root, x.to) {
+        return Interval {
+            from: x.from,
+            to: root,
+        };
     }
+    x
 }

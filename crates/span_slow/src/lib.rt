@@ -22,29 +22,30 @@ ghost use Rattle.span_slow.specs.CutHidden.{AreWhereBeyond};
 ghost use Rattle.span_slow.specs.CutSpans.{AreCutSpans};
 ghost use Rattle.span_slow.specs.Views.{direction_in, IsViewOf, AreSpansIn};
 
+mod alternating;
 mod clip;
 mod cut_faces;
 mod cut_seen;
 mod faces;
 mod interval;
+mod linear;
 mod section;
 mod seen;
 mod span;
 #[cfg(test)]
 mod tests;
-mod united;
 mod view;
 
+use crate::alternating::spans_of;
 use crate::clip::clipped;
 use crate::cut_faces::{hidden_by_faces, part_beyond};
 use crate::cut_seen::CutEdge;
 use crate::faces::hidden_intervals;
-use crate::interval::Interval;
 use crate::section::within_section;
 use crate::seen::SeenEdge;
-use crate::united::spans_of;
 use cut_plane::Section;
-use exact_frac::OutOfMemory;
+use exact_frac::{Frac, OutOfMemory};
+use intervals::Interval;
 use lattice::Dir;
 use section_parity::crossings;
 use solid_mesh::Solid;
@@ -123,7 +124,7 @@ fn hidden_in_cut(
     section: &Section,
     edge: u32,
     seen: &CutEdge,
-) -> Result<Vec<Interval>, OutOfMemory>
+) -> Result<Vec<Interval<Frac>>, OutOfMemory>
     requires in_range { edge < length (edge_halves solid.now) }
     requires borders { AreBorders (plane_of section.now.cut) (solid_part solid.now) section.now.segments.items section.now.loops.items }
     requires plane { plane_of seen.now.cut ≡ plane_of section.now.cut }

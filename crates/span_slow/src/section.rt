@@ -12,9 +12,10 @@ ghost use Rattle.geometry.specs.Places.{IsPlace, IsEarlier};
 ghost use Rattle.span_slow.specs.CutHidden.{AreWhereBeyond};
 ghost use Rattle.span_slow.specs.Sections.{mediant_point, IsStretchAdded};
 
-use crate::interval::{Interval, finish, is_earlier, start};
+use crate::interval::{finish, is_earlier, start};
 use cut_plane::{Section, inside};
 use exact_frac::{Frac, OutOfMemory};
+use intervals::Interval;
 use solid_mesh::Solid;
 use std::alloc::Global;
 
@@ -26,7 +27,7 @@ pub(crate) fn within_section(
     section: &Section,
     edge: u32,
     places: Vec<Frac>,
-) -> Result<Vec<Interval>, OutOfMemory>
+) -> Result<Vec<Interval<Frac>>, OutOfMemory>
     requires in_range { edge < length (edge_halves solid.now) }
     requires borders { AreBorders (plane_of section.now.cut) (solid_part solid.now) section.now.segments.items section.now.loops.items }
     requires crossings { (e : Edge (solid_part solid.now)) → IsNumbered (edge_halves solid.now) edge e → AreCrossings (plane_of section.now.cut) e places.items }
@@ -55,7 +56,7 @@ fn ascending(mut places: Vec<Frac>) -> Result<Vec<Frac>, OutOfMemory>
 
 /// Adds the stretch from one place to the other, if it has an inside and its middle is in the section.
 fn add_stretch(
-    within: &mut Vec<Interval>,
+    within: &mut Vec<Interval<Frac>>,
     solid: &Solid,
     section: &Section,
     edge: u32,

@@ -4,7 +4,7 @@ ghost use Rattle.lattice.specs.Triple.{Triple, IsWithin, dot, right_axis, up_axi
 ghost use Rattle.lattice.specs.Points.{of_dir, of_vector, point_of, OnOneSight};
 ghost use Rattle.hiding.specs.Values.{IsAhead, side_of, depth_of, past_of, short_of, behind_of};
 
-use crate::interval::Linear;
+use crate::linear::Linear;
 use lattice::{Corner, Dir, Vector, det3, view_cross};
 
 /// An edge that is not seen end-on: its two corners, the direction to the viewer, and an axis of the view along which

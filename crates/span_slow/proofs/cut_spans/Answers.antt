@@ -2,10 +2,11 @@ use Rattle.std.proofs.Common.{List, [], ◌∷◌, sym, subst, ◌∙◌}
 use Rattle.std.proofs.lemmas.List.Elements.{All-head}
 use Rattle.lattice.specs.Cuts.{Plane, plane_of}
 use Rattle.solid_mesh.specs.Solids.{solid_part}
-use Rattle.span_slow.specs.declared.interval.Interval.{Interval}
+use Rattle.exact_frac.specs.declared.Frac.{Frac}
+use Rattle.intervals.specs.declared.interval.Interval.{Interval}
 use Rattle.span_slow.specs.declared.span.Span.{Span}
-use Rattle.geometry.specs.Places.{IsEarlier}
 use Rattle.span_slow.specs.Spans.{CoverEdge}
+use Rattle.span_slow.specs.Hidden.{IsStretch}
 use Rattle.span_slow.specs.Steps.{AreClipped}
 use Rattle.span_slow.specs.CutHidden.{IsPartBeyond}
 use Rattle.span_slow.specs.CutSpans.{AreCutSpans}
@@ -23,16 +24,23 @@ returns-in_default c e numbered =
     subst (λ (p : Plane). IsPartBeyond p e []) c.new-seen.ensures.plane (c.in_default.ensures s e (at_a ∙ sym c.new-seen.ensures.a) (at_b ∙ sym c.new-seen.ensures.b)) in
     subst (AreCutSpans q e) (sym c.new.ensures.items) (no_spans q e none)
 
+pub spans_of-requires : goal.spans_of-requires
+spans_of-requires c =
+    let s = solid_part c.args.solid.now in
+    let there = c.edge-numbers.ensures.edge in
+    let (at_a, at_b) = read_ends s there.edge c.edge-numbers.result c.corner.result c.corner-2.result there.numbers c.corner.ensures c.corner-2.ensures in
+    (c.in_ok-hidden.ensures there.edge there.numbered (at_a ∙ sym c.new-seen.ensures.a) (at_b ∙ sym c.new-seen.ensures.b)).stretches
+
 pub clipped-requires-clause-cover : goal.clipped-requires-clause-cover
 clipped-requires-clause-cover c = subst CoverEdge (sym c.deref.ensures.value) c.in_ok-spans.ensures.covers
 
-pub clipped-requires-clause-ordered : goal.clipped-requires-clause-ordered
-clipped-requires-clause-ordered c =
+pub clipped-requires-clause-stretch : goal.clipped-requires-clause-stretch
+clipped-requires-clause-stretch c =
     let s = solid_part c.args.solid.now in
     let e = c.edge-numbers.ensures.edge.edge in
     let (at_a, at_b) = read_ends s e c.edge-numbers.result c.corner.result c.corner-2.result c.edge-numbers.ensures.edge.numbers c.corner.ensures c.corner-2.ensures in
     let beyond = c.in-Some.ensures s e (at_a ∙ sym c.new-seen.ensures.a) (at_b ∙ sym c.new-seen.ensures.b) in
-    All-head (λ (x : Interval). IsEarlier x.from x.to) c.in-Some.part [] beyond.ordered
+    All-head IsStretch c.in-Some.part [] beyond.stretches
 
 pub returns : goal.returns
 returns c e numbered =

@@ -2,7 +2,8 @@ use Rattle.std.proofs.Common.{List, sym, subst}
 use Rattle.lattice.specs.Cuts.{Plane, plane_of}
 use Rattle.solid_mesh.specs.Solids.{solid_part}
 use Rattle.geometry.specs.Cuts.{IsHiddenInCut}
-use Rattle.span_slow.specs.declared.interval.Interval.{Interval}
+use Rattle.exact_frac.specs.declared.Frac.{Frac}
+use Rattle.intervals.specs.declared.interval.Interval.{Interval}
 use Rattle.span_slow.specs.CutHidden.{AreWhereBeyond, IsHiddenByFaces}
 use Rattle.span_slow.proofs.CutHides.{hidden_in_cut}
 use Rattle.span_slow.proofs.hidden_in_cut.Goals as goal
@@ -15,5 +16,5 @@ returns c e numbered at_a at_b =
     let section = c.in_ok-within.within.items in
     let by_faces : AreWhereBeyond q e (IsHiddenByFaces q s) faces =
     subst (λ (p : Plane). AreWhereBeyond p e (IsHiddenByFaces p s) faces) c.requires.plane (c.in_ok-hidden.ensures e at_a at_b) in
-    subst (λ (xs : List Interval). AreWhereBeyond q e (IsHiddenInCut q s) xs) (sym c.in_ok-append.ensures.items)
+    subst (λ (xs : List (Interval Frac)). AreWhereBeyond q e (IsHiddenInCut q s) xs) (sym c.in_ok-append.ensures.items)
     (hidden_in_cut q e faces section by_faces (c.in_ok-within.ensures e numbered))

@@ -8,6 +8,13 @@ use Rattle.span_slow.proofs.Numbered.{if_ok}
 use Rattle.span_slow.proofs.Told.{read_ends, spans_are}
 use Rattle.span_slow.proofs.plain_spans.Goals as goal
 
+pub spans_of-requires : goal.spans_of-requires
+spans_of-requires c =
+    let s = solid_part c.args.solid.now in
+    let there = c.edge-numbers.ensures.edge in
+    let (p, q) = read_ends s there.edge c.edge-numbers.result c.corner.result c.corner-2.result there.numbers c.corner.ensures c.corner-2.ensures in
+    (c.in_ok-hidden.ensures there.edge (p ∙ sym c.new-seen.ensures.a) (q ∙ sym c.new-seen.ensures.b)).stretches
+
 pub returns : goal.returns
 returns c e numbered =
     let s = solid_part c.args.solid.now in

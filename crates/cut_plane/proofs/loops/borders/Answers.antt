@@ -4,9 +4,9 @@ use Rattle.lattice.specs.Cuts.{Plane, plane_of}
 use Rattle.geometry.specs.Parts.{Part}
 use Rattle.solid_mesh.specs.Solids.{solid_part}
 use Rattle.cut_plane.specs.declared.segments.Segment.{Segment}
-use Rattle.cut_plane.specs.Walks.{IsMarked, IsRound, AreSwept}
+use Rattle.cut_plane.specs.inner.Walks.{IsMarked, IsRound}
+use Rattle.cut_plane.proofs.Sweeps.{AreSwept, sweep_starts, sweep_skips, sweep_rounds, sweep_ends}
 use Rattle.cut_plane.proofs.Lists.{not_true}
-use Rattle.cut_plane.proofs.Sweeps.{sweep_starts, sweep_skips, sweep_rounds, sweep_ends}
 use Rattle.cut_plane.proofs.loops.borders.Goals as goal
 use Rattle.cut_plane.proofs.loops.borders.Goals.{then-begins_loop+in_ok-push+in_ok-go_round, else-begins_loop}
 

@@ -1,6 +1,6 @@
 use Rattle.lattice.specs.Cuts.{plane_of}
 use Rattle.solid_mesh.specs.Solids.{solid_part}
-use Rattle.cut_plane.specs.Walks.{AreSwept}
+use Rattle.cut_plane.proofs.Sweeps.{AreSwept}
 use Rattle.cut_plane.proofs.loops.borders.Given as goal
 
 abbrev pub invariant-loop-tri : goal.invariant-loop-tri

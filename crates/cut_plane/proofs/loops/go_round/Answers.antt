@@ -1,7 +1,7 @@
 use Rattle.std.proofs.Common.{◌<◌, length, ap, arith}
 use Rattle.lattice.specs.Cuts.{plane_of}
 use Rattle.solid_mesh.specs.Solids.{solid_part}
-use Rattle.cut_plane.specs.Walks.{unmarked}
+use Rattle.cut_plane.specs.inner.Walks.{unmarked}
 use Rattle.cut_plane.proofs.Following.{next_crossed, crossed_within}
 use Rattle.cut_plane.proofs.Lists.{unmarked_set}
 use Rattle.cut_plane.proofs.Rounds.{walk_starts, walk_goes_on, walk_free, walk_ends}

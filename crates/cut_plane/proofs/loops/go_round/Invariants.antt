@@ -1,6 +1,6 @@
 use Rattle.lattice.specs.Cuts.{plane_of}
 use Rattle.solid_mesh.specs.Solids.{solid_part}
-use Rattle.cut_plane.specs.Walks.{unmarked}
+use Rattle.cut_plane.specs.inner.Walks.{unmarked}
 use Rattle.cut_plane.proofs.Rounds.{IsWalk}
 use Rattle.cut_plane.proofs.loops.go_round.Given as goal
 

@@ -5,14 +5,14 @@ use Rattle.geometry.specs.Parts.{Part}
 use Rattle.solid_mesh.specs.Solids.{solid_part}
 use Rattle.cut_plane.specs.declared.segments.Corners.{Corners}
 use Rattle.cut_plane.specs.declared.segments.Sides.{Sides}
-use Rattle.cut_plane.specs.Borders.{IsFaceAt, CrossesAt, IsOnOneSide}
-use Rattle.cut_plane.specs.Walks.{IsCrossedAt}
+use Rattle.cut_plane.specs.inner.Borders.{IsFaceAt, CrossesBySides, IsOnOneSide}
+use Rattle.cut_plane.specs.inner.Walks.{IsCrossedAt}
 use Rattle.cut_plane.proofs.FaceCorners.{crossed_apart, crossed_at}
 use Rattle.cut_plane.proofs.Lists.{not_true}
 use Rattle.cut_plane.proofs.loops.is_crossed.Goals as goal
 
 tells : (c : Plane) (s : Part) (tri : ℕ) (x : Corners) (o : Option Sides) (b : Bool) → IsFaceAt s tri x → b ≡ is_some o
-    → IfSome o (λ y. CrossesAt c x y.first y.second) → (IsNone o → IsOnOneSide c x) → IsTrue b ↔ IsCrossedAt c s tri
+    → IfSome o (λ y. CrossesBySides c x y.first y.second) → (IsNone o → IsOnOneSide c x) → IsTrue b ↔ IsCrossedAt c s tri
 tells c s tri x (Some y) b at e some none = ((λ h. crossed_at c tri x y.first y.second at some), (λ crossed. e))
 tells c s tri x None b at e some none = ((λ h. absurd (not_true b e h)), (λ crossed. absurd (crossed_apart c tri x at crossed (none refl))))
 

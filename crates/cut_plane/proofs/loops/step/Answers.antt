@@ -1,8 +1,8 @@
 use Rattle.std.proofs.Common.{ℕ, refl, sym, subst}
 use Rattle.lattice.specs.Cuts.{plane_of}
 use Rattle.solid_mesh.specs.Solids.{solid_part}
-use Rattle.cut_plane.specs.Borders.{LeadsOver}
-use Rattle.cut_plane.specs.Walks.{Follows}
+use Rattle.cut_plane.specs.inner.Borders.{LeadsOver}
+use Rattle.cut_plane.specs.inner.Walks.{Follows}
 use Rattle.cut_plane.proofs.FaceCorners.{crossed_apart, returns_at, segment_is, follows_across}
 use Rattle.cut_plane.proofs.loops.step.Goals as goal
 

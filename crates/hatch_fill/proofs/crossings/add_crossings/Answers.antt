@@ -10,9 +10,9 @@ use Rattle.lattice.specs.Points.{of_dir, of_spot, IsRatio}
 use Rattle.cut_plane.specs.declared.segments.Segment.{Segment}
 use Rattle.section_parity.specs.Diagonals.{diagonal_of}
 use Rattle.hatch_fill.specs.declared.places.Place.{Place}
-use Rattle.hatch_fill.specs.Numbers.{IsFirstNumber}
-use Rattle.hatch_fill.specs.Crossings.{AreMeetings, AreCrossings}
-use Rattle.hatch_fill.specs.Parts.{AreAdded}
+use Rattle.hatch_fill.specs.inner.Numbers.{IsFirstNumber}
+use Rattle.hatch_fill.specs.inner.Crossings.{AreMeetings, AreCrossings}
+use Rattle.hatch_fill.specs.inner.Parts.{AreAdded}
 use Rattle.hatch_fill.proofs.crossings.add_crossings.Goals as goal
 
 first_of : (f : Frac) (n m : ℤ) (spacing : ℕ) (number : ℤ) → IsRatio f n m → IsFirstNumber f.num f.den spacing number → IsFirstNumber n m spacing number

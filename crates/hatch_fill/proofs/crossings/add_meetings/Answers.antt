@@ -5,9 +5,9 @@ use Rattle.std.proofs.lemmas.Int.{ints, to_z-of_z}
 use Rattle.std.proofs.lemmas.List.{append-nil, append_assoc}
 use Rattle.lattice.specs.declared.lines.Line.{Line}
 use Rattle.hatch_fill.specs.declared.places.Place.{Place}
-use Rattle.hatch_fill.specs.Meetings.{IsMeeting, HasMeeting}
-use Rattle.hatch_fill.specs.Crossings.{AreMeetings}
-use Rattle.hatch_fill.specs.Parts.{AreAdded}
+use Rattle.hatch_fill.specs.inner.Meetings.{IsMeeting, HasMeeting}
+use Rattle.hatch_fill.specs.inner.Crossings.{AreMeetings}
+use Rattle.hatch_fill.specs.inner.Parts.{AreAdded}
 use Rattle.section_parity.proofs.Tested.{less_of, most_of}
 use Rattle.hatch_fill.proofs.MeetingLists.{meetings_none, meetings_same, meetings_more, meetings_ended}
 use Rattle.hatch_fill.proofs.crossings.add_meetings.Goals as goal

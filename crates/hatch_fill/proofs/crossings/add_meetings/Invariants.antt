@@ -1,7 +1,7 @@
 use Rattle.std.proofs.Common.{◌≡◌, ◌⊎◌}
 use Rattle.std.specs.Prelude.{◌≤ℤ◌}
-use Rattle.hatch_fill.specs.Crossings.{AreMeetings}
-use Rattle.hatch_fill.specs.Parts.{AreAdded}
+use Rattle.hatch_fill.specs.inner.Crossings.{AreMeetings}
+use Rattle.hatch_fill.specs.inner.Parts.{AreAdded}
 use Rattle.hatch_fill.proofs.crossings.add_meetings.Given as goal
 
 -- the places of the numbers so far are added

@@ -1,5 +1,5 @@
 use Rattle.lattice.specs.Points.{of_dir}
-use Rattle.hatch_fill.specs.Crossings.{AreCrossings}
+use Rattle.hatch_fill.specs.inner.Crossings.{AreCrossings}
 use Rattle.hatch_fill.proofs.Joined.{joined_more}
 use Rattle.hatch_fill.proofs.crossings.crossings.Goals as goal
 

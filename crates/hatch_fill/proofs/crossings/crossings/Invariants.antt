@@ -1,7 +1,7 @@
 use Rattle.std.proofs.Common.{take}
 use Rattle.lattice.specs.Points.{of_dir}
-use Rattle.hatch_fill.specs.Crossings.{AreCrossings}
-use Rattle.hatch_fill.specs.Parts.{AreJoined}
+use Rattle.hatch_fill.specs.inner.Crossings.{AreCrossings}
+use Rattle.hatch_fill.specs.inner.Parts.{AreJoined}
 use Rattle.hatch_fill.proofs.crossings.crossings.Given as goal
 
 -- the places are those of the segments so far

@@ -11,11 +11,11 @@ use Rattle.lattice.specs.Cuts.{plane_of}
 use Rattle.cut_plane.specs.declared.segments.Segment.{Segment}
 use Rattle.cut_plane.proofs.Lists.{each_contains}
 use Rattle.hatch_fill.specs.declared.places.Place.{Place}
-use Rattle.hatch_fill.specs.Crossings.{AreCrossings}
-use Rattle.hatch_fill.specs.Lines.{IsLineOver}
-use Rattle.hatch_fill.specs.Parts.{AreJoined}
-use Rattle.hatch_fill.specs.Places.{place_order}
-use Rattle.hatch_fill.specs.Stretches.{pairs_of, IsStretchOf, AreStretches}
+use Rattle.hatch_fill.specs.inner.Crossings.{AreCrossings}
+use Rattle.hatch_fill.specs.inner.Lines.{IsLineOver}
+use Rattle.hatch_fill.specs.inner.Parts.{AreJoined}
+use Rattle.hatch_fill.specs.inner.Places.{place_order}
+use Rattle.hatch_fill.specs.inner.Stretches.{pairs_of, IsStretchOf, AreStretches}
 use Rattle.hatch_fill.proofs.Filled.{pairs_proper, filled}
 use Rattle.hatch_fill.proofs.Under.{joined_part}
 use Rattle.hatch_fill.proofs.filling.hatch.Goals as goal

@@ -3,7 +3,7 @@ use Rattle.std.specs.List.{AllZip}
 use Rattle.lattice.specs.declared.pieces.HatchLine.{HatchLine}
 use Rattle.lattice.specs.Cuts.{plane_of}
 use Rattle.line_merge.proofs.Zips.{zip_more}
-use Rattle.hatch_fill.specs.Lines.{IsLineOver}
+use Rattle.hatch_fill.specs.inner.Lines.{IsLineOver}
 use Rattle.hatch_fill.proofs.lines.hatch_lines.Goals as goal
 
 pub loop-x-preserved : goal.loop-x-preserved

@@ -1,7 +1,7 @@
 use Rattle.std.proofs.Common.{take}
 use Rattle.std.specs.List.{AllZip}
 use Rattle.lattice.specs.Cuts.{plane_of}
-use Rattle.hatch_fill.specs.Lines.{IsLineOver}
+use Rattle.hatch_fill.specs.inner.Lines.{IsLineOver}
 use Rattle.hatch_fill.proofs.lines.hatch_lines.Given as goal
 
 -- the lines of the intervals so far

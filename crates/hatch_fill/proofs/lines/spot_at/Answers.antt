@@ -5,7 +5,7 @@ use Rattle.std.proofs.lemmas.Int.{ints}
 use Rattle.lattice.specs.Triple.{Triple, IsWithin}
 use Rattle.lattice.specs.Cuts.{Plane, plane_of, plane_height}
 use Rattle.hatch_fill.specs.declared.places.Place.{Place}
-use Rattle.hatch_fill.specs.Lines.{triple_seen, point_over}
+use Rattle.hatch_fill.specs.inner.Lines.{triple_seen, point_over}
 use Rattle.hatch_fill.proofs.lines.spot_at.Goals as goal
 
 -- a doubled number that passed through the machine's

@@ -3,8 +3,8 @@ use Rattle.std.specs.Prelude.{ℤ, pos, IfSome, unsigned_abs}
 use Rattle.std.specs.Int.{w128}
 use Rattle.std.proofs.lemmas.Int.{ints, to_z-of_z}
 use Rattle.hatch_fill.specs.declared.places.Place.{Place}
-use Rattle.hatch_fill.specs.Places.{IsPlaceAt}
-use Rattle.hatch_fill.specs.Meetings.{IsMeeting}
+use Rattle.hatch_fill.specs.inner.Places.{IsPlaceAt}
+use Rattle.hatch_fill.specs.inner.Meetings.{IsMeeting}
 use Rattle.hatch_fill.proofs.Meets.{meeting_there, meeting_nowhere}
 use Rattle.hatch_fill.proofs.meetings.meeting.Goals as goal
 

@@ -2,7 +2,7 @@ use Rattle.std.proofs.Common.{◌≡◌, ◌≤◌, ◌^◌, rules, arith, FitsS
 use Rattle.std.specs.Prelude.{ℤ, pos, ◌-ℤ◌, ◌<ℤ◌, unsigned_abs}
 use Rattle.std.specs.Int.{w64, w128}
 use Rattle.std.proofs.lemmas.Int.{ints, to_z-of_z}
-use Rattle.hatch_fill.specs.Numbers.{IsFirstNumber}
+use Rattle.hatch_fill.specs.inner.Numbers.{IsFirstNumber}
 use Rattle.hatch_fill.proofs.FirstNumbers.{first_of_floor, wider, spaced_positive}
 use Rattle.hatch_fill.proofs.numbers.first_number.Goals as goal
 

@@ -8,8 +8,8 @@ use Rattle.lattice.specs.Points.{of_dir}
 use Rattle.cut_plane.specs.declared.segments.Segment.{Segment}
 use Rattle.hatch_fill.specs.declared.places.Place.{Place}
 use Rattle.hatch_fill.specs.declared.stretches.Ends.{Ends}
-use Rattle.hatch_fill.specs.Parts.{AreAdded}
-use Rattle.hatch_fill.specs.Stretches.{between, AreEndsAlong, AreStretches}
+use Rattle.hatch_fill.specs.inner.Parts.{AreAdded}
+use Rattle.hatch_fill.specs.inner.Stretches.{between, AreEndsAlong, AreStretches}
 use Rattle.hatch_fill.proofs.Along.{no_stretches, both_ways}
 use Rattle.hatch_fill.proofs.stretches.add_stretch.Goals as goal
 

@@ -8,8 +8,8 @@ use Rattle.lattice.specs.Points.{of_dir, of_spot, IsRatio}
 use Rattle.section_parity.specs.Diagonals.{diagonal_of}
 use Rattle.cut_plane.specs.declared.segments.Segment.{Segment}
 use Rattle.hatch_fill.specs.declared.places.Place.{Place}
-use Rattle.hatch_fill.specs.Numbers.{IsFirstNumber}
-use Rattle.hatch_fill.specs.Stretches.{IsPlaceOf, IsSpotOn, HasStretch}
+use Rattle.hatch_fill.specs.inner.Numbers.{IsFirstNumber}
+use Rattle.hatch_fill.specs.inner.Stretches.{IsPlaceOf, IsSpotOn, HasStretch}
 use Rattle.hatch_fill.proofs.Along.{first_is}
 use Rattle.hatch_fill.proofs.stretches.ends_along.Goals as goal
 

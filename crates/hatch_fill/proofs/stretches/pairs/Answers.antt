@@ -2,7 +2,7 @@ use Rattle.std.proofs.Common.{◌≡◌, ℕ, ◌+◌, ◌<◌, ◌≤◌, List,
 use Rattle.std.proofs.lemmas.List.{append-nil, append_assoc, drop_more, length-drop}
 use Rattle.intervals.specs.declared.interval.Interval.{Interval}
 use Rattle.hatch_fill.specs.declared.places.Place.{Place}
-use Rattle.hatch_fill.specs.Stretches.{between, pairs_of}
+use Rattle.hatch_fill.specs.inner.Stretches.{between, pairs_of}
 use Rattle.hatch_fill.proofs.stretches.pairs.Goals as goal
 
 -- one pair more

@@ -1,5 +1,5 @@
 use Rattle.std.proofs.Common.{length, ◌-◌, ◌≡◌, ◌≤◌, ◌++◌, drop}
-use Rattle.hatch_fill.specs.Stretches.{pairs_of}
+use Rattle.hatch_fill.specs.inner.Stretches.{pairs_of}
 use Rattle.hatch_fill.proofs.stretches.pairs.Given as goal
 
 -- what is added and the pairs that are left are all pairs

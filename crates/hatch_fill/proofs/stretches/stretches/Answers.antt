@@ -1,5 +1,5 @@
 use Rattle.lattice.specs.Points.{of_dir}
-use Rattle.hatch_fill.specs.Stretches.{AreStretches}
+use Rattle.hatch_fill.specs.inner.Stretches.{AreStretches}
 use Rattle.hatch_fill.proofs.Joined.{joined_more}
 use Rattle.hatch_fill.proofs.stretches.stretches.Goals as goal
 

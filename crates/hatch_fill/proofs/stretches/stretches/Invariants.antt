@@ -1,7 +1,7 @@
 use Rattle.std.proofs.Common.{take}
 use Rattle.lattice.specs.Points.{of_dir}
-use Rattle.hatch_fill.specs.Stretches.{AreStretches}
-use Rattle.hatch_fill.specs.Parts.{AreJoined}
+use Rattle.hatch_fill.specs.inner.Stretches.{AreStretches}
+use Rattle.hatch_fill.specs.inner.Parts.{AreJoined}
 use Rattle.hatch_fill.proofs.stretches.stretches.Given as goal
 
 -- the intervals are those of the segments so far

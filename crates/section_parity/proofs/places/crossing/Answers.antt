@@ -5,7 +5,7 @@ use Rattle.lattice.specs.Cuts.{plane_of, toward_of}
 use Rattle.solid_mesh.specs.Solids.{solid_part}
 use Rattle.solid_mesh.proofs.Facts.{closed}
 use Rattle.cut_plane.proofs.Lists.{not_true}
-use Rattle.section_parity.specs.Crossings.{line_value}
+use Rattle.section_parity.specs.inner.Crossings.{line_value}
 use Rattle.section_parity.proofs.SegmentCrossings.{found_nowhere, found_there, found_beside}
 use Rattle.section_parity.proofs.places.crossing.Goals as goal
 

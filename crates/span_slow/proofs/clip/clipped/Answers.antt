@@ -12,5 +12,5 @@ loop-span-preserved c =
 
 pub returns : goal.returns
 returns c =
-    clipped_right c.args.part.now c.requires.ordered c.args.spans.now c.loop-span.clipped.items c.requires.cover c.requires.alternate
+    clipped_right c.args.part.now c.requires.stretch c.args.spans.now c.loop-span.clipped.items c.requires.cover c.requires.alternate
     (each_all c.args.part.now c.args.spans.now c.loop-span.span-index c.loop-span-test.false c.loop-span.clipped.items c.loop-span.invariant)

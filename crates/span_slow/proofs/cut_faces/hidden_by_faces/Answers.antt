@@ -2,7 +2,8 @@ use Rattle.std.proofs.Common.{◌<◌, ◌≤◌, List, length, refl, sym, subst
 use Rattle.lattice.specs.Cuts.{plane_of}
 use Rattle.geometry.specs.Cuts.{FaceHidesInCut}
 use Rattle.solid_mesh.specs.Solids.{solid_part}
-use Rattle.span_slow.specs.declared.interval.Interval.{Interval}
+use Rattle.exact_frac.specs.declared.Frac.{Frac}
+use Rattle.intervals.specs.declared.interval.Interval.{Interval}
 use Rattle.span_slow.specs.CutHidden.{IsOrdinaryBeyond, AreWhereBeyond}
 use Rattle.span_slow.proofs.CutReads.{cut_read_corners}
 use Rattle.span_slow.proofs.Numbered.{HoldsBelow, face_numbered, holds_none, holds_next, holds_all}
@@ -12,7 +13,7 @@ pub loop-triangle-init : goal.loop-triangle-init
 loop-triangle-init c e at_a at_b =
     let q = plane_of c.args.edge.now.cut in
     let s = solid_part c.args.solid.now in
-    subst (λ (xs : List Interval). AreWhereBeyond q e (HoldsBelow {s = s} (FaceHidesInCut q) 0) xs) (sym c.new-hidden.ensures.items) (holds_none (IsOrdinaryBeyond q s) e (FaceHidesInCut q))
+    subst (λ (xs : List (Interval Frac)). AreWhereBeyond q e (HoldsBelow {s = s} (FaceHidesInCut q) 0) xs) (sym c.new-hidden.ensures.items) (holds_none (IsOrdinaryBeyond q s) e (FaceHidesInCut q))
 
 pub loop-triangle-preserved : goal.loop-triangle-preserved
 loop-triangle-preserved c e at_a at_b =

@@ -5,7 +5,8 @@ use Rattle.std.proofs.lemmas.List.{append_assoc}
 use Rattle.lattice.specs.Points.{of_dir}
 use Rattle.solid_mesh.specs.Solids.{solid_part}
 use Rattle.solid_mesh.proofs.Facts.{closed, in_range, sound}
-use Rattle.span_slow.specs.declared.interval.Interval.{Interval}
+use Rattle.exact_frac.specs.declared.Frac.{Frac}
+use Rattle.intervals.specs.declared.interval.Interval.{Interval}
 use Rattle.span_slow.proofs.Axes.{somewhere}
 use Rattle.span_slow.proofs.EdgeOn.{facing_read, facing_back, edge_on_where}
 use Rattle.span_slow.proofs.Numbered.{on_ok, read_face}
@@ -33,9 +34,9 @@ returns-then-facing-lt0 c e at_a at_b f at =
     }) c.add-then-facing-lt0.ensures
 
 -- three lists added one after another
-added_thrice : (old xs ys zs first second third : List Interval) → first ≡ old ++ xs → second ≡ first ++ ys → third ≡ second ++ zs → third ≡ old ++ (xs ++ (ys ++ zs))
+added_thrice : (old xs ys zs first second third : List (Interval Frac)) → first ≡ old ++ xs → second ≡ first ++ ys → third ≡ second ++ zs → third ≡ old ++ (xs ++ (ys ++ zs))
 added_thrice old xs ys zs first second third one two three =
-    three ∙ ap (λ (l : List Interval). l ++ zs) (two ∙ ap (λ (l : List Interval). l ++ ys) one ∙ append_assoc old xs ys) ∙ append_assoc old (xs ++ ys) zs ∙ ap (λ (l : List Interval). old ++ l) (append_assoc xs ys zs)
+    three ∙ ap (λ (l : List (Interval Frac)). l ++ zs) (two ∙ ap (λ (l : List (Interval Frac)). l ++ ys) one ∙ append_assoc old xs ys) ∙ append_assoc old (xs ++ ys) zs ∙ ap (λ (l : List (Interval Frac)). old ++ l) (append_assoc xs ys zs)
 
 pub returns-in_ok-add-2 : goal.returns-in_ok-add-2
 returns-in_ok-add-2 c e at_a at_b f at =

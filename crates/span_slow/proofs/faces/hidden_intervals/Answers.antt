@@ -1,7 +1,8 @@
 use Rattle.std.proofs.Common.{◌<◌, ◌≤◌, List, length, refl, sym, subst, arith}
 use Rattle.lattice.specs.Points.{of_dir}
 use Rattle.solid_mesh.specs.Solids.{solid_part}
-use Rattle.span_slow.specs.declared.interval.Interval.{Interval}
+use Rattle.exact_frac.specs.declared.Frac.{Frac}
+use Rattle.intervals.specs.declared.interval.Interval.{Interval}
 use Rattle.span_slow.specs.Hidden.{AreWhere}
 use Rattle.span_slow.proofs.Numbered.{HidesBelow, face_numbered, below_none, below_next, below_all}
 use Rattle.span_slow.proofs.faces.hidden_intervals.Goals as goal
@@ -9,7 +10,7 @@ use Rattle.span_slow.proofs.faces.hidden_intervals.Goals as goal
 pub loop-triangle-init : goal.loop-triangle-init
 loop-triangle-init c e at_a at_b =
     let d = of_dir c.args.seen.now.d in
-    subst (λ (xs : List Interval). AreWhere d e (HidesBelow d (solid_part c.args.solid.now) 0) xs) (sym c.new-hidden.ensures.items) (below_none d e)
+    subst (λ (xs : List (Interval Frac)). AreWhere d e (HidesBelow d (solid_part c.args.solid.now) 0) xs) (sym c.new-hidden.ensures.items) (below_none d e)
 
 pub loop-triangle-preserved : goal.loop-triangle-preserved
 loop-triangle-preserved c e at_a at_b =

@@ -3,7 +3,7 @@ use Rattle.std.specs.Prelude.{ℤ, ◌-ℤ◌, ◌*ℤ◌}
 use Rattle.std.specs.Int.{w64, w128}
 use Rattle.std.proofs.lemmas.Int.{ints, to_z-of_z}
 use Rattle.cut_plane.proofs.Lists.{not_true}
-use Rattle.hatch_fill.specs.Places.{IsNear}
+use Rattle.hatch_fill.specs.inner.Places.{IsNear}
 use Rattle.hatch_fill.proofs.Near.{diagonal_near}
 use Rattle.hatch_fill.proofs.places.Place.new.Goals as goal
 

@@ -2,7 +2,7 @@ use Rattle.std.proofs.Common.{◌≤◌, ◌^◌, arith, subst, sym, rules, Fits
 use Rattle.std.specs.Prelude.{ℤ, unsigned_abs}
 use Rattle.std.specs.Int.{w64, w128}
 use Rattle.std.proofs.lemmas.Int.{ints, to_z-of_z}
-use Rattle.hatch_fill.specs.Places.{IsNear}
+use Rattle.hatch_fill.specs.inner.Places.{IsNear}
 use Rattle.hatch_fill.proofs.Near.{diagonal_near}
 use Rattle.hatch_fill.proofs.places.Place.upward.Goals as goal
 

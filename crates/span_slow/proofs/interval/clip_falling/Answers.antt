@@ -1,0 +1,13 @@
+use Rattle.std.proofs.Common.{refl, sym, ◌∙◌, true≢false}
+use Rattle.span_slow.proofs.Clips.{fall_cut, fall_kept}
+use Rattle.span_slow.proofs.interval.clip_falling.Goals as goal
+
+pub returns-then-is_earlier : goal.returns-then-is_earlier
+returns-then-is_earlier c =
+    let e = c.falling_root-root.ensures in
+    fall_cut c.args.x c.args.linear c.requires.from c.requires.to c.falling_root-root.result c.requires.start c.requires.end e.num e.den _ (refl, refl) (refl, refl) c.requires.from e.place (c.is_earlier.ensures.0 c.if-is_earlier.true)
+
+pub returns : goal.returns
+returns c =
+    let e = c.falling_root-root.ensures in
+    fall_kept c.args.x c.args.linear c.requires.from c.requires.to c.falling_root-root.result c.requires.start c.requires.end e.num e.den (λ h. true≢false (sym (c.is_earlier.ensures.1 h) ∙ c.if-is_earlier.false))
