@@ -8,8 +8,8 @@ use Rattle.intervals.specs.declared.interval.Interval.{Interval}
 use Rattle.span_slow.specs.declared.span.Span.{Span}
 use Rattle.geometry.specs.Places.{IsSame, IsEarlier, IsBetween}
 use Rattle.span_slow.specs.Spans.{Follow, CoverEdge, Alternate}
-use Rattle.span_slow.specs.Hidden.{IsStretch}
-use Rattle.span_slow.specs.Steps.{IsSpanAdded, IsLaterOf, IsEarlierOf, IsClippedAdded, IsClippedEnd, IsClippedSpan, AreClipped}
+use Rattle.span_slow.specs.Beyond.{IsStretch}
+use Rattle.span_slow.specs.inner.Steps.{IsSpanAdded, IsLaterOf, IsEarlierOf, IsClippedAdded, IsClippedEnd, IsClippedSpan, AreClipped}
 use Rattle.geometry.proofs.PlaceOrder.{weaken, less_most, most_less, IsNotLater, not_later_of_not, earlier_not_later, not_later_earlier, not_later_not_later, not_later_self, not_both, zero_not_later, not_later_one}
 use Rattle.geometry.proofs.SamePlaces.{same, same_back, same_trans, same_between, same_earlier, same_not_later}
 

@@ -10,8 +10,8 @@ use Rattle.hiding.specs.Values.{value_at}
 use Rattle.intervals.specs.declared.interval.Interval.{Interval}
 use Rattle.span_slow.specs.declared.linear.Linear.{Linear}
 use Rattle.geometry.specs.Places.{IsPlace, IsSame, IsEarlier}
-use Rattle.span_slow.specs.Hidden.{AreNonnegative, HasRoot, IsRootOrEnd, IsWhereNonnegative}
-use Rattle.span_slow.specs.Steps.{IsClipped}
+use Rattle.span_slow.specs.inner.Hidden.{AreNonnegative, HasRoot, IsRootOrEnd, IsWhereNonnegative}
+use Rattle.span_slow.specs.inner.Steps.{IsClipped}
 use Rattle.geometry.proofs.PlaceOrder.{weaken, room, most_most, not_later_of_not}
 use Rattle.geometry.proofs.SamePlaces.{same, same_back, same_from_to}
 

@@ -18,7 +18,8 @@ use Rattle.geometry.proofs.PlaceOrder.{weaken, most_less, between_inner, between
 use Rattle.geometry.proofs.SamePlaces.{same_value}
 use Rattle.section_parity.proofs.Tested.{less_of, most_of, of_less, of_most}
 use Rattle.span_slow.specs.declared.span.Span.{Span}
-use Rattle.span_slow.specs.Hidden.{IsStretch, IsWithinAny, IsAtEnd, IsIntervalEnd, TellsWithin, AreSpansOf}
+use Rattle.span_slow.specs.Beyond.{IsStretch, IsWithinAny}
+use Rattle.span_slow.specs.inner.Hidden.{IsAtEnd, IsIntervalEnd, TellsWithin, AreSpansOf}
 use Rattle.span_slow.proofs.Same.{same_known}
 
 -- ---- the places before n / m are a cut of the fractions

@@ -27,8 +27,8 @@ use Rattle.section_parity.specs.Crossings.{CrossesAt, IsShort, AreCrossings}
 use Rattle.section_parity.proofs.Between.{section_between, crossing_not_ordinary}
 use Rattle.section_parity.proofs.Found.{crosses_same}
 use Rattle.geometry.specs.Places.{IsEarlier, IsBetween}
-use Rattle.span_slow.specs.CutHidden.{IsOrdinaryBeyond}
-use Rattle.span_slow.specs.Sections.{mediant_point, IsApartFrom}
+use Rattle.span_slow.specs.inner.CutHidden.{IsOrdinaryBeyond}
+use Rattle.span_slow.specs.inner.Sections.{mediant_point, IsApartFrom}
 use Rattle.geometry.proofs.PlaceFractions.{weaker, no_less}
 use Rattle.geometry.proofs.PlaceOrder.{clash, less_most, most_less, IsNotLater, not_later_of_not, between_inner, between_last, zero_value, one_value, zero_not_later, room}
 

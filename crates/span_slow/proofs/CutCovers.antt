@@ -10,8 +10,7 @@ use Rattle.intervals.specs.declared.interval.Interval.{Interval}
 use Rattle.span_slow.specs.declared.span.Span.{Span}
 use Rattle.geometry.specs.Places.{IsPlace, IsBetween}
 use Rattle.span_slow.specs.Spans.{Follow}
-use Rattle.span_slow.specs.Hidden.{IsStretch}
-use Rattle.span_slow.specs.CutHidden.{IsPartBeyond}
+use Rattle.span_slow.specs.Beyond.{IsStretch, IsPartBeyond}
 use Rattle.span_slow.specs.CutSpans.{CoverPart, CoverBeyond}
 
 module _ (c : Plane) {s : Part} (e : Edge s) (spans : List Span) where

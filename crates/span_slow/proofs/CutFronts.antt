@@ -21,8 +21,8 @@ use Rattle.exact_frac.specs.declared.Frac.{Frac}
 use Rattle.intervals.specs.declared.interval.Interval.{Interval}
 use Rattle.span_slow.specs.declared.linear.Linear.{Linear}
 use Rattle.geometry.specs.Places.{IsEarlier}
-use Rattle.span_slow.specs.Hidden.{AreNonnegative, IsWhereNonnegative, AreWhere}
-use Rattle.span_slow.specs.CutHidden.{IsOrdinaryBeyond, AreWhereBeyond}
+use Rattle.span_slow.specs.inner.Hidden.{AreNonnegative, IsWhereNonnegative, AreWhere}
+use Rattle.span_slow.specs.inner.CutHidden.{IsOrdinaryBeyond, AreWhereBeyond}
 use Rattle.span_slow.proofs.CutReads.{cut_hides_by_corners}
 use Rattle.span_slow.proofs.Fronts.{hides_by_corners, changes, rooted, front_none, end_apart, inside}
 use Rattle.geometry.proofs.PlaceFractions.{weaker, positive_of, strict}

@@ -5,7 +5,7 @@ use Rattle.geometry.specs.Cuts.{IsInSection, IsHiddenInCut}
 use Rattle.lattice.specs.Cuts.{Plane}
 use Rattle.exact_frac.specs.declared.Frac.{Frac}
 use Rattle.intervals.specs.declared.interval.Interval.{Interval}
-use Rattle.span_slow.specs.CutHidden.{IsOrdinaryBeyond, AreWhereBeyond, IsHiddenByFaces}
+use Rattle.span_slow.specs.inner.CutHidden.{IsOrdinaryBeyond, AreWhereBeyond, IsHiddenByFaces}
 use Rattle.span_slow.proofs.Where.{where_alike, where_either}
 
 -- the intervals of both together

@@ -24,8 +24,8 @@ use Rattle.exact_frac.specs.declared.Frac.{Frac}
 use Rattle.intervals.specs.declared.interval.Interval.{Interval}
 use Rattle.span_slow.specs.declared.linear.Linear.{Linear}
 use Rattle.geometry.specs.Places.{IsEarlier}
-use Rattle.span_slow.specs.Hidden.{AreNonnegative, IsWhereNonnegative, AreWhere}
-use Rattle.span_slow.specs.CutHidden.{IsOrdinaryBeyond, AreWhereBeyond, AreAddedBeyond, PairHides, SomeSideReaches}
+use Rattle.span_slow.specs.inner.Hidden.{AreNonnegative, IsWhereNonnegative, AreWhere}
+use Rattle.span_slow.specs.inner.CutHidden.{IsOrdinaryBeyond, AreWhereBeyond, AreAddedBeyond, PairHides, SomeSideReaches}
 use Rattle.span_slow.proofs.Axes.{level_by_sight}
 use Rattle.span_slow.proofs.CutFronts.{none_beyond}
 use Rattle.span_slow.proofs.CutReads.{cut_hides_by_corners}

@@ -17,8 +17,8 @@ use Rattle.hiding.proofs.SidePoints.{share-of-edge}
 use Rattle.intervals.specs.declared.interval.Interval.{Interval}
 use Rattle.span_slow.specs.declared.linear.Linear.{Linear}
 use Rattle.geometry.specs.Places.{point_at, IsPlace, IsEarlier, IsBetween, IsFromTo}
-use Rattle.span_slow.specs.Hidden.{IsRootOrEnd, IsWhereNonnegative, IsStretch}
-use Rattle.span_slow.specs.CutHidden.{IsPartEnd, IsPartBeyond}
+use Rattle.span_slow.specs.inner.Hidden.{IsRootOrEnd, IsWhereNonnegative}
+use Rattle.span_slow.specs.Beyond.{IsStretch, IsPartEnd, IsPartBeyond}
 use Rattle.span_slow.proofs.LinearValues.{level_value}
 use Rattle.geometry.proofs.PlaceFractions.{weaker, no_less, strict, positive_of, earlier_between}
 use Rattle.span_slow.proofs.Where.{Tells, told, IsRootOrEndAt, cut_at, within_none, within_one, all_one}

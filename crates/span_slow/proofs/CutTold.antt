@@ -13,10 +13,11 @@ use Rattle.geometry.proofs.Shares.{one_place}
 use Rattle.intervals.specs.declared.interval.Interval.{Interval}
 use Rattle.span_slow.specs.declared.span.Span.{Span}
 use Rattle.geometry.specs.Places.{point_at, IsPlace, IsSame, IsBetween, HasNoEndAt}
-use Rattle.span_slow.specs.Hidden.{IsStretch, IsAtEnd, IsIntervalEnd, TellsWithin, AreSpansOf}
-use Rattle.span_slow.specs.CutHidden.{IsPartEnd, IsPartBeyond, IsOrdinaryBeyond, AreWhereBeyond}
+use Rattle.span_slow.specs.Beyond.{IsStretch, IsPartEnd, IsPartBeyond}
+use Rattle.span_slow.specs.inner.Hidden.{IsAtEnd, IsIntervalEnd, TellsWithin, AreSpansOf}
+use Rattle.span_slow.specs.inner.CutHidden.{IsOrdinaryBeyond, AreWhereBeyond}
 use Rattle.span_slow.specs.CutSpans.{IsAnswerInCut, AreCutSpans}
-use Rattle.span_slow.specs.Steps.{IsClippedEnd, IsClippedSpan, AreClipped}
+use Rattle.span_slow.specs.inner.Steps.{IsClippedEnd, IsClippedSpan, AreClipped}
 use Rattle.geometry.proofs.PlaceFractions.{after_start, before_finish}
 use Rattle.geometry.proofs.PlaceOrder.{between_value}
 use Rattle.span_slow.proofs.Same.{same_known}

@@ -11,7 +11,7 @@ use Rattle.geometry.specs.Views.{IsOrdinary}
 use Rattle.hiding.specs.Values.{WideSideHides, SideHides}
 use Rattle.exact_frac.specs.declared.Frac.{Frac}
 use Rattle.intervals.specs.declared.interval.Interval.{Interval}
-use Rattle.span_slow.specs.Hidden.{AreWhere}
+use Rattle.span_slow.specs.inner.Hidden.{AreWhere}
 use Rattle.hiding.proofs.Values.{facing-turned}
 use Rattle.hiding.proofs.Hiding.{wide-side-hides, face-hides}
 use Rattle.geometry.proofs.PlaceFractions.{positive_of}

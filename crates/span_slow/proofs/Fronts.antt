@@ -16,7 +16,7 @@ use Rattle.exact_frac.specs.declared.Frac.{Frac}
 use Rattle.intervals.specs.declared.interval.Interval.{Interval}
 use Rattle.span_slow.specs.declared.linear.Linear.{Linear}
 use Rattle.geometry.specs.Places.{IsEarlier}
-use Rattle.span_slow.specs.Hidden.{AreNonnegative, IsWhereNonnegative, AreWhere}
+use Rattle.span_slow.specs.inner.Hidden.{AreNonnegative, IsWhereNonnegative, AreWhere}
 use Rattle.hiding.proofs.Values.{side-share, depth-share}
 use Rattle.hiding.proofs.Hiding.{hides-turned, hides-front}
 use Rattle.hiding.proofs.FrontEnds.{not-at-start, not-at-finish, not-at-front-end, IsRoot}

@@ -14,8 +14,8 @@ use Rattle.solid_mesh.proofs.Facts as facts
 use Rattle.section_parity.specs.Crossings.{IsShort, AreCrossings}
 use Rattle.intervals.specs.declared.interval.Interval.{Interval}
 use Rattle.geometry.specs.Places.{IsPlace}
-use Rattle.span_slow.specs.CutHidden.{IsOrdinaryBeyond, AreWhereBeyond}
-use Rattle.span_slow.specs.Sections.{IsStretchAdded, AreWhereUpTo}
+use Rattle.span_slow.specs.inner.CutHidden.{IsOrdinaryBeyond, AreWhereBeyond}
+use Rattle.span_slow.specs.inner.Sections.{IsStretchAdded, AreWhereUpTo}
 use Rattle.span_slow.proofs.Stretches.{up_to_start, up_to_finish, up_to_next}
 use Rattle.span_slow.proofs.Crossed.{IsReached, reached_start, reached_next, neighbours, neighbours_last, not_earlier, not_after_finish, crossings_moved, start_apart, finish_apart, crossing_apart, alike_between}
 

@@ -16,7 +16,7 @@ use Rattle.solid_mesh.proofs.EdgeLemmas.{same_element, face_at}
 use Rattle.solid_mesh.proofs.Facts.{in_range}
 use Rattle.exact_frac.specs.declared.Frac.{Frac}
 use Rattle.intervals.specs.declared.interval.Interval.{Interval}
-use Rattle.span_slow.specs.Hidden.{AreWhereAt, AreWhere, AreAddedAt, AreAdded}
+use Rattle.span_slow.specs.inner.Hidden.{AreWhereAt, AreWhere, AreAddedAt, AreAdded}
 use Rattle.span_slow.proofs.Fronts.{read_corners}
 use Rattle.span_slow.proofs.Where.{where_alike, where_either, where_none}
 

@@ -15,8 +15,8 @@ use Rattle.geometry.proofs.Borders.{face_rise, rise_beyond, over_before, over_be
 use Rattle.hiding.proofs.CutPlanes.{ordinary-in-plain}
 use Rattle.exact_frac.specs.declared.Frac.{Frac}
 use Rattle.intervals.specs.declared.interval.Interval.{Interval}
-use Rattle.span_slow.specs.Hidden.{AreAdded}
-use Rattle.span_slow.specs.CutHidden.{IsOrdinaryBeyond, AreAddedBeyond}
+use Rattle.span_slow.specs.inner.Hidden.{AreAdded}
+use Rattle.span_slow.specs.inner.CutHidden.{IsOrdinaryBeyond, AreAddedBeyond}
 use Rattle.span_slow.proofs.Where.{where_none, added_one}
 
 -- no point of the face is beyond the plane

@@ -5,7 +5,7 @@ use Rattle.exact_frac.specs.declared.Frac.{Frac}
 use Rattle.geometry.specs.Places.{IsSame}
 use Rattle.geometry.proofs.SamePlaces.{same_trans}
 use Rattle.intervals.specs.declared.interval.Interval.{Interval}
-use Rattle.span_slow.specs.Hidden.{IsIntervalEnd}
+use Rattle.span_slow.specs.inner.Hidden.{IsIntervalEnd}
 
 pub same_known : (xs : List (Interval Frac)) (a b : Frac) → IsSame a b → IsIntervalEnd xs b → IsIntervalEnd xs a
 same_known xs a b p h = elim h [

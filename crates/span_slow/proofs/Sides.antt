@@ -15,7 +15,7 @@ use Rattle.exact_frac.specs.declared.Frac.{Frac}
 use Rattle.intervals.specs.declared.interval.Interval.{Interval}
 use Rattle.span_slow.specs.declared.linear.Linear.{Linear}
 use Rattle.geometry.specs.Places.{IsEarlier}
-use Rattle.span_slow.specs.Hidden.{AreNonnegative, IsWhereNonnegative, AreWhere}
+use Rattle.span_slow.specs.inner.Hidden.{AreNonnegative, IsWhereNonnegative, AreWhere}
 use Rattle.hiding.proofs.Values.{past-share, short-share, behind-share}
 use Rattle.hiding.proofs.FrontEnds.{not-at-start, not-at-finish}
 use Rattle.hiding.proofs.SideEnds.{side-hides, in-line, one-sight, not-at-side-end, side-hides-turned}

@@ -11,8 +11,9 @@ use Rattle.geometry.specs.Faces.{share_point}
 use Rattle.geometry.specs.Parts.{Part, Edge}
 use Rattle.intervals.specs.declared.interval.Interval.{Interval}
 use Rattle.geometry.specs.Places.{IsPlace, IsEarlier, IsSame, IsBetween, HasNoEndAt}
-use Rattle.span_slow.specs.Hidden.{IsWithinAny, IsStretch, AreWhereAt}
-use Rattle.span_slow.specs.Sections.{mediant_point, IsKept, IsStretchAdded, IsApartFrom, AreWhereUpTo}
+use Rattle.span_slow.specs.Beyond.{IsWithinAny, IsStretch}
+use Rattle.span_slow.specs.inner.Hidden.{AreWhereAt}
+use Rattle.span_slow.specs.inner.Sections.{mediant_point, IsKept, IsStretchAdded, IsApartFrom, AreWhereUpTo}
 use Rattle.geometry.proofs.PlaceFractions.{weaker, no_less, positive_of}
 use Rattle.geometry.proofs.PlaceOrder.{clash, three, less_most, most_most, IsNotLater, between_earlier}
 use Rattle.geometry.proofs.SamePlaces.{same_back, same_value, same_between, same_earlier}

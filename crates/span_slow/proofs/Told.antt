@@ -16,7 +16,7 @@ use Rattle.intervals.specs.declared.interval.Interval.{Interval}
 use Rattle.span_slow.specs.declared.span.Span.{Span}
 use Rattle.geometry.specs.Places.{point_at, IsPlace, IsSame, HasNoOrdinaryEnd}
 use Rattle.span_slow.specs.Spans.{IsAnswer, AreSpans}
-use Rattle.span_slow.specs.Hidden.{AreWhere, IsAtEnd, IsIntervalEnd, TellsWithin, AreSpansOf}
+use Rattle.span_slow.specs.inner.Hidden.{AreWhere, IsAtEnd, IsIntervalEnd, TellsWithin, AreSpansOf}
 use Rattle.hiding.proofs.FrontEnds.{not-at-start, not-at-finish}
 use Rattle.geometry.proofs.PlaceFractions.{after_start, before_finish}
 use Rattle.geometry.proofs.Sights.{ordinary_along}

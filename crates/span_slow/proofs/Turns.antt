@@ -13,8 +13,9 @@ use Rattle.intervals.specs.declared.interval.Interval.{Interval}
 use Rattle.span_slow.specs.declared.span.Span.{Span}
 use Rattle.geometry.specs.Places.{IsPlace, IsSame, IsEarlier, IsBetween}
 use Rattle.span_slow.specs.Spans.{Follow, Alternate}
-use Rattle.span_slow.specs.Hidden.{IsStretch, IsWithinAny, IsIntervalEnd, TellsWithin, AreSpansOf}
-use Rattle.span_slow.specs.Steps.{IsSpanAdded}
+use Rattle.span_slow.specs.Beyond.{IsStretch, IsWithinAny}
+use Rattle.span_slow.specs.inner.Hidden.{IsIntervalEnd, TellsWithin, AreSpansOf}
+use Rattle.span_slow.specs.inner.Steps.{IsSpanAdded}
 use Rattle.geometry.proofs.PlaceOrder.{clash, weaken, less_most, most_less, most_most, IsNotLater, not_later_of_not, earlier_earlier, not_later_earlier, zero_of_not_later, one_of_not_later, zero_not_later}
 use Rattle.geometry.proofs.SamePlaces.{same, same_back, same_between, same_earlier}
 use Rattle.span_slow.proofs.Same.{same_known}

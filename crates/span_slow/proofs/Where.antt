@@ -12,7 +12,8 @@ use Rattle.hiding.specs.Values.{value_at}
 use Rattle.intervals.specs.declared.interval.Interval.{Interval}
 use Rattle.span_slow.specs.declared.linear.Linear.{Linear}
 use Rattle.geometry.specs.Places.{IsPlace, IsEarlier, IsValue, IsBetween, IsFromTo, HasNoEndAt}
-use Rattle.span_slow.specs.Hidden.{AreNonnegative, HasRoot, IsRootOrEnd, IsWhereNonnegative, IsWithinAny, IsStretch, AreWhereAt, AreAddedAt}
+use Rattle.span_slow.specs.inner.Hidden.{AreNonnegative, HasRoot, IsRootOrEnd, IsWhereNonnegative, AreWhereAt, AreAddedAt}
+use Rattle.span_slow.specs.Beyond.{IsWithinAny, IsStretch}
 use Rattle.span_slow.proofs.LinearValues.{same_root}
 use Rattle.geometry.proofs.PlaceFractions.{weaker, no_less, strict, positive_of, value_at_start, value_at_finish, earlier_between}
 

@@ -5,7 +5,8 @@ use Rattle.std.proofs.lemmas.List.Elements.{Contains-push, Contains-push_cases, 
 use Rattle.exact_frac.specs.declared.Frac.{Frac}
 use Rattle.intervals.specs.declared.interval.Interval.{Interval}
 use Rattle.geometry.specs.Places.{IsBetween}
-use Rattle.span_slow.specs.Hidden.{IsWithinAny, IsAtEnd, IsIntervalEnd}
+use Rattle.span_slow.specs.Beyond.{IsWithinAny}
+use Rattle.span_slow.specs.inner.Hidden.{IsAtEnd, IsIntervalEnd}
 
 module _ (xs : List (Interval Frac)) (x : Interval Frac) where
   pub within_old : (n m : ℤ) → IsWithinAny xs n m → IsWithinAny (xs ++ x ∷ []) n m

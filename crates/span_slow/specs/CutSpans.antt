@@ -9,7 +9,7 @@ use Rattle.intervals.specs.declared.interval.Interval.{Interval}
 use Rattle.span_slow.specs.declared.span.Span.{Span}
 use Rattle.geometry.specs.Places.{IsBetween, HasNoEndAt}
 use Rattle.span_slow.specs.Spans.{Follow, Alternate}
-use Rattle.span_slow.specs.CutHidden.{IsPartBeyond}
+use Rattle.span_slow.specs.Beyond.{IsPartBeyond}
 
 -- the spans follow one another over the part, if there is one
 abbrev pub CoverPart : List (Interval Frac) → List Span → Type 0

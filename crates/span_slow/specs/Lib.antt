@@ -1,7 +1,5 @@
 pub mod Spans
-pub mod Hidden
-pub mod CutHidden
-pub mod Steps
+pub mod Beyond
 pub mod CutSpans
-pub mod Sections
 pub mod Views
+pub mod inner

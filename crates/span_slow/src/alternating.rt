@@ -3,8 +3,9 @@ ghost use Rattle.std.specs.Prelude.{All, IfOk, OnOk};
 ghost use Rattle.exact_frac.specs.Frac.{order_of};
 ghost use Rattle.geometry.specs.Places.{IsPlace};
 ghost use Rattle.intervals.specs.Cuts.{AreApart};
-ghost use Rattle.span_slow.specs.Hidden.{IsStretch, AreSpansOf};
-ghost use Rattle.span_slow.specs.Steps.{IsSpanAdded};
+ghost use Rattle.span_slow.specs.Beyond.{IsStretch};
+ghost use Rattle.span_slow.specs.inner.Hidden.{AreSpansOf};
+ghost use Rattle.span_slow.specs.inner.Steps.{IsSpanAdded};
 
 use crate::interval::{finish, is_earlier, start};
 use crate::span::Span;

@@ -1,9 +1,9 @@
 // What of the spans of an edge is within a part of it.
 ghost use Rattle.std.specs.Prelude.{IfOk, OnOk};
 ghost use Rattle.geometry.specs.Places.{IsPlace};
-ghost use Rattle.span_slow.specs.Hidden.{IsStretch};
+ghost use Rattle.span_slow.specs.Beyond.{IsStretch};
 ghost use Rattle.span_slow.specs.Spans.{CoverEdge, Alternate};
-ghost use Rattle.span_slow.specs.Steps.{AreClipped, IsLaterOf, IsEarlierOf, IsClippedAdded};
+ghost use Rattle.span_slow.specs.inner.Steps.{AreClipped, IsLaterOf, IsEarlierOf, IsClippedAdded};
 
 use crate::alternating::add_span;
 use crate::interval::is_earlier;

@@ -10,8 +10,9 @@ ghost use Rattle.geometry.specs.Cuts.{FaceHidesInCut};
 ghost use Rattle.geometry.specs.Sound.{IsSound};
 ghost use Rattle.solid_mesh.specs.Solids.{solid_part};
 ghost use Rattle.hiding.specs.Values.{AreCornersOf, IsSideOf, WideSideHides, IsInLine};
-ghost use Rattle.span_slow.specs.Hidden.{AreWhere};
-ghost use Rattle.span_slow.specs.CutHidden.{IsPartBeyond, AreWhereBeyond, AreAddedBeyond, IsHiddenByFaces, PairHides, SomeSideReaches, IsForward};
+ghost use Rattle.span_slow.specs.inner.Hidden.{AreWhere};
+ghost use Rattle.span_slow.specs.Beyond.{IsPartBeyond};
+ghost use Rattle.span_slow.specs.inner.CutHidden.{AreWhereBeyond, AreAddedBeyond, IsHiddenByFaces, PairHides, SomeSideReaches, IsForward};
 
 use crate::cut_seen::{CutEdge, below, beyond, reach, under};
 use crate::faces::{add, add_face, is_in_line, proper};

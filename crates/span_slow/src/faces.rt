@@ -10,7 +10,7 @@ ghost use Rattle.geometry.specs.Sound.{IsSound};
 ghost use Rattle.solid_mesh.specs.Solids.{solid_part};
 ghost use Rattle.hiding.specs.Values.{side_of, AreCornersOf, IsSideOf, WideSideHides, IsInLine};
 ghost use Rattle.geometry.specs.Places.{IsEarlier};
-ghost use Rattle.span_slow.specs.Hidden.{AreWhere, AreAdded};
+ghost use Rattle.span_slow.specs.inner.Hidden.{AreWhere, AreAdded};
 
 use crate::interval::{is_earlier, where_nonnegative};
 use crate::seen::{SeenEdge, behind, depth, past, short, side};

@@ -1,8 +1,8 @@
 // Where values that are linear along an edge are at least 0.
 ghost use Rattle.std.specs.Prelude.{[], ◌≡◌, ◌↔◌, pos, ◌-ℤ◌, ◌<ℤ◌, ◌≤ℤ◌, IsTrue};
 ghost use Rattle.geometry.specs.Places.{IsPlace, IsEarlier};
-ghost use Rattle.span_slow.specs.Hidden.{IsWhereNonnegative};
-ghost use Rattle.span_slow.specs.Steps.{IsClipped};
+ghost use Rattle.span_slow.specs.inner.Hidden.{IsWhereNonnegative};
+ghost use Rattle.span_slow.specs.inner.Steps.{IsClipped};
 
 use crate::linear::Linear;
 use exact_frac::Frac;

@@ -18,7 +18,7 @@ ghost use Rattle.geometry.specs.Cuts.{IsHiddenInCut};
 ghost use Rattle.solid_mesh.specs.Solids.{solid_part, edge_halves};
 ghost use Rattle.cut_plane.specs.Loops.{AreBorders};
 ghost use Rattle.span_slow.specs.Spans.{AreSpans};
-ghost use Rattle.span_slow.specs.CutHidden.{AreWhereBeyond};
+ghost use Rattle.span_slow.specs.inner.CutHidden.{AreWhereBeyond};
 ghost use Rattle.span_slow.specs.CutSpans.{AreCutSpans};
 ghost use Rattle.span_slow.specs.Views.{direction_in, IsViewOf, AreSpansIn};
 

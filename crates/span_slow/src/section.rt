@@ -9,8 +9,8 @@ ghost use Rattle.solid_mesh.specs.Solids.{solid_part, edge_halves};
 ghost use Rattle.cut_plane.specs.Loops.{AreBorders};
 ghost use Rattle.section_parity.specs.Crossings.{IsShort, AreCrossings};
 ghost use Rattle.geometry.specs.Places.{IsPlace, IsEarlier};
-ghost use Rattle.span_slow.specs.CutHidden.{AreWhereBeyond};
-ghost use Rattle.span_slow.specs.Sections.{mediant_point, IsStretchAdded};
+ghost use Rattle.span_slow.specs.inner.CutHidden.{AreWhereBeyond};
+ghost use Rattle.span_slow.specs.inner.Sections.{mediant_point, IsStretchAdded};
 
 use crate::interval::{finish, is_earlier, start};
 use cut_plane::{Section, inside};

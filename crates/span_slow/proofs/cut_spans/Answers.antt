@@ -6,9 +6,8 @@ use Rattle.exact_frac.specs.declared.Frac.{Frac}
 use Rattle.intervals.specs.declared.interval.Interval.{Interval}
 use Rattle.span_slow.specs.declared.span.Span.{Span}
 use Rattle.span_slow.specs.Spans.{CoverEdge}
-use Rattle.span_slow.specs.Hidden.{IsStretch}
-use Rattle.span_slow.specs.Steps.{AreClipped}
-use Rattle.span_slow.specs.CutHidden.{IsPartBeyond}
+use Rattle.span_slow.specs.Beyond.{IsStretch, IsPartBeyond}
+use Rattle.span_slow.specs.inner.Steps.{AreClipped}
 use Rattle.span_slow.specs.CutSpans.{AreCutSpans}
 use Rattle.span_slow.proofs.Numbered.{if_ok}
 use Rattle.span_slow.proofs.Told.{read_ends}

@@ -4,7 +4,7 @@ use Rattle.solid_mesh.specs.Solids.{solid_part}
 use Rattle.geometry.specs.Cuts.{IsHiddenInCut}
 use Rattle.exact_frac.specs.declared.Frac.{Frac}
 use Rattle.intervals.specs.declared.interval.Interval.{Interval}
-use Rattle.span_slow.specs.CutHidden.{AreWhereBeyond, IsHiddenByFaces}
+use Rattle.span_slow.specs.inner.CutHidden.{AreWhereBeyond, IsHiddenByFaces}
 use Rattle.span_slow.proofs.CutHides.{hidden_in_cut}
 use Rattle.span_slow.proofs.hidden_in_cut.Goals as goal
 

@@ -3,7 +3,7 @@ use Rattle.lattice.specs.Triple.{Triple}
 use Rattle.lattice.specs.Points.{of_dir}
 use Rattle.geometry.specs.Views.{IsHidden}
 use Rattle.solid_mesh.specs.Solids.{solid_part}
-use Rattle.span_slow.specs.Hidden.{AreWhere}
+use Rattle.span_slow.specs.inner.Hidden.{AreWhere}
 use Rattle.span_slow.proofs.Numbered.{if_ok}
 use Rattle.span_slow.proofs.Told.{read_ends, spans_are}
 use Rattle.span_slow.proofs.plain_spans.Goals as goal

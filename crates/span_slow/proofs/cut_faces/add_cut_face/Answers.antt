@@ -8,8 +8,8 @@ use Rattle.geometry.specs.Cuts.{FaceHidesInCut}
 use Rattle.geometry.specs.Faces.{FaceHides, facing_of}
 use Rattle.solid_mesh.specs.Solids.{solid_part}
 use Rattle.solid_mesh.proofs.Facts.{closed, in_range, sound}
-use Rattle.span_slow.specs.Hidden.{AreAdded}
-use Rattle.span_slow.specs.CutHidden.{IsOrdinaryBeyond}
+use Rattle.span_slow.specs.inner.Hidden.{AreAdded}
+use Rattle.span_slow.specs.inner.CutHidden.{IsOrdinaryBeyond}
 use Rattle.span_slow.proofs.CutPairs.{edge_on_added}
 use Rattle.span_slow.proofs.EdgeOn.{facing_read, facing_back}
 use Rattle.span_slow.proofs.Numbered.{on_ok, read_face}

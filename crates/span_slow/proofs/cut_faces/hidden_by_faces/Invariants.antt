@@ -3,7 +3,7 @@ use Rattle.lattice.specs.Cuts.{plane_of}
 use Rattle.geometry.specs.Parts.{Edge}
 use Rattle.geometry.specs.Cuts.{FaceHidesInCut}
 use Rattle.solid_mesh.specs.Solids.{solid_part}
-use Rattle.span_slow.specs.CutHidden.{AreWhereBeyond}
+use Rattle.span_slow.specs.inner.CutHidden.{AreWhereBeyond}
 use Rattle.span_slow.proofs.Numbered.{HoldsBelow}
 use Rattle.span_slow.proofs.cut_faces.hidden_by_faces.Given as goal
 

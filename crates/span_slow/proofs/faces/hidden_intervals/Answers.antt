@@ -3,7 +3,7 @@ use Rattle.lattice.specs.Points.{of_dir}
 use Rattle.solid_mesh.specs.Solids.{solid_part}
 use Rattle.exact_frac.specs.declared.Frac.{Frac}
 use Rattle.intervals.specs.declared.interval.Interval.{Interval}
-use Rattle.span_slow.specs.Hidden.{AreWhere}
+use Rattle.span_slow.specs.inner.Hidden.{AreWhere}
 use Rattle.span_slow.proofs.Numbered.{HidesBelow, face_numbered, below_none, below_next, below_all}
 use Rattle.span_slow.proofs.faces.hidden_intervals.Goals as goal
 

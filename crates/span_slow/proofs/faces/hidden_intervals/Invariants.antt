@@ -2,7 +2,7 @@ use Rattle.std.proofs.Common.{◌≡◌}
 use Rattle.lattice.specs.Points.{of_dir}
 use Rattle.geometry.specs.Parts.{Edge}
 use Rattle.solid_mesh.specs.Solids.{solid_part}
-use Rattle.span_slow.specs.Hidden.{AreWhere}
+use Rattle.span_slow.specs.inner.Hidden.{AreWhere}
 use Rattle.span_slow.proofs.Numbered.{HidesBelow}
 use Rattle.span_slow.proofs.faces.hidden_intervals.Given as goal
 

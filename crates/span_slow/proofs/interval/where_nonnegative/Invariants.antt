@@ -1,5 +1,5 @@
 use Rattle.std.proofs.Common.{take}
-use Rattle.span_slow.specs.Hidden.{IsWhereNonnegative}
+use Rattle.span_slow.specs.inner.Hidden.{IsWhereNonnegative}
 use Rattle.span_slow.proofs.interval.where_nonnegative.Given as goal
 
 -- the interval is right for the linears so far

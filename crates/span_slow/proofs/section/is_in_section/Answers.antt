@@ -4,7 +4,7 @@ use Rattle.lattice.specs.Cuts.{plane_of}
 use Rattle.geometry.specs.Cuts.{IsInSection}
 use Rattle.geometry.specs.Faces.{share_point}
 use Rattle.solid_mesh.specs.Solids.{solid_part}
-use Rattle.span_slow.specs.Sections.{mediant_point}
+use Rattle.span_slow.specs.inner.Sections.{mediant_point}
 use Rattle.span_slow.proofs.section.is_in_section.Goals as goal
 
 pub returns : goal.returns

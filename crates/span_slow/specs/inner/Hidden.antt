@@ -10,8 +10,9 @@ use Rattle.hiding.specs.Values.{value_at}
 use Rattle.intervals.specs.declared.interval.Interval.{Interval}
 use Rattle.span_slow.specs.declared.linear.Linear.{Linear}
 use Rattle.span_slow.specs.declared.span.Span.{Span}
-use Rattle.geometry.specs.Places.{IsPlace, IsEarlier, IsSame, IsValue, IsBetween, IsFromTo, HasNoEndAt}
+use Rattle.geometry.specs.Places.{IsPlace, IsSame, IsValue, IsBetween, IsFromTo, HasNoEndAt}
 use Rattle.span_slow.specs.Spans.{CoverEdge, Alternate}
+use Rattle.span_slow.specs.Beyond.{IsStretch, IsWithinAny}
 
 -- ---- where values that are linear along an edge are at least 0
 abbrev pub AreNonnegative : List Linear → ℤ → ℤ → Type 0
@@ -36,15 +37,6 @@ pub record IsWhereNonnegative (linears : List Linear) (x : Interval Frac) : Type
   pub to_place : IsPlace x.to
 
 -- ---- lists of intervals
--- it is between two places of an edge, and has an inside
-pub record IsStretch (x : Interval Frac) : Type 0 where
-  pub from_place : IsPlace x.from
-  pub to_place : IsPlace x.to
-  pub earlier : IsEarlier x.from x.to
-
-abbrev pub IsWithinAny : List (Interval Frac) → ℤ → ℤ → Type 0
-IsWithinAny xs n m = (x : Interval Frac) × Contains xs x × IsBetween x.from x.to n m
-
 -- at each inner point of the edge that O holds of, P holds exactly if it is strictly within an interval; no interval ends at such a point
 pub record AreWhereAt (O : Point → Type 0) {s : Part} (e : Edge s) (P : Point → Type 0) (xs : List (Interval Frac)) : Type 0 where
   pub stretches : All IsStretch xs

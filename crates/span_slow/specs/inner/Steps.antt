@@ -7,7 +7,8 @@ use Rattle.span_slow.specs.declared.linear.Linear.{Linear}
 use Rattle.span_slow.specs.declared.span.Span.{Span}
 use Rattle.geometry.specs.Places.{IsPlace, IsEarlier, IsSame, IsBetween, IsFromTo}
 use Rattle.span_slow.specs.Spans.{Follow, Alternate}
-use Rattle.span_slow.specs.Hidden.{IsRootOrEnd, IsWithinAny, IsAtEnd, IsIntervalEnd}
+use Rattle.span_slow.specs.inner.Hidden.{IsRootOrEnd, IsAtEnd, IsIntervalEnd}
+use Rattle.span_slow.specs.Beyond.{IsWithinAny}
 
 -- the new interval is where the old one is and the value is at least 0
 pub record IsClipped (old : Interval Frac) (v : Linear) (new : Interval Frac) : Type 0 where

@@ -1,31 +1,17 @@
--- Where faces hide an edge in a cut view, and the part of an edge that is beyond the plane.
-use Rattle.std.specs.Prelude.{◌≡◌, ◌⊎◌, ◌↔◌, ℤ, pos, ◌<ℤ◌, List, All}
+-- Where faces hide an edge in a cut view.
+use Rattle.std.specs.Prelude.{◌≡◌, ◌⊎◌, ℤ, pos, ◌<ℤ◌, List}
 use Rattle.exact_frac.specs.declared.Frac.{Frac}
 use Rattle.lattice.specs.declared.points.Corner.{Corner}
 use Rattle.lattice.specs.Triple.{Triple, dot}
 use Rattle.lattice.specs.Points.{Point, difference}
-use Rattle.lattice.specs.Cuts.{Plane, toward_of, IsBeyond, IsOnPlane}
-use Rattle.geometry.specs.Faces.{share_point}
+use Rattle.lattice.specs.Cuts.{Plane, toward_of, IsBeyond}
 use Rattle.geometry.specs.Parts.{Part, Face, Edge}
 use Rattle.geometry.specs.Cuts.{FaceHidesInCut, IsOrdinaryInCut}
 use Rattle.hiding.specs.Values.{WideSideHides, IsInLine}
 use Rattle.hiding.specs.CutValues.{WideSideReaches}
 use Rattle.intervals.specs.declared.interval.Interval.{Interval}
-use Rattle.geometry.specs.Places.{point_at}
-use Rattle.span_slow.specs.Hidden.{IsWithinAny, IsStretch, AreWhereAt, AreAddedAt}
+use Rattle.span_slow.specs.inner.Hidden.{AreWhereAt, AreAddedAt}
 
--- ---- the part beyond the plane
--- 0, 1, or where the edge meets the plane
-abbrev pub IsPartEnd : Plane → {s : Part} → Edge s → Frac → Type 0
-IsPartEnd c e r = (r.num ≡ pos 0) ⊎ (r.num ≡ r.den) ⊎ IsOnPlane c (point_at e r)
-
--- each inner point of the edge is beyond the plane exactly if it is strictly within an interval
-pub record IsPartBeyond (c : Plane) {s : Part} (e : Edge s) (xs : List (Interval Frac)) : Type 0 where
-  pub stretches : All IsStretch xs
-  pub ends : All (λ x. IsPartEnd c e x.from × IsPartEnd c e x.to) xs
-  pub exactly : (n m : ℤ) → pos 0 <ℤ n → n <ℤ m → IsBeyond c (share_point e.a e.b n m) ↔ IsWithinAny xs n m
-
--- ---- hidden by faces
 abbrev pub IsOrdinaryBeyond : Plane → Part → Point → Type 0
 IsOrdinaryBeyond c s p = IsOrdinaryInCut c s p × IsBeyond c p
 
