@@ -13,7 +13,7 @@ use Rattle.intervals.specs.declared.interval.Interval.{Interval}
 use Rattle.lattice.specs.Triple.{Triple}
 use Rattle.cut_plane.specs.declared.segments.Segment.{Segment}
 use Rattle.hatch_fill.specs.declared.places.Place.{Place}
-use Rattle.hatch_fill.specs.inner.Laws.{place_order_total}
+use Rattle.hatch_fill.proofs.PlaceOrders.{place_order_total}
 use Rattle.hatch_fill.specs.inner.Numbers.{IsFirstNumber}
 use Rattle.hatch_fill.specs.inner.Places.{place_order}
 use Rattle.hatch_fill.specs.inner.Stretches.{between, AreEndsAlong, IsStretchOf, HasStretch, AreStretches}

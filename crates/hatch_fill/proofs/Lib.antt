@@ -1,3 +1,4 @@
+pub mod PlaceOrders
 pub mod FirstNumbers
 pub mod Near
 pub mod Meets

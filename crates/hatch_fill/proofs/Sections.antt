@@ -22,7 +22,7 @@ use Rattle.cut_plane.specs.Loops.{IsSegmentOf, AreBorders}
 use Rattle.cut_plane.proofs.Lists.{contains_first, contains_rest, pairs_first, pairs_rest}
 use Rattle.section_parity.specs.Diagonals.{IsUnderBorder}
 use Rattle.hatch_fill.specs.declared.places.Place.{Place}
-use Rattle.hatch_fill.specs.inner.Laws.{place_order_total}
+use Rattle.hatch_fill.proofs.PlaceOrders.{place_order_total}
 use Rattle.hatch_fill.specs.inner.Parts.{AreJoined}
 use Rattle.hatch_fill.specs.inner.Places.{place_order}
 use Rattle.hatch_fill.specs.inner.Lines.{triple_along, point_over}

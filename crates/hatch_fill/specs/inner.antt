@@ -1,6 +1,5 @@
 -- What only this crate's own functions cite.
 pub mod Crossings
-pub mod Laws
 pub mod Lines
 pub mod Meetings
 pub mod Numbers

@@ -1,15 +1,11 @@
 // Places on hatch lines, and their order.
 ghost use Rattle.std.specs.Prelude.{◌≡◌, ◌+◌, ◌*◌, ◌<◌, ◌≤◌, ◌^◌, ◌↔◌, ◌-ℤ◌, ◌*ℤ◌, unsigned_abs, IsTrue, IsNone, IfSome};
-ghost use Rattle.std.specs.Ordering.{as_partial_cmp, eq_by_cmp};
-ghost use Rattle.std.specs.Cmp.{partial_order_from_total, partial_equiv_from_equiv, eq_by_cmp_equiv};
-ghost use Rattle.std.proofs.Common.{refl};
 
 use exact_frac::Frac;
-use std::cmp::Ordering;
 
 /// A place on a hatch line: U - V is `diagonal`, and U is `across`. A spot can be there: neither U nor V is above 2^21 in
 /// size, and the divisor is below 2^69. Places are in the order of their lines, and on one line of U.
-#[derive(Clone, Copy)]
+#[derive(Clone, Copy, PartialEq, Eq, PartialOrd, Ord)]
 pub(crate) struct Place {
     pub diagonal: i64,
     pub across: Frac,
@@ -66,57 +62,4 @@ fn upward(diagonal: i64, across: &Frac) -> i128
     ensures { result ≡ across.now.num -ℤ (diagonal *ℤ across.now.den) }
 {
     across.num - i128::from(diagonal) * across.den
-}
-
-impl Ord for Place {
-    ghost use Rattle.hatch_fill.specs.inner.Places.{place_order};
-    ghost use Rattle.hatch_fill.specs.inner.Laws.{place_order_total};
-
-    ghost cmp = { place_order };
-
-    ghost total = { place_order_total };
-
-    ghost matches_partial_cmp = { λ x y. refl };
-
-    ghost matches_eq = { λ x y. refl };
-
-    /// The order of the lines, and on one line that of U.
-    fn cmp(&self, other: &Place) -> Ordering {
-        match self.diagonal.cmp(&other.diagonal) {
-            Ordering::Equal => self.across.cmp(&other.across),
-            different => different,
-        }
-    }
-}
-
-impl PartialOrd for Place {
-    ghost use Rattle.hatch_fill.specs.inner.Places.{place_order};
-    ghost use Rattle.hatch_fill.specs.inner.Laws.{place_order_total};
-
-    ghost partial_cmp = { as_partial_cmp place_order };
-
-    ghost laws = { partial_order_from_total place_order_total };
-
-    fn partial_cmp(&self, other: &Place) -> Option<Ordering> {
-        Some(self.cmp(other))
-    }
-}
-
-impl Eq for Place {
-    ghost use Rattle.hatch_fill.specs.inner.Laws.{place_order_total};
-
-    ghost laws = { eq_by_cmp_equiv place_order_total };
-}
-
-impl PartialEq for Place {
-    ghost use Rattle.hatch_fill.specs.inner.Places.{place_order};
-    ghost use Rattle.hatch_fill.specs.inner.Laws.{place_order_total};
-
-    ghost eq = { eq_by_cmp place_order };
-
-    ghost laws = { partial_equiv_from_equiv (eq_by_cmp_equiv place_order_total) };
-
-    fn eq(&self, other: &Place) -> bool {
-        self.cmp(other) == Ordering::Equal
-    }
 }

@@ -1,11 +1,11 @@
 -- The borders that cross the line of a view along which U - V stays the same.
-use Rattle.std.specs.Prelude.{◌≡◌, ◌⊎◌, ℕ, ◌%◌, ℤ, pos, ◌*ℤ◌, ◌<ℤ◌, ◌≤ℤ◌}
+use Rattle.std.specs.Prelude.{◌≡◌, ◌⊎◌, ℕ, ◌%◌, pos, ◌*ℤ◌, ◌<ℤ◌, ◌≤ℤ◌}
 use Rattle.lattice.specs.declared.soup.Tri.{Tri}
 use Rattle.lattice.specs.Triple.{Triple}
 use Rattle.lattice.specs.Points.{Point}
 use Rattle.lattice.specs.Cuts.{Plane, toward_of}
 use Rattle.geometry.specs.Parts.{Part, Face}
-use Rattle.geometry.specs.Cuts.{IsBorderOf, IsCount, border}
+use Rattle.geometry.specs.Cuts.{IsBorderOf, IsCount}
 use Rattle.section_parity.proofs.Sights.{sight_of, turn_of}
 use Rattle.section_parity.specs.Diagonals.{diagonal_of}
 

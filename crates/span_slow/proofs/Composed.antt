@@ -1,10 +1,10 @@
 -- Spans that are right for the united intervals are right for those that were united.
-use Rattle.std.proofs.Common.{◌≡◌, ◌⊎◌, inl, inr, ⊎_elim, ◌↔◌, Bool, true, false, List, get_or, sym, ap, subst, ◌∙◌, arith}
-use Rattle.std.specs.Prelude.{ℤ, pos, ◌*ℤ◌, ◌<ℤ◌, ◌≤ℤ◌, All, Contains}
+use Rattle.std.proofs.Common.{◌≡◌, inl, inr, ⊎_elim, Bool, List, get_or, sym, ap, subst}
+use Rattle.std.specs.Prelude.{ℤ, pos, ◌*ℤ◌, ◌<ℤ◌, ◌≤ℤ◌, All}
 use Rattle.std.specs.Int.Signed.{lt_z}
 use Rattle.std.specs.Cmp.{int_cmp_is}
 use Rattle.std.specs.declared.cmp.Ordering.TheVariants.{Less, Greater}
-use Rattle.std.proofs.lemmas.Int.{ints, by_lt_z}
+use Rattle.std.proofs.lemmas.Int.{by_lt_z}
 use Rattle.std.proofs.lemmas.List.Elements.{All-contains}
 use Rattle.integers.proofs.Orders.{less_of_cmp}
 use Rattle.exact_frac.specs.declared.Frac.{Frac}
@@ -12,7 +12,7 @@ use Rattle.exact_frac.specs.Frac.{order_of}
 use Rattle.intervals.specs.declared.interval.Interval.{Interval}
 use Rattle.intervals.specs.Cuts.{IsCut, IsProper, IsEndOf, Crosses, CrossesAny, AreUnited}
 use Rattle.intervals.proofs.Lists.{any_of}
-use Rattle.geometry.specs.Places.{IsPlace, IsSame, IsValue, IsBetween}
+use Rattle.geometry.specs.Places.{IsPlace, IsSame, IsValue}
 use Rattle.geometry.proofs.PlaceFractions.{strict}
 use Rattle.geometry.proofs.PlaceOrder.{weaken, most_less, between_inner, between_last, zero_value, one_value, not_zero, not_self}
 use Rattle.geometry.proofs.SamePlaces.{same_value}

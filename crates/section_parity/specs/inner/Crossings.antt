@@ -1,12 +1,11 @@
 -- Where a border crosses an edge, in the code's terms.
-use Rattle.std.specs.Prelude.{◌≡◌, ◌≢◌, ◌⊎◌, ◌≤◌, ℤ, pos, ◌+ℤ◌, ◌-ℤ◌, ◌*ℤ◌, ◌<ℤ◌, ◌≤ℤ◌, Option, Some, IfSome}
+use Rattle.std.specs.Prelude.{◌≡◌, ◌≢◌, ◌⊎◌, ℤ, pos, ◌+ℤ◌, ◌-ℤ◌, ◌*ℤ◌, ◌<ℤ◌, ◌≤ℤ◌, Option, Some, IfSome}
 use Rattle.exact_frac.specs.declared.Frac.{Frac}
 use Rattle.lattice.specs.declared.lines.Line.{Line}
 use Rattle.lattice.specs.Triple.{Triple}
 use Rattle.lattice.specs.Points.{Point, across_of, upward_of}
 use Rattle.lattice.specs.Cuts.{Plane}
 use Rattle.geometry.specs.Parts.{Part, Face, Edge}
-use Rattle.geometry.specs.Cuts.{edge, border}
 use Rattle.section_parity.specs.Crossings.{CrossesAt, IsShort}
 
 -- what a U + b V is worth at the point beyond c, times w: 0 on the line

@@ -2,8 +2,6 @@ use Rattle.std.proofs.Common.{List, [], ◌∷◌, sym, subst, ◌∙◌}
 use Rattle.std.proofs.lemmas.List.Elements.{All-head}
 use Rattle.lattice.specs.Cuts.{Plane, plane_of}
 use Rattle.solid_mesh.specs.Solids.{solid_part}
-use Rattle.exact_frac.specs.declared.Frac.{Frac}
-use Rattle.intervals.specs.declared.interval.Interval.{Interval}
 use Rattle.span_slow.specs.declared.span.Span.{Span}
 use Rattle.span_slow.specs.Spans.{CoverEdge}
 use Rattle.span_slow.specs.Beyond.{IsStretch, IsPartBeyond}

@@ -1,5 +1,5 @@
 -- What each step does on the way from linears to intervals, and from intervals to spans.
-use Rattle.std.specs.Prelude.{◌≡◌, ◌⊎◌, ◌↔◌, ℤ, pos, ◌<ℤ◌, ◌≤ℤ◌, Bool, List, [], ◌∷◌, ◌++◌, All, AllPairs, Contains}
+use Rattle.std.specs.Prelude.{◌≡◌, ◌⊎◌, ◌↔◌, ℤ, pos, ◌<ℤ◌, ◌≤ℤ◌, Bool, List, [], ◌∷◌, ◌++◌, All, Contains}
 use Rattle.exact_frac.specs.declared.Frac.{Frac}
 use Rattle.hiding.specs.Values.{value_at}
 use Rattle.intervals.specs.declared.interval.Interval.{Interval}
@@ -7,8 +7,7 @@ use Rattle.span_slow.specs.declared.linear.Linear.{Linear}
 use Rattle.span_slow.specs.declared.span.Span.{Span}
 use Rattle.geometry.specs.Places.{IsPlace, IsEarlier, IsSame, IsBetween, IsFromTo}
 use Rattle.span_slow.specs.Spans.{Follow, Alternate}
-use Rattle.span_slow.specs.inner.Hidden.{IsRootOrEnd, IsAtEnd, IsIntervalEnd}
-use Rattle.span_slow.specs.Beyond.{IsWithinAny}
+use Rattle.span_slow.specs.inner.Hidden.{IsRootOrEnd}
 
 -- the new interval is where the old one is and the value is at least 0
 pub record IsClipped (old : Interval Frac) (v : Linear) (new : Interval Frac) : Type 0 where
