@@ -1,6 +1,8 @@
+pub mod CornerEnds
 pub mod Creases
-pub mod LabelLemmas
-pub mod NeighbourLemmas
+pub mod EdgePlaces
+pub mod Lists
 pub mod Numbered
+pub mod Numberings
+pub mod OrderSearch
 pub mod Picking
-pub mod RunLemmas

@@ -1,4 +1,3 @@
-pub mod Edges
-pub mod Labels
-pub mod Neighbours
+pub mod Orders
 pub mod Picked
+pub mod inner

@@ -1,7 +1,8 @@
 //! Which edges of a solid are drawn, which are outlines, and which drawn edges are connected.
 //!
 //! An edge is drawn where it is an outline or a crease and isn't seen end-on. The runs are the connected parts of the graph of
-//! corners and drawn edges; they are found by depth-first search, with a stack of its own.
+//! corners and drawn edges. They are read off the order in which a search reaches the drawn edges, breadth first; `breadth_first`
+//! hands the same order to what is carried from edge to edge.
 #![tactic(auto)]
 
 ghost use Rattle.std.specs.Prelude.{IfOk};
@@ -11,8 +12,9 @@ ghost use Rattle.solid_mesh.specs.Solids.{solid_part, edge_halves};
 ghost use Rattle.edge_pick.specs.Picked.{IsPicked};
 
 mod edges;
-mod labels;
-mod neighbours;
+mod order;
+mod order_ends;
+mod order_search;
 mod runs;
 #[cfg(test)]
 mod tests;
@@ -22,6 +24,7 @@ use crate::runs::find_runs;
 use exact_frac::OutOfMemory;
 pub use lattice::Crease;
 use lattice::Dir;
+pub use order::{DrawnEnd, EdgeCorners, Step, breadth_first};
 use solid_mesh::Solid;
 use std::alloc::Global;
 
@@ -37,8 +40,7 @@ pub struct Picked {
 /// The drawn edges, the outlines, and the runs of the drawn edges. Fails only where memory runs out.
 ///
 /// Cost: two passes over the edges, with a few products and at most three comparisons of fractions each, and then time and
-/// memory that are linear in the corners and the drawn edges: each corner enters the stack at most once, and each drawn edge
-/// is passed at most twice.
+/// memory that are linear in the corners and the drawn edges: each end of a drawn edge is gone over once.
 pub fn pick(alloc: Global, solid: &Solid, d: &Dir, crease: Crease) -> Result<Picked, OutOfMemory>
     ensures { IfOk result (IsPicked (of_dir d.now) (fraction_of crease) (solid_part solid.now) (edge_halves solid.now)) }
 {

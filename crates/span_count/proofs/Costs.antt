@@ -13,8 +13,8 @@ use Rattle.edge_pick.specs.declared.Picked.{Picked}
 use Rattle.span_count.specs.Bounds.{IsEndCount, IsBound}
 use Rattle.span_count.specs.Orders.{start_of, starts_of, AreSteps}
 use Rattle.span_count.specs.Tours.{cost_of}
-use Rattle.span_count.specs.declared.order.DrawnEnd.{DrawnEnd}
-use Rattle.span_count.specs.declared.order.Step.{Step}
+use Rattle.edge_pick.specs.declared.order.DrawnEnd.{DrawnEnd}
+use Rattle.edge_pick.specs.declared.order.Step.{Step}
 use Rattle.span_count.proofs.Lists.{zip_long}
 
 -- ---- the numbers from k on

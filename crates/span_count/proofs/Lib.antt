@@ -7,8 +7,6 @@ pub mod Stars
 pub mod Moved
 pub mod Own
 pub mod Around
-pub mod CornerEnds
-pub mod OrderSearch
 pub mod OrderSteps
 pub mod Listings
 pub mod OneBound

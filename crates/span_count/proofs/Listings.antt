@@ -9,7 +9,7 @@ use Rattle.edge_pick.specs.declared.Picked.{Picked}
 use Rattle.cross_find.specs.Sights.{SightState, IsSeen}
 use Rattle.span_count.specs.Finders.{IsPickedIn, IsFinder}
 use Rattle.span_count.specs.Steps.{IsSeenEdge, AreListed, AreListedOver, IsOutlineAt}
-use Rattle.span_count.proofs.Lists.{few_rising, few_of}
+use Rattle.edge_pick.proofs.Lists.{few_rising, few_of}
 
 pub there_at : (xs : List ℕ) (k : ℕ) (x : ℕ) → slice_get xs k ≡ Some x → Contains xs x
 there_at xs k x at = (k, slice_get_within xs k x at, get_or_from_slice_get xs k x x at)

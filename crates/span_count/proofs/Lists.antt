@@ -16,16 +16,6 @@ front_more xs k x within at = sym (take_more xs k x within ∙ ap (λ y. take k 
 pub front_get : {X : Type 0} (xs : List X) (k : ℕ) (x : X) → slice_get xs k ≡ Some x → take k xs ++ x ∷ [] ≡ take (k + 1) xs
 front_get xs k x at = front_more xs k x (slice_get_within xs k x at) (get_or_from_slice_get xs k x x at)
 
-pub slice_get_push : {X : Type 0} (xs : List X) (y : X) (i : ℕ) (z : X) → slice_get (xs ++ y ∷ []) i ≡ Some z → (slice_get xs i ≡ Some z) ⊎ ((i ≡ length xs) × (y ≡ z))
-slice_get_push [] y zero z e = inr (refl, cc)
-slice_get_push [] y (suc i) z e = absurd (cc)
-slice_get_push (x ∷ xs) y zero z e = inl e
-slice_get_push (x ∷ xs) y (suc i) z e = more (slice_get_push xs y i z e)
-  where
-    more : (slice_get xs i ≡ Some z) ⊎ ((i ≡ length xs) × (y ≡ z)) → (slice_get xs i ≡ Some z) ⊎ ((suc i ≡ suc (length xs)) × (y ≡ z))
-    more (inl h) = inl h
-    more (inr h) = inr (ap suc h.0, h.1)
-
 pub none_past : (xs : List ℕ) (i : ℕ) → slice_get xs i ≡ None → length xs ≤ i
 none_past [] i e = omega arith
 none_past (x ∷ xs) zero e = absurd (cc)
@@ -62,39 +52,6 @@ pub count_few : {A : Type 0} {P : A → Type 0} (xs : List A) (n : ℕ) → IsCo
 count_few [] n nothing = omega arith
 count_few (x ∷ xs) n (counted _ _ k p h) = let r = count_few xs k h in omega arith
 count_few (x ∷ xs) n (skipped _ _ k p h) = let r = count_few xs n h in omega arith
-
--- numbers that rise are at least their places
-rising : (xs : List ℕ) → IsStrictlyIncreasing xs → (k : ℕ) → k < length xs → k ≤ get_or xs k 0
-rising xs up zero h = omega arith
-rising xs up (suc k) h = by (get_or xs k 0) (get_or xs (k + 1) 0) (get_or xs (suc k) 0) (rising xs up k (omega arith)) (up k (omega arith)) (ap (λ i. get_or xs i 0) (next k))
-  where
-    next : (k : ℕ) → k + 1 ≡ suc k
-    next k = omega arith
-
-    by : (a b c : ℕ) → k ≤ a → a < b → b ≡ c → suc k ≤ c
-    by a b c p q e = omega arith
-
-pub few_rising : (xs : List ℕ) (n : ℕ) → IsStrictlyIncreasing xs → All (λ x. x < n) xs → length xs ≤ n
-few_rising [] n up below = omega arith
-few_rising (x ∷ xs) n up below =
-    let least = rising (x ∷ xs) up (length xs) (omega arith) in
-    let most = below (length xs) 0 (omega arith) in
-    omega arith
-
--- different numbers of a list are at most as many as it has
-pub few_of : (xs ys : List ℕ) → AllPairs ◌≢◌ xs → All (Contains ys) xs → length xs ≤ length ys
-few_of [] ys apart within = omega arith
-few_of (x ∷ xs) ys apart within =
-    let (k, there, is) = All-head (Contains ys) x xs within in
-    let moved = IsPermutation-remove ys k x there (sym is) in
-    let rest = few_of xs (remove ys k) (λ i j d h l. apart (suc i) (suc j) d (omega arith) (omega arith))
-    (λ i d h. other (get_or xs i d) (remove ys k) (λ e. apart 0 (suc i) d (omega arith) (omega arith) e) (Contains-permutation ys (x ∷ remove ys k) (get_or xs i d) moved (All-tail (Contains ys) x xs within i d h))) in
-    let same = length_permutation ys (x ∷ remove ys k) moved in
-    omega arith
-  where
-    other : (z : ℕ) (zs : List ℕ) → (x ≡ z → ⊥) → Contains (x ∷ zs) z → Contains zs z
-    other z zs differ (zero, h, e) = absurd (differ e)
-    other z zs differ (suc k, h, e) = (k, omega arith, e)
 
 -- each relates to at most one, so the lists that go with a list are one list
 pub zip_one : {A B : Type 0} (R : A → B → Type 0) → ((x : A) (y z : B) → R x y → R x z → y ≡ z) → (xs : List A) (ys zs : List B) → AllZip R xs ys → AllZip R xs zs → ys ≡ zs

@@ -17,7 +17,8 @@ use Rattle.edge_pick.specs.declared.Picked.{Picked}
 use Rattle.cross_find.specs.Sights.{SightState, IsSeen}
 use Rattle.span_count.specs.Bounds.{IsRunCount, IsEndCount, IsBound}
 use Rattle.span_count.specs.Finders.{IsPickedIn}
-use Rattle.span_count.proofs.Lists.{few_rising, few_of, zip_one}
+use Rattle.edge_pick.proofs.Lists.{few_rising, few_of}
+use Rattle.span_count.proofs.Lists.{zip_one}
 use Rattle.span_count.proofs.Listings.{few_outlines, few_drawn}
 
 -- ---- the corners of an edge, by its number

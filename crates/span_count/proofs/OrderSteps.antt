@@ -20,35 +20,14 @@ use Rattle.cross_find.specs.Sights.{SightState, IsSeen}
 use Rattle.edge_pick.specs.declared.Picked.{Picked}
 use Rattle.span_count.specs.Bounds.{IsRunCount}
 use Rattle.span_count.specs.Finders.{IsPickedIn}
-use Rattle.span_count.specs.declared.order.Corners.{Corners}
-use Rattle.span_count.specs.declared.order.DrawnEnd.{DrawnEnd}
-use Rattle.span_count.specs.declared.order.Step.{Step}
+use Rattle.edge_pick.specs.declared.order.EdgeCorners.{EdgeCorners}
+use Rattle.edge_pick.specs.declared.order.DrawnEnd.{DrawnEnd}
+use Rattle.edge_pick.specs.declared.order.Step.{Step}
 use Rattle.span_count.specs.Orders.{AreAtOneCorner, ComesFrom, start_of, starts_of, AreSteps}
-use Rattle.span_count.specs.Searches.{no_corners, corner_at, corner_of, AreCornersOf, Meet, Reaches, begin, further, places_of, starts_in, IsFrom, AreWalked}
-use Rattle.span_count.proofs.Lists.{few_rising, few_of}
-
--- ---- the corners of drawn edges
--- one edge more
-pub corners_more : (x : SightState) (drawn : List ℕ) (edges : List Corners) (i : ℕ) (g : given.Edge) → AreCornersOf x drawn edges → slice_get drawn (length edges) ≡ Some i
-    → ((e : Edge x.part) → IsNumbered x.halves i e → HasNumbers e g) → AreCornersOf x drawn (edges ++ record { a = g.a; b = g.b } ∷ [])
-corners_more x drawn edges i g h at numbers = record { right = λ place j e below is numbered. right place j e (cases_lt place (length edges)) below is numbered }
-  where
-    right : (place j : ℕ) (e : Edge x.part) → (place < length edges) ⊎ (length edges ≤ place) → place < length (edges ++ record { a = g.a; b = g.b } ∷ []) → slice_get drawn place ≡ Some j → IsNumbered x.halves j e
-        → (e.m ≡ corner_at (edges ++ record { a = g.a; b = g.b } ∷ []) place false) × (e.n ≡ corner_at (edges ++ record { a = g.a; b = g.b } ∷ []) place true)
-    right place j e (inl l) below is numbered =
-        let front : get_or (edges ++ record { a = g.a; b = g.b } ∷ []) place no_corners ≡ get_or edges place no_corners = get_or-append edges (record { a = g.a; b = g.b } ∷ []) no_corners place l in
-        let r = h.right place j e l is numbered in
-        (r.0 ∙ sym (ap (λ (c : Corners). c.a) front), r.1 ∙ sym (ap (λ (c : Corners). c.b) front))
-    right place j e (inr l) below is numbered =
-        let here : length edges ≡ place = omega (arith, below, length-append edges (record { a = g.a; b = g.b } ∷ [])) in
-        let same : i ≡ j = same_Some i j (sym at ∙ subst (λ (k : ℕ). slice_get drawn k ≡ Some j) (sym here) is) in
-        let r = numbers e (subst (λ (k : ℕ). IsNumbered x.halves k e) (sym same) numbered) in
-        let last : get_or (edges ++ record { a = g.a; b = g.b } ∷ []) place no_corners ≡ record { a = g.a; b = g.b } =
-        ap (λ (k : ℕ). get_or (edges ++ record { a = g.a; b = g.b } ∷ []) k no_corners) (sym here) ∙ get_or-append_seam edges (record { a = g.a; b = g.b }) [] no_corners in
-        (r.a ∙ sym (ap (λ (c : Corners). c.a) last), r.b ∙ sym (ap (λ (c : Corners). c.b) last))
-
-pub corners_none : (x : SightState) (drawn : List ℕ) (edges : List Corners) → edges ≡ [] → AreCornersOf x drawn edges
-corners_none x drawn edges empty = record { right = λ place i e below is numbered. absurd (omega (arith, below, ap (λ (xs : List Corners). length xs) empty)) }
+use Rattle.edge_pick.specs.Orders.{no_corners, corner_at, corner_of, Meet, Reaches, begin, further, places_of, starts_in, IsFrom, AreWalked}
+use Rattle.edge_pick.specs.inner.Numberings.{AreCornersOf}
+use Rattle.edge_pick.proofs.EdgePlaces.{number_is, reaches_of}
+use Rattle.edge_pick.proofs.Lists.{few_rising, few_of}
 
 pub few_drawn : (x : SightState) → IsSeen x → (p : Picked) → IsPickedIn x p → length p.drawn.items < 2 ^ 32
 few_drawn x seen p picked =
@@ -71,101 +50,60 @@ starts_count (x ∷ xs) = by x.from (starts_count xs)
     by None e = omega (arith, e)
     by (Some from) e = omega (arith, e)
 
--- ---- which edges lead to one another
--- a number of a rising list is at one place
-one_place : (xs : List ℕ) → IsStrictlyIncreasing xs → (k l i : ℕ) → slice_get xs k ≡ Some i → slice_get xs l ≡ Some i → k ≡ l
-one_place xs up k l i p q = by (cases_lt k l) (cases_lt l k)
-  where
-    far : (k l : ℕ) → slice_get xs k ≡ Some i → slice_get xs l ≡ Some i → k < l → ⊥
-    far k l p q less =
-        let m = AllPairs-from_increasing xs up k l 0 less (slice_get_within xs l i q) in
-        omega (arith, m, get_or_from_slice_get xs k i 0 p, get_or_from_slice_get xs l i 0 q)
-
-    by : (k < l) ⊎ (l ≤ k) → (l < k) ⊎ (k ≤ l) → k ≡ l
-    by (inl m) h = absurd (far k l p q m)
-    by (inr m) (inl h) = absurd (far l k q p h)
-    by (inr m) (inr h) = omega arith
-
-module _ (x : SightState) (p : Picked) (edges : List Corners) (long : length edges ≡ length p.drawn.items) (corners : AreCornersOf x p.drawn.items edges) where
-  number_is : (place i : ℕ) (e : Edge x.part) (at_b : Bool) → slice_get p.drawn.items place ≡ Some i → IsNumbered x.halves i e → number_at e at_b ≡ corner_at edges place at_b
-  number_is place i e at_b at numbered = by at_b
-    where
-      below : place < length edges
-      below = omega (arith, slice_get_within p.drawn.items place i at, long)
-
-      by : (at_b : Bool) → number_at e at_b ≡ corner_at edges place at_b
-      by false = let r = corners.right place i e below at numbered in r.0
-      by true = let r = corners.right place i e below at numbered in r.1
+-- ---- steps over the drawn edges
+module _ (x : SightState) (p : Picked) (edges : List EdgeCorners) (long : length edges ≡ length p.drawn.items) (corners : AreCornersOf x.part x.halves p.drawn.items edges) where
+  at_end : (place i : ℕ) (e : Edge x.part) (at_b : Bool) → slice_get p.drawn.items place ≡ Some i → IsNumbered x.halves i e → number_at e at_b ≡ corner_at edges place at_b
+  at_end place i e false at numbered = number_is x.part x.halves p.drawn.items edges long corners place i e false at numbered
+  at_end place i e true at numbered = number_is x.part x.halves p.drawn.items edges long corners place i e true at numbered
 
   at_one_corner : (a b : DrawnEnd) → corner_of edges a ≡ corner_of edges b → AreAtOneCorner x p a b
-  at_one_corner a b same i j e f at_i at_j i_is j_is = number_is a.place i e a.at_b at_i i_is ∙ same ∙ sym (number_is b.place j f b.at_b at_j j_is)
+  at_one_corner a b same i j e f at_i at_j i_is j_is = at_end a.place i e a.at_b at_i i_is ∙ same ∙ sym (at_end b.place j f b.at_b at_j j_is)
 
   comes_from : (steps : List Step) (k : ℕ) (to : DrawnEnd) (from : Option DrawnEnd) → IsFrom edges steps k to from → ComesFrom x p steps k to from
   comes_from steps k to None h = tt
   comes_from steps k to (Some from) h = (h.0, at_one_corner from to h.1)
 
-  meet_of : (k l i j : ℕ) → slice_get p.drawn.items k ≡ Some i → slice_get p.drawn.items l ≡ Some j → ShareACorner x.part x.halves i j → Meet edges k l
-  meet_of k l i j at_i at_j share = by share.corner
-    where
-      by : (share.first.m ≡ share.second.m) ⊎ (share.first.m ≡ share.second.n) ⊎ (share.first.n ≡ share.second.m) ⊎ (share.first.n ≡ share.second.n) → Meet edges k l
-      by (inl e) = record { at_b = false; other_at_b = false; same = sym (number_is k i share.first false at_i share.at_first) ∙ e ∙ number_is l j share.second false at_j share.at_second }
-      by (inr (inl e)) = record { at_b = false; other_at_b = true; same = sym (number_is k i share.first false at_i share.at_first) ∙ e ∙ number_is l j share.second true at_j share.at_second }
-      by (inr (inr (inl e))) = record { at_b = true; other_at_b = false; same = sym (number_is k i share.first true at_i share.at_first) ∙ e ∙ number_is l j share.second false at_j share.at_second }
-      by (inr (inr (inr e))) = record { at_b = true; other_at_b = true; same = sym (number_is k i share.first true at_i share.at_first) ∙ e ∙ number_is l j share.second true at_j share.at_second }
+  module _ (rising : IsStrictlyIncreasing p.drawn.items) (runs : AreRuns x.part x.halves p.drawn.items p.runs.items) (steps : List Step) (walked : AreWalked edges steps) where
+    abbrev run_of : ℕ → ℕ
+    run_of place = get_or p.runs.items place 0
 
-  leads_drawn : (i j : ℕ) → Leads x.part x.halves p.drawn.items i j → Contains p.drawn.items j
-  leads_drawn i j (start _ c) = c
-  leads_drawn i j (step _ o _ g c share) = c
+    -- places with one run number lead to one another
+    same_run : (k l : ℕ) → k < length edges → l < length edges → run_of k ≡ run_of l → Reaches edges k l
+    same_run k l in_k in_l same =
+        let at_k = slice_get-get_or p.drawn.items k 0 (omega (arith, in_k, long)) in
+        let at_l = slice_get-get_or p.drawn.items l 0 (omega (arith, in_l, long)) in
+        let run_k = slice_get-get_or p.runs.items k 0 (omega (arith, in_k, long, runs.each)) in
+        let run_l = slice_get-get_or p.runs.items l 0 (omega (arith, in_l, long, runs.each)) in
+        reaches_of x.part x.halves p.drawn.items edges long corners rising (get_or p.drawn.items k 0) (get_or p.drawn.items l 0)
+        ((runs.same k l (get_or p.drawn.items k 0) (get_or p.drawn.items l 0) (run_of k) (run_of l) at_k at_l run_k run_l).0 same) k l at_k at_l
 
-  module _ (rising : IsStrictlyIncreasing p.drawn.items) where
-    reaches_of : (i j : ℕ) → Leads x.part x.halves p.drawn.items i j → (k l : ℕ) → slice_get p.drawn.items k ≡ Some i → slice_get p.drawn.items l ≡ Some j → Reaches edges k l
-    reaches_of i j (start _ c) k l at_i at_j = subst (Reaches edges k) (one_place p.drawn.items rising k l i at_i at_j) (begin k)
-    reaches_of i j (step _ o _ g c share) k l at_i at_j =
-        let (q, within, is) = leads_drawn i o g in
-        let at_o : slice_get p.drawn.items q ≡ Some o = slice_get-get_or p.drawn.items q o within ∙ ap (λ (n : ℕ). Some n) is in
-        further k q l (reaches_of i o g k q at_i at_o) (omega (arith, slice_get_within p.drawn.items l j at_j, long)) (meet_of q l o j at_o at_j share)
+    starts_few : (count : ℕ) → IsRunCount p.runs.items count → starts_of steps ≤ count
+    starts_few count h =
+        let few = few_of (map run_of (starts_in steps)) (range_with_len 0 count) apart within in
+        omega (arith, few, starts_count steps, length-map (starts_in steps) run_of, length-range_with_len 0 count)
+      where
+        run_at : (k d : ℕ) → k < length (map run_of (starts_in steps)) → get_or (map run_of (starts_in steps)) k d ≡ run_of (get_or (starts_in steps) k 0)
+        run_at k d l = get_or-map run_of (starts_in steps) k 0 d (omega (arith, l, length-map (starts_in steps) run_of))
 
-    module _ (runs : AreRuns x.part x.halves p.drawn.items p.runs.items) (steps : List Step) (walked : AreWalked edges steps) where
-      abbrev run_of : ℕ → ℕ
-      run_of place = get_or p.runs.items place 0
+        start_below : (k : ℕ) → k < length (map run_of (starts_in steps)) → get_or (starts_in steps) k 0 < length edges
+        start_below k l = walked.starts k 0 (omega (arith, l, length-map (starts_in steps) run_of))
 
-      -- places with one run number lead to one another
-      same_run : (k l : ℕ) → k < length edges → l < length edges → run_of k ≡ run_of l → Reaches edges k l
-      same_run k l in_k in_l same =
-          let at_k = slice_get-get_or p.drawn.items k 0 (omega (arith, in_k, long)) in
-          let at_l = slice_get-get_or p.drawn.items l 0 (omega (arith, in_l, long)) in
-          let run_k = slice_get-get_or p.runs.items k 0 (omega (arith, in_k, long, runs.each)) in
-          let run_l = slice_get-get_or p.runs.items l 0 (omega (arith, in_l, long, runs.each)) in
-          reaches_of (get_or p.drawn.items k 0) (get_or p.drawn.items l 0)
-          ((runs.same k l (get_or p.drawn.items k 0) (get_or p.drawn.items l 0) (run_of k) (run_of l) at_k at_l run_k run_l).0 same) k l at_k at_l
+        apart : AllPairs ◌≢◌ (map run_of (starts_in steps))
+        apart i j d less l same =
+            walked.apart i j 0 less (omega (arith, l, length-map (starts_in steps) run_of))
+            (same_run (get_or (starts_in steps) i 0) (get_or (starts_in steps) j 0) (start_below i (omega (arith, less, l))) (start_below j l)
+            (sym (run_at i d (omega (arith, less, l))) ∙ same ∙ run_at j d l))
 
-      starts_few : (count : ℕ) → IsRunCount p.runs.items count → starts_of steps ≤ count
-      starts_few count h =
-          let few = few_of (map run_of (starts_in steps)) (range_with_len 0 count) apart within in
-          omega (arith, few, starts_count steps, length-map (starts_in steps) run_of, length-range_with_len 0 count)
-        where
-          run_at : (k d : ℕ) → k < length (map run_of (starts_in steps)) → get_or (map run_of (starts_in steps)) k d ≡ run_of (get_or (starts_in steps) k 0)
-          run_at k d l = get_or-map run_of (starts_in steps) k 0 d (omega (arith, l, length-map (starts_in steps) run_of))
+        within : All (Contains (range_with_len 0 count)) (map run_of (starts_in steps))
+        within k d l =
+            let place = get_or (starts_in steps) k 0 in
+            let below : run_of place < count = h.above place 0 (omega (arith, start_below k l, long, runs.each)) in
+            subst (Contains (range_with_len 0 count)) (sym (run_at k d l))
+            (run_of place, omega (arith, below, length-range_with_len 0 count), omega (arith, get_or-range_with_len 0 count (run_of place) (run_of place) below))
 
-          start_below : (k : ℕ) → k < length (map run_of (starts_in steps)) → get_or (starts_in steps) k 0 < length edges
-          start_below k l = walked.starts k 0 (omega (arith, l, length-map (starts_in steps) run_of))
-
-          apart : AllPairs ◌≢◌ (map run_of (starts_in steps))
-          apart i j d less l same =
-              walked.apart i j 0 less (omega (arith, l, length-map (starts_in steps) run_of))
-              (same_run (get_or (starts_in steps) i 0) (get_or (starts_in steps) j 0) (start_below i (omega (arith, less, l))) (start_below j l)
-              (sym (run_at i d (omega (arith, less, l))) ∙ same ∙ run_at j d l))
-
-          within : All (Contains (range_with_len 0 count)) (map run_of (starts_in steps))
-          within k d l =
-              let place = get_or (starts_in steps) k 0 in
-              let below : run_of place < count = h.above place 0 (omega (arith, start_below k l, long, runs.each)) in
-              subst (Contains (range_with_len 0 count)) (sym (run_at k d l))
-              (run_of place, omega (arith, below, length-range_with_len 0 count), omega (arith, get_or-range_with_len 0 count (run_of place) (run_of place) below))
-
-      pub steps_right : AreSteps x p steps
-      steps_right = record {
-        each = subst (λ (n : ℕ). IsPermutation (places_of steps) (range_with_len 0 n)) long walked.each;
-        from = λ k step at. comes_from steps k step.to step.from (walked.from k step at);
-        starts = starts_few;
-      }
+    pub steps_right : AreSteps x p steps
+    steps_right = record {
+      each = subst (λ (n : ℕ). IsPermutation (places_of steps) (range_with_len 0 n)) long walked.each;
+      from = λ k step at. comes_from steps k step.to step.from (walked.from k step at);
+      starts = starts_few;
+    }

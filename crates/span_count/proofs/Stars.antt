@@ -15,7 +15,7 @@ use Rattle.face_counts.proofs.HalfFaces.{edge_of}
 use Rattle.cross_find.specs.Sights.{SightState, IsSeen}
 use Rattle.span_count.specs.Bounds.{IsEndCount}
 use Rattle.span_count.specs.Rests.{IsCornerCount}
-use Rattle.span_count.proofs.Lists.{few_rising}
+use Rattle.edge_pick.proofs.Lists.{few_rising}
 
 -- ---- one list
 -- later numbers are greater

@@ -10,7 +10,7 @@ use Rattle.span_count.specs.CountSpans.{AreCountSpans}
 use Rattle.span_count.specs.Rests.{AreRests}
 use Rattle.span_count.specs.Tests.{IsTested}
 use Rattle.span_count.specs.Tours.{kept_at, IsKept, IsWalked}
-use Rattle.span_count.specs.declared.order.DrawnEnd.{DrawnEnd}
+use Rattle.edge_pick.specs.declared.order.DrawnEnd.{DrawnEnd}
 use Rattle.span_count.specs.declared.step.Sides.{Sides}
 use Rattle.span_count.specs.declared.step.Walked.{Walked}
 use Rattle.span_count.specs.declared.tour.Ends.{Ends}

@@ -15,8 +15,8 @@ use Rattle.span_count.specs.Orders.{AreAtOneCorner, ComesFrom, AreSteps}
 use Rattle.span_count.specs.Rests.{AreRests}
 use Rattle.span_count.specs.Tests.{with_tests, IsTested}
 use Rattle.span_count.specs.Tours.{kept_at, IsKept, IsReady, IsWalked, cost_of}
-use Rattle.span_count.specs.declared.order.DrawnEnd.{DrawnEnd}
-use Rattle.span_count.specs.declared.order.Step.{Step}
+use Rattle.edge_pick.specs.declared.order.DrawnEnd.{DrawnEnd}
+use Rattle.edge_pick.specs.declared.order.Step.{Step}
 use Rattle.span_count.specs.declared.span.EdgeSpans.{EdgeSpans}
 use Rattle.span_count.specs.declared.step.Sides.{Sides}
 use Rattle.span_count.specs.declared.step.Walked.{Walked}
@@ -147,7 +147,7 @@ module _ (x : SightState) (p : Picked) (steps : List Step) (are : AreSteps x p s
         by : (from : Option DrawnEnd) → ComesFrom x p steps k step.to from → IsReady now p ends step.to from
         by None h = tt
         by (Some from) (before, corner) =
-            let there = kept_of x p entries ends from before.step.to.place before.same (known.done before.place before.step before.before before.listed) in (
+            let there = kept_of x p entries ends from before.step.to.place before.same (known.done before.at before.step before.before before.listed) in (
               subst (λ y. AreAtOneCorner y p from step.to) (sym so_far.2) corner,
               record { edge = there.edge; kept = there.kept; drawn = there.drawn; listed = there.listed; rests = rests_after x now so_far.0 so_far.2 there.edge from.at_b (kept_at there.kept from.at_b) there.rests },
             )

@@ -16,7 +16,8 @@ use Rattle.span_count.specs.Rests.{IsCountNext, AreCountsNext}
 use Rattle.span_count.specs.Steps.{IsSeenEdge, AreListed, IsAnswer, AreCrossings}
 use Rattle.span_count.specs.declared.step.Sides.{Sides}
 use Rattle.span_count.specs.Tests.{with_tests, IsTested}
-use Rattle.span_count.proofs.Lists.{front_get, slice_get_push, all_zip_push}
+use Rattle.edge_pick.proofs.Lists.{slice_get_push}
+use Rattle.span_count.proofs.Lists.{front_get, all_zip_push}
 
 -- ---- how many tests were made
 pub no_tests : (x : SightState) → x ≡ with_tests 0 x

@@ -4,7 +4,6 @@ pub mod Entries
 pub mod Finders
 pub mod Orders
 pub mod Rests
-pub mod Searches
 pub mod Steps
 pub mod Tests
 pub mod Tours

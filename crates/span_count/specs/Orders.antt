@@ -5,26 +5,19 @@ use Rattle.geometry.specs.Parts.{Edge, IsNumbered}
 use Rattle.counting.specs.Turns.{number_at}
 use Rattle.cross_find.specs.Sights.{SightState}
 use Rattle.edge_pick.specs.declared.Picked.{Picked}
+use Rattle.edge_pick.specs.Orders.{IsWalkedBefore}
 use Rattle.span_count.specs.Bounds.{IsRunCount}
-use Rattle.span_count.specs.declared.order.DrawnEnd.{DrawnEnd}
-use Rattle.span_count.specs.declared.order.Step.{Step}
+use Rattle.edge_pick.specs.declared.order.DrawnEnd.{DrawnEnd}
+use Rattle.edge_pick.specs.declared.order.Step.{Step}
 
 -- the two ends are at one corner
 abbrev pub AreAtOneCorner : (x : SightState) → Picked → DrawnEnd → DrawnEnd → Type 0
 AreAtOneCorner x p a b = (i j : ℕ) (e f : Edge x.part) → slice_get p.drawn.items a.place ≡ Some i → slice_get p.drawn.items b.place ≡ Some j →
     IsNumbered x.halves i e → IsNumbered x.halves j f → number_at e a.at_b ≡ number_at f b.at_b
 
--- the end belongs to an edge that one of the first k steps goes to
-pub record IsWalkedBefore (steps : List Step) (k : ℕ) (end : DrawnEnd) : Type 0 where
-  pub place : ℕ
-  pub step : Step
-  pub before : place < k
-  pub listed : slice_get steps place ≡ Some step
-  pub same : step.to.place ≡ end.place
-
 abbrev pub ComesFrom : SightState → Picked → List Step → ℕ → DrawnEnd → Option DrawnEnd → Type 0
 ComesFrom x p steps k to None = Unit {0}
-ComesFrom x p steps k to (Some from) = IsWalkedBefore steps k from × AreAtOneCorner x p from to
+ComesFrom x p steps k to (Some from) = IsWalkedBefore steps k from.place × AreAtOneCorner x p from to
 
 -- 1 where a step begins a run
 abbrev pub start_of : Option DrawnEnd → ℕ

@@ -6,7 +6,7 @@ use Rattle.edge_pick.specs.declared.Picked.{Picked}
 use Rattle.span_count.specs.CountSpans.{AreCountSpans}
 use Rattle.span_count.specs.Orders.{AreAtOneCorner}
 use Rattle.span_count.specs.Rests.{AreRests}
-use Rattle.span_count.specs.declared.order.DrawnEnd.{DrawnEnd}
+use Rattle.edge_pick.specs.declared.order.DrawnEnd.{DrawnEnd}
 use Rattle.span_count.specs.declared.step.Sides.{Sides}
 use Rattle.span_count.specs.declared.step.Walked.{Walked}
 use Rattle.span_count.specs.declared.tour.Ends.{Ends}

@@ -30,8 +30,6 @@ mod carry;
 mod corner;
 mod finder;
 mod order;
-mod order_ends;
-mod order_search;
 mod span;
 mod step;
 #[cfg(test)]

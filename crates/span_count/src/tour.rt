@@ -7,11 +7,10 @@ ghost use Rattle.span_count.specs.Tests.{IsTested};
 ghost use Rattle.span_count.specs.Tours.{kept_at, IsReady, IsWalked, cost_of};
 
 use crate::finder::Finder;
-use crate::order::Step;
 use crate::span::EdgeSpans;
 use crate::step::{Sides, Walked, first_edge, next_edge};
 use cross_find::{End, Sight};
-use edge_pick::Picked;
+use edge_pick::{Picked, Step};
 use exact_frac::OutOfMemory;
 use std::alloc::Global;
 

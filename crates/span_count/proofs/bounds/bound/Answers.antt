@@ -8,7 +8,7 @@ use Rattle.solid_mesh.specs.Solids.{solid_part, edge_halves}
 use Rattle.solid_mesh.proofs.Facts.{few_edges, few_triangles}
 use Rattle.edge_pick.specs.Picked.{IsPicked}
 use Rattle.edge_pick.specs.declared.Picked.{Picked}
-use Rattle.span_count.proofs.Lists.{few_rising}
+use Rattle.edge_pick.proofs.Lists.{few_rising}
 use Rattle.span_count.proofs.bounds.bound.Goals as goal
 
 few_numbers : (solid : Solid) (P : Edge (solid_part solid) → Type 0) (numbers : List ℕ) → AreEdgesThat P (edge_halves solid) numbers → length numbers ≤ 60000

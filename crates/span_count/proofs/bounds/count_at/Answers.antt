@@ -1,7 +1,7 @@
 use Rattle.std.proofs.Common.{length, refl, arith}
 use Rattle.solid_mesh.proofs.Facts.{few_triangles}
 use Rattle.solid_mesh.specs.Solids.{solid_part}
-use Rattle.span_count.proofs.Lists.{few_rising}
+use Rattle.edge_pick.proofs.Lists.{few_rising}
 use Rattle.span_count.proofs.bounds.count_at.Goals as goal
 
 pub returns-clause-count : goal.returns-clause-count

@@ -1,0 +1,48 @@
+-- Lists of numbers: an element more, and how many different ones there are.
+use Rattle.std.proofs.Common.{◌≡◌, ◌≢◌, ℕ, zero, suc, ◌+◌, ◌<◌, ◌≤◌, ◌⊎◌, inl, inr, List, [], ◌∷◌, ◌++◌, All, AllPairs, Contains, Some, length, get_or, remove, slice_get, refl, sym, ap, arith}
+use Rattle.std.specs.List.Sorted.{IsStrictlyIncreasing}
+use Rattle.std.proofs.lemmas.List.Elements.{All-head, All-tail}
+use Rattle.std.proofs.lemmas.List.Sorted.{IsPermutation-remove, Contains-permutation, length_permutation}
+
+pub slice_get_push : {X : Type 0} (xs : List X) (y : X) (i : ℕ) (z : X) → slice_get (xs ++ y ∷ []) i ≡ Some z → (slice_get xs i ≡ Some z) ⊎ ((i ≡ length xs) × (y ≡ z))
+slice_get_push [] y zero z e = inr (refl, cc)
+slice_get_push [] y (suc i) z e = absurd (cc)
+slice_get_push (x ∷ xs) y zero z e = inl e
+slice_get_push (x ∷ xs) y (suc i) z e = more (slice_get_push xs y i z e)
+  where
+    more : (slice_get xs i ≡ Some z) ⊎ ((i ≡ length xs) × (y ≡ z)) → (slice_get xs i ≡ Some z) ⊎ ((suc i ≡ suc (length xs)) × (y ≡ z))
+    more (inl h) = inl h
+    more (inr h) = inr (ap suc h.0, h.1)
+
+-- numbers that rise are at least their places
+rising : (xs : List ℕ) → IsStrictlyIncreasing xs → (k : ℕ) → k < length xs → k ≤ get_or xs k 0
+rising xs up zero h = omega arith
+rising xs up (suc k) h = by (get_or xs k 0) (get_or xs (k + 1) 0) (get_or xs (suc k) 0) (rising xs up k (omega arith)) (up k (omega arith)) (ap (λ i. get_or xs i 0) (next k))
+  where
+    next : (k : ℕ) → k + 1 ≡ suc k
+    next k = omega arith
+
+    by : (a b c : ℕ) → k ≤ a → a < b → b ≡ c → suc k ≤ c
+    by a b c p q e = omega arith
+
+pub few_rising : (xs : List ℕ) (n : ℕ) → IsStrictlyIncreasing xs → All (λ x. x < n) xs → length xs ≤ n
+few_rising [] n up below = omega arith
+few_rising (x ∷ xs) n up below =
+    let least = rising (x ∷ xs) up (length xs) (omega arith) in
+    let most = below (length xs) 0 (omega arith) in
+    omega arith
+
+-- different numbers of a list are at most as many as it has
+pub few_of : (xs ys : List ℕ) → AllPairs ◌≢◌ xs → All (Contains ys) xs → length xs ≤ length ys
+few_of [] ys apart within = omega arith
+few_of (x ∷ xs) ys apart within =
+    let (k, there, is) = All-head (Contains ys) x xs within in
+    let moved = IsPermutation-remove ys k x there (sym is) in
+    let rest = few_of xs (remove ys k) (λ i j d h l. apart (suc i) (suc j) d (omega arith) (omega arith))
+    (λ i d h. other (get_or xs i d) (remove ys k) (λ e. apart 0 (suc i) d (omega arith) (omega arith) e) (Contains-permutation ys (x ∷ remove ys k) (get_or xs i d) moved (All-tail (Contains ys) x xs within i d h))) in
+    let same = length_permutation ys (x ∷ remove ys k) moved in
+    omega arith
+  where
+    other : (z : ℕ) (zs : List ℕ) → (x ≡ z → ⊥) → Contains (x ∷ zs) z → Contains zs z
+    other z zs differ (zero, h, e) = absurd (differ e)
+    other z zs differ (suc k, h, e) = (k, omega arith, e)

@@ -1,0 +1,4 @@
+-- What only this crate's own functions cite.
+pub mod Edges
+pub mod Numberings
+pub mod Searches

@@ -1,9 +1,0 @@
-use Rattle.std.proofs.Common.{◌≡◌, ℕ, [], length, get_or}
-use Rattle.span_count.specs.Searches.{lists_of}
-use Rattle.span_count.proofs.order_ends.no_ends.Given as goal
-
-abbrev pub invariant-loop : goal.invariant-loop
-invariant-loop l = record {
-  long : length l.lists.items ≡ l.counter;
-  empty : (corner : ℕ) → get_or (lists_of l.lists.items) corner [] ≡ [];
-}
