@@ -10,7 +10,7 @@ use Rattle.sheet_plan.specs.declared.sheet.Spread.{Spread}
 use Rattle.sheet_plan.specs.declared.sheet.Stroke.{Stroke}
 use Rattle.sheet_plan.specs.Sheets.{IsPlaceOf}
 use Rattle.draw_core.specs.Strokes.{IsStrokeOn, IsHatchStrokeOn, AreStrokesOf, AreStrokesFrom}
-use Rattle.draw_core.specs.declared.drawing.ViewDrawing.{ViewDrawing}
+use Rattle.view_lines.specs.declared.view.ViewDrawing.{ViewDrawing}
 
 module _ (sheet : Sheet) where
   -- a view with a number below the number of places has one

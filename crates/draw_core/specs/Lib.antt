@@ -1,4 +1,3 @@
-pub mod Counts
 pub mod Desks
 pub mod Drawing
 pub mod Fetch
@@ -10,7 +9,6 @@ pub mod Outputs
 pub mod Reading
 pub mod Run
 pub mod Sheets
-pub mod Strips
 pub mod Strokes
 pub mod Summary
 pub mod Taken

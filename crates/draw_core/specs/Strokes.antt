@@ -7,7 +7,7 @@ use Rattle.sheet_plan.specs.declared.sheet.Sheet.{Sheet}
 use Rattle.sheet_plan.specs.declared.sheet.Spread.{Spread}
 use Rattle.sheet_plan.specs.declared.sheet.Stroke.{Stroke}
 use Rattle.sheet_plan.specs.Sheets.{IsPlaceOf, IsStrokeAt, IsHatchStrokeAt}
-use Rattle.draw_core.specs.declared.drawing.ViewDrawing.{ViewDrawing}
+use Rattle.view_lines.specs.declared.view.ViewDrawing.{ViewDrawing}
 
 -- the stroke of a piece of the view with this number, where the view stands on the sheet
 abbrev pub IsStrokeOn : Sheet → ℕ → Piece → Stroke → Type 0

@@ -6,13 +6,13 @@ use Rattle.lattice.specs.declared.pieces.Style.{Style}
 use Rattle.lattice.specs.declared.pieces.Style.TheVariants.{Solid, Dashed}
 use Rattle.solid_mesh.specs.Solids.{solid_part}
 use Rattle.svg_page.specs.Texts.{◌⊕◌}
-use Rattle.draw_core.specs.Numbers.{SumsPlain}
+use Rattle.draw_core.specs.Numbers.{SumsViews}
 use Rattle.draw_core.specs.declared.drawing.Drawing.{Drawing}
-use Rattle.draw_core.specs.declared.drawing.ViewDrawing.{ViewDrawing}
 use Rattle.draw_core.specs.declared.fault.Fault.{Fault}
 use Rattle.draw_core.specs.declared.fault.Fault.TheVariants.{WriteFault}
 use Rattle.draw_core.specs.declared.fault.Target.TheVariants.{Summary}
-use Rattle.draw_core.specs.declared.numbers.PlainNumbers.{PlainNumbers}
+use Rattle.view_lines.specs.declared.numbers.ViewNumbers.{ViewNumbers}
+use Rattle.view_lines.specs.declared.view.ViewDrawing.{ViewDrawing}
 
 -- the line with eight numbers, in two halves
 abbrev pub first_half : ℕ → ℕ → ℕ → ℕ → List ℕ
@@ -41,9 +41,9 @@ hatches_in views = sum_by (λ view. length view.hatches.items) views
 
 -- the line with the drawing's numbers
 pub record IsSummaryOf (d : Drawing) (line : List ℕ) : Type 0 where
-  pub plain : PlainNumbers
-  pub sums : SumsPlain d.solid d.job.crease d.job.views.items plain
-  pub line_is : line ≡ summary_line (length (solid_part d.solid).triangles) (length d.job.views.items) plain.edges plain.runs plain.bound
+  pub sums : ViewNumbers
+  pub summed : SumsViews d.solid d.job.crease d.job.views.items sums
+  pub line_is : line ≡ summary_line (length (solid_part d.solid).triangles) (length d.job.views.items) sums.edges sums.runs sums.bound
       (pieces_in Solid d.views.items) (pieces_in Dashed d.views.items) (hatches_in d.views.items)
 
 -- what a run adds to what was said: the whole line with no fault, a prefix of it where it couldn't be said, and else nothing

@@ -2,20 +2,9 @@
 use crate::fault::Fault;
 use cross_find::Meter;
 use job_file::Job;
-use lattice::{HatchLine, Piece, ViewSpec};
 use sheet_plan::Sheet;
 use solid_mesh::Solid;
-use span_count::EdgeSpans;
-
-/// One view: its pieces and the hatch lines of its section, in their order, and how many faces are nearer along each drawn edge.
-/// A view of the whole part has no hatch lines, and the view of a cut has no counts.
-#[derive(Drop)]
-pub struct ViewDrawing {
-    pub spec: ViewSpec,
-    pub pieces: Vec<Piece>,
-    pub hatches: Vec<HatchLine>,
-    pub counts: Vec<EdgeSpans>,
-}
+use view_lines::ViewDrawing;
 
 /// A part, the job that it is drawn by, the sheet, and the job's views in their order.
 #[derive(Drop)]

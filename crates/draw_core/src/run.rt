@@ -53,11 +53,13 @@ fn drawing_of(alloc: Global, taken: Taken) -> Result<Made, OutOfMemory>
         solid,
         sheet,
     } = taken;
-    let Views {
-        views,
-        plain,
-        tests,
-    } = views_of(alloc, &solid, job.crease, sheet.spacing(), &job.views)?;
+    let Views { views, numbers } = views_of(
+        alloc,
+        &solid,
+        job.crease,
+        sheet.spacing(),
+        &job.views,
+    )?;
     let strokes = strokes_of(alloc, &sheet, &views)?;
     rack.draw(sheet.width, sheet.height, &strokes)?;
     let text = svg(alloc, &sheet, &job.title, &strokes)?;
@@ -67,10 +69,12 @@ fn drawing_of(alloc: Global, taken: Taken) -> Result<Made, OutOfMemory>
         job,
         sheet,
         views,
-        meter: Meter { tests },
-        bound: plain.bound,
+        meter: Meter {
+            tests: numbers.tests,
+        },
+        bound: numbers.bound,
     };
-    let summary = summary_of(alloc, &drawing, &plain)?;
+    let summary = summary_of(alloc, &drawing, &numbers)?;
     Ok(Made {
         drawing,
         outputs,

@@ -4,11 +4,11 @@ ghost use Rattle.std.specs.List.{All, AllZip};
 ghost use Rattle.sheet_plan.specs.declared.sheet.Stroke.{Stroke};
 ghost use Rattle.draw_core.specs.Strokes.{IsStrokeOn, IsHatchStrokeOn, AreStrokesOf, AreStrokes};
 
-use crate::drawing::ViewDrawing;
 use exact_frac::OutOfMemory;
 use lattice::{HatchLine, Piece};
 use sheet_plan::{Sheet, Stroke};
 use std::alloc::Global;
+use view_lines::ViewDrawing;
 
 /// The stroke of a piece of the view with this number.
 fn stroke_of(sheet: &Sheet, number: u32, piece: &Piece) -> Stroke

@@ -1,18 +1,18 @@
 // The line that a run says of its drawing.
 ghost use Rattle.std.specs.Prelude.{◌≡◌, ◌*◌, ◌<◌, ◌≤◌, ◌^◌, length, count_by, string_bytes, IfOk};
 ghost use Rattle.draw_core.specs.Lines.{write_line};
-ghost use Rattle.draw_core.specs.Numbers.{SumsPlain};
+ghost use Rattle.draw_core.specs.Numbers.{SumsViews};
 ghost use Rattle.draw_core.specs.Summary.{first_half, second_half, summary_line, is_style, pieces_in, hatches_in, IsSummaryOf};
 ghost use Rattle.draw_core.specs.Told.{text_of as line_text};
 ghost use Rattle.draw_core.specs.declared.fault.Target.{Target};
 
-use crate::drawing::{Drawing, ViewDrawing};
+use crate::drawing::Drawing;
 use crate::fault::{Fault, Target};
 use crate::lines::{Line, line_of};
-use crate::numbers::PlainNumbers;
 use exact_frac::OutOfMemory;
 use lattice::{HatchLine, Piece, Style};
 use std::alloc::{AllocError, Global};
+use view_lines::{ViewDrawing, ViewNumbers};
 
 /// The line that is said of a drawing, and the line that tells that it couldn't be said.
 #[derive(Drop)]
@@ -124,19 +124,24 @@ fn summary_line(
     Ok(line)
 }
 
-/// The line that is said of the drawing, whose plain views have these numbers.
+/// The line that is said of the drawing, whose views have these numbers together.
 fn line_of_drawing(
     alloc: Global,
     drawing: &Drawing,
-    plain: &PlainNumbers,
+    numbers: &ViewNumbers,
 ) -> Result<String, AllocError>
     requires few { length drawing.now.views.items ≤ 12 }
-    requires plain { SumsPlain drawing.now.solid drawing.now.job.crease drawing.now.job.views.items plain.now }
+    requires summed { SumsViews drawing.now.solid drawing.now.job.crease drawing.now.job.views.items numbers.now }
     ensures { IfOk result (λ line. IsSummaryOf drawing.now (string_bytes line)) }
 {
     let triangles = drawing.solid.triangles();
     let views = drawing.job.views.len();
-    let PlainNumbers { edges, runs, bound } = *plain;
+    let ViewNumbers {
+        edges,
+        runs,
+        bound,
+        tests: _,
+    } = *numbers;
     let solid = pieces_in(&drawing.views, Style::Solid);
     let dashed = pieces_in(&drawing.views, Style::Dashed);
     let hatch = hatches_in(&drawing.views);
@@ -145,17 +150,17 @@ fn line_of_drawing(
     )
 }
 
-/// The summary of the drawing, whose plain views have these numbers.
+/// The summary of the drawing, whose views have these numbers together.
 pub(crate) fn summary_of(
     alloc: Global,
     drawing: &Drawing,
-    plain: &PlainNumbers,
+    numbers: &ViewNumbers,
 ) -> Result<Summary, OutOfMemory>
     requires few { length drawing.now.views.items ≤ 12 }
-    requires plain { SumsPlain drawing.now.solid drawing.now.job.crease drawing.now.job.views.items plain.now }
+    requires summed { SumsViews drawing.now.solid drawing.now.job.crease drawing.now.job.views.items numbers.now }
     ensures { IfOk result (λ summary. IsSummaryOf drawing.now (string_bytes summary.text)) }
 {
-    let text = line_of_drawing(alloc, drawing, plain)?;
+    let text = line_of_drawing(alloc, drawing, numbers)?;
     let line = line_of(alloc, &Fault::WriteFault(Target::Summary))?;
     Ok(Summary { text, line })
 }

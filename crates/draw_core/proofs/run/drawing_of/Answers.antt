@@ -7,11 +7,11 @@ use Rattle.job_file.specs.declared.view.JobView.{JobView}
 use Rattle.plot_rack.specs.Racks.{boxes_of}
 use Rattle.plot_rack.proofs.Texts.{begun_after}
 use Rattle.solid_mesh.specs.Solids.{solid_part}
-use Rattle.draw_core.specs.Drawing.{ShowsView, spacing_on}
-use Rattle.draw_core.specs.Numbers.{SumsPlain}
+use Rattle.draw_core.specs.Drawing.{ShowsJobView, spacing_on}
+use Rattle.draw_core.specs.Numbers.{SumsViews}
 use Rattle.svg_page.specs.Svg.{svg_of}
 use Rattle.draw_core.specs.Strokes.{AreStrokes}
-use Rattle.draw_core.specs.declared.drawing.ViewDrawing.{ViewDrawing}
+use Rattle.view_lines.specs.declared.view.ViewDrawing.{ViewDrawing}
 use Rattle.draw_core.proofs.PlotFiles.{files_are}
 use Rattle.draw_core.proofs.SheetFacts.{as_many_places}
 use Rattle.draw_core.proofs.run.drawing_of.Goals as goal
@@ -22,7 +22,7 @@ strokes_of-requires-clause-placed g c =
     let taken = c.args.taken in
     let asked = ap (length {A = JobView}) c.deref.ensures.value in
     let drawn = ap (length {A = ViewDrawing}) c.deref-2.ensures.value in
-    let R = ShowsView taken.solid taken.job.crease c.spacing.result in
+    let R = ShowsJobView taken.solid taken.job.crease c.spacing.result in
     let many = drawn ∙ AllZip-long R c.deref.result.now c.in_ok-views.field-0.views.items c.in_ok-views.ensures.shows ∙ asked in
     omega (arith, many, as_many_places taken.job (solid_part taken.solid).corners taken.sheet c.requires)
 
@@ -31,7 +31,7 @@ strokes_of-requires-clause-few g c =
     let taken = c.args.taken in
     let asked = ap (length {A = JobView}) c.deref.ensures.value in
     let drawn = ap (length {A = ViewDrawing}) c.deref-2.ensures.value in
-    let R = ShowsView taken.solid taken.job.crease c.spacing.result in
+    let R = ShowsJobView taken.solid taken.job.crease c.spacing.result in
     let many = drawn ∙ AllZip-long R c.deref.result.now c.in_ok-views.field-0.views.items c.in_ok-views.ensures.shows ∙ asked in
     omega (arith, many, taken.job.few_views)
 
@@ -66,7 +66,7 @@ returns-clause-files g c =
 pub summary_of-requires-clause-few : goal.summary_of-requires-clause-few
 summary_of-requires-clause-few g c =
     let taken = c.args.taken in
-    let R = ShowsView taken.solid taken.job.crease c.spacing.result in
+    let R = ShowsJobView taken.solid taken.job.crease c.spacing.result in
     let asked = ap (length {A = JobView}) c.deref.ensures.value in
     let many = AllZip-long R c.deref.result.now c.in_ok-views.field-0.views.items c.in_ok-views.ensures.shows ∙ asked in
     omega (arith, many, taken.job.few_views)
@@ -74,13 +74,13 @@ summary_of-requires-clause-few g c =
 pub returns-clause-shows : goal.returns-clause-shows
 returns-clause-shows g c =
     let taken = c.args.taken in
-    let R : ℕ → JobView → ViewDrawing → Type 0 = λ spacing. ShowsView taken.solid taken.job.crease spacing in
+    let R : ℕ → JobView → ViewDrawing → Type 0 = λ spacing. ShowsJobView taken.solid taken.job.crease spacing in
     let asked = c.deref.result.now in
     let views = c.in_ok-views.field-0.views.items in
     let spaced = subst (λ (n : ℕ). AllZip (R n) asked views) c.spacing.ensures.value c.in_ok-views.ensures.shows in
     record {
       views = subst (λ (of : List JobView). AllZip (R (spacing_on taken.sheet)) of views) c.deref.ensures.value spaced;
       sheet = c.requires;
-      bound = (c.in_ok-views.field-0.plain, subst (λ (of : List JobView). SumsPlain taken.solid taken.job.crease of c.in_ok-views.field-0.plain) c.deref.ensures.value c.in_ok-views.ensures.sums, refl);
+      bound = (c.in_ok-views.field-0.numbers, subst (λ (of : List JobView). SumsViews taken.solid taken.job.crease of c.in_ok-views.field-0.numbers) c.deref.ensures.value c.in_ok-views.ensures.sums, refl);
       tested = c.in_ok-views.ensures.tested;
     }

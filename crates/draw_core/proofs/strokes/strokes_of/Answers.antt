@@ -2,7 +2,7 @@ use Rattle.std.proofs.Common.{◌≡◌, ◌+◌, ◌++◌, List, take, get_or, 
 use Rattle.std.proofs.lemmas.List.{take_all, take_more, length-take-le}
 use Rattle.sheet_plan.specs.declared.sheet.Stroke.{Stroke}
 use Rattle.draw_core.specs.Strokes.{AreStrokesOf, AreStrokes}
-use Rattle.draw_core.specs.declared.drawing.ViewDrawing.{ViewDrawing}
+use Rattle.view_lines.specs.declared.view.ViewDrawing.{ViewDrawing}
 use Rattle.draw_core.proofs.StrokeLists.{view_more, all_in_place}
 use Rattle.draw_core.proofs.strokes.strokes_of.Goals as goal
 

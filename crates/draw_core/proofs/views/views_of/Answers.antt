@@ -1,24 +1,32 @@
-use Rattle.std.proofs.Common.{List, sym, subst, take, ◌+◌, arith}
+use Rattle.std.proofs.Common.{List, sym, subst, take, ◌+◌, ◌*◌, ◌^◌, ◌≤◌, arith}
 use Rattle.std.specs.List.{AllZip}
 use Rattle.line_merge.proofs.Zips.{zip_more}
-use Rattle.draw_core.specs.Drawing.{ShowsView}
-use Rattle.draw_core.specs.declared.drawing.ViewDrawing.{ViewDrawing}
-use Rattle.draw_core.proofs.PlainSums.{sums_more}
+use Rattle.draw_core.specs.Drawing.{ShowsJobView}
+use Rattle.draw_core.specs.Numbers.{SumsViews}
+use Rattle.draw_core.proofs.ViewSums.{AreAtMost, below_of, wider, at_most_plus, sums_none, sums_more}
+use Rattle.view_lines.specs.declared.numbers.ViewNumbers.{ViewNumbers}
+use Rattle.view_lines.specs.declared.view.ViewDrawing.{ViewDrawing}
 use Rattle.draw_core.proofs.views.views_of.Goals as goal
+
+pub plus-requires-clause-first : goal.plus-requires-clause-first
+plus-requires-clause-first c = below_of c.loop-view.view-index c.loop-view.sums (omega (arith, c.loop-view-test.true, c.requires.few)) c.loop-view.invariant.small
+
+pub plus-requires-clause-second : goal.plus-requires-clause-second
+plus-requires-clause-second c = wider c.in_ok-view.field-0.numbers c.in_ok-view.ensures.small
 
 pub loop-view-preserved : goal.loop-view-preserved
 loop-view-preserved c =
-    let R = ShowsView c.args.solid.now c.args.crease c.args.spacing in
+    let R = ShowsJobView c.args.solid.now c.args.crease c.args.spacing in
     let asked = c.args.asked.now in
     let k = c.loop-view.view-index in
     let so_far = c.loop-view.invariant in
+    let here = c.in_ok-view.field-0.numbers in
+    let is = sym {A = ViewNumbers} c.plus-sums.ensures in
     record {
       shown = subst (λ (vs : List ViewDrawing). AllZip R (take (k + 1) asked) vs) (sym {A = List ViewDrawing} c.in_ok-push.ensures.items)
           (zip_more R asked c.loop-view.views.items k c.view-item.result _ c.loop-view-test.true c.view-item.is so_far.shown c.in_ok-view.ensures.shows);
-      summed = sums_more c.args.solid.now c.args.crease asked k c.view-item.result c.in_ok-view.field-0.numbers c.loop-view.plain c.sum_of-plain.result
-          c.loop-view-test.true c.view-item.is so_far.summed c.in_ok-view.ensures.counted c.sum_of-plain.ensures.edges c.sum_of-plain.ensures.runs c.sum_of-plain.ensures.bound;
-      few_edges = omega (arith, so_far.few_edges, c.in_ok-view.ensures.small.edges, c.sum_of-plain.ensures.edges);
-      few_runs = omega (arith, so_far.few_runs, c.in_ok-view.ensures.small.runs, c.sum_of-plain.ensures.runs);
-      small_bound = omega (arith, so_far.small_bound, c.in_ok-view.ensures.small.bound, c.sum_of-plain.ensures.bound);
-      tested = omega (arith, so_far.tested, c.in_ok-view.ensures.tested, c.sum_of-plain.ensures.bound);
+      summed = subst (SumsViews c.args.solid.now c.args.crease (take (k + 1) asked)) is
+          (sums_more c.args.solid.now c.args.crease asked k c.view-item.result c.loop-view.sums here c.loop-view-test.true c.view-item.is so_far.summed c.in_ok-view.ensures.counted);
+      small = subst (AreAtMost (2 ^ 48 * (k + 1))) is (at_most_plus k c.loop-view.sums here so_far.small c.in_ok-view.ensures.small);
+      tested = subst (λ (n : ViewNumbers). n.tests ≤ n.bound) is (omega (arith, so_far.tested, c.in_ok-view.ensures.tested));
     }

@@ -1,0 +1,101 @@
+-- The counts along the drawn edges of a view: the tests that they take, and what each entry tells of its edge.
+use Rattle.std.proofs.Common.{◌≡◌, ◌+◌, ◌<◌, ◌≤◌, ◌^◌, ◌++◌, ◌∙◌, ℕ, List, [], ◌∷◌, Contains, length, map, take, get_or, ap, refl, sym, subst, arith}
+use Rattle.std.specs.Prelude.{All}
+use Rattle.std.specs.List.{AllZip}
+use Rattle.std.proofs.lemmas.List.{map_more}
+use Rattle.std.proofs.lemmas.List.Elements.{All-contains, Contains-get_or}
+use Rattle.cross_find.specs.Sights.{SightState}
+use Rattle.edge_pick.specs.Edges.{OfEdge}
+use Rattle.edge_pick.specs.Picked.{IsPicked}
+use Rattle.edge_pick.specs.declared.Picked.{Picked}
+use Rattle.geometry.specs.Parts.{IsNumbered}
+use Rattle.geometry.specs.Places.{IsEarlier}
+use Rattle.geometry.specs.Views.{IsEndOn, AreDrawnEdges}
+use Rattle.lattice.specs.Triple.{Triple}
+use Rattle.line_merge.proofs.Lists.{map_contains}
+use Rattle.line_merge.proofs.Zips.{zip_right}
+use Rattle.solid_mesh.proofs.Facts.{edge_there}
+use Rattle.solid_mesh.specs.Solids.{solid_part, edge_halves}
+use Rattle.solid_mesh.specs.declared.solid.Solid.{Solid}
+use Rattle.span_count.specs.Bounds.{IsBound}
+use Rattle.span_count.specs.CountSpans.{AreCountSpans}
+use Rattle.span_count.specs.Entries.{IsEntry}
+use Rattle.span_count.specs.Tests.{IsTested}
+use Rattle.span_count.specs.declared.span.EdgeSpans.{EdgeSpans}
+use Rattle.span_slow.specs.declared.span.Span.{Span}
+use Rattle.view_lines.specs.Counts.{AreCountsAlong}
+use Rattle.view_lines.specs.inner.Told.{IsToldBy}
+use Rattle.view_lines.specs.inner.Strips.{TellHidden}
+use Rattle.view_lines.proofs.CountedSpans.{told_spans}
+use Rattle.view_lines.proofs.SpanPlaces.{all_earlier}
+
+-- the solid in this direction, before any test
+abbrev pub seen_from : Solid → Triple → SightState
+seen_from solid d = record { part = solid_part solid; halves = edge_halves solid; direction = d; tests = 0 }
+
+-- ---- how many tests
+module _ (solid : Solid) (d : Triple) (picked : Picked) where
+  -- a bound of what was picked, in what is seen
+  abbrev pub IsBoundIn : SightState → ℕ → Type 0
+  IsBoundIn x most = IsBound x.part x.halves picked most
+
+  pub has_room : (x : SightState) → x ≡ seen_from solid d → (most : ℕ) × IsBoundIn (seen_from solid d) most × (most < 2 ^ 48) → (most : ℕ) × IsBoundIn x most × (x.tests + most < 2 ^ 64)
+  has_room x is (most, bound, small) =
+      subst (λ (y : SightState). (n : ℕ) × IsBoundIn y n × (y.tests + n < 2 ^ 64)) (sym is) (most, bound, wider most small)
+    where
+      wider : (n : ℕ) → n < 2 ^ 48 → 0 + n < 2 ^ 64
+      wider n h = omega arith
+
+  pub few_tests : (old new : SightState) → old ≡ seen_from solid d → ((most : ℕ) → IsBoundIn old most → IsTested most old new) → (most : ℕ) → IsBoundIn (seen_from solid d) most → new.tests ≤ most
+  few_tests old new is tested most bound =
+      let (n, at_most, made) = tested most (subst (λ (y : SightState). IsBoundIn y most) (sym is) bound) in
+      below new.tests old.tests n most (ap (λ (x : SightState). x.tests) made) (ap (λ (x : SightState). x.tests) is) at_most
+    where
+      below : (a b n m : ℕ) → a ≡ b + n → b ≡ 0 → n ≤ m → a ≤ m
+      below a b n m is none most = omega arith
+
+module _ (solid : Solid) (d : Triple) (fraction : ℕ) (picked : Picked) (are : IsPicked d fraction (solid_part solid) (edge_halves solid) picked) where
+  -- ---- the entries of the drawn edges are the counts along them
+  same_edges : (x : SightState) (numbers : List ℕ) (entries : List EdgeSpans) → AllZip (IsEntry x) numbers entries → map (λ y. y.edge) entries ≡ numbers
+  same_edges x [] [] zip = refl
+  same_edges x [] (y ∷ ys) zip = absurd zip
+  same_edges x (i ∷ is) [] zip = absurd zip
+  same_edges x (i ∷ is) (y ∷ ys) (here, more) = λ k. here.edge k ∷ same_edges x is ys more k
+
+  pub counts_of_entries : (x : SightState) (entries : List EdgeSpans) → x ≡ seen_from solid d → AllZip (IsEntry x) picked.drawn.items entries → AreCountsAlong d fraction solid entries
+  counts_of_entries x entries is zip =
+      let seen = seen_from solid d in
+      let numbers = picked.drawn.items in
+      let zipped = subst (λ (y : SightState). AllZip (IsEntry y) numbers entries) is zip in
+      record {
+        edges = subst (λ (ns : List ℕ). AreDrawnEdges d fraction (solid_part solid) (edge_halves solid) ns) (sym (same_edges seen numbers entries zipped)) are.drawn;
+        spans = λ k z within.
+            let y = get_or entries k z in
+            let (i, listed, here) = zip_right (IsEntry seen) numbers entries zipped y (Contains-get_or entries k z within) in
+            λ e n. here.spans e (subst (λ (j : ℕ). IsNumbered (edge_halves solid) j e) here.edge n);
+      }
+
+-- ---- an entry's edge
+pub edges_more : (entries : List EdgeSpans) (k : ℕ) (x : EdgeSpans) → k < length entries → x ≡ get_or entries k x
+    → map (λ y. y.edge) (take (k + 1) entries) ≡ map (λ y. y.edge) (take k entries) ++ x.edge ∷ []
+edges_more entries k x less is = map_more (λ (y : EdgeSpans). y.edge) entries k x less ∙ ap (λ (y : EdgeSpans). map (λ z. z.edge) (take k entries) ++ y.edge ∷ []) (sym is)
+
+module _ (d : Triple) (fraction : ℕ) (solid : Solid) (entries : List EdgeSpans) (are : AreCountsAlong d fraction solid entries) (x : EdgeSpans) (listed : Contains entries x) where
+  in_edges : Contains (map (λ y. y.edge) entries) x.edge
+  in_edges = map_contains (λ (y : EdgeSpans). y.edge) entries x listed
+
+  pub edge_within : x.edge < length (edge_halves solid)
+  edge_within = All-contains (λ i. i < length (edge_halves solid)) (map (λ y. y.edge) entries) x.edge are.edges.within in_edges
+
+  pub edge_seen : OfEdge solid x.edge (λ e. ¬ IsEndOn d e)
+  edge_seen e n = ((are.edges.exactly x.edge e n).0 in_edges).1
+
+  module _ (spans : List Span) (told : AllZip IsToldBy x.spans.items spans) where
+    pub edge_told : OfEdge solid x.edge (λ e. TellHidden d e spans)
+    edge_told e n = told_spans d e x.spans.items spans told (All-contains (λ y. OfEdge solid y.edge (λ e. AreCountSpans d e y.spans.items)) entries x are.spans listed e n)
+
+    pub edge_ordered : All (λ y. IsEarlier y.from y.to) spans
+    edge_ordered =
+        let (e, n) = edge_there solid x.edge edge_within in
+        let (from, to, zero_is, one_is, follow) = (edge_told e n).covers in
+        all_earlier from to spans follow

@@ -1,0 +1,223 @@
+-- Strips of the drawn edges beyond the plane and of the section's borders, put together, are right for the cut view.
+use Rattle.std.proofs.Common.{◌≡◌, ℕ, ◌+◌, ◌<◌, ◌⊎◌, inl, inr, List, All, length, Contains, get_or, false, sym, subst, ◌∙◌, arith}
+use Rattle.std.specs.Prelude.{ℤ, pos, ◌<ℤ◌, ◌≤ℤ◌}
+use Rattle.std.proofs.lemmas.Int.{ints, by_lt_z}
+use Rattle.std.proofs.lemmas.List.Elements.{All-contains, Contains-get_or, Contains-append_cases, Contains-append_left, Contains-append_right}
+use Rattle.lattice.specs.declared.pieces.Piece.{Piece}
+use Rattle.lattice.specs.declared.pieces.Strip.{Strip}
+use Rattle.lattice.specs.Triangles.{IsBelow}
+use Rattle.lattice.specs.Triple.{Triple}
+use Rattle.lattice.specs.Points.{Point, IsPoint, OnOneSight, of_spot}
+use Rattle.lattice.specs.Lines.{IsSameLine, AreStripEnds}
+use Rattle.lattice.specs.Cuts.{Plane, toward_of, IsBeyond}
+use Rattle.geometry.specs.Faces.{share_point, IsPointOfFace, IsPointOfEdge}
+use Rattle.geometry.specs.Parts.{Part, Face, Edge, IsNumbered, IsClosed}
+use Rattle.geometry.specs.Cuts.{EdgeOrBorder, edge, border, step_of, PassesUnder, IsOnBorder, IsDrawnInCut, IsHiddenInCut, IsOrdinaryInCut}
+use Rattle.geometry.specs.Scenes.{IsSeenAt, AreRightInCut}
+use Rattle.geometry.specs.Views.{IsDrawn, IsOrdinary, AreDrawnEdges}
+use Rattle.geometry.proofs.Borders.{on_plane_is_visible}
+use Rattle.geometry.proofs.BorderSteps.{ordinary_along_cut}
+use Rattle.geometry.proofs.EachEdge.{numbered_edge}
+use Rattle.geometry.proofs.StepLines.{RunsAlong, one_line}
+use Rattle.geometry.proofs.OnLines.{on_line_between}
+use Rattle.geometry.proofs.Shares.{edge_share}
+use Rattle.geometry.specs.Places.{HasNoEndAt}
+use Rattle.hiding.proofs.CutPlanes.{ordinary-in-plain}
+use Rattle.hiding.proofs.FrontEnds.{not-at-start, not-at-finish}
+use Rattle.line_merge.proofs.Zips.{zip_left, zip_right}
+use Rattle.line_merge.specs.Merging.{AreStrips, LiesOnStrip, IsClear, AreMerged}
+use Rattle.cut_plane.specs.declared.segments.Segment.{Segment}
+use Rattle.cut_plane.specs.Loops.{IsSegmentOf, AreBorders}
+use Rattle.solid_mesh.proofs.PlaceLemmas.{share_on_edge}
+use Rattle.span_slow.specs.CutSpans.{IsAnswerInCut, AreCutSpans}
+use Rattle.view_lines.specs.inner.Strips.{IsStripOf, IsBorderStrip, AreCutStrips}
+use Rattle.view_lines.proofs.BorderWays.{segment_of_point}
+use Rattle.view_lines.proofs.BorderStrips.{border_strip_ends, strip_runs, off_border_ends, point_of_border, strip_of_border}
+use Rattle.view_lines.proofs.EdgeStrips.{Origin, origin_ends, origin_runs, off_strip_ends, point_of_strip, edge_under, strip_of_span}
+use Rattle.view_lines.proofs.SpanPlaces.{weak, inner_of_between}
+use Rattle.view_lines.proofs.StripLists.{edge_of_strip, strips_of_edge}
+use Rattle.view_lines.proofs.StripScenes.{Shows, ShowAt, right_of_merged}
+use Rattle.view_lines.proofs.CutPlaces.{in_part, span_beyond}
+
+-- ---- all strips
+module _ (c : Plane) (fraction : ℕ) (s : Part) (halves numbers : List ℕ) (segments : List Segment) (places : List ℕ) (strips : List Strip)
+    (closed : IsClosed s) (in_range : All (IsBelow (length s.corners)) s.triangles)
+    (there : (i : ℕ) → i < length halves → (e : Edge s) × IsNumbered halves i e)
+    (drawn : AreDrawnEdges (toward_of c) fraction s halves numbers) (borders : AreBorders c s segments places) (given : AreCutStrips c s halves numbers segments strips) where
+  abbrev d : Triple
+  d = toward_of c
+
+  abbrev Drawn : Point → Type 0
+  Drawn = IsDrawnInCut c fraction s
+
+  abbrev Hidden : Point → Type 0
+  Hidden = IsHiddenInCut c s
+
+  abbrev Ordinary : Point → Type 0
+  Ordinary = IsOrdinaryInCut c s
+
+  -- a strip of an edge's span, or of a segment
+  data Source (y : Strip) : Type 0 where
+    of_edge : Origin d Drawn Hidden Ordinary s y → Source y
+    of_border : (x : Segment) → IsSegmentOf c s x → IsBorderStrip x y → Source y
+
+  edge_origin : (y : Strip) → Contains given.of_edges y → Origin d Drawn Hidden Ordinary s y
+  edge_origin y listed =
+      let (i, here, n, in_here, of_i) = edge_of_strip d (AreCutSpans c) halves numbers given.of_edges given.edges y listed in
+      let (e, numbered) = there i (All-contains (λ k. k < length halves) numbers i drawn.within n) in
+      let group = of_i e numbered in
+      let (x, in_spans, is) = zip_right (IsStripOf d e) group.spans here group.each y in_here in
+      let within = in_part c e group.spans group.right.covers x in_spans in
+      let is_drawn = (drawn.exactly i e numbered).0 n in
+      record {
+        edge = e;
+        span = x;
+        seen = is_drawn.1;
+        is = is;
+        earlier = within.earlier;
+        ends = All-contains (λ x. HasNoEndAt Ordinary e x.from x.to) group.spans x group.right.ends in_spans;
+        drawn = λ n m positive between.
+            let strict = inner_of_between x.from x.to n m positive x.from_place x.to_place between in
+            inl (e, is_drawn, share_on_edge e.a e.b n m (weak (pos 0) n strict.0) (weak n m strict.1) positive, within.within n m positive between);
+        answer = All-contains (IsAnswerInCut c e) group.spans x group.right.answers in_spans;
+      }
+
+  source : (y : Strip) → Contains strips y → Source y
+  source y listed = by (Contains-append_cases given.of_edges given.of_borders y (subst (λ ys. Contains ys y) given.together listed))
+    where
+      by : Contains given.of_edges y ⊎ Contains given.of_borders y → Source y
+      by (inl here) = of_edge (edge_origin y here)
+      by (inr here) =
+          let (x, in_segments, is) = zip_right IsBorderStrip segments given.of_borders given.borders y here in
+          of_border x (All-contains (IsSegmentOf c s) segments x borders.each in_segments) is
+
+  source_ends : (y : Strip) → Source y → AreStripEnds d y.line y.a y.b
+  source_ends y (of_edge o) = origin_ends d Drawn Hidden Ordinary s y o
+  source_ends y (of_border x h is) = border_strip_ends c s closed in_range x h y is
+
+  pub are_cut_strips : AreStrips d strips
+  are_cut_strips k y within = let z = get_or strips k y in source_ends z (source z (Contains-get_or strips k y within))
+
+  -- ---- at an ordinary point
+  module _ (p : Point) (positive : IsPoint p) (ordinary : Ordinary p) where
+    abbrev Shown : Strip → Point → Type 0
+    Shown y q = Shows d Drawn Hidden y p q
+
+    off_source_ends : (y : Strip) → Source y → (¬ OnOneSight d (of_spot y.a) p) × (¬ OnOneSight d (of_spot y.b) p)
+    off_source_ends y (of_edge o) = off_strip_ends d Drawn Hidden Ordinary s y o (ordinary_along_cut c s) p ordinary
+    off_source_ends y (of_border x h is) = off_border_ends c s closed in_range x h y is p ordinary
+
+    -- the edge or the border that a strip is of: its line runs along it
+    record Way (y : Strip) : Type 0 where
+      way : EdgeOrBorder s
+      under : PassesUnder c way p
+      runs : RunsAlong d y.line (step_of c way)
+
+    way_of : (y : Strip) → Source y → LiesOnStrip d y p → Way y
+    way_of y (of_edge o) on = record {
+      way = edge o.edge;
+      under = edge_under d Drawn Hidden Ordinary s y o (ordinary_along_cut c s) p ordinary on;
+      runs = origin_runs d Drawn Hidden Ordinary s y o;
+    }
+    way_of y (of_border x h is) on =
+        let (q, on_border, sight) = point_of_border c s closed in_range x h y is p on in
+        record { way = border h.face; under = (q, on_border, sight); runs = strip_runs c s closed in_range x h y is q on_border }
+
+    same_line : (y z : Strip) → Source y → Source z → LiesOnStrip d y p → LiesOnStrip d z p → IsSameLine y.line z.line
+    same_line y z o u on_y on_z =
+        let first = way_of y o on_y in
+        let second = way_of z u on_z in
+        let ends = source_ends y o in
+        let ends_too = source_ends z u in
+        one_line d y.line z.line (step_of c first.way) (step_of c second.way) p first.runs second.runs
+        (ordinary.off_crossings first.way second.way first.under second.under) positive
+        (on_line_between d y.line y.a y.b p ends.first ends.second on_y) (on_line_between d z.line z.a z.b p ends_too.first ends_too.second on_z)
+
+    clear : IsClear d strips p
+    clear = record {
+      off_ends = λ k y within. let z = get_or strips k y in off_source_ends z (source z (Contains-get_or strips k y within));
+      one_line = λ y z here too on_y on_z. same_line y z (source y here) (source z too) on_y on_z;
+    }
+
+    -- a border point is drawn and not hidden
+    border_shows : (f : Face s) (y : Strip) (q : Point) → y.hidden ≡ false → IsOnBorder c f q → OnOneSight d q p → Shown y q
+    border_shows f y q visible on_border sight = record {
+      drawn = inr (f, on_border);
+      sight = sight;
+      tells = (λ hides. absurd (let none = visible in cc), λ hides. absurd (on_plane_is_visible c s q on_border.1 hides));
+    }
+
+    point_of : (y : Strip) → Source y → LiesOnStrip d y p → (q : Point) × Shown y q
+    point_of y (of_edge o) on = point_of_strip d Drawn Hidden Ordinary s y o (ordinary_along_cut c s) p ordinary on
+    point_of y (of_border x h is) on =
+        let (q, on_border, sight) = point_of_border c s closed in_range x h y is p on in
+        (q, border_shows h.face y q is.hidden on_border sight)
+
+    -- ---- the strip of a drawn point on the line of sight
+    abbrev HasStrip : Point → Type 0
+    HasStrip q = (y : Strip) × Contains strips y × LiesOnStrip d y p × Shown y q
+
+    of_edges : (y : Strip) → Contains given.of_edges y → Contains strips y
+    of_edges y listed = subst (λ ys. Contains ys y) (sym given.together) (Contains-append_left given.of_edges given.of_borders y listed)
+
+    of_borders : (y : Strip) → Contains given.of_borders y → Contains strips y
+    of_borders y listed = subst (λ ys. Contains ys y) (sym given.together) (Contains-append_right given.of_edges given.of_borders y listed)
+
+    there_of : (i j k : ℕ) → 0 < i + j + k → pos 0 <ℤ pos (i + j + k)
+    there_of i j k some = omega (arith, ints)
+
+    face_there : (f : Face s) (q : Point) → IsPointOfFace f.a f.b f.c q → IsPoint q
+    face_there f q (i, j, k, some, is) = subst IsPoint (sym is) (there_of i j k some)
+
+    strip_of_border_point : (f : Face s) (q : Point) → IsOnBorder c f q → OnOneSight d q p → HasStrip q
+    strip_of_border_point f q on_border sight =
+        let (x, in_segments, h, on_its) = segment_of_point c s segments places borders f q on_border in
+        let (k, y, below, at, is) = zip_left IsBorderStrip segments given.of_borders given.borders x in_segments in (
+          y,
+          of_borders y (k, below, at),
+          strip_of_border c s closed in_range x h y is p q (face_there f q on_border.0) on_its sight,
+          border_shows f y q is.hidden on_border sight,
+        )
+
+    -- an ordinary point of an edge is not at its corners
+    strict_place : (e : Edge s) (n m : ℤ) → pos 0 <ℤ m → pos 0 ≤ℤ n → n ≤ℤ m → Ordinary (share_point e.a e.b n m) → (pos 0 <ℤ n) × (n <ℤ m)
+    strict_place e n m whole least most here = (
+      by_lt_z (pos 0) n (λ h. h) (λ h. absurd (not-at-start d s e n m whole least most (equal n (pos 0) h least) plain)),
+      by_lt_z n m (λ h. h) (λ h. absurd (not-at-finish d s e n m whole least most (equal n m most h) plain)),
+    )
+      where
+        plain : IsOrdinary d s (share_point e.a e.b n m)
+        plain = ordinary-in-plain c s (share_point e.a e.b n m) here
+
+        equal : (x y : ℤ) → x ≤ℤ y → y ≤ℤ x → x ≡ y
+        equal x y h g = omega (arith, ints)
+
+    within_one : (i j : ℕ) → 0 < i + j → (pos 0 <ℤ pos (i + j)) × (pos 0 ≤ℤ pos j) × (pos j ≤ℤ pos (i + j))
+    within_one i j some = (omega (arith, ints), omega (arith, ints), omega (arith, ints))
+
+    strip_of_edge_point : (q : Point) (e : Edge s) → IsDrawn d fraction e → IsPointOfEdge e.a e.b q → IsBeyond c q → OnOneSight d q p → HasStrip q
+    strip_of_edge_point q given_edge drawn_edge on_given beyond sight =
+        let (i, e, numbered, is_drawn, (k, j, some, q_is)) = numbered_edge s closed d fraction halves drawn.edges q (given_edge, drawn_edge, on_given) in
+        let (here, in_strips, of_i) = strips_of_edge d (AreCutSpans c) halves numbers given.of_edges given.edges i ((drawn.exactly i e numbered).1 is_drawn) in
+        let group = of_i e numbered in
+        let at = q_is ∙ edge_share e.a e.b k j in
+        let (whole, least, most) = within_one k j some in
+        let q_sight = subst (λ (q : Point). OnOneSight d q p) at sight in
+        let ordinary_here = ordinary_along_cut c s p (share_point e.a e.b (pos j) (pos (k + j))) whole q_sight ordinary in
+        let (x, in_spans, within) = span_beyond c e (pos j) (pos (k + j)) whole ordinary_here (strict_place e (pos j) (pos (k + j)) whole least most ordinary_here) (subst (IsBeyond c) at beyond)
+        group.spans group.right.covers (λ x listed. All-contains (λ x. HasNoEndAt Ordinary e x.from x.to) group.spans x group.right.ends listed) in
+        let answer = All-contains (IsAnswerInCut c e) group.spans x group.right.answers in_spans (pos j) (pos (k + j)) whole within ordinary_here in
+        let (y, listed, on, shows) = strip_of_span d Drawn Hidden Ordinary e (AreCutSpans c) here group x in_spans p q (pos j) (pos (k + j)) whole least most within at sight
+        (inl (given_edge, drawn_edge, on_given, beyond)) answer in
+        (y, of_edges y (in_strips y listed), on, shows)
+
+    strip_of : (q : Point) → IsSeenAt d Drawn p q → HasStrip q
+    strip_of q (inl (e, is_drawn, on_edge, beyond), sight) = strip_of_edge_point q e is_drawn on_edge beyond sight
+    strip_of q (inr (f, on_border), sight) = strip_of_border_point f q on_border sight
+
+    shown : ShowAt d Drawn Hidden strips p
+    shown = record { clear = clear; point_of = λ y listed on. point_of y (source y listed) on; strip_of = strip_of }
+
+  -- the strips put together are a right list
+  pub right_in_cut : (pieces : List Piece) → AreMerged d strips pieces → AreRightInCut c fraction s pieces
+  right_in_cut pieces merged = right_of_merged d Drawn Hidden strips Ordinary shown pieces merged

@@ -1,0 +1,18 @@
+-- How many edges may be drawn of a solid.
+use Rattle.std.proofs.Common.{ℕ, ◌≤◌, List, length, arith}
+use Rattle.edge_pick.specs.Picked.{IsPicked}
+use Rattle.edge_pick.specs.declared.Picked.{Picked}
+use Rattle.geometry.specs.Parts.{Edge}
+use Rattle.geometry.specs.Views.{AreEdgesThat, IsDrawn}
+use Rattle.lattice.specs.Triple.{Triple}
+use Rattle.solid_mesh.proofs.Facts.{few_edges}
+use Rattle.solid_mesh.specs.Solids.{solid_part, edge_halves}
+use Rattle.solid_mesh.specs.declared.solid.Solid.{Solid}
+use Rattle.view_lines.proofs.Ascending.{few_ascending}
+
+few_numbers : (solid : Solid) (P : Edge (solid_part solid) → Type 0) (numbers : List ℕ) → AreEdgesThat P (edge_halves solid) numbers → length numbers ≤ 60000
+few_numbers solid P numbers are = omega (arith, few_ascending numbers (length (edge_halves solid)) are.ascending are.within, few_edges solid)
+
+module _ (solid : Solid) (picked : Picked) where
+  pub few_drawn : (d : Triple) × (fraction : ℕ) × IsPicked d fraction (solid_part solid) (edge_halves solid) picked → length picked.drawn.items ≤ 60000
+  few_drawn (d, fraction, are) = few_numbers solid (IsDrawn d fraction) picked.drawn.items are.drawn

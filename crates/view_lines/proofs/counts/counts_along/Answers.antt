@@ -1,0 +1,37 @@
+use Rattle.std.proofs.Common.{ℕ, ◌≤◌, sym, subst, arith}
+use Rattle.lattice.specs.Creases.{fraction_of}
+use Rattle.lattice.specs.Points.{of_dir}
+use Rattle.cross_find.specs.SolidSights.{state_of}
+use Rattle.view_lines.proofs.CountedEdges.{has_room, few_tests, counts_of_entries}
+use Rattle.view_lines.proofs.PickedSizes.{few_drawn}
+use Rattle.view_lines.proofs.counts.counts_along.Goals as goal
+
+pub bound-bound-requires : goal.bound-bound-requires
+bound-bound-requires c = (of_dir c.args.d.now, fraction_of c.args.crease, c.requires)
+
+pub spans_counted-requires-clause-room : goal.spans_counted-requires-clause-room
+spans_counted-requires-clause-room c =
+    has_room c.args.solid.now (of_dir c.args.d.now) c.args.picked.now (state_of c.new-sight.result) c.new-sight.ensures
+    (c.bound-bound.result, c.bound-bound.ensures.bound, c.bound-bound.ensures.size)
+
+pub returns-clause-right : goal.returns-clause-right
+returns-clause-right c =
+    counts_of_entries c.args.solid.now (of_dir c.args.d.now) (fraction_of c.args.crease) c.args.picked.now c.requires
+    (state_of c.new-sight.result) c.in_ok-entries.entries.items c.new-sight.ensures c.in_ok-entries.ensures.entries
+
+pub returns-clause-tested : goal.returns-clause-tested
+returns-clause-tested c =
+    subst (λ (n : ℕ). n ≤ c.bound-bound.result) (sym c.tests.ensures)
+    (few_tests c.args.solid.now (of_dir c.args.d.now) c.args.picked.now (state_of c.new-sight.result) (state_of c.spans_counted.new.sight) c.new-sight.ensures
+    c.in_ok-entries.ensures.tested c.bound-bound.result c.bound-bound.ensures.bound)
+
+pub returns-clause-small : goal.returns-clause-small
+returns-clause-small c =
+    let tested = few_tests c.args.solid.now (of_dir c.args.d.now) c.args.picked.now (state_of c.new-sight.result) (state_of c.spans_counted.new.sight) c.new-sight.ensures
+    c.in_ok-entries.ensures.tested c.bound-bound.result c.bound-bound.ensures.bound in
+    record {
+      edges = omega (arith, c.len.ensures, few_drawn c.args.solid.now c.args.picked.now (of_dir c.args.d.now, fraction_of c.args.crease, c.requires));
+      runs = omega (arith, c.count_runs.ensures.size);
+      bound = c.bound-bound.ensures.size;
+      tests = omega (arith, c.tests.ensures, tested, c.bound-bound.ensures.size);
+    }

@@ -1,0 +1,43 @@
+-- The numbers of a view, and their sums.
+use Rattle.std.specs.Prelude.{◌≡◌, ◌<◌, ◌+◌, ℕ, List, length}
+use Rattle.edge_pick.specs.Picked.{IsPicked}
+use Rattle.edge_pick.specs.declared.Picked.{Picked}
+use Rattle.lattice.specs.Creases.{fraction_of}
+use Rattle.lattice.specs.Points.{of_dir}
+use Rattle.lattice.specs.declared.pieces.Crease.{Crease}
+use Rattle.lattice.specs.declared.pieces.ViewSpec.{ViewSpec}
+use Rattle.lattice.specs.declared.pieces.ViewSpec.TheVariants.{Plain, Section}
+use Rattle.solid_mesh.specs.Solids.{solid_part, edge_halves}
+use Rattle.solid_mesh.specs.declared.solid.Solid.{Solid}
+use Rattle.span_count.specs.Bounds.{IsRunCount, IsBound}
+use Rattle.view_lines.specs.declared.numbers.ViewNumbers.{ViewNumbers}
+
+abbrev pub no_numbers : ViewNumbers
+no_numbers = record { edges = 0; runs = 0; bound = 0; tests = 0 }
+
+abbrev pub plus : ViewNumbers → ViewNumbers → ViewNumbers
+plus m n = record {
+  edges = m.edges + n.edges;
+  runs = m.runs + n.runs;
+  bound = m.bound + n.bound;
+  tests = m.tests + n.tests;
+}
+
+-- how many edges are drawn, how many runs they are, and the bound
+pub record CountsPicked (solid : Solid) (picked : Picked) (n : ViewNumbers) : Type 0 where
+  pub edges : n.edges ≡ length picked.drawn.items
+  pub runs : IsRunCount picked.runs.items n.runs
+  pub bound : IsBound (solid_part solid) (edge_halves solid) picked n.bound
+
+-- the numbers of what a view shows: of the whole part those of its drawn edges, and none of what a cut leaves of it
+abbrev pub CountsView : Solid → Crease → ViewSpec → ViewNumbers → Type 0
+CountsView solid crease (Plain d) n =
+    (picked : Picked) × IsPicked (of_dir d) (fraction_of crease) (solid_part solid) (edge_halves solid) picked × CountsPicked solid picked n
+CountsView solid crease (Section c) n = n ≡ no_numbers
+
+-- each of them is below a limit
+pub record AreBelow (limit : ℕ) (n : ViewNumbers) : Type 0 where
+  pub edges : n.edges < limit
+  pub runs : n.runs < limit
+  pub bound : n.bound < limit
+  pub tests : n.tests < limit

@@ -1,0 +1,48 @@
+-- What a view shows of a solid.
+use Rattle.std.specs.Prelude.{◌≡◌, ℕ, List, []}
+use Rattle.lattice.specs.Creases.{fraction_of}
+use Rattle.lattice.specs.Cuts.{plane_of, toward_of}
+use Rattle.lattice.specs.Points.{of_dir}
+use Rattle.lattice.specs.declared.pieces.Crease.{Crease}
+use Rattle.lattice.specs.declared.pieces.HatchLine.{HatchLine}
+use Rattle.lattice.specs.declared.pieces.Piece.{Piece}
+use Rattle.lattice.specs.declared.pieces.ViewSpec.{ViewSpec}
+use Rattle.lattice.specs.declared.pieces.ViewSpec.TheVariants.{Plain, Section}
+use Rattle.geometry.specs.Parts.{Part}
+use Rattle.geometry.specs.Pieces.{AreRight, AreInOrder}
+use Rattle.geometry.specs.Scenes.{AreRightInCut}
+use Rattle.hatch_fill.specs.Hatching.{IsHatching}
+use Rattle.solid_mesh.specs.declared.solid.Solid.{Solid}
+use Rattle.solid_mesh.specs.Solids.{solid_part}
+use Rattle.span_count.specs.declared.span.EdgeSpans.{EdgeSpans}
+use Rattle.view_lines.specs.Counts.{AreCountsAlong}
+use Rattle.view_lines.specs.declared.view.ViewDrawing.{ViewDrawing}
+
+-- the pieces are right for what the view shows: the whole part, or what a cut leaves of it
+abbrev pub IsRightView : ViewSpec → ℕ → Part → List Piece → Type 0
+IsRightView (Plain d) fraction s pieces = AreRight (of_dir d) fraction s pieces
+IsRightView (Section c) fraction s pieces = AreRightInCut (plane_of c) fraction s pieces
+
+-- the pieces are in the order of the view's direction, of a cut that toward its viewer
+abbrev pub IsOrderedView : ViewSpec → List Piece → Type 0
+IsOrderedView (Plain d) pieces = AreInOrder (of_dir d) pieces
+IsOrderedView (Section c) pieces = AreInOrder (toward_of (plane_of c)) pieces
+
+-- the hatch lines of what the view shows: those that fill the section of a cut, and none of the whole part
+abbrev pub IsHatchedView : ViewSpec → ℕ → Part → List HatchLine → Type 0
+IsHatchedView (Plain d) spacing s lines = lines ≡ []
+IsHatchedView (Section c) spacing s lines = IsHatching (plane_of c) s spacing lines
+
+-- the counts of what the view shows: those along the drawn edges of the whole part, and none of what a cut leaves of it
+abbrev pub IsCountedView : ViewSpec → ℕ → Solid → List EdgeSpans → Type 0
+IsCountedView (Plain d) fraction solid entries = AreCountsAlong (of_dir d) fraction solid entries
+IsCountedView (Section c) fraction solid entries = entries ≡ []
+
+-- the view shows of the solid what was asked for: its pieces are right for it and the crease, and in order, its hatch lines are so
+-- many units apart, and its counts are right
+pub record ShowsView (solid : Solid) (crease : Crease) (spacing : ℕ) (asked : ViewSpec) (view : ViewDrawing) : Type 0 where
+  pub spec : view.spec ≡ asked
+  pub right : IsRightView asked (fraction_of crease) (solid_part solid) view.pieces.items
+  pub order : IsOrderedView asked view.pieces.items
+  pub hatched : IsHatchedView asked spacing (solid_part solid) view.hatches.items
+  pub counted : IsCountedView asked (fraction_of crease) solid view.counts.items

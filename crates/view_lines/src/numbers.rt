@@ -1,0 +1,41 @@
+// The numbers of a view.
+ghost use Rattle.std.specs.Prelude.{◌≡◌, ◌^◌};
+
+/// The drawn edges, their runs, the bound and the tests that were made, of one view or of several.
+#[derive(Clone, Copy)]
+pub struct ViewNumbers {
+    pub edges: u64,
+    pub runs: u64,
+    pub bound: u64,
+    pub tests: u64,
+}
+
+impl ViewNumbers {
+    ghost use Rattle.view_lines.specs.Numbers.{no_numbers, plus, AreBelow};
+
+    /// Those of no view, and of a cut view.
+    pub fn none() -> ViewNumbers
+        ensures { result ≡ no_numbers }
+    {
+        ViewNumbers {
+            edges: 0,
+            runs: 0,
+            bound: 0,
+            tests: 0,
+        }
+    }
+
+    /// Both together.
+    pub fn plus(self, more: ViewNumbers) -> ViewNumbers
+        requires first { AreBelow (2 ^ 63) self }
+        requires second { AreBelow (2 ^ 63) more }
+        ensures { result ≡ plus self more }
+    {
+        ViewNumbers {
+            edges: self.edges + more.edges,
+            runs: self.runs + more.runs,
+            bound: self.bound + more.bound,
+            tests: self.tests + more.tests,
+        }
+    }
+}

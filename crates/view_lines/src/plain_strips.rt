@@ -1,0 +1,102 @@
+// The view of the whole solid: the spans of its drawn edges by their counts, as strips that are put together to pieces.
+ghost use Rattle.std.specs.Prelude.{◌≡◌, ◌≢◌, ◌↔◌, ℕ, ◌+◌, ◌≤◌, ◌^◌, [], map, IfOk, IsTrue};
+ghost use Rattle.std.specs.List.{AllZip};
+ghost use Rattle.lattice.specs.Creases.{fraction_of};
+ghost use Rattle.lattice.specs.Points.{of_dir};
+ghost use Rattle.geometry.specs.Pieces.{AreRight, AreInOrder};
+ghost use Rattle.solid_mesh.specs.Solids.{solid_part, edge_halves};
+ghost use Rattle.view_lines.specs.Counts.{AreCountsAlong};
+ghost use Rattle.view_lines.specs.Numbers.{CountsView, AreBelow};
+ghost use Rattle.view_lines.specs.inner.Strips.{TellHidden, AreEdgeStrips};
+ghost use Rattle.view_lines.specs.inner.Told.{IsToldBy};
+
+use crate::counts::{Counts, counts_along};
+use crate::strips::add_strips;
+use crate::view::{ViewDrawing, ViewLines};
+use edge_pick::{Crease, pick};
+use exact_frac::OutOfMemory;
+use lattice::{Dir, Strip, ViewSpec};
+use line_merge::merge;
+use solid_mesh::Solid;
+use span_count::{CountSpan, EdgeSpans};
+use span_slow::Span;
+use std::alloc::Global;
+
+/// Some face is counted to the left or to the right.
+fn is_hidden(span: &CountSpan) -> bool
+    ensures { IsTrue result ↔ (span.now.left + span.now.right ≢ 0) }
+{
+    span.left != 0 || span.right != 0
+}
+
+/// The span without its counts.
+fn span_of(span: &CountSpan) -> Span
+    ensures { IsToldBy span.now result }
+{
+    Span {
+        from: span.from,
+        to: span.to,
+        hidden: is_hidden(span),
+    }
+}
+
+/// The spans without their counts.
+fn spans_of(alloc: Global, counts: &[CountSpan]) -> Result<Vec<Span>, OutOfMemory>
+    ensures { IfOk result (λ spans. AllZip IsToldBy counts.now spans.items) }
+{
+    let mut spans = Vec::new(alloc);
+    for span in counts {
+        spans.push(span_of(span))?;
+    }
+    Ok(spans)
+}
+
+/// The strips of the drawn edges with these counts, edge by edge.
+fn counted_strips(
+    alloc: Global,
+    solid: &Solid,
+    d: &Dir,
+    entries: &[EdgeSpans],
+) -> Result<Vec<Strip>, OutOfMemory>
+    requires { (fraction : ℕ) × AreCountsAlong (of_dir d.now) fraction solid.now entries.now }
+    ensures { IfOk result (λ strips. AreEdgeStrips (of_dir d.now) {s = solid_part solid.now} (TellHidden (of_dir d.now)) (edge_halves solid.now) (map (λ x. x.edge) entries.now) strips.items) }
+{
+    let mut strips = Vec::new(alloc);
+    for entry in entries {
+        let spans = spans_of(alloc, &entry.spans)?;
+        add_strips(&mut strips, solid, d, entry.edge, &spans)?;
+    }
+    Ok(strips)
+}
+
+/// The plain view along a direction: visible lines solid and hidden ones dashed, in their order, and its counts and numbers.
+///
+/// Carries the counts along the drawn edges and around corners, by as many tests as the bound at most, and then sorts the strips
+/// along their lines.
+pub(crate) fn plain_lines(
+    alloc: Global,
+    solid: &Solid,
+    d: &Dir,
+    crease: Crease,
+) -> Result<ViewLines, OutOfMemory>
+    ensures spec { IfOk result (λ x. x.view.spec ≡ ViewSpec.Plain d.now) }
+    ensures right { IfOk result (λ x. AreRight (of_dir d.now) (fraction_of crease) (solid_part solid.now) x.view.pieces.items) }
+    ensures order { IfOk result (λ x. AreInOrder (of_dir d.now) x.view.pieces.items) }
+    ensures hatched { IfOk result (λ x. x.view.hatches.items ≡ []) }
+    ensures counts { IfOk result (λ x. AreCountsAlong (of_dir d.now) (fraction_of crease) solid.now x.view.counts.items) }
+    ensures tested { IfOk result (λ x. x.numbers.tests ≤ x.numbers.bound) }
+    ensures counted { IfOk result (λ x. CountsView solid.now crease (ViewSpec.Plain d.now) x.numbers) }
+    ensures small { IfOk result (λ x. AreBelow (2 ^ 48) x.numbers) }
+{
+    let picked = pick(alloc, solid, d, crease)?;
+    let Counts { entries, numbers } = counts_along(alloc, solid, d, crease, &picked)?;
+    let strips = counted_strips(alloc, solid, d, &entries)?;
+    let pieces = merge(alloc, d, &strips)?;
+    let view = ViewDrawing {
+        spec: ViewSpec::Plain(*d),
+        pieces,
+        hatches: Vec::new(alloc),
+        counts: entries,
+    };
+    Ok(ViewLines { view, numbers })
+}
