@@ -107,10 +107,12 @@ pub(crate) fn cut_lines(
     ensures numbers { IfOk result (λ x. x.numbers ≡ no_numbers) }
 {
     let section = borders(alloc, solid, cut)?;
+    let pieces = cut_pieces(alloc, solid, &section, crease)?;
+    let hatches = hatch(alloc, &section, spacing)?;
     let view = ViewDrawing {
         spec: ViewSpec::Section(*cut),
-        pieces: cut_pieces(alloc, solid, &section, crease)?,
-        hatches: hatch(alloc, &section, spacing)?,
+        pieces,
+        hatches,
         counts: Vec::new(alloc),
     };
     let numbers = ViewNumbers::none();
