@@ -8,11 +8,11 @@ use Rattle.view_lines.specs.declared.numbers.ViewNumbers.{ViewNumbers}
 use Rattle.view_lines.specs.declared.view.ViewDrawing.{ViewDrawing}
 use Rattle.draw_core.proofs.views.views_of.Goals as goal
 
-pub plus-requires-clause-first : goal.plus-requires-clause-first
-plus-requires-clause-first c = below_of c.loop-view.view-index c.loop-view.sums (omega (arith, c.loop-view-test.true, c.requires.few)) c.loop-view.invariant.small
+pub plus-sums-requires-clause-first : goal.plus-sums-requires-clause-first
+plus-sums-requires-clause-first c = below_of c.loop-view.view-index c.loop-view.sums (omega (arith, c.loop-view-test.true, c.requires.few)) c.loop-view.invariant.small
 
-pub plus-requires-clause-second : goal.plus-requires-clause-second
-plus-requires-clause-second c = wider c.in_ok-view.field-0.numbers c.in_ok-view.ensures.small
+pub plus-sums-requires-clause-second : goal.plus-sums-requires-clause-second
+plus-sums-requires-clause-second c = wider c.in_ok-view.field-0.numbers c.in_ok-view.ensures.small
 
 pub loop-view-preserved : goal.loop-view-preserved
 loop-view-preserved c =
