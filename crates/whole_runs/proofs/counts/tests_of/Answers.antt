@@ -1,7 +1,7 @@
 use Rattle.lattice.specs.Creases.{fraction_of}
 use Rattle.lattice.specs.Points.{of_dir}
 use Rattle.cross_find.specs.SolidSights.{state_of}
-use Rattle.draw_core.proofs.CountedEdges.{has_room}
+use Rattle.view_lines.proofs.CountedEdges.{has_room}
 use Rattle.whole_runs.proofs.counts.tests_of.Goals as goal
 
 pub bound-most-requires : goal.bound-most-requires
