@@ -17,6 +17,7 @@ pub mod CutCovers
 pub mod CutParts
 pub mod CutFronts
 pub mod CutPairs
+pub mod InCut
 pub mod CutHides
 pub mod Told
 pub mod Stretches

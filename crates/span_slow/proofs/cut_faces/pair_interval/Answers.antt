@@ -1,36 +1,31 @@
-use Rattle.std.proofs.Common.{subst}
 use Rattle.std.specs.Prelude.{option_to_list}
-use Rattle.lattice.specs.Triple.{Triple}
 use Rattle.lattice.specs.Points.{of_dir, of_vector}
 use Rattle.lattice.specs.Cuts.{plane_of, toward_of}
-use Rattle.hiding.specs.Values.{IsAhead}
 use Rattle.span_slow.proofs.CutPairs.{line_none, side_renamed, pair_renamed, pair_first_none, pair_second_none}
-use Rattle.span_slow.proofs.Sides.{ahead_at}
+use Rattle.span_slow.proofs.InCut.{ahead}
 use Rattle.span_slow.proofs.cut_faces.pair_interval.Goals as goal
 
 pub returns-in-None : goal.returns-in-None
 returns-in-None c s sound in_range e at_a at_b f first second =
-    let seen = c.args.edge.now.seen in
-    let q = plane_of c.args.edge.now.cut in
-    let d = toward_of q in
-    let dir = c.args.edge.now.along in
+    let x = c.args.edge.now in
+    let seen = x.seen in
+    let q = plane_of x.cut in
     let axis = of_vector seen.axis in
     let k = c.args.k.now in
     let l = c.args.l.now in
-    pair_first_none q axis s sound in_range e (ahead_at d axis e seen.a seen.b at_a at_b (subst (λ (v : Triple). IsAhead v axis seen.a seen.b) dir seen.ahead)) f k l c.args.m.now c.args.n.now first second
-    (line_none (of_dir seen.d) d axis dir e seen.a seen.b k l at_a at_b c.in-None.ensures.none)
+    pair_first_none q axis s sound in_range e (ahead x e at_a at_b) f k l c.args.m.now c.args.n.now first second
+    (line_none (of_dir seen.d) (toward_of q) axis x.along e seen.a seen.b k l at_a at_b c.in-None.ensures.none)
 
 pub returns-in-None-forward_side : goal.returns-in-None-forward_side
 returns-in-None-forward_side c s sound in_range e at_a at_b f first second =
-    let seen = c.args.edge.now.seen in
-    let q = plane_of c.args.edge.now.cut in
-    let d = toward_of q in
-    let dir = c.args.edge.now.along in
+    let x = c.args.edge.now in
+    let seen = x.seen in
+    let q = plane_of x.cut in
     let axis = of_vector seen.axis in
     let m = c.args.m.now in
     let n = c.args.n.now in
-    pair_second_none q axis s sound in_range e (ahead_at d axis e seen.a seen.b at_a at_b (subst (λ (v : Triple). IsAhead v axis seen.a seen.b) dir seen.ahead)) f c.args.k.now c.args.l.now m n first second
-    (line_none (of_dir seen.d) d axis dir e seen.a seen.b m n at_a at_b c.in-None-forward_side.ensures.none)
+    pair_second_none q axis s sound in_range e (ahead x e at_a at_b) f c.args.k.now c.args.l.now m n first second
+    (line_none (of_dir seen.d) (toward_of q) axis x.along e seen.a seen.b m n at_a at_b c.in-None-forward_side.ensures.none)
 
 pub returns-in-Some-forward_side : goal.returns-in-Some-forward_side
 returns-in-Some-forward_side c s sound in_range e at_a at_b f first second =
