@@ -9,7 +9,7 @@ use Rattle.std.specs.Prelude.{nat_le}
 use Rattle.std.specs.List.{list_all}
 use Rattle.std.specs.Char.{is_ascii_digit}
 use Rattle.dec_text.specs.Numbers.{AreDigits, value_of}
-use Rattle.dec_text.specs.Reading.{IsDigitEnd, IsHeld}
+use Rattle.dec_text.specs.inner.Reading.{IsDigitEnd, IsHeld}
 
 -- ---- what digits stand for
 abbrev pub more : ℕ → ℕ → ℕ

@@ -5,7 +5,7 @@ use Rattle.std.proofs.lemmas.List.{length-append}
 use Rattle.std.specs.List.{list_all}
 use Rattle.std.specs.Char.{is_ascii_digit}
 use Rattle.dec_text.specs.Numbers.{AreDigits, value_of, IsSign, signed, HasExponent, IsExponent, IsFraction, Number, rounded, magnitude_of, units_of}
-use Rattle.dec_text.specs.Reading.{is_minus, behind_sign, IsDigitEnd, HasFraction}
+use Rattle.dec_text.specs.inner.Reading.{is_minus, behind_sign, IsDigitEnd, HasFraction}
 use Rattle.dec_text.proofs.Digits.{one_end, digit_size}
 
 or_neither : (x y : Bool) → x ≡ false → y ≡ false → (x || y) ≡ false

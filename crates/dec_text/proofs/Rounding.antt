@@ -8,7 +8,7 @@ use Rattle.std.proofs.lemmas.Bool.{cases_lt}
 use Rattle.std.proofs.lemmas.List.{length-append, length-drop, take-append-drop, take_all, take_min}
 use Rattle.std.proofs.lemmas.List.Sums.{fold-append}
 use Rattle.dec_text.specs.Numbers.{AreDigits, value_of, signed, rounded}
-use Rattle.dec_text.specs.Reading.{IsHeld, count_of, tenths_of}
+use Rattle.dec_text.specs.inner.Reading.{IsHeld, count_of, tenths_of}
 use Rattle.dec_text.proofs.Digits.{more, fold-le, take_both, value-append, value_less, digits-drop}
 
 -- ---- tenths of two parts

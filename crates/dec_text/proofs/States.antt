@@ -7,11 +7,20 @@ use Rattle.std.specs.Prelude.{Option, Some, None, codes}
 use Rattle.std.specs.List.{list_all}
 use Rattle.std.specs.Char.{is_ascii_digit}
 use Rattle.dec_text.specs.Numbers.{AreDigits, value_of, IsSign, signed, HasExponent, IsExponent, IsFraction, Number, BeginsNumber, IsLongestStart}
-use Rattle.dec_text.specs.Reading.{kind_of, step, may_end, reads, state_after}
+use Rattle.dec_text.specs.inner.Reading.{kind_of, step, may_end}
 use Rattle.dec_text.specs.declared.number.Kind.{Kind}
 use Rattle.dec_text.specs.declared.number.Kind.TheVariants.{Digit, Point, Mark, Sign, Other}
 use Rattle.dec_text.specs.declared.number.State.{State}
 use Rattle.dec_text.specs.declared.number.State.TheVariants.{Start, Signed, Whole, Pointed, Fraction, Marked, MarkSigned, Powered}
+
+-- one byte more, where the bytes before begin a number
+abbrev pub reads : Option State → ℕ → Option State
+reads None byte = None
+reads (Some state) byte = step state (kind_of byte)
+
+-- what was read last of the bytes, where they begin a number
+abbrev pub state_after : List ℕ → Option State
+state_after bytes = fold reads (Some Start) bytes
 
 -- ---- what the kind tells of a byte
 abbrev Tells : ℕ → Kind → Type 0

@@ -3,7 +3,7 @@ use Rattle.std.proofs.Common.{◌≡◌, ℕ, ◌+◌, ◌/◌, ◌^◌, ◌<◌
 use Rattle.std.proofs.lemmas.List.{length-append}
 use Rattle.std.specs.Prelude.{Option, Some, None, MatchOption}
 use Rattle.dec_text.specs.Numbers.{AreDigits, value_of, signed, rounded, IsExponent, Number, magnitude_of}
-use Rattle.dec_text.specs.Reading.{behind_sign, IsDigitEnd, HasFraction, IsHeldExponent, count_of, tenths_of, IsBelowEnd}
+use Rattle.dec_text.specs.inner.Reading.{behind_sign, IsDigitEnd, HasFraction, IsHeldExponent, count_of, tenths_of, IsBelowEnd}
 use Rattle.dec_text.specs.declared.number.Exponent.{Exponent}
 use Rattle.dec_text.proofs.Digits.{digits-append}
 use Rattle.dec_text.proofs.Rounding.{rounded_tenths, AreLike, held_tenths}

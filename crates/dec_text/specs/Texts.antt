@@ -15,4 +15,4 @@ pub record IsFractionText (value : Frac) (text : List ℕ) : Type 0 where
   pub same : num *ℤ value.den ≡ value.num *ℤ den
   pub positive : pos 0 <ℤ den
   pub lowest : IsGreatestDivisor num den (pos 1)
-  pub is : ((den ≡ pos 1) × (text ≡ signed_decimal num)) ⊎ ((pos 1 <ℤ den) × (text ≡ signed_decimal num ++ codes "/" ++ signed_decimal den))
+  pub is : IsRatioText num den text

@@ -1,7 +1,7 @@
 // Numbers as texts, read as whole numbers of units.
 ghost use Rattle.std.specs.Prelude.{◌≡◌, ◌↔◌, ℕ, ◌+◌, ◌*◌, ◌-◌, ◌/◌, ◌^◌, ◌<◌, ◌≤◌, ℤ, List, ◌++◌, length, take, drop, fold, MatchOption, Ok, Err};
 ghost use Rattle.dec_text.specs.Numbers.{AreDigits, value_of, Number, IsExponent, IsLongestStart, magnitude_of, units_of};
-ghost use Rattle.dec_text.specs.Reading.{kind_of, step, may_end, is_minus, behind_sign, IsDigitEnd, HasFraction, IsHeld, IsHeldExponent, count_of, tenths_of, IsBelowEnd};
+ghost use Rattle.dec_text.specs.inner.Reading.{kind_of, step, may_end, is_minus, behind_sign, IsDigitEnd, HasFraction, IsHeld, IsHeldExponent, count_of, tenths_of, IsBelowEnd};
 
 /// The largest size of a number in units.
 const LARGEST: u32 = 1048576;

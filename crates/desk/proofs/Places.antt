@@ -6,7 +6,8 @@ use Rattle.std.specs.declared.alloc.Global.{Global}
 use Rattle.std.proofs.lemmas.Option.{get_or_from_slice_get}
 use Rattle.std.proofs.lemmas.Slice.Eq.{bytes_eq-Decides}
 use Rattle.desk.specs.Files.{Keeps}
-use Rattle.desk.specs.Memory.{file_at, IsPlaceOf}
+use Rattle.desk.specs.Memory.{file_at}
+use Rattle.desk.specs.inner.Places.{IsPlaceOf}
 
 abbrev pub File : Type 0
 File = List ℕ × Vec ℕ Global

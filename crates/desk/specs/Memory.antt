@@ -1,5 +1,5 @@
 -- The files of a desk in memory, and what its calls do to it.
-use Rattle.std.specs.Prelude.{◌≡◌, take, option_map, slice_get, ◌+◌, ◌-◌, ◌^◌, min, ℕ, Bool, true, false, List, [], ◌∷◌, Some, None, Result, Ok, Err, if◌then◌else◌, Vec}
+use Rattle.std.specs.Prelude.{◌≡◌, ◌+◌, ◌-◌, ◌^◌, min, ℕ, Bool, true, false, List, [], ◌∷◌, Some, None, Result, Ok, Err, if◌then◌else◌, Vec}
 use Rattle.std.specs.Str.{bytes_eq}
 use Rattle.std.specs.declared.alloc.Global.{Global}
 use Rattle.desk.specs.Files.{Files, Keeps, DeskState}
@@ -10,11 +10,6 @@ use Rattle.desk.specs.declared.desk.DeskFault.TheVariants.{Failed, Memory}
 abbrev pub file_at : List (List ℕ × Vec ℕ Global) → Files
 file_at [] name = None
 file_at (file ∷ files) name = if bytes_eq file.0 name then Some file.1.items else file_at files name
-
--- the first file with this name stands there
-pub record IsPlaceOf (files : List (List ℕ × Vec ℕ Global)) (name : List ℕ) (i : ℕ) : Type 0 where
-  pub before : file_at (take i files) name ≡ None
-  pub here : option_map (λ file. file.0) (slice_get files i) ≡ Some name
 
 -- its files, the numbers of the calls that are to fail, how many calls there were, what was said and warned, and how many
 -- faults there were of each kind

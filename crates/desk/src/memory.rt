@@ -1,7 +1,8 @@
 // A desk in memory, which fails the calls that it is told to fail.
 ghost use Rattle.std.specs.Prelude.{◌≡◌, ◌-◌, ◌<◌, ◌≤◌, ◌⊎◌, ◌↔◌, ◌++◌, refl, [], min, length, take, drop, option_map, Contains, None, IsTrue, IfOk, IfSome, IfNone, OnOk, OnErr, IsErr, IsErrOf, IsSomeAnd};
 ghost use Rattle.desk.specs.Files.{Keeps};
-ghost use Rattle.desk.specs.Memory.{file_at, IsPlaceOf, called, with_read_fault, with_write_fault, with_warn_fault, with_said, with_warned, LeavesState, IsOneOf, told};
+ghost use Rattle.desk.specs.Memory.{file_at, called, with_read_fault, with_write_fault, with_warn_fault, with_said, with_warned, LeavesState, IsOneOf, told};
+ghost use Rattle.desk.specs.inner.Places.{IsPlaceOf};
 
 use crate::{Desk, DeskFault, Failed};
 use dec_text::Name;

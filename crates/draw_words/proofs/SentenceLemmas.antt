@@ -9,7 +9,7 @@ use Rattle.clap.specs.Kinds.{Kinds}
 use Rattle.clap.specs.Simple.{built, entered, matches_of}
 use Rattle.clap.specs.Walk.{Held, Row, Text, Waiting, Walk, finished, first_of, has_row, idle, nothing_held, option, settled, used, walk}
 use Rattle.clap.specs.declared.error.kind.ErrorKind.TheVariants.{ArgumentConflict, MissingRequiredArgument, UnknownArgument}
-use Rattle.draw_words.specs.App.{draw_app}
+use Rattle.draw_words.specs.inner.App.{draw_app}
 use Rattle.draw_words.specs.Grammar.{Given, Kind, Role, as_job, as_out, as_part, before, ends, given, given_at, given_by, gives, is_marked, kind_of, opens, plain, unknown_option}
 use Rattle.draw_words.specs.Names.{Read, is_role, read_given, read_of, texts_as}
 use Rattle.draw_words.specs.Seen.{texts}

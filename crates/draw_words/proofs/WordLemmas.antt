@@ -11,7 +11,7 @@ use Rattle.clap.specs.Kinds.{Kinds}
 use Rattle.clap.specs.Lexer.{has_byte, long_of, short_of}
 use Rattle.clap.specs.Simple.{Shape, built}
 use Rattle.clap.specs.Walk.{Held, Rule, Text, arg_by_long}
-use Rattle.draw_words.specs.App.{draw_app, part_rule}
+use Rattle.draw_words.specs.inner.App.{draw_app, part_rule}
 use Rattle.draw_words.specs.Grammar.{Kind, Role, as_job, as_out, as_part, ends, gives, is_marked, kind_of, opens, option_or, plain, unknown_option}
 use Rattle.draw_words.specs.Names.{is_role}
 

@@ -1,4 +1,4 @@
-pub mod App
 pub mod Grammar
 pub mod Names
 pub mod Seen
+pub mod inner

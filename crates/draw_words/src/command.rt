@@ -4,9 +4,10 @@ ghost use Rattle.clap.specs.Faults.{fault_of};
 ghost use Rattle.clap.specs.Matches.{found_of};
 ghost use Rattle.clap.specs.Simple.{app_of, matches_of};
 ghost use Rattle.clap.specs.Walk.{first_of, rows_of, rule_of};
-ghost use Rattle.draw_words.specs.App.{bare_app, draw_app, option_rule, part_rule};
+ghost use Rattle.draw_words.specs.inner.App.{bare_app, draw_app, option_rule, part_rule};
 ghost use Rattle.draw_words.specs.Names.{read_of};
-ghost use Rattle.draw_words.specs.Seen.{found_seen, texts};
+ghost use Rattle.draw_words.specs.Seen.{texts};
+ghost use Rattle.draw_words.specs.inner.Seen.{found_seen};
 
 use crate::errors::WordsError;
 use clap::error::ErrorKind;

@@ -1,7 +1,8 @@
 // What the words of a run name.
 ghost use Rattle.std.specs.Prelude.{◌≡◌, IfOk, IsErrOf, Some, None, option_copied};
 ghost use Rattle.draw_words.specs.Names.{is_empty, named, named_by};
-ghost use Rattle.draw_words.specs.Seen.{found_seen, named_seen, texts};
+ghost use Rattle.draw_words.specs.Seen.{named_seen, texts};
+ghost use Rattle.draw_words.specs.inner.Seen.{found_seen};
 
 use crate::command::{Found, read};
 use crate::errors::WordsError;

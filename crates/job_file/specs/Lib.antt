@@ -7,7 +7,7 @@ pub mod Scales
 pub mod Seen
 pub mod Steps
 pub mod Texts
-pub mod Triples
 pub mod ViewValues
 pub mod ViewKeys
 pub mod Views
+pub mod inner

@@ -47,8 +47,3 @@ Fails (Job fault) said = said ≡ Err fault
 abbrev pub Gives : {A B : Type 0} → (A → B) → Result A JobError → Result B JobFault → Type 0
 Gives seen (Ok x) said = said ≡ Ok (seen x)
 Gives seen (Err e) said = Fails e said
-
--- the same of a function that takes no memory
-abbrev pub GivesExactly : {A B : Type 0} → (A → B) → Result A JobFault → Result B JobFault → Type 0
-GivesExactly seen (Ok x) said = said ≡ Ok (seen x)
-GivesExactly seen (Err fault) said = said ≡ Err fault

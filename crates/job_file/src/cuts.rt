@@ -6,7 +6,8 @@ ghost use Rattle.toml.specs.Data.{get_member, as_str, as_integer};
 ghost use Rattle.toml.specs.View.{view, table_view};
 ghost use Rattle.job_file.specs.CutKeys.{axes, sides, plane_at, cut_view};
 ghost use Rattle.job_file.specs.Seen.{view_seen};
-ghost use Rattle.job_file.specs.Steps.{look_up, GivesExactly};
+ghost use Rattle.job_file.specs.Steps.{look_up};
+ghost use Rattle.job_file.specs.inner.Steps.{GivesExactly};
 
 use crate::fault::{JobFault, Key};
 use crate::table::value_at;

@@ -3,8 +3,9 @@ ghost use Rattle.std.specs.Prelude.{◌≡◌, map, option_map};
 ghost use Rattle.lattice.specs.Points.{of_dir};
 ghost use Rattle.toml.specs.View.{view};
 ghost use Rattle.job_file.specs.Names.{principals, direction_of};
-ghost use Rattle.job_file.specs.Steps.{look_up, GivesExactly};
-ghost use Rattle.job_file.specs.Triples.{triple_seen};
+ghost use Rattle.job_file.specs.Steps.{look_up};
+ghost use Rattle.job_file.specs.inner.Steps.{GivesExactly};
+ghost use Rattle.job_file.specs.inner.Triples.{triple_seen};
 ghost use Rattle.job_file.specs.ViewKeys.{numbers_in, numbers_of, direction_at};
 
 use crate::fault::JobFault;

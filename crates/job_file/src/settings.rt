@@ -4,7 +4,8 @@ ghost use Rattle.toml.specs.Data.{get_member, as_integer};
 ghost use Rattle.toml.specs.View.{table_view};
 ghost use Rattle.job_file.specs.Documents.{version_fault, version_at, decimals_of, choice, angles, papers, fits, creases};
 ghost use Rattle.job_file.specs.Seen.{scale_seen};
-ghost use Rattle.job_file.specs.Steps.{look_up, value_or, GivesExactly};
+ghost use Rattle.job_file.specs.Steps.{look_up, value_or};
+ghost use Rattle.job_file.specs.inner.Steps.{GivesExactly};
 
 use crate::fault::{JobFault, Key};
 use crate::job::{Paper, Scale};

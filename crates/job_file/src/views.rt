@@ -5,7 +5,8 @@ ghost use Rattle.toml.specs.Data.{get_member};
 ghost use Rattle.toml.specs.View.{view, table_view};
 ghost use Rattle.job_file.specs.Documents.{is_table, usual_views, views_of, views_at};
 ghost use Rattle.job_file.specs.Seen.{view_seen};
-ghost use Rattle.job_file.specs.Steps.{Gives, GivesExactly};
+ghost use Rattle.job_file.specs.Steps.{Gives};
+ghost use Rattle.job_file.specs.inner.Steps.{GivesExactly};
 ghost use Rattle.job_file.specs.ViewKeys.{is_named, view_named, named_view, toward_view, view_of_keys, view_of_table, view_of, views_after};
 ghost use Rattle.job_file.specs.Views.{AreNamedApart};
 

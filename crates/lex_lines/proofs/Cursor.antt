@@ -11,7 +11,7 @@ use Rattle.lex_lines.specs.Places.{IsToken}
 use Rattle.lex_lines.specs.declared.token.Token.{Token}
 use Rattle.lex_lines.specs.Bytes.{is_feed}
 use Rattle.lex_lines.specs.Scan.{Standing, between, comment, inside, ends_run, line_after, finish, after, ended, tokens_from}
-use Rattle.lex_lines.specs.Reading.{left_at, IsCursor}
+use Rattle.lex_lines.specs.inner.Cursors.{left_at, IsCursor}
 use Rattle.lex_lines.proofs.Steps.{token, feed_ends, begin_step, run_step, end_step}
 
 -- ---- the end of a token

@@ -11,7 +11,7 @@ use Rattle.std.specs.Prelude.{Some, slice_get, All, AllPairs, Contains}
 use Rattle.lex_lines.specs.declared.token.Token.{Token}
 use Rattle.lex_lines.specs.Bytes.{is_feed}
 use Rattle.lex_lines.specs.Places.{IsTokenByte, IsToken, AreTokens, line_at}
-use Rattle.lex_lines.specs.Reading.{left_at, IsCursor}
+use Rattle.lex_lines.specs.inner.Cursors.{left_at, IsCursor}
 use Rattle.lex_lines.specs.Scan.{Standing, between, comment, inside, ends_run, comment_after, line_after, outside, tokens_from}
 use Rattle.lex_lines.proofs.Comments.{Commented, commented_after}
 use Rattle.lex_lines.proofs.Steps.{token, run_no_feed, no_comment_after, between_step, comment_step, begin_step, run_step, end_step}

@@ -1,8 +1,6 @@
 -- What a reader of tokens stands for.
-use Rattle.std.specs.Prelude.{ℕ, ◌+◌, ◌≤◌, Bool, List, All, length, drop}
+use Rattle.std.specs.Prelude.{ℕ, Bool, List}
 use Rattle.lex_lines.specs.declared.token.Token.{Token}
-use Rattle.lex_lines.specs.Places.{IsToken}
-use Rattle.lex_lines.specs.Scan.{tokens_from, between}
 
 -- the text, whether it has comments, the tokens that are still to come, and the line of the last one taken, 1 before the first
 pub record Reading : Type 0 where
@@ -10,13 +8,3 @@ pub record Reading : Type 0 where
   pub comments : Bool
   pub left : List Token
   pub line : ℕ
-
-abbrev pub left_at : Bool → List ℕ → ℕ → ℕ → List Token
-left_at comments bytes place line = tokens_from comments (drop place bytes) place line between
-
--- a place within the text, from which the pass finds tokens of the text
-pub record IsCursor (comments : Bool) (bytes : List ℕ) (place line : ℕ) : Type 0 where
-  pub short : length bytes ≤ 16777216
-  pub within : place ≤ length bytes
-  pub lines : line ≤ place + 1
-  pub tokens : All (IsToken comments bytes) (left_at comments bytes place line)

@@ -4,7 +4,7 @@ ghost use Rattle.std.specs.List.{position_or_len};
 ghost use Rattle.lex_lines.specs.Bytes.{is_feed, is_gap};
 ghost use Rattle.lex_lines.specs.Places.{IsToken, AreTokens, line_at};
 ghost use Rattle.lex_lines.specs.Scan.{ends_run, comment_after, line_after, tokens_of};
-ghost use Rattle.lex_lines.specs.Reading.{left_at};
+ghost use Rattle.lex_lines.specs.inner.Cursors.{left_at};
 
 use crate::token::Token;
 use std::marker::Model;
@@ -22,7 +22,8 @@ pub struct Tokens<'t> {
 }
 
 impl<'t> Model for Tokens<'t> {
-    ghost use Rattle.lex_lines.specs.Reading.{Reading, IsCursor, left_at};
+    ghost use Rattle.lex_lines.specs.Reading.{Reading};
+    ghost use Rattle.lex_lines.specs.inner.Cursors.{IsCursor, left_at};
 
     ghost Value = { Reading };
 

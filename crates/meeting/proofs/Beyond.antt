@@ -9,7 +9,7 @@ use Rattle.lattice.specs.Triple.{Triple, det}
 use Rattle.lattice.specs.Points.{Point, difference, point_of, AreOnePoint}
 use Rattle.geometry.specs.Faces.{normal, facing_of, edge_sum, face_sum}
 use Rattle.meeting.specs.Touching.{TouchBeyond}
-use Rattle.meeting.specs.Rises.{rise_of}
+use Rattle.meeting.specs.inner.Rises.{rise_of}
 use Rattle.meeting.proofs.Letters.{A, B, C, rises, facings, values}
 use Rattle.meeting.proofs.Weights.{weights-sum, weigh_x, weigh_y, weigh_z, level-at}
 use Rattle.meeting.proofs.CommonPoints.{nonneg_at, nonneg_of_pos, natural, is_natural, weight-ca, weight-ab}

@@ -9,9 +9,9 @@ use Rattle.lattice.specs.Triple.{Triple}
 use Rattle.geometry.specs.Faces.{facing_of, edge_sum, face_sum}
 use Rattle.meeting.specs.declared.course.Course.{Course}
 use Rattle.meeting.specs.Touching.{Touch}
-use Rattle.meeting.specs.Rises.{rise_of}
-use Rattle.meeting.specs.Courses.{IsCourseOf}
-use Rattle.meeting.specs.Places.{Place}
+use Rattle.meeting.specs.inner.Rises.{rise_of}
+use Rattle.meeting.specs.inner.Courses.{IsCourseOf}
+use Rattle.meeting.specs.inner.Places.{Place}
 use Rattle.meeting.proofs.Weights.{facing-round, weights-sum, weigh_x, weigh_y, weigh_z, level-at, weight-at, face-round}
 
 pub nonneg_at : (x y : ℤ) → x ≡ y → pos 0 ≤ℤ y → pos 0 ≤ℤ x

@@ -9,7 +9,7 @@ use Rattle.lattice.specs.Triple.{Triple, dot, cross, det, IsZero}
 use Rattle.lattice.specs.Points.{Point, difference}
 use Rattle.lattice.proofs.Vectors.{Letters, letters, dots, crosses, dot_somewhere}
 use Rattle.geometry.specs.Faces.{edge_sum}
-use Rattle.meeting.specs.Edges.{EdgesTouch, IsShare, IsCrossing}
+use Rattle.meeting.specs.inner.Edges.{EdgesTouch, IsShare, IsCrossing}
 use Rattle.meeting.proofs.CommonPoints.{nonneg_at, natural}
 use Rattle.meeting.proofs.Balance.{square-least}
 use Rattle.meeting.proofs.EdgeWeights.{touch-of-sum}

@@ -5,7 +5,7 @@ use Rattle.std.proofs.lemmas.Int.{ints}
 use Rattle.lattice.specs.declared.points.Corner.{Corner}
 use Rattle.lattice.specs.Points.{Point}
 use Rattle.geometry.specs.Faces.{edge_sum, face_sum, IsPointOfEdge, IsPointOfFace}
-use Rattle.meeting.specs.Edges.{EdgesTouch}
+use Rattle.meeting.specs.inner.Edges.{EdgesTouch}
 use Rattle.meeting.proofs.CommonPoints.{is_natural}
 
 -- weights of the ends of two edges that give one point

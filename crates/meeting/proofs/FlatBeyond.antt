@@ -9,7 +9,7 @@ use Rattle.lattice.specs.Triple.{Triple, dot}
 use Rattle.lattice.specs.Points.{Point, point_of, difference, AreOnePoint}
 use Rattle.lattice.proofs.Vectors.{Letters, letters, dots}
 use Rattle.geometry.specs.Faces.{IsFlat, edge_sum, face_sum, IsPointOfEdge, IsPointOfFace}
-use Rattle.meeting.specs.Edges.{IsOneWay}
+use Rattle.meeting.specs.inner.Edges.{IsOneWay}
 use Rattle.meeting.specs.Touching.{TouchBeyond}
 use Rattle.meeting.proofs.Letters.{ways}
 use Rattle.meeting.proofs.CommonPoints.{is_natural}

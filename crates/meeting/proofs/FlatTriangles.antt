@@ -9,7 +9,7 @@ use Rattle.lattice.specs.Triple.{Triple, dot, cross, IsZero}
 use Rattle.lattice.specs.Points.{Point, difference}
 use Rattle.lattice.proofs.Vectors.{Letters, letters, dots, crosses}
 use Rattle.geometry.specs.Faces.{IsFlat, edge_sum, face_sum}
-use Rattle.meeting.specs.Edges.{EdgesTouch}
+use Rattle.meeting.specs.inner.Edges.{EdgesTouch}
 use Rattle.meeting.specs.Touching.{Touch}
 use Rattle.meeting.proofs.CommonPoints.{natural}
 use Rattle.meeting.proofs.InPlane.{sum_pos}

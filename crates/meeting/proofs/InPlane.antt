@@ -6,7 +6,7 @@ use Rattle.integers.proofs.Ring.{Expr, var, con, ◌⊕◌, ◌⊖◌, ◌⊗◌
 use Rattle.integers.proofs.Signs.{mul_nonneg, mul_pos, nonneg_of_mul}
 use Rattle.meeting.specs.declared.course.Offset.{Offset}
 use Rattle.meeting.specs.declared.course.Course.{Course}
-use Rattle.meeting.specs.Places.{Place, Reaches, IsInOrder, Agree}
+use Rattle.meeting.specs.inner.Places.{Place, Reaches, IsInOrder, Agree}
 use Rattle.meeting.proofs.CommonPoints.{nonneg_at}
 
 abbrev O : Expr

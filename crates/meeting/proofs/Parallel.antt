@@ -9,7 +9,7 @@ use Rattle.lattice.specs.Triple.{Triple, dot, cross, IsZero}
 use Rattle.lattice.specs.Points.{Point, difference}
 use Rattle.lattice.proofs.Vectors.{Letters, letters, dots, crosses}
 use Rattle.geometry.specs.Faces.{edge_sum}
-use Rattle.meeting.specs.Edges.{EdgesTouch, IsBetween}
+use Rattle.meeting.specs.inner.Edges.{EdgesTouch, IsBetween}
 use Rattle.meeting.proofs.Letters.{ways}
 use Rattle.meeting.proofs.CommonPoints.{natural}
 use Rattle.meeting.proofs.InPlane.{sum_pos}

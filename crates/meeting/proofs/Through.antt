@@ -5,7 +5,7 @@ use Rattle.std.proofs.lemmas.Int.{ints}
 use Rattle.integers.proofs.Ring.{var, con, ◌⊕◌, ◌⊖◌, ◌⊗◌, ring, by_one}
 use Rattle.integers.proofs.Signs.{mul_nonneg, nonneg_of_mul}
 use Rattle.meeting.specs.declared.course.Course.{Course}
-use Rattle.meeting.specs.Places.{Place}
+use Rattle.meeting.specs.inner.Places.{Place}
 use Rattle.meeting.proofs.CommonPoints.{nonneg_at, nonneg_of_pos}
 
 -- k is 1 where the edge goes up, and -1 where it goes down

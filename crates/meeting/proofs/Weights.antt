@@ -8,7 +8,7 @@ use Rattle.lattice.specs.Triple.{Triple, cross}
 use Rattle.lattice.specs.Points.{Point, difference}
 use Rattle.lattice.proofs.Vectors.{Letters, crosses}
 use Rattle.geometry.specs.Faces.{normal, facing_of, edge_sum, face_sum, IsPointOfFace}
-use Rattle.meeting.specs.Rises.{rise_of}
+use Rattle.meeting.specs.inner.Rises.{rise_of}
 use Rattle.meeting.proofs.Letters.{D, A, B, C, P, Q, ways, normals, rises, facings, values}
 
 -- ---- one corner

@@ -2,7 +2,7 @@
 ghost use Rattle.std.specs.Prelude.{◌≡◌, ◌<◌, ◌^◌, unsigned_abs};
 ghost use Rattle.lattice.specs.Points.{of_dir};
 ghost use Rattle.geometry.specs.Faces.{facing_of};
-ghost use Rattle.meeting.specs.Rises.{rise_of};
+ghost use Rattle.meeting.specs.inner.Rises.{rise_of};
 
 use lattice::{Corner, Dir, Vector, det3, view_cross};
 
@@ -36,7 +36,7 @@ pub(crate) struct Course {
 }
 
 impl Course {
-    ghost use Rattle.meeting.specs.Courses.{IsCourseOf};
+    ghost use Rattle.meeting.specs.inner.Courses.{IsCourseOf};
 
     /// The edge from `p` to `q` against the triangle of `a`, `b` and `c`, as they are seen along `d`.
     pub(crate) fn new(d: &Dir, a: &Corner, b: &Corner, c: &Corner, p: &Corner, q: &Corner) -> Course
@@ -52,7 +52,7 @@ impl Course {
 }
 
 impl Rise {
-    ghost use Rattle.meeting.specs.Courses.{IsRiseOf};
+    ghost use Rattle.meeting.specs.inner.Courses.{IsRiseOf};
 
     /// The edge from `p` to `q` against the plane of `a`, `b` and `c`.
     fn new(a: &Corner, b: &Corner, c: &Corner, p: &Corner, q: &Corner) -> Rise
@@ -66,7 +66,7 @@ impl Rise {
 }
 
 impl Offset {
-    ghost use Rattle.meeting.specs.Courses.{IsOffsetOf};
+    ghost use Rattle.meeting.specs.inner.Courses.{IsOffsetOf};
 
     /// The edge from `p` to `q` against the side from `k` to `l`, as they are seen along `d`.
     fn new(d: &Dir, k: &Corner, l: &Corner, p: &Corner, q: &Corner) -> Offset

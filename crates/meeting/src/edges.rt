@@ -1,7 +1,7 @@
 // Whether two edges have a common point.
 ghost use Rattle.std.specs.Prelude.{◌↔◌, ◌⊎◌, IsTrue};
 ghost use Rattle.lattice.specs.Points.{of_vector};
-ghost use Rattle.meeting.specs.Edges.{EdgesTouch, IsBetween, IsOneWay, IsShare, IsCrossing};
+ghost use Rattle.meeting.specs.inner.Edges.{EdgesTouch, IsBetween, IsOneWay, IsShare, IsCrossing};
 
 use lattice::{Corner, Vector, cross, det3};
 

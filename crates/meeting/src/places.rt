@@ -1,6 +1,6 @@
 // Whether an edge has a place in a triangle.
 ghost use Rattle.std.specs.Prelude.{◌≡◌, ◌↔◌, pos, ◌*ℤ◌, ◌≤ℤ◌, ◌<ℤ◌, IsTrue};
-ghost use Rattle.meeting.specs.Places.{Place, Reaches, IsInOrder, Agree};
+ghost use Rattle.meeting.specs.inner.Places.{Place, Reaches, IsInOrder, Agree};
 
 use crate::course::{Course, Offset, Rise};
 

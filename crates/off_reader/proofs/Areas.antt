@@ -5,7 +5,8 @@ use Rattle.std.proofs.lemmas.List.{drop_all, length-map}
 use Rattle.integers.proofs.Worth.{known, pass, plus, via}
 use Rattle.lattice.specs.Triple.{Triple, cross, IsWithin}
 use Rattle.off_reader.specs.Fans as fans
-use Rattle.off_reader.specs.Fans.{twice, around, corners_at, vector_area}
+use Rattle.off_reader.specs.Fans.{around, corners_at, vector_area}
+use Rattle.off_reader.specs.inner.Fans.{twice}
 use Rattle.off_reader.proofs.Around.{left, at_around, long_around}
 
 pub long_corners : (vertices : List Triple) (numbers : List ℕ) → length (corners_at vertices numbers) ≡ length numbers

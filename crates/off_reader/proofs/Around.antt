@@ -2,7 +2,8 @@
 use Rattle.std.proofs.Common.{◌≡◌, ℕ, zero, suc, ◌+◌, ◌<◌, ◌≤◌, List, [], ◌∷◌, ◌++◌, length, take, drop, map, slice_get, Some, refl, sym, ap, ◌∙◌, arith, length-append}
 use Rattle.std.specs.List.{zip}
 use Rattle.std.proofs.lemmas.List.{take-append-drop, length-map}
-use Rattle.off_reader.specs.Fans.{turned, twice, neighbours, around, fan_of}
+use Rattle.off_reader.specs.Fans.{turned, neighbours, around, fan_of}
+use Rattle.off_reader.specs.inner.Fans.{twice}
 
 -- ---- places
 from_zero : (k : ℕ) → 0 + k ≡ k

@@ -11,7 +11,7 @@ use Rattle.weld.specs.declared.fault.PartKind.TheVariants.{FaceUnseen}
 use Rattle.part_text.specs.Steps.{Reading, fault_at, Times}
 use Rattle.off_reader.specs.Off.{Size, Index, last_line, fan_read, Triangles, Face, Faces}
 use Rattle.off_reader.specs.Fans.{corners_at, IsFan}
-use Rattle.off_reader.specs.Rows.{Numbers}
+use Rattle.off_reader.specs.inner.Rows.{Numbers}
 use Rattle.part_text.proofs.Again.{AreOne, impossible, same_reading, same_fault, one_more, rest_after, fails_within}
 
 -- ---- indices

@@ -3,7 +3,8 @@ use Rattle.std.proofs.Common.{◌≡◌, ℕ, ◌+◌, ◌-◌, ◌<◌, ◌≤�
 use Rattle.std.specs.List.{Any}
 use Rattle.std.proofs.lemmas.Option.{slice_get-get_or, get_or_from_slice_get, slice_get_within}
 use Rattle.lattice.specs.Triple.{Triple}
-use Rattle.off_reader.specs.Fans.{twice, corners_at, vector_area, fan_from, HasTwoEqual, IsTurnedAs, SeesWhole}
+use Rattle.off_reader.specs.Fans.{corners_at, vector_area, fan_from, HasTwoEqual, IsTurnedAs, SeesWhole}
+use Rattle.off_reader.specs.inner.Fans.{twice}
 use Rattle.off_reader.proofs.Areas.{long_corners}
 use Rattle.off_reader.proofs.Around.{at_fan_from, long_fan_from}
 

@@ -4,16 +4,11 @@ use Rattle.std.specs.List.{zip, Any}
 use Rattle.lattice.specs.declared.soup.Tri.{Tri}
 use Rattle.lattice.specs.Triple.{Triple, dot, cross}
 use Rattle.weld.specs.Welds.{vertex_at}
-use Rattle.off_reader.specs.declared.fan.Area.{Area}
 
 -- ---- going around
 -- the list from place j on, and then what stands before it
 abbrev pub turned : {X : Type 0} → ℕ → List X → List X
 turned j xs = drop j xs ++ take j xs
-
--- the list, and then the list again
-abbrev pub twice : {X : Type 0} → List X → List X
-twice xs = xs ++ xs
 
 -- each element with the next
 abbrev pub neighbours : {X : Type 0} → List X → List (X × X)
@@ -33,9 +28,6 @@ zero_triple = record { x = pos 0; y = pos 0; z = pos 0 }
 -- the corners with these numbers
 abbrev pub corners_at : List Triple → List ℕ → List Triple
 corners_at vertices numbers = map (vertex_at vertices) numbers
-
-abbrev pub of_area : Area → Triple
-of_area area = record { x = area.x; y = area.y; z = area.z }
 
 -- twice the vector area: the sum of the cross products of the corners around
 abbrev pub vector_area : List Triple → Triple

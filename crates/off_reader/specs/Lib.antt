@@ -1,4 +1,4 @@
 pub mod Counts
 pub mod Fans
 pub mod Off
-pub mod Rows
+pub mod inner

@@ -4,7 +4,7 @@ ghost use Rattle.lattice.specs.Points.{of_corner};
 ghost use Rattle.lattice.specs.Triangles.{IsBelow};
 ghost use Rattle.lex_lines.specs.declared.token.Token.{Token};
 ghost use Rattle.off_reader.specs.Off.{Size, Index, Triangles, Face, Faces};
-ghost use Rattle.off_reader.specs.Rows.{Numbers};
+ghost use Rattle.off_reader.specs.inner.Rows.{Numbers};
 ghost use Rattle.part_text.specs.Made.{made, IsMade};
 
 use crate::counts::{Counted, read_count};

@@ -3,7 +3,8 @@ ghost use Rattle.std.specs.Prelude.{◌≡◌, ℕ, ◌+◌, ◌<◌, ◌≤◌,
 ghost use Rattle.lattice.specs.Triple.{IsWithin, dot, cross};
 ghost use Rattle.lattice.specs.Points.{of_corner, of_vector, of_normal};
 ghost use Rattle.lattice.specs.Triangles.{IsBelow};
-ghost use Rattle.off_reader.specs.Fans.{turned, twice, plus, corners_at, of_area, vector_area, fan_of, HasTwoEqual, IsTurnedAs, SeesWhole, IsFan};
+ghost use Rattle.off_reader.specs.Fans.{turned, plus, corners_at, vector_area, fan_of, HasTwoEqual, IsTurnedAs, SeesWhole, IsFan};
+ghost use Rattle.off_reader.specs.inner.Fans.{twice, of_area};
 
 use exact_frac::OutOfMemory;
 use lattice::{Corner, Normal, Tri, Vector, cross};

@@ -13,7 +13,7 @@ use Rattle.lattice.specs.Cuts.{Plane, toward_of}
 use Rattle.geometry.specs.Parts.{Part, Face, IsClosed, start_of, end_of}
 use Rattle.geometry.specs.Cuts.{HasBorderRightOf, IsInSection}
 use Rattle.geometry.proofs.Listed.{face_at}
-use Rattle.solid_mesh.specs.Halves.{start_at, end_at}
+use Rattle.solid_mesh.specs.inner.Halves.{start_at, end_at}
 use Rattle.solid_mesh.proofs.HalfLemmas.{half_between, half_within, start_of_half, end_of_half}
 use Rattle.section_parity.proofs.Sights.{Sight, sight_of, corner_at, left_of_border, left_of_triangle, if_apart, is_before, beside_way, crossing_sight}
 use Rattle.section_parity.proofs.Xors.{xor, xor-none, same_of_xor, odd_below, odd_below-same, odd_below-xor, odd_below-none, odd_below-one, odd_table, odd_below-threes, odd_in, odd_in-places, odd_in-same, odd_in_decides}

@@ -3,7 +3,7 @@ use Rattle.std.proofs.Common.{◌≡◌, ℕ, zero, suc, ◌<◌, ◌⊎◌, inl
 use Rattle.std.specs.Prelude.{AllPairs, Contains}
 use Rattle.std.proofs.lemmas.List.Kept.{AllPairs-from_increasing}
 use Rattle.geometry.specs.Parts.{Part, HasNoSideTwice, AreEdges}
-use Rattle.solid_mesh.specs.Halves.{AreTwins, lower_halves_of}
+use Rattle.solid_mesh.specs.inner.Halves.{AreTwins, lower_halves_of}
 use Rattle.solid_mesh.specs.Meetings.{IsAtMostPairs}
 use Rattle.solid_mesh.proofs.HalfLemmas.{table_edges}
 

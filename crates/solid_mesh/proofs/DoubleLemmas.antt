@@ -9,7 +9,7 @@ use Rattle.geometry.proofs.EachEdge.{flat_face}
 use Rattle.geometry.proofs.Listed.{found, same_element, face_at}
 use Rattle.solid_mesh.specs.declared.faults.MeshFault.TheVariants.{Double}
 use Rattle.solid_mesh.specs.Faults.{DoublesEarlier, HasFault}
-use Rattle.solid_mesh.specs.Halves.{AreTwins}
+use Rattle.solid_mesh.specs.inner.Halves.{AreTwins}
 use Rattle.solid_mesh.proofs.FirstFound.{first_is_least}
 use Rattle.solid_mesh.proofs.HalfLemmas.{table_returns}
 use Rattle.solid_mesh.proofs.Sharing.{starts_differ}

@@ -7,7 +7,7 @@ use Rattle.geometry.specs.Parts as parts
 use Rattle.geometry.specs.Parts.{Part, IsHalf, IsNumbered, HasNoSideTwice, start_of, end_of}
 pub use Rattle.geometry.proofs.Listed.{found, same_element, triangle_below, face_at}
 use Rattle.solid_mesh.specs.declared.solid.Edge.{Edge}
-use Rattle.solid_mesh.specs.Halves.{start_at, end_at}
+use Rattle.solid_mesh.specs.inner.Halves.{start_at, end_at}
 use Rattle.solid_mesh.specs.Solids.{HasNumbers, IsEdgeAt, IsWithinPart}
 use Rattle.solid_mesh.proofs.HalfLemmas.{start_of_half, end_of_half}
 

@@ -20,7 +20,7 @@ use Rattle.meeting.specs.declared.range.Range.{Range}
 use Rattle.meeting.specs.Ranges.{IsEdgeRange, IsTriangleRange}
 use Rattle.meeting.proofs.BoxAxes.{read}
 use Rattle.meeting.proofs.Ranges.{ends_meet, meeting_ends, coordinates-by-ranges}
-use Rattle.solid_mesh.specs.Extents.{IsExtentOf, IsEdgeExtent, IsTriangleExtent, AreOrdered, AreExtents}
+use Rattle.solid_mesh.specs.inner.Extents.{IsExtentOf, IsEdgeExtent, IsTriangleExtent, AreOrdered}
 use Rattle.solid_mesh.specs.Meetings.{HaveCommonX}
 use Rattle.solid_mesh.specs.declared.extent.Extent.{Extent}
 use Rattle.solid_mesh.proofs.Meets.{x_here}
@@ -87,6 +87,11 @@ module _ (s : Part) (halves : List ℕ) (e t : Extent) (edge : IsEdgeExtent s ha
 -- ---- lists of extents
 abbrev pub number_of : Extent → ℕ
 number_of x = x.number
+
+-- the first n, in the order of their numbers
+pub record AreExtents (P : Extent → Type 0) (n : ℕ) (xs : List Extent) : Type 0 where
+  pub each : All P xs
+  pub numbers : map (λ (x : Extent). x.number) xs ≡ range_with_len 0 n
 
 module _ (P : Extent → Type 0) where
   pub no_extents : AreExtents P 0 []

@@ -6,7 +6,7 @@ use Rattle.lattice.specs.Triangles.{IsBelow}
 use Rattle.geometry.specs.Parts.{Edge, IsClosed, HasNoDouble, AreEdges, IsNumbered}
 use Rattle.geometry.specs.Sound.{MeetInSharedCorners, IsSound}
 use Rattle.integers.proofs.Passing as passing
-use Rattle.solid_mesh.specs.Halves.{is_lower}
+use Rattle.solid_mesh.specs.inner.Halves.{is_lower}
 use Rattle.solid_mesh.specs.Solids.{solid_part, edge_halves}
 use Rattle.solid_mesh.specs.declared.solid.Solid.{Solid}
 use Rattle.solid_mesh.proofs.Apart.{shared_only}

@@ -8,9 +8,9 @@ use Rattle.lattice.specs.Triangles.{IsBelow}
 use Rattle.geometry.specs.Parts.{Part, IsClosed, AreEdges}
 use Rattle.geometry.proofs.Listed.{same_element}
 use Rattle.solid_mesh.specs.Faults.{MeetsAt}
-use Rattle.solid_mesh.specs.Extents.{IsEdgeExtent, IsTriangleExtent, AreOrdered}
+use Rattle.solid_mesh.specs.inner.Extents.{IsEdgeExtent, IsTriangleExtent, AreOrdered}
 use Rattle.solid_mesh.specs.Meetings.{MeetApart, HaveCommonBox, HaveCommonX, IsAtMostPairs}
-use Rattle.solid_mesh.specs.Sweeps.{AtHalf, ComesBefore, IsMeeting, IsInSweep, Swept, IsFirst}
+use Rattle.solid_mesh.specs.inner.Sweeps.{AtHalf, ComesBefore, IsMeeting, IsInSweep, Swept, IsFirst}
 use Rattle.solid_mesh.specs.declared.extent.Extent.{Extent}
 use Rattle.solid_mesh.specs.declared.sweep.Meeting.{Meeting}
 use Rattle.solid_mesh.specs.declared.sweep.Found.{Found}

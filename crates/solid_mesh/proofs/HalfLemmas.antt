@@ -4,7 +4,7 @@ use Rattle.std.specs.List.{range_with_len}
 use Rattle.std.proofs.lemmas.Option.{slice_get-get_or, get_or_from_slice_get, slice_get_within, slice_get_read}
 use Rattle.lattice.specs.declared.soup.Tri.{Tri}
 use Rattle.geometry.specs.Parts.{Part, IsHalf, IsTwin, IsClosed, AreEdges, start_of, end_of, HasNoFlatTriangle, HasNoSideTwice}
-use Rattle.solid_mesh.specs.Halves.{triangle_at, start_at, end_at, AreTwins, is_lower, lower_halves_of}
+use Rattle.solid_mesh.specs.inner.Halves.{triangle_at, start_at, end_at, AreTwins, is_lower, lower_halves_of}
 use Rattle.integers.proofs.Passing as passing
 use Rattle.std.proofs.lemmas.Bool.Decides.{Decides-ltb}
 

@@ -15,7 +15,7 @@ use Rattle.meeting.specs.Touching.{Touch, TouchBeyond}
 use Rattle.meeting.proofs.Weights.{point-round}
 use Rattle.meeting.proofs.TouchingBoxes.{boxes-of-touch}
 use Rattle.solid_mesh.specs.Meetings.{Side, MeetApart, HaveCommonBox, HaveCommonX}
-use Rattle.solid_mesh.specs.Pairs.{AreAt, MeetBeyond, IsTurn, IsTurnedTo}
+use Rattle.solid_mesh.specs.inner.Pairs.{AreAt, MeetBeyond, IsTurn, IsTurnedTo}
 use Rattle.solid_mesh.proofs.Readings.{Reading, reading, same_reading, side_there}
 
 pub through : {A B C : Type 0} → A ↔ B → B ↔ C → A ↔ C

@@ -5,7 +5,7 @@ use Rattle.std.proofs.lemmas.Bool.{cases_lt}
 use Rattle.std.proofs.lemmas.Option.{slice_get_read, slice_get_within, get_or_from_slice_get}
 use Rattle.geometry.specs.Parts.{Part}
 use Rattle.geometry.proofs.Listed.{same_element}
-use Rattle.solid_mesh.specs.Sweeps.{pair_of, least_of, IsInRun, IsInSweep, Swept}
+use Rattle.solid_mesh.specs.inner.Sweeps.{pair_of, least_of, IsInRun, IsInSweep, Swept}
 use Rattle.solid_mesh.specs.declared.extent.Extent.{Extent}
 use Rattle.solid_mesh.specs.declared.sweep.Found.{Found}
 use Rattle.solid_mesh.proofs.Sweeping.{swept-none, swept-as, swept-then}

@@ -12,7 +12,7 @@ use Rattle.geometry.proofs.Listed.{face_at}
 use Rattle.solid_mesh.specs.declared.faults.MeshFault.TheVariants.{SameWay}
 use Rattle.solid_mesh.specs.declared.sides.Side.{Side}
 use Rattle.solid_mesh.specs.Faults.{ShareSide, SharesEarlier, HasFault}
-use Rattle.solid_mesh.specs.Halves.{triangle_at, start_at, end_at, side_at, first_sides}
+use Rattle.solid_mesh.specs.inner.Halves.{triangle_at, start_at, end_at, side_at, first_sides}
 use Rattle.solid_mesh.proofs.FirstFound.{first_is_least}
 use Rattle.solid_mesh.proofs.HalfLemmas.{half_between}
 use Rattle.solid_mesh.proofs.SideLemmas.{same_side, sides_apart, one_side}

@@ -17,7 +17,7 @@ use Rattle.lattice.specs.declared.soup.Tri.{Tri}
 use Rattle.geometry.specs.Parts.{Part, IsHalf, HasNoFlatTriangle, HasNoSideTwice}
 use Rattle.solid_mesh.specs.declared.faults.MeshFault.TheVariants.{Unpaired}
 use Rattle.solid_mesh.specs.Faults.{IsLeast, IsUnpaired, HasFault}
-use Rattle.solid_mesh.specs.Halves.{start_at, end_at, side_at, sides_of, first_sides, GoesBack}
+use Rattle.solid_mesh.specs.inner.Halves.{start_at, end_at, side_at, sides_of, first_sides, GoesBack}
 use Rattle.solid_mesh.specs.declared.sides.Side.{Side}
 use Rattle.solid_mesh.proofs.FirstFound.{first_is_least}
 use Rattle.solid_mesh.proofs.HalfLemmas.{half_between, half_within, start_of_half, end_of_half}

@@ -7,7 +7,7 @@ use Rattle.std.proofs.lemmas.List.Elements.{All-nil, All-cons, All-append, All-w
 use Rattle.geometry.specs.Parts.{Part}
 use Rattle.geometry.proofs.Listed.{same_element}
 use Rattle.solid_mesh.specs.Meetings.{HaveCommonBox, MeetApart}
-use Rattle.solid_mesh.specs.Sweeps.{AtHalf, ComesBefore, IsMeeting, Rises, Swept}
+use Rattle.solid_mesh.specs.inner.Sweeps.{AtHalf, ComesBefore, IsMeeting, Rises, Swept}
 use Rattle.solid_mesh.specs.declared.sweep.Meeting.{Meeting}
 use Rattle.solid_mesh.specs.declared.sweep.Found.{Found}
 

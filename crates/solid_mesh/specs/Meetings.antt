@@ -31,10 +31,6 @@ pub record MeetApart (s : Part) (half tri : ℕ) : Type 0 where
   pub on_face : IsPointOfFace face.a face.b face.c point
   pub apart : (k : ℕ) (c : Corner) → slice_get s.corners k ≡ Some c → (side.m ≡ k) ⊎ (side.n ≡ k) → IsCornerOf face.tri k → ¬ AreOnePoint (point_of c) point
 
--- no side and triangle do
-abbrev pub HasNoMeeting : Part → Type 0
-HasNoMeeting s = (half tri : ℕ) → ¬ MeetApart s half tri
-
 -- the closed boxes of the side and of the triangle have a common point
 pub record HaveCommonBox (s : Part) (half tri : ℕ) : Type 0 where
   pub side : Side s half

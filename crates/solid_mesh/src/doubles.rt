@@ -2,7 +2,7 @@
 ghost use Rattle.std.specs.Prelude.{◌≤◌, length, MatchOption};
 ghost use Rattle.geometry.specs.Parts.{part_of, IsClosed, HasNoDouble};
 ghost use Rattle.solid_mesh.specs.Faults.{HasFault};
-ghost use Rattle.solid_mesh.specs.Halves.{AreTwins};
+ghost use Rattle.solid_mesh.specs.inner.Halves.{AreTwins};
 ghost use Rattle.solid_mesh.specs.declared.faults.MeshFault.TheVariants.{Double};
 
 use lattice::Soup;

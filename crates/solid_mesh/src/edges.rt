@@ -1,8 +1,9 @@
 // The twins and the edges of a part, if it is sound.
 ghost use Rattle.std.specs.Prelude.{◌≡◌, ◌-◌, ◌<◌, ◌≤◌, ◌^◌, length, OnOk, IfOk, IfErr};
 ghost use Rattle.geometry.specs.Parts.{part_of, IsClosed, HasNoDouble};
-ghost use Rattle.solid_mesh.specs.Halves.{AreTwins, lower_halves_of};
-ghost use Rattle.solid_mesh.specs.Meetings.{HaveCommonX, HaveCommonBox, HasNoMeeting, IsAtMostPairs};
+ghost use Rattle.solid_mesh.specs.inner.Halves.{AreTwins, lower_halves_of};
+ghost use Rattle.solid_mesh.specs.Meetings.{HaveCommonX, HaveCommonBox, IsAtMostPairs};
+ghost use Rattle.solid_mesh.specs.inner.Meetings.{HasNoMeeting};
 ghost use Rattle.solid_mesh.specs.Solids.{IsRefusedFor};
 
 use crate::doubles::find_double;

@@ -3,7 +3,7 @@ ghost use Rattle.std.specs.Prelude.{◌≡◌, ℕ, ◌+◌, ◌*◌, ◌<◌, �
 ghost use Rattle.std.specs.List.{All};
 ghost use Rattle.std.specs.List.Sorted.{IsPermutation, IsNonDecreasingBy};
 ghost use Rattle.geometry.specs.Parts.{part_of};
-ghost use Rattle.solid_mesh.specs.Extents.{IsExtentOf, IsEdgeExtent, IsTriangleExtent, AreOrdered};
+ghost use Rattle.solid_mesh.specs.inner.Extents.{IsExtentOf, IsEdgeExtent, IsTriangleExtent, AreOrdered};
 
 use crate::extent::Extent;
 use crate::sides::ends;

@@ -5,7 +5,7 @@ ghost use Rattle.geometry.specs.Parts.{part_of, IsCornerOf};
 ghost use Rattle.meeting.specs.Touching.{Touch};
 ghost use Rattle.lattice.specs.Triangles.{IsBelow};
 ghost use Rattle.solid_mesh.specs.Meetings.{HaveCommonBox, MeetApart};
-ghost use Rattle.solid_mesh.specs.Pairs.{MeetBeyond, AreAt, IsTurnedTo};
+ghost use Rattle.solid_mesh.specs.inner.Pairs.{MeetBeyond, AreAt, IsTurnedTo};
 
 use crate::sides::ends;
 use lattice::{Soup, Tri};

@@ -2,7 +2,7 @@
 ghost use Rattle.std.specs.Prelude.{◌≡◌, ℕ, ◌+◌, ◌*◌, ◌/◌, ◌%◌, ◌<◌, ◌≤◌, ◌↔◌, length, slice_get, OnOk, IfOk, IfErr};
 ghost use Rattle.geometry.specs.Parts.{part_of, start_of, end_of, HasNoFlatTriangle, HasNoSideTwice, IsClosed};
 ghost use Rattle.solid_mesh.specs.Faults.{ShareSide, SharesEarlier};
-ghost use Rattle.solid_mesh.specs.Halves.{AreTwins, lower_halves_of, side_at, sides_of, first_sides};
+ghost use Rattle.solid_mesh.specs.inner.Halves.{AreTwins, lower_halves_of, side_at, sides_of, first_sides};
 ghost use Rattle.solid_mesh.specs.Solids.{IsRefusedFor};
 
 use crate::faults::{MeshError, MeshFault};

@@ -4,9 +4,9 @@ ghost use Rattle.std.specs.List.{All, AllPairs};
 ghost use Rattle.std.specs.List.Sorted.{IsNonDecreasingBy};
 ghost use Rattle.geometry.specs.Parts.{part_of, IsClosed, AreEdges};
 ghost use Rattle.solid_mesh.specs.declared.extent.Extent.{Extent};
-ghost use Rattle.solid_mesh.specs.Extents.{IsEdgeExtent, IsTriangleExtent, AreOrdered};
+ghost use Rattle.solid_mesh.specs.inner.Extents.{IsEdgeExtent, IsTriangleExtent, AreOrdered};
 ghost use Rattle.solid_mesh.specs.Meetings.{HaveCommonX, HaveCommonBox, IsAtMostPairs};
-ghost use Rattle.solid_mesh.specs.Sweeps.{pair_of, count_of, least_of, ComesBefore, Swept, IsInRun, IsInSweep, IsFirst};
+ghost use Rattle.solid_mesh.specs.inner.Sweeps.{pair_of, count_of, least_of, ComesBefore, Swept, IsInRun, IsInSweep, IsFirst};
 
 use crate::extent::Extent;
 use crate::extents::{edge_extents, triangle_extents};

@@ -8,7 +8,7 @@ use Rattle.geometry.proofs.Listed.{same_element}
 use Rattle.lattice.specs.declared.soup.Tri.{Tri}
 use Rattle.counting.specs.Turns.{number_at}
 use Rattle.solid_mesh.specs.Solids.{AreTrianglesAt}
-use Rattle.solid_mesh.specs.Stars.{first_at}
+use Rattle.solid_mesh.specs.inner.Stars.{first_at}
 use Rattle.solid_mesh.proofs.StarLemmas.{triangles_at}
 use Rattle.face_counts.proofs.EdgeNumbers.{half_of, half_at_number, half_of_within}
 use Rattle.face_counts.proofs.HalfFaces.{edge_of}

@@ -1,3 +1,3 @@
 pub mod Letters
 pub mod Stl
-pub mod Views
+pub mod inner

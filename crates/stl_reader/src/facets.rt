@@ -3,7 +3,7 @@ ghost use Rattle.std.specs.Prelude.{◌≡◌, ℕ, ◌<◌, ◌≤◌, length, 
 ghost use Rattle.lattice.specs.Points.{of_corner};
 ghost use Rattle.part_text.specs.Made.{made, IsMade};
 ghost use Rattle.stl_reader.specs.Stl.{Numbers, Corner as CornerStep, Opening, Corners, Closing, Facet as FacetStep, Facets};
-ghost use Rattle.stl_reader.specs.Views.{of_facet};
+ghost use Rattle.stl_reader.specs.inner.Views.{of_facet};
 
 use crate::keywords::{another_solid, read_facet_or_end, read_keyword};
 use lattice::Corner;

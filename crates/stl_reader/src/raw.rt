@@ -5,7 +5,7 @@ ghost use Rattle.lattice.specs.Points.{of_corner};
 ghost use Rattle.lattice.specs.Triangles.{IsBelow};
 ghost use Rattle.weld.specs.Raw.{seen};
 ghost use Rattle.stl_reader.specs.Stl.{vertices_of, triangle_at, raw_of};
-ghost use Rattle.stl_reader.specs.Views.{of_facet};
+ghost use Rattle.stl_reader.specs.inner.Views.{of_facet};
 
 use crate::facets::Facet;
 use exact_frac::OutOfMemory;

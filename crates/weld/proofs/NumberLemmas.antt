@@ -10,7 +10,7 @@ use Rattle.std.proofs.Math.Seq.{get_or-append_seam, take-append_seam}
 use Rattle.lattice.specs.declared.soup.Tri.{Tri}
 use Rattle.lattice.specs.Triangles.{IsBelow}
 use Rattle.lattice.specs.Triple.{Triple}
-use Rattle.weld.specs.Numbering.{Numbers, NumbersAll}
+use Rattle.weld.specs.inner.Numbering.{Numbers, NumbersAll}
 use Rattle.weld.specs.Welds.{vertex_at, placed, numbers_of}
 
 -- the numbers below n are used, and each only once all before it were

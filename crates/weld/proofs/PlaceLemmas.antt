@@ -17,7 +17,7 @@ use Rattle.lattice.specs.declared.points.Corner.{Corner}
 use Rattle.lattice.specs.Points.{of_corner}
 use Rattle.lattice.specs.Triple.{Triple}
 use Rattle.weld.specs.declared.welding.Place.{Place}
-use Rattle.weld.specs.Numbering.{of_place, same_place, IsTied, Numbers}
+use Rattle.weld.specs.inner.Numbering.{of_place, same_place, IsTied, Numbers}
 use Rattle.weld.specs.Welds.{vertex_at, is_one_place, are_different}
 
 -- the place with these coordinates

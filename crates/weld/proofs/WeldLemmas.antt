@@ -9,7 +9,7 @@ use Rattle.lattice.specs.Points.{of_corner}
 use Rattle.lattice.specs.Triangles.{IsBelow}
 use Rattle.lattice.specs.Triple.{Triple}
 use Rattle.weld.specs.declared.welding.Place.{Place}
-use Rattle.weld.specs.Numbering.{IsTied, NumbersAll}
+use Rattle.weld.specs.inner.Numbering.{IsTied, NumbersAll}
 use Rattle.weld.specs.Raw.{Raw}
 use Rattle.weld.specs.Welds.{vertex_at, placed, are_different, proper_of, numbers_of, IsWeldOf}
 use Rattle.weld.proofs.NumberLemmas.{AreUsed, none_used, size_of_all, below_all, kept_all, placed_all, all_of_all, used_of_all}

@@ -1,3 +1,3 @@
-pub mod Numbering
 pub mod Raw
 pub mod Welds
+pub mod inner

@@ -3,7 +3,7 @@ ghost use Rattle.std.specs.Prelude.{◌≡◌, ◌+◌, ◌<◌, ◌≤◌, ◌^
 ghost use Rattle.lattice.specs.Points.{of_corner};
 ghost use Rattle.lattice.specs.Triangles.{IsBelow};
 ghost use Rattle.weld.specs.declared.welding.WeldError.TheVariants.{Memory};
-ghost use Rattle.weld.specs.Numbering.{IsTied, Numbers, NumbersAll, of_place};
+ghost use Rattle.weld.specs.inner.Numbering.{IsTied, Numbers, NumbersAll, of_place};
 ghost use Rattle.weld.specs.Welds.{placed, are_different};
 
 use crate::raw_part::RawPart;

@@ -1,5 +1,5 @@
 use Rattle.std.proofs.Common.{sym, ◌∙◌, ap, arith}
-use Rattle.dec_text.specs.Reading.{step}
+use Rattle.dec_text.specs.inner.Reading.{step}
 use Rattle.dec_text.specs.declared.number.Kind.{Kind}
 use Rattle.dec_text.proofs.States.{stops, ends_early, ends_well}
 use Rattle.dec_text.proofs.number.fault_place.Goals as goal

@@ -1,6 +1,6 @@
 use Rattle.std.proofs.Common.{◌<◌, ◌^◌, take}
 use Rattle.dec_text.specs.Numbers.{value_of}
-use Rattle.dec_text.specs.Reading.{IsHeld}
+use Rattle.dec_text.specs.inner.Reading.{IsHeld}
 use Rattle.dec_text.proofs.number.held.Given as goal
 
 abbrev pub invariant-loop-digit : goal.invariant-loop-digit

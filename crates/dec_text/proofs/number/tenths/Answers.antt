@@ -1,6 +1,6 @@
 use Rattle.std.proofs.Common.{◌*◌, ◌^◌, ◌++◌, ℕ, sym, ◌∙◌, ap, subst}
 use Rattle.std.specs.Prelude.{Option}
-use Rattle.dec_text.specs.Reading.{IsBelowEnd, tenths_of}
+use Rattle.dec_text.specs.inner.Reading.{IsBelowEnd, tenths_of}
 use Rattle.dec_text.proofs.Digits.{digits-take}
 use Rattle.dec_text.proofs.Rounding.{first_over, second_over, both_parts}
 use Rattle.dec_text.proofs.number.tenths.Goals as goal

@@ -1,6 +1,6 @@
 use Rattle.std.proofs.Common.{◌≡◌, ◌+◌, ◌≤◌, drop}
 use Rattle.lex_lines.specs.Scan.{tokens_from, outside}
-use Rattle.lex_lines.specs.Reading.{left_at}
+use Rattle.lex_lines.specs.inner.Cursors.{left_at}
 use Rattle.lex_lines.proofs.tokens.skip_gap.Given as goal
 
 abbrev pub invariant-loop-at : goal.invariant-loop-at

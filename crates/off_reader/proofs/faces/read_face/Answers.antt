@@ -4,7 +4,7 @@ use Rattle.lattice.specs.Points.{of_corner}
 use Rattle.lattice.specs.declared.soup.Tri.{Tri}
 use Rattle.off_reader.specs.declared.faces.Indices.{Indices}
 use Rattle.off_reader.specs.Off.{Face}
-use Rattle.off_reader.specs.Rows.{Numbers}
+use Rattle.off_reader.specs.inner.Rows.{Numbers}
 use Rattle.part_text.proofs.Again.{made_so, error_so}
 use Rattle.off_reader.proofs.Rows.{face_passed, numbers_fail}
 use Rattle.off_reader.proofs.faces.read_face.Goals as goal

@@ -1,5 +1,5 @@
 use Rattle.std.proofs.Common.{◌≡◌, ◌<◌, length, All, Ok}
-use Rattle.off_reader.specs.Rows.{Numbers}
+use Rattle.off_reader.specs.inner.Rows.{Numbers}
 use Rattle.off_reader.proofs.faces.read_indices.Given as goal
 
 abbrev pub invariant-loop : goal.invariant-loop

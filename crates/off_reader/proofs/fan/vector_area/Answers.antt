@@ -1,7 +1,8 @@
 use Rattle.std.proofs.Common.{List, map, refl, arith}
 use Rattle.lattice.specs.Points.{of_corner}
 use Rattle.lattice.specs.Triple.{Triple}
-use Rattle.off_reader.specs.Fans.{corners_at, of_area}
+use Rattle.off_reader.specs.Fans.{corners_at}
+use Rattle.off_reader.specs.inner.Fans.{of_area}
 use Rattle.off_reader.proofs.Areas.{long_corners, widest, wider, one_side, all_sides}
 use Rattle.off_reader.proofs.fan.vector_area.Goals as goal
 

@@ -1,7 +1,8 @@
 use Rattle.std.proofs.Common.{◌*◌, ◌^◌, map}
 use Rattle.lattice.specs.Triple.{IsWithin}
 use Rattle.lattice.specs.Points.{of_corner}
-use Rattle.off_reader.specs.Fans.{corners_at, of_area}
+use Rattle.off_reader.specs.Fans.{corners_at}
+use Rattle.off_reader.specs.inner.Fans.{of_area}
 use Rattle.off_reader.proofs.Areas.{IsPart}
 use Rattle.off_reader.proofs.fan.vector_area.Given as goal
 

@@ -1,6 +1,7 @@
 use Rattle.std.proofs.Common.{◌∙◌}
 use Rattle.lattice.specs.Triple.{cross}
-use Rattle.off_reader.specs.Fans.{plus, of_area}
+use Rattle.off_reader.specs.Fans.{plus}
+use Rattle.off_reader.specs.inner.Fans.{of_area}
 use Rattle.off_reader.proofs.Areas.{component_sum}
 use Rattle.off_reader.proofs.fan.with_side.Goals as goal
 

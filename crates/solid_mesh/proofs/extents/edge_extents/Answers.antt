@@ -1,7 +1,7 @@
 use Rattle.std.proofs.Common.{◌≡◌, length, sym, subst, arith}
 use Rattle.geometry.specs.Parts.{part_of}
-use Rattle.solid_mesh.specs.Extents.{IsEdgeExtent, AreExtents}
-use Rattle.solid_mesh.proofs.Extending.{no_extents, more_extents, ordered_ok}
+use Rattle.solid_mesh.specs.inner.Extents.{IsEdgeExtent}
+use Rattle.solid_mesh.proofs.Extending.{AreExtents, no_extents, more_extents, ordered_ok}
 use Rattle.solid_mesh.proofs.extents.edge_extents.Goals as goal
 
 pub loop-edge-init : goal.loop-edge-init

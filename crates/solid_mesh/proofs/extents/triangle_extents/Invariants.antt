@@ -1,5 +1,6 @@
 use Rattle.geometry.specs.Parts.{part_of}
-use Rattle.solid_mesh.specs.Extents.{AreExtents, IsTriangleExtent}
+use Rattle.solid_mesh.specs.inner.Extents.{IsTriangleExtent}
+use Rattle.solid_mesh.proofs.Extending.{AreExtents}
 use Rattle.solid_mesh.proofs.extents.triangle_extents.Given as goal
 
 abbrev pub invariant-loop-tri : goal.invariant-loop-tri

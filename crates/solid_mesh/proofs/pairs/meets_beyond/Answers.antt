@@ -4,7 +4,7 @@ use Rattle.std.proofs.lemmas.Option.{slice_get_read}
 use Rattle.lattice.specs.declared.points.Corner.{Corner}
 use Rattle.geometry.specs.Parts.{part_of}
 use Rattle.geometry.proofs.Listed.{same_element}
-use Rattle.solid_mesh.specs.Pairs.{MeetBeyond}
+use Rattle.solid_mesh.specs.inner.Pairs.{MeetBeyond}
 use Rattle.solid_mesh.proofs.Meets.{through, corners_read, turned_below, turned_beyond}
 use Rattle.solid_mesh.proofs.pairs.meets_beyond.Goals as goal
 

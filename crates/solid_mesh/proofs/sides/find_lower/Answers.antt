@@ -1,6 +1,6 @@
 use Rattle.std.proofs.Common.{◌≡◌, filter, length, ap, ◌∙◌, arith}
 use Rattle.std.specs.List.{range_with_len}
-use Rattle.solid_mesh.specs.Halves.{is_lower}
+use Rattle.solid_mesh.specs.inner.Halves.{is_lower}
 use Rattle.solid_mesh.proofs.HalfLemmas.{lower_listed, upper_passed}
 use Rattle.solid_mesh.proofs.sides.find_lower.Goals as goal
 use Rattle.solid_mesh.proofs.sides.find_lower.Goals.{then-half-twins+in_ok-push, else-half-twins}

@@ -1,5 +1,5 @@
 use Rattle.std.proofs.Common.{◌≡◌, ℕ, ◌<◌, length, slice_index}
-use Rattle.solid_mesh.specs.Halves.{GoesBack}
+use Rattle.solid_mesh.specs.inner.Halves.{GoesBack}
 use Rattle.solid_mesh.proofs.sides.find_twins.Given as goal
 
 abbrev pub invariant-loop-half : goal.invariant-loop-half

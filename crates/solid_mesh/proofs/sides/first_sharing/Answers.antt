@@ -1,6 +1,6 @@
 use Rattle.std.proofs.Common.{◌≡◌, ℕ, ◌+◌, ◌*◌, ◌/◌, ◌%◌, ◌<◌, ◌≤◌, length, ap, ◌∙◌, arith, below_more}
 use Rattle.geometry.specs.Parts.{part_of}
-use Rattle.solid_mesh.specs.Halves.{side_at}
+use Rattle.solid_mesh.specs.inner.Halves.{side_at}
 use Rattle.solid_mesh.proofs.SideLemmas.{one_side}
 use Rattle.solid_mesh.proofs.Sharing.{still_shares}
 use Rattle.solid_mesh.proofs.sides.first_sharing.Goals as goal

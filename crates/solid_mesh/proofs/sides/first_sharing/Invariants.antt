@@ -1,7 +1,7 @@
 use Rattle.std.proofs.Common.{◌≡◌, ℕ, ◌+◌, ◌*◌, ◌/◌, ◌<◌, ◌≤◌, length}
 use Rattle.geometry.specs.Parts.{part_of}
 use Rattle.solid_mesh.specs.Faults.{ShareSide}
-use Rattle.solid_mesh.specs.Halves.{side_at}
+use Rattle.solid_mesh.specs.inner.Halves.{side_at}
 use Rattle.solid_mesh.proofs.sides.first_sharing.Given as goal
 
 abbrev pub invariant-loop-side : goal.invariant-loop-side

@@ -1,7 +1,7 @@
 use Rattle.std.proofs.Common.{◌≡◌, ◌*◌, length, sym, subst, ap, ◌∙◌, arith}
 use Rattle.std.specs.List.{IsDistinct}
 use Rattle.geometry.specs.Parts.{part_of}
-use Rattle.solid_mesh.specs.Halves.{sides_of, first_sides}
+use Rattle.solid_mesh.specs.inner.Halves.{sides_of, first_sides}
 use Rattle.solid_mesh.proofs.SideLemmas.{same_side, by_count, count_of, found_some, more_sides, same_sides, sides_once}
 use Rattle.solid_mesh.proofs.Sharing.{same_way}
 use Rattle.solid_mesh.proofs.sides.index_sides.Goals as goal

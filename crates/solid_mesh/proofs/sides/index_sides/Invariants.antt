@@ -1,6 +1,6 @@
 use Rattle.std.proofs.Common.{◌≡◌}
 use Rattle.std.specs.List.{IsDistinct}
-use Rattle.solid_mesh.specs.Halves.{first_sides}
+use Rattle.solid_mesh.specs.inner.Halves.{first_sides}
 use Rattle.solid_mesh.proofs.SideLemmas.{same_side}
 use Rattle.solid_mesh.proofs.sides.index_sides.Given as goal
 

@@ -1,6 +1,6 @@
 use Rattle.std.proofs.Common.{length, sym, subst}
 use Rattle.geometry.specs.Parts.{part_of}
-use Rattle.solid_mesh.specs.Extents.{IsEdgeExtent, IsTriangleExtent, AreOrdered}
+use Rattle.solid_mesh.specs.inner.Extents.{IsEdgeExtent, IsTriangleExtent, AreOrdered}
 use Rattle.solid_mesh.proofs.sweep.find_meeting.Goals as goal
 
 pub sweep_both-requires-clause-edges : goal.sweep_both-requires-clause-edges

@@ -1,6 +1,6 @@
 use Rattle.std.proofs.Common.{ℕ, ◌+◌, ◌<◌, ◌≤◌, get_or}
 use Rattle.geometry.specs.Parts.{part_of}
-use Rattle.solid_mesh.specs.Sweeps.{Swept}
+use Rattle.solid_mesh.specs.inner.Sweeps.{Swept}
 use Rattle.solid_mesh.specs.declared.extent.Extent.{Extent}
 use Rattle.solid_mesh.proofs.Running.{IsInPlaces}
 use Rattle.solid_mesh.proofs.sweep.run.Given as goal

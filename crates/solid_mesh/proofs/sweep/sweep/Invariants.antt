@@ -1,6 +1,6 @@
 use Rattle.std.proofs.Common.{◌+◌, ◌*◌, ◌≤◌}
 use Rattle.geometry.specs.Parts.{part_of}
-use Rattle.solid_mesh.specs.Sweeps.{Swept}
+use Rattle.solid_mesh.specs.inner.Sweeps.{Swept}
 use Rattle.solid_mesh.proofs.Running.{IsInFirst}
 use Rattle.solid_mesh.proofs.sweep.sweep.Given as goal
 

@@ -1,6 +1,6 @@
 use Rattle.std.proofs.Common.{length, refl, arith}
 use Rattle.geometry.specs.Parts.{part_of}
-use Rattle.solid_mesh.specs.Extents.{IsEdgeExtent, IsTriangleExtent}
+use Rattle.solid_mesh.specs.inner.Extents.{IsEdgeExtent, IsTriangleExtent}
 use Rattle.solid_mesh.proofs.Extending.{count_of_ordered, numbers_below, numbers_differ}
 use Rattle.solid_mesh.proofs.FirstMeeting.{both_sweeps, boxes_at_most, pairs_at_most, first_meeting}
 use Rattle.solid_mesh.proofs.sweep.sweep_both.Goals as goal

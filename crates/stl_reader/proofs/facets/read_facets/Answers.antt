@@ -1,6 +1,6 @@
 use Rattle.std.proofs.Common.{◌≡◌, ◌∙◌, sym, length, rules, arith}
 use Rattle.std.proofs.lemmas.List.{length-map, map-append}
-use Rattle.stl_reader.specs.Views.{of_facet}
+use Rattle.stl_reader.specs.inner.Views.{of_facet}
 use Rattle.stl_reader.proofs.Turns.{facet_done, facet_fails, solid_done, all_done, solid_fails, word_fails}
 use Rattle.stl_reader.proofs.Shorter.{facet_taken, solid_taken}
 use Rattle.stl_reader.proofs.facets.read_facets.Goals as goal

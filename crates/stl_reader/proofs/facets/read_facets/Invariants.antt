@@ -1,5 +1,5 @@
 use Rattle.std.proofs.Common.{◌≡◌, ◌≤◌, length, map}
-use Rattle.stl_reader.specs.Views.{of_facet}
+use Rattle.stl_reader.specs.inner.Views.{of_facet}
 use Rattle.stl_reader.proofs.Turns.{IsDone}
 use Rattle.stl_reader.proofs.facets.read_facets.Given as goal
 

@@ -1,6 +1,6 @@
 use Rattle.std.proofs.Common.{◌≡◌, map, None, Vec, Global, rules}
 use Rattle.stl_reader.specs.declared.facets.Facet.{Facet}
-use Rattle.stl_reader.specs.Views.{of_facet}
+use Rattle.stl_reader.specs.inner.Views.{of_facet}
 use Rattle.part_text.proofs.FirstZero.{no_zero}
 use Rattle.stl_reader.proofs.Whole.{error_answer, facets_read}
 use Rattle.stl_reader.proofs.stl.read_stl.Goals as goal

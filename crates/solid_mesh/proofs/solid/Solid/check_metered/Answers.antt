@@ -1,6 +1,6 @@
 use Rattle.std.proofs.Common.{sym, subst}
 use Rattle.geometry.specs.Parts.{part_of}
-use Rattle.solid_mesh.specs.Halves.{AreTwins}
+use Rattle.solid_mesh.specs.inner.Halves.{AreTwins}
 use Rattle.solid_mesh.specs.Meetings.{HaveCommonX, HaveCommonBox}
 use Rattle.solid_mesh.proofs.Apart.{shared_only}
 use Rattle.solid_mesh.proofs.Counted.{edges_counted}

@@ -3,7 +3,7 @@ use Rattle.std.proofs.lemmas.Bool.Decides.{Decides-eqb}
 use Rattle.std.proofs.lemmas.List.{length-append, length-map}
 use Rattle.lattice.specs.Points.{of_corner}
 use Rattle.lattice.specs.Triangles.{IsBelow}
-use Rattle.weld.specs.Numbering.{of_place}
+use Rattle.weld.specs.inner.Numbering.{of_place}
 use Rattle.weld.specs.Raw.{seen}
 use Rattle.weld.proofs.PlaceLemmas.{at_most_vertices}
 use Rattle.weld.proofs.WeldLemmas.{none_welded, kept_welded, dropped_welded, is_weld, nothing_left}

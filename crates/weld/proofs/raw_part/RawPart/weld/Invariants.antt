@@ -1,6 +1,6 @@
 use Rattle.std.proofs.Common.{◌≤◌, length, map}
 use Rattle.lattice.specs.Points.{of_corner}
-use Rattle.weld.specs.Numbering.{IsTied}
+use Rattle.weld.specs.inner.Numbering.{IsTied}
 use Rattle.weld.proofs.WeldLemmas.{IsWelded, proper_before}
 use Rattle.weld.proofs.raw_part.RawPart.weld.Given as goal
 

@@ -35,8 +35,3 @@ pub record AreOrdered (P : Extent → Type 0) (n : ℕ) (xs : List Extent) : Typ
   pub each : All P xs
   pub numbers : IsPermutation (range_with_len 0 n) (map (λ (x : Extent). x.number) xs)
   pub order : IsNonDecreasingBy (λ (x : Extent). x.from) xs
-
--- the first n, in the order of their numbers
-pub record AreExtents (P : Extent → Type 0) (n : ℕ) (xs : List Extent) : Type 0 where
-  pub each : All P xs
-  pub numbers : map (λ (x : Extent). x.number) xs ≡ range_with_len 0 n

@@ -2,7 +2,8 @@
 use Rattle.std.specs.Prelude.{◌≡◌, ◌≢◌, ◌⊎◌, ℕ, ◌+◌, ◌<◌, ◌≤◌, Bool, true, false, List, Option, Some, None, length, slice_get, All, AllPairs, Contains, MatchOption, IfSome}
 use Rattle.geometry.specs.Parts.{Part}
 use Rattle.solid_mesh.specs.Faults.{IsLeast, MeetsAt}
-use Rattle.solid_mesh.specs.Meetings.{HaveCommonBox, MeetApart, HasNoMeeting}
+use Rattle.solid_mesh.specs.Meetings.{HaveCommonBox, MeetApart}
+use Rattle.solid_mesh.specs.inner.Meetings.{HasNoMeeting}
 use Rattle.solid_mesh.specs.declared.extent.Extent.{Extent}
 use Rattle.solid_mesh.specs.declared.sweep.Meeting.{Meeting}
 use Rattle.solid_mesh.specs.declared.sweep.Found.{Found}

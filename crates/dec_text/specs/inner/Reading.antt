@@ -1,5 +1,5 @@
 -- How a number is read: byte after byte, and then part after part.
-use Rattle.std.specs.Prelude.{◌≡◌, ◌⊎◌, ℕ, ◌+◌, ◌-◌, ◌*◌, ◌^◌, ◌<◌, ◌≤◌, Bool, true, false, ◌||◌, ◌==◌, if◌then◌else◌, ℤ, List, [], ◌∷◌, ◌++◌, length, fold, take, Option, Some, None, MatchOption}
+use Rattle.std.specs.Prelude.{◌≡◌, ◌⊎◌, ℕ, ◌+◌, ◌-◌, ◌*◌, ◌^◌, ◌<◌, ◌≤◌, Bool, true, false, ◌||◌, ◌==◌, if◌then◌else◌, ℤ, List, [], ◌∷◌, ◌++◌, length, take, Option, Some, None, MatchOption}
 use Rattle.std.specs.Char.{is_ascii_digit}
 use Rattle.dec_text.specs.Numbers.{AreDigits, value_of, signed, IsExponent, IsFraction}
 use Rattle.dec_text.specs.declared.number.Kind.{Kind}
@@ -39,15 +39,6 @@ may_end Whole = true
 may_end Fraction = true
 may_end Powered = true
 may_end _ = false
-
--- one byte more, where the bytes before begin a number
-abbrev pub reads : Option State → ℕ → Option State
-reads None byte = None
-reads (Some state) byte = step state (kind_of byte)
-
--- what was read last of the bytes, where they begin a number
-abbrev pub state_after : List ℕ → Option State
-state_after bytes = fold reads (Some Start) bytes
 
 -- ---- part after part
 abbrev pub is_minus : List ℕ → Bool

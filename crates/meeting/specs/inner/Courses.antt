@@ -3,7 +3,7 @@ use Rattle.std.specs.Prelude.{◌≡◌}
 use Rattle.lattice.specs.declared.points.Corner.{Corner}
 use Rattle.lattice.specs.Triple.{Triple}
 use Rattle.geometry.specs.Faces.{facing_of}
-use Rattle.meeting.specs.Rises.{rise_of}
+use Rattle.meeting.specs.inner.Rises.{rise_of}
 use Rattle.meeting.specs.declared.course.Rise.{Rise}
 use Rattle.meeting.specs.declared.course.Offset.{Offset}
 use Rattle.meeting.specs.declared.course.Course.{Course}
