@@ -15,7 +15,7 @@ use Rattle.draw_words.specs.Names.{Read, is_role, read_given, read_of, texts_as}
 use Rattle.draw_words.specs.Seen.{texts}
 use Rattle.draw_words.proofs.WordLemmas.{IsFault, Reads, id_of, reads, rule_as, rules, top}
 use Rattle.draw_words.proofs.RowLemmas.{IsSparse, first, first_of-first, given_twice, has_row-first, is_given-first, read_missing, read_whole, row, sparse_more, texts_as-append, use_again, used_first}
-use Rattle.draw_words.proofs.TurnLemmas.{Moves, end_is, end_moves, ended_turn, ended_walked, finished_is, first_fault, given_held, gives_fails, gives_moves, held_after, later_fault, left_end, left_fault, opened, opens_fails, opens_moves, plain_turn, plain_walked, standing, stranger_fails, taken, turn_fails, turn_passes, waits, with_value}
+use Rattle.draw_words.proofs.TurnLemmas.{Moves, end_is, end_moves, ended_turn, ended_walked, finished_is, first_fault, given_held, gives_fails, gives_moves, held_after, later_fault, left_end, left_fault, opened, opens_fails, opens_moves, plain_turn, plain_walked, standing, unknown_fails, taken, turn_fails, turn_passes, waits, with_value}
 
 -- ---- what is told of the words from here on
 abbrev Holds : Read → List Row → Type 0
@@ -161,7 +161,7 @@ doomed_word ends word words has_part h r f none =
 doomed_word (opens role) word words has_part h r f none = turn_fails (standing idle has_part false h) word words (opens_fails role idle has_part word h r f)
 doomed_word (gives role v) word words has_part h r f none =
     turn_fails (standing idle has_part false h) word words (gives_fails role v idle has_part word h r (first_fault (settle_fault rules false h) _ f))
-doomed_word unknown_option word words has_part h r f none = turn_fails (standing idle has_part false h) word words (stranger_fails idle has_part word h r none)
+doomed_word unknown_option word words has_part h r f none = turn_fails (standing idle has_part false h) word words (unknown_fails idle has_part word h r none)
 doomed_word plain word words has_part h r f none =
     turn_fails (standing idle has_part false h) word words (subst IsFault (sym (plain_turn has_part word h r)) (value_turn_fault has_part (settle_fault rules false h) f))
 
@@ -241,7 +241,7 @@ closed_word (gives role v) word words gs h r c later = go (first role gs) refl
         moved all (standing idle (is_part gs) false h) (standing idle (is_part gs) false (given_held role v h)) word words
         (gives_moves role v (is_part gs) word h r c.settles (no_use_fault role v gs (settled rules h).rows c.rows none))
         (subst (λ (o : Option Read). TellsFrom o (standing idle (is_part gs) false (given_held role v h)) words) (sym (shift gs (given role v) (given_by None words))) next)
-closed_word unknown_option word words gs h r c later = turn_fails (standing idle (is_part gs) false h) word words (stranger_fails idle (is_part gs) word h r c.skip)
+closed_word unknown_option word words gs h r c later = turn_fails (standing idle (is_part gs) false h) word words (unknown_fails idle (is_part gs) word h r c.skip)
 closed_word plain word words gs h r c later = go (first as_part gs) refl
   where
     all : Option Read
@@ -299,7 +299,7 @@ option_word (gives named v) role word words gs utf8 r sparse other later =
 option_word unknown_option role word words gs utf8 r sparse other later =
     refused_word role word words gs r.marked
     (turn_fails (standing (option (id_of role)) (is_part gs) false (waits role (map row gs))) word words
-    (stranger_fails (option (id_of role)) (is_part gs) word (waits role (map row gs)) r refl))
+    (unknown_fails (option (id_of role)) (is_part gs) word (waits role (map row gs)) r refl))
 option_word plain role word words gs utf8 r sparse other later =
     subst (λ b. TellsFrom (read_from gs (if b then None else all_given)) (standing (option (id_of role)) (is_part gs) false (waits role (map row gs))) (word ∷ words)) (sym r.unmarked)
     (moved (read_from gs all_given) (standing (option (id_of role)) (is_part gs) false (waits role (map row gs))) (standing idle (is_part gs) false held) word words

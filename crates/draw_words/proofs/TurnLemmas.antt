@@ -8,7 +8,7 @@ use Rattle.clap.specs.Takes.{is_given}
 use Rattle.clap.specs.Walk.{Held, Row, Rule, Step, Text, Waiting, Walk, after_flag, after_step, finished, has_row, idle, is_pending, long_met, long_or_other, next, option, reacted, settled, short_or_plain, trailing, value, walked, with_default, word_met}
 use Rattle.clap.specs.declared.error.kind.ErrorKind.TheVariants.{MissingRequiredArgument, UnknownArgument}
 use Rattle.draw_words.specs.Grammar.{Role, as_job, as_out, as_part}
-use Rattle.draw_words.proofs.WordLemmas.{IsFault, ReadsOption, ReadsPlain, ReadsStranger, id_of, is_end, rule_as, rules, top}
+use Rattle.draw_words.proofs.WordLemmas.{IsFault, ReadsOption, ReadsPlain, ReadsUnknown, id_of, is_end, rule_as, rules, top}
 
 -- ---- faults, one after the other
 pub first_fault : (a b : Kinds) → IsFault a → IsFault (or_else a b)
@@ -231,8 +231,8 @@ gives_moves role v has_part word h r settles used =
     }
 
 -- ---- any other word that begins with a minus sign
-pub stranger_fails : (waiting : Waiting) (has_part : Bool) (word : Text) (h : Held) → ReadsStranger word → h.skip ≡ 0 → IsFault (turn_fault top [] (standing waiting has_part false h) word)
-stranger_fails waiting has_part word h r none =
+pub unknown_fails : (waiting : Waiting) (has_part : Bool) (word : Text) (h : Held) → ReadsUnknown word → h.skip ≡ 0 → IsFault (turn_fault top [] (standing waiting has_part false h) word)
+unknown_fails waiting has_part word h r none =
     word_fails waiting has_part false h word (subst IsFault (sym (word_fault_is waiting word h ∙ rw r.no_end refl)) (r.fault h none))
 
 -- ---- behind the last word

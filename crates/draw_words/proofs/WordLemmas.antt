@@ -99,7 +99,7 @@ pub record ReadsOption (role : Role) (value : Option Text) (word : Text) : Type 
   pub long : long_of word ≡ Some (name, value)
   pub rule : arg_by_long rules name ≡ Some (rule_as role)
 
-pub record ReadsStranger (word : Text) : Type 0 where
+pub record ReadsUnknown (word : Text) : Type 0 where
   pub marked : is_marked word ≡ true
   pub no_end : is_end word ≡ false
   pub fault : (h : Held) → h.skip ≡ 0 → IsFault (flag_word_fault rules false (long_of word) word h)
@@ -114,7 +114,7 @@ abbrev pub Reads : Kind → Text → Type 0
 Reads ends word = (is_marked word ≡ true) × (is_end word ≡ true)
 Reads (opens role) word = ReadsOption role None word
 Reads (gives role value) word = ReadsOption role (Some value) word
-Reads unknown_option word = ReadsStranger word
+Reads unknown_option word = ReadsUnknown word
 Reads plain word = ReadsPlain word
 
 -- a word of text has a character behind its minus sign

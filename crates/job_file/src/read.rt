@@ -53,7 +53,8 @@ impl Job {
         }
     }
 
-    /// The job of the empty text: each key has its usual value.
+    /// The job of the empty text: 3 decimals, first-angle projection, A3, the greatest scale up to 1:1 that fits, the normal
+    /// crease, no title, no outputs, and views from the front, from above and from the left.
     pub fn usual(alloc: Global) -> Result<Job, OutOfMemory>
         ensures { IfOk result (λ job. job_of_bytes [] ≡ Ok (job_seen job)) }
     {

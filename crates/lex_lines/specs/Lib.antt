@@ -1,5 +1,5 @@
 pub mod Bytes
 pub mod Places
-pub mod Reading
+pub mod TokenReader
 pub mod Scan
 pub mod inner

@@ -22,10 +22,10 @@ pub struct Tokens<'t> {
 }
 
 impl<'t> Model for Tokens<'t> {
-    ghost use Rattle.lex_lines.specs.Reading.{Reading};
+    ghost use Rattle.lex_lines.specs.TokenReader.{TokenReader};
     ghost use Rattle.lex_lines.specs.inner.Cursors.{IsCursor, left_at};
 
-    ghost Value = { Reading };
+    ghost Value = { TokenReader };
 
     ghost view = { λ tokens. record { text = tokens.bytes.now; comments = tokens.comments; left = left_at tokens.comments tokens.bytes.now tokens.place tokens.line; line = tokens.line } };
 
@@ -139,7 +139,8 @@ fn count_feeds(bytes: &[u8]) -> u32
 }
 
 impl<'t> Tokens<'t> {
-    /// Before the first token of the text. Where it has comments, a `#` begins one, up to the line's end.
+    /// Before the first token of the text, which has at most 16,777,216 bytes. Where it has comments, a `#` begins one, up
+    /// to the line's end.
     pub fn new(bytes: &'t [u8], comments: bool) -> Tokens<'t>
         requires { length bytes.now ≤ 16777216 }
         ensures text { result.text ≡ bytes.now }

@@ -9,8 +9,8 @@ use Rattle.lattice.specs.Triple.{Triple, det}
 use Rattle.lattice.specs.Points.{Point, difference, point_of, AreOnePoint}
 use Rattle.geometry.specs.Faces.{normal, facing_of, edge_sum, face_sum}
 use Rattle.meeting.specs.Touching.{TouchBeyond}
-use Rattle.meeting.specs.inner.Rises.{rise_of}
-use Rattle.meeting.proofs.Letters.{A, B, C, rises, facings, values}
+use Rattle.meeting.specs.inner.Heights.{height_of}
+use Rattle.meeting.proofs.Letters.{A, B, C, heights, facings, values}
 use Rattle.meeting.proofs.Weights.{weights-sum, weigh_x, weigh_y, weigh_z, level-at}
 use Rattle.meeting.proofs.CommonPoints.{nonneg_at, nonneg_of_pos, natural, is_natural, weight-ca, weight-ab}
 
@@ -66,15 +66,15 @@ last i j f g n e h = by_two _ _ ((pos i *ℤ f) +ℤ (pos j *ℤ g)) n (pos 1) f
     (((((var 0 ⊗ var 2) ⊕ (var 1 ⊗ var 3)) ⊖ var 4) ⊗ con (pos 1)) ⊕ ((var 2 ⊖ con (pos 0)) ⊗ (con (pos 0) ⊖ var 0))) refl) h e
 
 -- it is in the triangle's plane
-pub beyond-level : (a b c q : Corner) → TouchBeyond a b c q → rise_of a b c q ≡ pos 0
+pub beyond-level : (a b c q : Corner) → TouchBeyond a b c q → height_of a b c q ≡ pos 0
 beyond-level a b c q t =
     let (i, j, some, is) = t.on_edge in
     let (k, l, m, some_face, on_face) = t.on_face in
-    zero_of_mul (pos j) (rise_of a b c q) (ahead j (off-start a q i j (off-sum a q i j t.point is t.off)))
+    zero_of_mul (pos j) (height_of a b c q) (ahead j (off-start a q i j (off-sum a q i j t.point is t.off)))
     (last i j _ _ _ at_start (level-at a b c a q i j k l m (sym is ∙ on_face)))
   where
-    at_start : rise_of a b c a ≡ pos 0
-    at_start = ring (values (normal a b c) a b c a a []) (rises A B C A) (con (pos 0)) refl
+    at_start : height_of a b c a ≡ pos 0
+    at_start = ring (values (normal a b c) a b c a a []) (heights A B C A) (con (pos 0)) refl
 
 module _ (d : Triple) (a b c q : Corner) where
   abbrev F : ℤ
@@ -106,7 +106,7 @@ module _ (d : Triple) (a b c q : Corner) where
 
   module _ (front : pos 0 <ℤ F) where
     -- a corner that is in the plane and on two sides is the first
-    alike-of-sides : rise_of a b c q ≡ pos 0 → ca ≡ pos 0 → ab ≡ pos 0 → AreAlike a q
+    alike-of-sides : height_of a b c q ≡ pos 0 → ca ≡ pos 0 → ab ≡ pos 0 → AreAlike a q
     alike-of-sides level on_ca on_ab = record {
       x = one a.x b.x c.x q.x d.x (weigh_x d a b c q);
       y = one a.y b.y c.y q.y d.y (weigh_y d a b c q);
@@ -119,7 +119,7 @@ module _ (d : Triple) (a b c q : Corner) where
         sum : (bc +ℤ pos 0) +ℤ pos 0 ≡ F
         sum = sym (λ t. (bc +ℤ on_ca t) +ℤ on_ab t) ∙ weights-sum d a b c q
 
-        one : (f g h k r : ℤ) → ((bc *ℤ f) +ℤ (ca *ℤ g)) +ℤ (ab *ℤ h) ≡ (F *ℤ k) -ℤ (rise_of a b c q *ℤ r) → k ≡ f
+        one : (f g h k r : ℤ) → ((bc *ℤ f) +ℤ (ca *ℤ g)) +ℤ (ab *ℤ h) ≡ (F *ℤ k) -ℤ (height_of a b c q *ℤ r) → k ≡ f
         one f g h k r e = close f k (zero_of_mul F (k -ℤ f) front
             (by_two _ _ (((bc *ℤ f) +ℤ (pos 0 *ℤ g)) +ℤ (pos 0 *ℤ h)) ((F *ℤ k) -ℤ (pos 0 *ℤ r)) (pos 0 -ℤ pos 1) ((bc +ℤ pos 0) +ℤ pos 0) F f
             (ring (bc ∷ F ∷ f ∷ g ∷ h ∷ k ∷ r ∷ [])
@@ -160,7 +160,7 @@ module _ (d : Triple) (a b c q : Corner) where
           (ca-least e.0 e.1 e.3 f.0 f.1 f.2 f.4, ab-least e.0 e.1 e.3 f.0 f.1 f.2 f.4, some e.0 e.1 e.3 f.0 f.1 f.2 f.4)
 
     -- ---- to a common point
-    module _ (level : rise_of a b c q ≡ pos 0) (ca_least : pos 0 ≤ℤ ca) (ab_least : pos 0 ≤ℤ ab) (some : pos 0 <ℤ (ca +ℤ ab)) where
+    module _ (level : height_of a b c q ≡ pos 0) (ca_least : pos 0 ≤ℤ ca) (ab_least : pos 0 ≤ℤ ab) (some : pos 0 <ℤ (ca +ℤ ab)) where
       abbrev k : ℕ
       k = unsigned_abs F
 
@@ -179,7 +179,7 @@ module _ (d : Triple) (a b c q : Corner) where
       is_m : pos m ≡ ab
       is_m = is_natural ab ab_least
 
-      coordinate : (f g h y r : ℤ) → ((bc *ℤ f) +ℤ (ca *ℤ g)) +ℤ (ab *ℤ h) ≡ (F *ℤ y) -ℤ (rise_of a b c q *ℤ r)
+      coordinate : (f g h y r : ℤ) → ((bc *ℤ f) +ℤ (ca *ℤ g)) +ℤ (ab *ℤ h) ≡ (F *ℤ y) -ℤ (height_of a b c q *ℤ r)
           → ((pos l +ℤ pos m) *ℤ f) +ℤ (pos k *ℤ y) ≡ ((pos k *ℤ f) +ℤ (pos l *ℤ g)) +ℤ (pos m *ℤ h)
       coordinate f g h y r e =
           (λ t. ((is_l t +ℤ is_m t) *ℤ f) +ℤ (is_k t *ℤ y))
@@ -215,5 +215,5 @@ module _ (d : Triple) (a b c q : Corner) where
           not_so : (z : ℤ) → pos 0 <ℤ z → z ≡ pos 0 → ⊥
           not_so z h e = omega (arith, ints)
 
-    pub beyond : rise_of a b c q ≡ pos 0 → TouchBeyond a b c q ↔ ((pos 0 ≤ℤ ca) × (pos 0 ≤ℤ ab) × (pos 0 <ℤ (ca +ℤ ab)))
+    pub beyond : height_of a b c q ≡ pos 0 → TouchBeyond a b c q ↔ ((pos 0 ≤ℤ ca) × (pos 0 ≤ℤ ab) × (pos 0 <ℤ (ca +ℤ ab)))
     beyond level = (beyond-sides, λ (p, r, s). beyond-of-sides level p r s)

@@ -9,7 +9,7 @@ use Rattle.lattice.specs.Triple.{Triple}
 use Rattle.geometry.specs.Faces.{facing_of, edge_sum, face_sum}
 use Rattle.meeting.specs.declared.course.Course.{Course}
 use Rattle.meeting.specs.Touching.{Touch}
-use Rattle.meeting.specs.inner.Rises.{rise_of}
+use Rattle.meeting.specs.inner.Heights.{height_of}
 use Rattle.meeting.specs.inner.Courses.{IsCourseOf}
 use Rattle.meeting.specs.inner.Places.{Place}
 use Rattle.meeting.proofs.Weights.{facing-round, weights-sum, weigh_x, weigh_y, weigh_z, level-at, weight-at, face-round}
@@ -104,8 +104,8 @@ module _ (d : Triple) (a b c p q : Corner) (x : Course) (is : IsCourseOf d a b c
 
     -- one coordinate of the point, as a sum of the edge's ends and of the triangle's corners
     coordinate : (f : Corner → ℤ) (n : ℤ)
-        → ((facing_of d b c p *ℤ f a) +ℤ (facing_of d c a p *ℤ f b)) +ℤ (facing_of d a b p *ℤ f c) ≡ (F *ℤ f p) -ℤ (rise_of a b c p *ℤ n)
-        → ((facing_of d b c q *ℤ f a) +ℤ (facing_of d c a q *ℤ f b)) +ℤ (facing_of d a b q *ℤ f c) ≡ (F *ℤ f q) -ℤ (rise_of a b c q *ℤ n)
+        → ((facing_of d b c p *ℤ f a) +ℤ (facing_of d c a p *ℤ f b)) +ℤ (facing_of d a b p *ℤ f c) ≡ (F *ℤ f p) -ℤ (height_of a b c p *ℤ n)
+        → ((facing_of d b c q *ℤ f a) +ℤ (facing_of d c a q *ℤ f b)) +ℤ (facing_of d a b q *ℤ f c) ≡ (F *ℤ f q) -ℤ (height_of a b c q *ℤ n)
         → (pos (unsigned_abs (F *ℤ r.i)) *ℤ f p) +ℤ (pos (unsigned_abs (F *ℤ r.j)) *ℤ f q)
         ≡ ((pos (unsigned_abs bc) *ℤ f a) +ℤ (pos (unsigned_abs ca) *ℤ f b)) +ℤ (pos (unsigned_abs ab) *ℤ f c)
     coordinate f n hp hq =

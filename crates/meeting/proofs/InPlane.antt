@@ -6,7 +6,7 @@ use Rattle.integers.proofs.Ring.{Expr, var, con, ◌⊕◌, ◌⊖◌, ◌⊗◌
 use Rattle.integers.proofs.Signs.{mul_nonneg, mul_pos, nonneg_of_mul}
 use Rattle.meeting.specs.declared.course.Offset.{Offset}
 use Rattle.meeting.specs.declared.course.Course.{Course}
-use Rattle.meeting.specs.inner.Places.{Place, Reaches, IsInOrder, Agree}
+use Rattle.meeting.specs.inner.Places.{Place, IsLeftSomewhere, IsInOrder, Agree}
 use Rattle.meeting.proofs.CommonPoints.{nonneg_at}
 
 abbrev O : Expr
@@ -66,8 +66,8 @@ IsMet x i j = pos 0 ≤ℤ value x i j
 abbrev IsSafe : Offset → ℤ → ℤ → Type 0
 IsSafe x i j = x.end <ℤ pos 0 → IsMet x i j
 
-safe_at_start : (x : Offset) → Reaches x → IsSafe x (pos 1) (pos 0)
-safe_at_start x reaches falls = by_lt_z x.start (pos 0) (λ h. clash x.end falls (reaches h)) (λ h. simple x.start x.end h)
+safe_at_start : (x : Offset) → IsLeftSomewhere x → IsSafe x (pos 1) (pos 0)
+safe_at_start x somewhere falls = by_lt_z x.start (pos 0) (λ h. clash x.end falls (somewhere h)) (λ h. simple x.start x.end h)
   where
     simple : (f g : ℤ) → pos 0 ≤ℤ f → pos 0 ≤ℤ ((pos 1 *ℤ f) +ℤ (pos 0 *ℤ g))
     simple f g h = omega (arith, ints)
@@ -82,18 +82,18 @@ record Held (P : ℤ → ℤ → Type 0) : Type 0 where
   holds : P i j
 
 -- the place is kept, or left for that at which the edge comes up to the side
-step : (x : Offset) (P : ℤ → ℤ → Type 0) → Reaches x → Held (λ i j. P i j × IsSafe x i j)
+step : (x : Offset) (P : ℤ → ℤ → Type 0) → IsLeftSomewhere x → Held (λ i j. P i j × IsSafe x i j)
     → ((i j : ℤ) → pos 0 ≤ℤ j → pos 0 <ℤ (i +ℤ j) → P i j → x.start <ℤ pos 0 → value x i j <ℤ pos 0 → P x.end (pos 0 -ℤ x.start))
     → Held (λ i j. P i j × IsMet x i j)
-step x P reaches h move =
+step x P somewhere h move =
     by_lt_z (value x h.i h.j) (pos 0)
     (λ below. by_lt_z x.start (pos 0)
     (λ neg. record {
       i = x.end;
       j = pos 0 -ℤ x.start;
-      i_least = reaches neg;
+      i_least = somewhere neg;
       j_least = turned_nonneg x.start neg;
-      some = some_there x.start x.end neg (reaches neg);
+      some = some_there x.start x.end neg (somewhere neg);
       holds = (move h.i h.j h.j_least h.some h.holds.0 neg below, own);
     })
     (λ least. clash _ below (by_lt_z x.end (pos 0) (λ falls. h.holds.1 falls) (λ high. sum_nonneg h.i h.j x.start x.end h.i_least h.j_least least high))))
@@ -118,8 +118,8 @@ module _ (x y : Offset) where
   safe-there order neg falls = nonneg_at _ _ root-value (gap _ _ (order neg falls))
 
   -- what was met at a place is met there too, where that comes later
-  met-there : IsInOrder x y → Reaches x → (i j : ℤ) → pos 0 ≤ℤ j → pos 0 <ℤ (i +ℤ j) → IsMet y i j → x.start <ℤ pos 0 → value x i j <ℤ pos 0 → IsMet y x.end (pos 0 -ℤ x.start)
-  met-there order reaches i j j_least some met neg below =
+  met-there : IsInOrder x y → IsLeftSomewhere x → (i j : ℤ) → pos 0 ≤ℤ j → pos 0 <ℤ (i +ℤ j) → IsMet y i j → x.start <ℤ pos 0 → value x i j <ℤ pos 0 → IsMet y x.end (pos 0 -ℤ x.start)
+  met-there order somewhere i j j_least some met neg below =
       by_lt_z y.start (pos 0)
       (λ low. nonneg_of_mul j _ (forward low)
       (nonneg_at _ _
@@ -129,7 +129,7 @@ module _ (x y : Offset) where
       (sum_nonneg _ _ _ _ (turned_nonneg y.start low) (turned_nonneg x.start neg) (turned_nonneg _ below) met)))
       (λ high. by_lt_z y.end (pos 0)
       (λ falls. safe-there order neg falls)
-      (λ up. sum_nonneg _ _ _ _ (reaches neg) (turned_nonneg x.start neg) high up))
+      (λ up. sum_nonneg _ _ _ _ (somewhere neg) (turned_nonneg x.start neg) high up))
     where
       only : (i j : ℤ) → pos 0 ≤ℤ j → j ≤ℤ pos 0 → pos 0 <ℤ (i +ℤ j) → (j ≡ pos 0) × (pos 0 <ℤ i)
       only i j p q r = (omega (arith, ints), omega (arith, ints))
@@ -149,8 +149,8 @@ module _ (x y : Offset) where
 
   -- from a place where both are met
   module _ (i j : ℤ) (i_least : pos 0 ≤ℤ i) (j_least : pos 0 ≤ℤ j) (some : pos 0 <ℤ (i +ℤ j)) (met_x : IsMet x i j) where
-    reaches-of : Reaches x
-    reaches-of neg = by_lt_z x.end (pos 0) (λ h. clash _ (sum_neg i j x.start x.end i_least j_least some neg h) met_x) (λ h. h)
+    somewhere-of : IsLeftSomewhere x
+    somewhere-of neg = by_lt_z x.end (pos 0) (λ h. clash _ (sum_neg i j x.start x.end i_least j_least some neg h) met_x) (λ h. h)
 
     order-of : IsMet y i j → IsInOrder x y
     order-of met_y neg falls = back _ _
@@ -159,7 +159,7 @@ module _ (x y : Offset) where
         (ring (x.start ∷ x.end ∷ y.start ∷ y.end ∷ i ∷ j ∷ [])
         (var 4 ⊗ ((var 1 ⊗ var 2) ⊖ (var 0 ⊗ var 3)))
         (((O ⊖ var 3) ⊗ ((var 4 ⊗ var 0) ⊕ (var 5 ⊗ var 1))) ⊕ (var 1 ⊗ ((var 4 ⊗ var 2) ⊕ (var 5 ⊗ var 3)))) refl)
-        (sum_nonneg _ _ _ _ (turned_nonneg y.end falls) (reaches-of neg) met_x met_y)))
+        (sum_nonneg _ _ _ _ (turned_nonneg y.end falls) (somewhere-of neg) met_x met_y)))
       where
         back : (m n : ℤ) → pos 0 ≤ℤ (n -ℤ m) → m ≤ℤ n
         back m n h = omega (arith, ints)
@@ -182,7 +182,7 @@ module _ (x y : Offset) where
 
 agree_of : (x y : Offset) (i j : ℤ) → pos 0 ≤ℤ i → pos 0 ≤ℤ j → pos 0 <ℤ (i +ℤ j) → IsMet x i j → IsMet y i j → Agree x y
 agree_of x y i j il jl some met_x met_y = record {
-  reaches = reaches-of x y i j il jl some met_x;
+  somewhere = somewhere-of x y i j il jl some met_x;
   ahead = order-of x y i j il jl some met_x met_y;
   behind = order-of y x i j il jl some met_y met_x;
 }
@@ -196,24 +196,24 @@ module _ (x y z : Offset) (xy : Agree x y) (yz : Agree y z) (zx : Agree z x) whe
     i_least = omega (arith, ints);
     j_least = omega (arith, ints);
     some = omega (arith, ints);
-    holds = ((safe_at_start y yz.reaches, safe_at_start z zx.reaches), safe_at_start x xy.reaches);
+    holds = ((safe_at_start y yz.somewhere, safe_at_start z zx.somewhere), safe_at_start x xy.somewhere);
   }
 
   first : Held (λ i j. (IsSafe y i j × IsSafe z i j) × IsMet x i j)
-  first = step x _ xy.reaches beginning (λ i j jl some held neg below. (safe-there x y xy.ahead neg, safe-there x z zx.behind neg))
+  first = step x _ xy.somewhere beginning (λ i j jl some held neg below. (safe-there x y xy.ahead neg, safe-there x z zx.behind neg))
 
   second : Held (λ i j. (IsMet x i j × IsSafe z i j) × IsMet y i j)
-  second = step y _ yz.reaches (regroup first)
-      (λ i j jl some held neg below. (met-there y x xy.behind yz.reaches i j jl some held.0 neg below, safe-there y z yz.ahead neg))
+  second = step y _ yz.somewhere (regroup first)
+      (λ i j jl some held neg below. (met-there y x xy.behind yz.somewhere i j jl some held.0 neg below, safe-there y z yz.ahead neg))
     where
       regroup : Held (λ i j. (IsSafe y i j × IsSafe z i j) × IsMet x i j) → Held (λ i j. (IsMet x i j × IsSafe z i j) × IsSafe y i j)
       regroup h = record { i = h.i; j = h.j; i_least = h.i_least; j_least = h.j_least; some = h.some; holds = ((h.holds.1, h.holds.0.1), h.holds.0.0) }
 
   third : Held (λ i j. (IsMet x i j × IsMet y i j) × IsMet z i j)
-  third = step z _ zx.reaches (regroup second)
+  third = step z _ zx.somewhere (regroup second)
       (λ i j jl some held neg below. (
-        met-there z x zx.ahead zx.reaches i j jl some held.0 neg below,
-        met-there z y yz.behind zx.reaches i j jl some held.1 neg below,
+        met-there z x zx.ahead zx.somewhere i j jl some held.0 neg below,
+        met-there z y yz.behind zx.somewhere i j jl some held.1 neg below,
       ))
     where
       regroup : Held (λ i j. (IsMet x i j × IsSafe z i j) × IsMet y i j) → Held (λ i j. (IsMet x i j × IsMet y i j) × IsSafe z i j)

@@ -32,8 +32,8 @@ ways a b = record { x = b.x ⊖ a.x; y = b.y ⊖ a.y; z = b.z ⊖ a.z }
 abbrev pub normals : Letters → Letters → Letters → Letters
 normals a b c = crosses (ways a b) (ways a c)
 
-abbrev pub rises : Letters → Letters → Letters → Letters → Expr
-rises a b c p = dots (ways a p) (normals a b c)
+abbrev pub heights : Letters → Letters → Letters → Letters → Expr
+heights a b c p = dots (ways a p) (normals a b c)
 
 abbrev pub facings : Letters → Letters → Letters → Expr
 facings a b c = dots D (normals a b c)

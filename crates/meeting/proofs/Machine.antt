@@ -1,6 +1,6 @@
 -- What the machine's tests say, and chains of three tests.
-use Rattle.std.proofs.Common.{◌≡◌, Bool, true, false, sym, ◌∙◌, arith}
-use Rattle.std.specs.Prelude.{◌↔◌, ℤ, ◌≤ℤ◌, ◌<ℤ◌, IsTrue}
+use Rattle.std.proofs.Common.{◌≡◌, Bool, true, false, sym, subst, ◌∙◌, arith}
+use Rattle.std.specs.Prelude.{◌↔◌, ℤ, pos, ◌+ℤ◌, ◌≤ℤ◌, ◌<ℤ◌, IsTrue}
 use Rattle.std.proofs.lemmas.Int.{ints}
 use lib.Signed.{le_z, lt_z}
 
@@ -42,3 +42,9 @@ both_ways f g = (λ x. g.0 (f.0 x), λ z. f.1 (g.1 z))
 
 pub swapped : {X Y : Type 0} → X ↔ Y → Y ↔ X
 swapped f = (f.1, f.0)
+
+-- two numbers, and their sum, that are read as others
+pub signs_read : {X : Type 0} (k l m n : ℤ) → k ≡ m → l ≡ n → X ↔ ((pos 0 ≤ℤ m) × (pos 0 ≤ℤ n) × (pos 0 <ℤ (m +ℤ n))) → ((pos 0 ≤ℤ k) × (pos 0 ≤ℤ l) × (pos 0 <ℤ (k +ℤ l))) ↔ X
+signs_read {X} k l m n e f h =
+    subst (λ (z : ℤ). ((pos 0 ≤ℤ z) × (pos 0 ≤ℤ l) × (pos 0 <ℤ (z +ℤ l))) ↔ X) (sym e)
+    (subst (λ (z : ℤ). ((pos 0 ≤ℤ m) × (pos 0 ≤ℤ z) × (pos 0 <ℤ (m +ℤ z))) ↔ X) (sym f) (swapped h))

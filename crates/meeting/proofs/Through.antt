@@ -1,14 +1,16 @@
 -- An edge that goes through a triangle's plane has one place there.
-use Rattle.std.proofs.Common.{◌≡◌, [], ◌∷◌, refl, arith}
-use Rattle.std.specs.Prelude.{◌↔◌, ℤ, pos, negsuc, ◌+ℤ◌, ◌-ℤ◌, ◌*ℤ◌, ◌≤ℤ◌, ◌<ℤ◌}
+use Rattle.std.proofs.Common.{◌≡◌, ◌⊎◌, inl, inr, [], ◌∷◌, refl, sym, subst, arith}
+use Rattle.std.specs.Prelude.{◌↔◌, ℤ, pos, ◌+ℤ◌, ◌-ℤ◌, ◌*ℤ◌, ◌≤ℤ◌, ◌<ℤ◌}
 use Rattle.std.proofs.lemmas.Int.{ints}
 use Rattle.integers.proofs.Ring.{var, con, ◌⊕◌, ◌⊖◌, ◌⊗◌, ring, by_one}
-use Rattle.integers.proofs.Signs.{mul_nonneg, nonneg_of_mul}
+use Rattle.integers.proofs.Signs.{mul_nonneg, mul_pos, nonneg_of_mul}
 use Rattle.meeting.specs.declared.course.Course.{Course}
-use Rattle.meeting.specs.inner.Places.{Place}
+use Rattle.meeting.specs.declared.course.Heights.{Heights}
+use Rattle.meeting.specs.declared.course.Offset.{Offset}
+use Rattle.meeting.specs.inner.Places.{Place, GoesThrough, IsLeftInPlane}
 use Rattle.meeting.proofs.CommonPoints.{nonneg_at, nonneg_of_pos}
 
--- k is 1 where the edge goes up, and -1 where it goes down
+-- k is positive where the edge goes up, and negative where it goes down
 module _ (k : ℤ) (x : Course) (start : pos 0 ≤ℤ (pos 0 -ℤ (k *ℤ x.above.start))) (end : pos 0 ≤ℤ (k *ℤ x.above.end)) (changes : pos 0 <ℤ (k *ℤ (x.above.end -ℤ x.above.start))) where
   -- what is linear along the edge, in the plane
   abbrev value : ℤ → ℤ → ℤ
@@ -48,41 +50,58 @@ module _ (k : ℤ) (x : Course) (start : pos 0 ≤ℤ (pos 0 -ℤ (k *ℤ x.abov
   pub through : Place x ↔ ((pos 0 ≤ℤ value x.bc.start x.bc.end) × (pos 0 ≤ℤ value x.ca.start x.ca.end) × (pos 0 ≤ℤ value x.ab.start x.ab.end))
   through = (λ r. (nonneg r x.bc.start x.bc.end r.bc, nonneg r x.ca.start x.ca.end r.ca, nonneg r x.ab.start x.ab.end r.ab), from)
 
-forward : (m n : ℤ) → pos 0 ≤ℤ (pos 1 *ℤ (m -ℤ n)) ↔ (n ≤ℤ m)
-forward m n = (λ h. omega (arith, ints), λ h. omega (arith, ints))
+less_gap : (m n : ℤ) → m <ℤ n → pos 0 <ℤ (n -ℤ m)
+less_gap m n h = omega (arith, ints)
 
-backward : (m n : ℤ) → pos 0 ≤ℤ (negsuc 0 *ℤ (m -ℤ n)) ↔ (m ≤ℤ n)
-backward m n = (λ h. omega (arith, ints), λ h. omega (arith, ints))
+least_gap : (m n : ℤ) → m ≤ℤ n → pos 0 ≤ℤ (n -ℤ m)
+least_gap m n h = omega (arith, ints)
 
-three : {P A B C X Y Z : Type 0} → P ↔ (A × B × C) → A ↔ X → B ↔ Y → C ↔ Z → P ↔ (X × Y × Z)
-three h a b c = (λ p. let k = h.0 p in (a.0 (k.0), b.0 (k.1), c.0 (k.2)), λ (x, y, z). h.1 (a.1 x, b.1 y, c.1 z))
-
-pub up : (x : Course) → x.above.start ≤ℤ pos 0 → pos 0 ≤ℤ x.above.end → x.above.start <ℤ x.above.end
-    → Place x ↔ (((x.above.start *ℤ x.bc.end) ≤ℤ (x.above.end *ℤ x.bc.start)) × ((x.above.start *ℤ x.ca.end) ≤ℤ (x.above.end *ℤ x.ca.start)) × ((x.above.start *ℤ x.ab.end) ≤ℤ (x.above.end *ℤ x.ab.start)))
-up x start end rises =
-    three (through (pos 1) x (below x.above.start start) (least x.above.end end) (gap x.above.start x.above.end rises))
-    (forward _ _) (forward _ _) (forward _ _)
+-- by how much the height changes, for k
+pub in_plane : (x : Course) → GoesThrough x.above → Place x ↔ (IsLeftInPlane x.above x.bc × IsLeftInPlane x.above x.ca × IsLeftInPlane x.above x.ab)
+in_plane x goes = through (x.above.end -ℤ x.above.start) x (start x.above.start x.above.end goes) (end x.above.start x.above.end goes) (changes x.above.start x.above.end goes)
   where
-    below : (s : ℤ) → s ≤ℤ pos 0 → pos 0 ≤ℤ (pos 0 -ℤ (pos 1 *ℤ s))
-    below s h = omega (arith, ints)
+    Between : ℤ → ℤ → Type 0
+    Between s e = ((s ≤ℤ pos 0) × (pos 0 ≤ℤ e) × (s <ℤ e)) ⊎ ((pos 0 ≤ℤ s) × (e ≤ℤ pos 0) × (e <ℤ s))
 
-    least : (e : ℤ) → pos 0 ≤ℤ e → pos 0 ≤ℤ (pos 1 *ℤ e)
-    least e h = omega (arith, ints)
+    up : (s e : ℤ) → s <ℤ e → pos 0 ≤ℤ (e -ℤ s)
+    up s e h = nonneg_of_pos (e -ℤ s) (less_gap s e h)
 
-    gap : (s e : ℤ) → s <ℤ e → pos 0 <ℤ (pos 1 *ℤ (e -ℤ s))
-    gap s e h = omega (arith, ints)
+    start : (s e : ℤ) → Between s e → pos 0 ≤ℤ (pos 0 -ℤ ((e -ℤ s) *ℤ s))
+    start s e (inl (low, high, less)) =
+        nonneg_at _ _ (ring (s ∷ e ∷ []) (con (pos 0) ⊖ ((var 1 ⊖ var 0) ⊗ var 0)) ((var 1 ⊖ var 0) ⊗ (con (pos 0) ⊖ var 0)) refl)
+        (mul_nonneg (e -ℤ s) (pos 0 -ℤ s) (up s e less) (least_gap s (pos 0) low))
+    start s e (inr (high, low, less)) =
+        nonneg_at _ _ (ring (s ∷ e ∷ []) (con (pos 0) ⊖ ((var 1 ⊖ var 0) ⊗ var 0)) ((var 0 ⊖ var 1) ⊗ var 0) refl) (mul_nonneg (s -ℤ e) s (up e s less) high)
 
-pub down : (x : Course) → pos 0 ≤ℤ x.above.start → x.above.end ≤ℤ pos 0 → x.above.end <ℤ x.above.start
-    → Place x ↔ (((x.above.end *ℤ x.bc.start) ≤ℤ (x.above.start *ℤ x.bc.end)) × ((x.above.end *ℤ x.ca.start) ≤ℤ (x.above.start *ℤ x.ca.end)) × ((x.above.end *ℤ x.ab.start) ≤ℤ (x.above.start *ℤ x.ab.end)))
-down x start end falls =
-    three (through (negsuc 0) x (above x.above.start start) (least x.above.end end) (gap x.above.start x.above.end falls))
-    (backward _ _) (backward _ _) (backward _ _)
+    end : (s e : ℤ) → Between s e → pos 0 ≤ℤ ((e -ℤ s) *ℤ e)
+    end s e (inl (low, high, less)) = mul_nonneg (e -ℤ s) e (up s e less) high
+    end s e (inr (high, low, less)) =
+        nonneg_at _ _ (ring (s ∷ e ∷ []) ((var 1 ⊖ var 0) ⊗ var 1) ((var 0 ⊖ var 1) ⊗ (con (pos 0) ⊖ var 1)) refl)
+        (mul_nonneg (s -ℤ e) (pos 0 -ℤ e) (up e s less) (least_gap e (pos 0) low))
+
+    changes : (s e : ℤ) → Between s e → pos 0 <ℤ ((e -ℤ s) *ℤ (e -ℤ s))
+    changes s e (inl (low, high, less)) = mul_pos (e -ℤ s) (e -ℤ s) (less_gap s e less) (less_gap s e less)
+    changes s e (inr (high, low, less)) =
+        subst (λ (z : ℤ). pos 0 <ℤ z) (ring (s ∷ e ∷ []) ((var 0 ⊖ var 1) ⊗ (var 0 ⊖ var 1)) ((var 1 ⊖ var 0) ⊗ (var 1 ⊖ var 0)) refl)
+        (mul_pos (s -ℤ e) (s -ℤ e) (less_gap e s less) (less_gap e s less))
+
+-- where it doesn't go up, it goes down
+pub falls : (h : Heights) → GoesThrough h → (h.start <ℤ h.end → ⊥) → h.end <ℤ h.start
+falls h (inl (low, high, less)) never = absurd (never less)
+falls h (inr (high, low, less)) never = less
+
+-- ---- one side
+compared : (k m n : ℤ) → pos 0 <ℤ k → (n ≤ℤ m) ↔ (pos 0 ≤ℤ (k *ℤ (m -ℤ n)))
+compared k m n positive = (λ h. mul_nonneg k (m -ℤ n) (nonneg_of_pos k positive) (least_gap n m h), λ h. order m n (nonneg_of_mul k (m -ℤ n) positive h))
   where
-    above : (s : ℤ) → pos 0 ≤ℤ s → pos 0 ≤ℤ (pos 0 -ℤ (negsuc 0 *ℤ s))
-    above s h = omega (arith, ints)
+    order : (m n : ℤ) → pos 0 ≤ℤ (m -ℤ n) → n ≤ℤ m
+    order m n h = omega (arith, ints)
 
-    least : (e : ℤ) → e ≤ℤ pos 0 → pos 0 ≤ℤ (negsuc 0 *ℤ e)
-    least e h = omega (arith, ints)
+pub upward : (h : Heights) (x : Offset) → h.start <ℤ h.end → ((h.start *ℤ x.end) ≤ℤ (h.end *ℤ x.start)) ↔ IsLeftInPlane h x
+upward h x less = compared (h.end -ℤ h.start) (h.end *ℤ x.start) (h.start *ℤ x.end) (less_gap _ _ less)
 
-    gap : (s e : ℤ) → e <ℤ s → pos 0 <ℤ (negsuc 0 *ℤ (e -ℤ s))
-    gap s e h = omega (arith, ints)
+pub downward : (h : Heights) (x : Offset) → h.end <ℤ h.start → ((h.end *ℤ x.start) ≤ℤ (h.start *ℤ x.end)) ↔ IsLeftInPlane h x
+downward h x less =
+    let c = compared (h.start -ℤ h.end) (h.start *ℤ x.end) (h.end *ℤ x.start) (less_gap _ _ less) in
+    let turned = ring (h.start ∷ h.end ∷ x.start ∷ x.end ∷ []) ((var 1 ⊖ var 0) ⊗ ((var 1 ⊗ var 2) ⊖ (var 0 ⊗ var 3))) ((var 0 ⊖ var 1) ⊗ ((var 0 ⊗ var 3) ⊖ (var 1 ⊗ var 2))) refl in
+    (λ h. nonneg_at _ _ turned (c.0 h), λ h. c.1 (nonneg_at _ _ (sym turned) h))

@@ -8,8 +8,8 @@ use Rattle.lattice.specs.Triple.{Triple, cross}
 use Rattle.lattice.specs.Points.{Point, difference}
 use Rattle.lattice.proofs.Vectors.{Letters, crosses}
 use Rattle.geometry.specs.Faces.{normal, facing_of, edge_sum, face_sum, IsPointOfFace}
-use Rattle.meeting.specs.inner.Rises.{rise_of}
-use Rattle.meeting.proofs.Letters.{D, A, B, C, P, Q, ways, normals, rises, facings, values}
+use Rattle.meeting.specs.inner.Heights.{height_of}
+use Rattle.meeting.proofs.Letters.{D, A, B, C, P, Q, ways, normals, heights, facings, values}
 
 -- ---- one corner
 module _ (d : Triple) (a b c p : Corner) where
@@ -26,14 +26,14 @@ module _ (d : Triple) (a b c p : Corner) where
   abbrev weighed : Expr → Expr → Expr → Expr
   weighed x y z = ((facings B C P ⊗ x) ⊕ (facings C A P ⊗ y)) ⊕ (facings A B P ⊗ z)
 
-  pub weigh_x : ((facing_of d b c p *ℤ a.x) +ℤ (facing_of d c a p *ℤ b.x)) +ℤ (facing_of d a b p *ℤ c.x) ≡ (facing_of d a b c *ℤ p.x) -ℤ (rise_of a b c p *ℤ d.x)
-  weigh_x = ring one (weighed A.x B.x C.x) ((facings A B C ⊗ P.x) ⊖ (rises A B C P ⊗ D.x)) refl
+  pub weigh_x : ((facing_of d b c p *ℤ a.x) +ℤ (facing_of d c a p *ℤ b.x)) +ℤ (facing_of d a b p *ℤ c.x) ≡ (facing_of d a b c *ℤ p.x) -ℤ (height_of a b c p *ℤ d.x)
+  weigh_x = ring one (weighed A.x B.x C.x) ((facings A B C ⊗ P.x) ⊖ (heights A B C P ⊗ D.x)) refl
 
-  pub weigh_y : ((facing_of d b c p *ℤ a.y) +ℤ (facing_of d c a p *ℤ b.y)) +ℤ (facing_of d a b p *ℤ c.y) ≡ (facing_of d a b c *ℤ p.y) -ℤ (rise_of a b c p *ℤ d.y)
-  weigh_y = ring one (weighed A.y B.y C.y) ((facings A B C ⊗ P.y) ⊖ (rises A B C P ⊗ D.y)) refl
+  pub weigh_y : ((facing_of d b c p *ℤ a.y) +ℤ (facing_of d c a p *ℤ b.y)) +ℤ (facing_of d a b p *ℤ c.y) ≡ (facing_of d a b c *ℤ p.y) -ℤ (height_of a b c p *ℤ d.y)
+  weigh_y = ring one (weighed A.y B.y C.y) ((facings A B C ⊗ P.y) ⊖ (heights A B C P ⊗ D.y)) refl
 
-  pub weigh_z : ((facing_of d b c p *ℤ a.z) +ℤ (facing_of d c a p *ℤ b.z)) +ℤ (facing_of d a b p *ℤ c.z) ≡ (facing_of d a b c *ℤ p.z) -ℤ (rise_of a b c p *ℤ d.z)
-  weigh_z = ring one (weighed A.z B.z C.z) ((facings A B C ⊗ P.z) ⊖ (rises A B C P ⊗ D.z)) refl
+  pub weigh_z : ((facing_of d b c p *ℤ a.z) +ℤ (facing_of d c a p *ℤ b.z)) +ℤ (facing_of d a b p *ℤ c.z) ≡ (facing_of d a b c *ℤ p.z) -ℤ (height_of a b c p *ℤ d.z)
+  weigh_z = ring one (weighed A.z B.z C.z) ((facings A B C ⊗ P.z) ⊖ (heights A B C P ⊗ D.z)) refl
 
 -- ---- a point of both: a sum of the edge's corners that is one of the triangle's
 abbrev I : Expr
@@ -81,13 +81,13 @@ module _ (a b c p q : Corner) (i j k l m : ℕ) (same : edge_sum p q i j ≡ fac
   gaps f o = edge_step (f o) (f P) (f Q) (f A) (f B) (f C)
 
   -- it is in the plane
-  pub level-at : (pos i *ℤ rise_of a b c p) +ℤ (pos j *ℤ rise_of a b c q) ≡ pos 0
+  pub level-at : (pos i *ℤ height_of a b c p) +ℤ (pos j *ℤ height_of a b c q) ≡ pos 0
   level-at =
       let n = normal a b c in
       let N = normals A B C in
       by_three _ _ _ _ n.x _ _ n.y _ _ n.z
       (ring (values n a b c p q (pos i ∷ pos j ∷ pos k ∷ pos l ∷ pos m ∷ []))
-      (((I ⊗ rises A B C P) ⊕ (J ⊗ rises A B C Q)) ⊖ con (pos 0))
+      (((I ⊗ heights A B C P) ⊕ (J ⊗ heights A B C Q)) ⊖ con (pos 0))
       (((gaps (λ r. r.x) A ⊗ N.x) ⊕ (gaps (λ r. r.y) A ⊗ N.y)) ⊕ (gaps (λ r. r.z) A ⊗ N.z)) refl)
       (step_x a) (step_y a) (step_z a)
 

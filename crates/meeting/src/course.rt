@@ -2,14 +2,14 @@
 ghost use Rattle.std.specs.Prelude.{◌≡◌, ◌<◌, ◌^◌, unsigned_abs};
 ghost use Rattle.lattice.specs.Points.{of_dir};
 ghost use Rattle.geometry.specs.Faces.{facing_of};
-ghost use Rattle.meeting.specs.inner.Rises.{rise_of};
+ghost use Rattle.meeting.specs.inner.Heights.{height_of};
 
 use lattice::{Corner, Dir, Vector, det3, view_cross};
 
 /// How far the first corner of an edge and its second are above a triangle's plane, times twice the triangle's area. It
 /// is linear along the edge. The normal points up.
 #[derive(Clone, Copy)]
-pub(crate) struct Rise {
+pub(crate) struct Heights {
     pub start: i128,
     pub end: i128,
     ghost start_small: { unsigned_abs start < 2 ^ 66 },
@@ -29,7 +29,7 @@ pub(crate) struct Offset {
 /// An edge against a triangle: its plane, and its three sides.
 #[derive(Clone, Copy)]
 pub(crate) struct Course {
-    pub above: Rise,
+    pub above: Heights,
     pub bc: Offset,
     pub ca: Offset,
     pub ab: Offset,
@@ -43,7 +43,7 @@ impl Course {
         ensures { IsCourseOf (of_dir d.now) a.now b.now c.now p.now q.now result }
     {
         Course {
-            above: Rise::new(a, b, c, p, q),
+            above: Heights::new(a, b, c, p, q),
             bc: Offset::new(d, b, c, p, q),
             ca: Offset::new(d, c, a, p, q),
             ab: Offset::new(d, a, b, p, q),
@@ -51,14 +51,14 @@ impl Course {
     }
 }
 
-impl Rise {
-    ghost use Rattle.meeting.specs.inner.Courses.{IsRiseOf};
+impl Heights {
+    ghost use Rattle.meeting.specs.inner.Courses.{AreHeightsOf};
 
     /// The edge from `p` to `q` against the plane of `a`, `b` and `c`.
-    fn new(a: &Corner, b: &Corner, c: &Corner, p: &Corner, q: &Corner) -> Rise
-        ensures { IsRiseOf a.now b.now c.now p.now q.now result }
+    fn new(a: &Corner, b: &Corner, c: &Corner, p: &Corner, q: &Corner) -> Heights
+        ensures { AreHeightsOf a.now b.now c.now p.now q.now result }
     {
-        Rise {
+        Heights {
             start: above(a, b, c, p),
             end: above(a, b, c, q),
         }
@@ -81,7 +81,7 @@ impl Offset {
 
 /// How far a corner is above the plane of `a`, `b` and `c`, times twice the triangle's area.
 pub(crate) fn above(a: &Corner, b: &Corner, c: &Corner, p: &Corner) -> i128
-    ensures value { result ≡ rise_of a.now b.now c.now p.now }
+    ensures value { result ≡ height_of a.now b.now c.now p.now }
     ensures size { unsigned_abs result < 2 ^ 66 }
 {
     det3(

@@ -1,5 +1,5 @@
 // Whether an edge and a triangle have a common point.
-ghost use Rattle.std.specs.Prelude.{◌↔◌, pos, ◌<ℤ◌, IsTrue};
+ghost use Rattle.std.specs.Prelude.{◌↔◌, ◌<◌, ◌^◌, pos, ◌+ℤ◌, ◌≤ℤ◌, ◌<ℤ◌, unsigned_abs, IsTrue};
 ghost use Rattle.lattice.specs.Triple.{dot, IsZero};
 ghost use Rattle.lattice.specs.Points.{of_dir, of_normal};
 ghost use Rattle.geometry.specs.Faces.{IsFlat};
@@ -46,9 +46,22 @@ pub fn touches_beyond(a: &Corner, b: &Corner, c: &Corner, q: &Corner) -> bool
         return touches_beyond_flat(a, b, c, q);
     }
     let d = front(&normal);
-    let ca = left_of(&d, c, a, q);
-    let ab = left_of(&d, a, b, q);
-    ca >= 0 && ab >= 0 && ca + ab > 0
+    is_beyond(left_of(&d, c, a, q), left_of(&d, a, b, q))
+}
+
+/// Whether a corner in the triangle's plane is to the right of neither side from the first corner, and not on both.
+fn is_beyond(ca: i128, ab: i128) -> bool
+    requires first { unsigned_abs ca < 2 ^ 48 }
+    requires second { unsigned_abs ab < 2 ^ 48 }
+    ensures { IsTrue result ↔ ((pos 0 ≤ℤ ca) × (pos 0 ≤ℤ ab) × (pos 0 <ℤ (ca +ℤ ab))) }
+{
+    if ca < 0 {
+        return false;
+    }
+    if ab < 0 {
+        return false;
+    }
+    ca + ab > 0
 }
 
 /// The same, of a flat triangle.

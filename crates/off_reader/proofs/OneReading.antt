@@ -1,23 +1,23 @@
 -- A text of OFF has one reading.
-use Rattle.std.proofs.Common.{◌≡◌, inl, inr, ℕ, zero, suc, ◌+◌, ◌-◌, ◌<◌, ◌==◌, ◌&&◌, true, List, [], ◌∷◌, ◌++◌, length, map, Option, Some, None, position, refl, sym, ap, subst, ◌∙◌, Result}
+use Rattle.std.proofs.Common.{◌≡◌, inl, inr, ℕ, zero, suc, ◌+◌, ◌-◌, ◌<◌, ◌&&◌, true, List, [], ◌∷◌, ◌++◌, length, map, Option, Some, None, refl, sym, ap, ◌∙◌, Result}
 use Rattle.std.specs.Prelude.{nat_le, nat_lt}
 use Rattle.std.proofs.lemmas.Bool.{cases_order}
 use Rattle.lattice.specs.declared.soup.Tri.{Tri}
 use Rattle.lattice.specs.Triple.{Triple}
 use Rattle.lex_lines.specs.declared.token.Token.{Token}
-use Rattle.lex_lines.proofs.Only.{only_tokens}
 use Rattle.weld.specs.declared.fault.PartFault.{PartFault}
 use Rattle.weld.specs.declared.fault.PartKind.TheVariants.{BadNumber, TooMany, BadIndex, FaceSize}
 use Rattle.weld.specs.declared.fault.Want.{Want}
 use Rattle.weld.specs.declared.fault.Want.TheVariants as want
-use Rattle.part_text.specs.Steps.{Reading, Step, checked, read_value}
+use Rattle.part_text.specs.Steps.{Reading, Step, checked}
 use Rattle.part_text.specs.Words.{text_of}
 use Rattle.part_text.specs.Vertices.{end, Vertex}
 use Rattle.part_text.proofs.Single.{IsSingle, one_computed, one_given, one_failed, one_then, one_times, one_next, one_vertex, one_skip}
+use Rattle.part_text.proofs.WholeTexts.{one_text}
 use Rattle.off_reader.specs.Counts.{count_of, CountOf, Count}
 use Rattle.off_reader.specs.Fans.{turned, fan_of, SeesWhole, corners_at, IsFan}
 use Rattle.weld.specs.Raw.{Raw}
-use Rattle.off_reader.specs.Off.{keyword, Limited, Header, Size, Index, last_line, fan_read, Triangles, Face, Faces, at_end, Whole, ReadsFrom, ReadsOff}
+use Rattle.off_reader.specs.Off.{keyword, Limited, Header, Size, Index, last_line, fan_read, Triangles, Face, Faces, at_end, Whole, ReadsOff}
 
 -- ---- counts
 one_count_of : (count : Option ℕ) (line : ℕ) → IsSingle (CountOf count line)
@@ -90,12 +90,6 @@ one_whole decimals bytes =
     one_then (one_header bytes) (λ counts. one_then (one_times counts.0 (Vertex decimals bytes) (one_vertex decimals bytes))
     (λ vertices. one_then (one_faces bytes vertices counts.1 0 0) (λ triangles. one_computed (at_end (record { vertices = vertices; triangles = triangles })))))
 
-one_from : (decimals : ℕ) (bytes : List ℕ) (zero_byte : Option ℕ) (r s : Result Raw PartFault) → ReadsFrom decimals bytes zero_byte r → ReadsFrom decimals bytes zero_byte s → r ≡ s
-one_from decimals bytes (Some place) r s e h = e ∙ sym h
-one_from decimals bytes None r s (tokens, a, made, p, e) (others, b, other, q, h) =
-    let same : others ≡ tokens = only_tokens true bytes others tokens b a in
-    e ∙ ap read_value ((one_whole decimals bytes).one tokens made other p (subst (λ (l : List Token). Whole decimals bytes l other) same q)) ∙ sym h
-
 -- what a text says is one thing
 pub only_reading : (decimals : ℕ) (bytes : List ℕ) (r s : Result Raw PartFault) → ReadsOff decimals bytes r → ReadsOff decimals bytes s → r ≡ s
-only_reading decimals bytes r s = one_from decimals bytes (position (λ byte. byte == 0) bytes) r s
+only_reading decimals bytes r s = one_text true (Whole decimals bytes) bytes (one_whole decimals bytes) r s

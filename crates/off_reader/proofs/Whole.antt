@@ -1,28 +1,20 @@
 -- The whole reading, by the step at which it ends.
-use Rattle.std.proofs.Common.{◌≡◌, ℕ, true, List, Some, None, refl, sym, subst, Ok, Err}
+use Rattle.std.proofs.Common.{◌≡◌, ℕ, true, List, None, refl, Ok, Err}
 use Rattle.lattice.specs.declared.soup.Tri.{Tri}
 use Rattle.lattice.specs.Triple.{Triple}
 use Rattle.lex_lines.specs.declared.token.Token.{Token}
-use Rattle.lex_lines.specs.Places.{AreTokens, line_at}
+use Rattle.lex_lines.specs.Places.{AreTokens}
 use Rattle.weld.specs.declared.fault.PartError.{PartError}
 use Rattle.weld.specs.declared.fault.PartError.TheVariants.{Part, Memory}
 use Rattle.weld.specs.declared.fault.PartFault.{PartFault}
-use Rattle.weld.specs.declared.fault.PartKind.TheVariants.{Binary}
-use Rattle.part_text.specs.Steps.{Reading, fault_at, Times, read_value}
+use Rattle.part_text.specs.Steps.{Reading, Times, read_value}
 use Rattle.weld.specs.Raw.{Raw}
 use Rattle.part_text.specs.Vertices.{Vertex}
 use Rattle.part_text.proofs.Again.{AreOne}
 use Rattle.part_text.proofs.FirstZero.{zero_place}
-use Rattle.off_reader.specs.Off.{Header, Faces, at_end, Whole, ReadsFrom, ReadsOff, AnswersOff}
+use Rattle.part_text.proofs.WholeTexts.{text_read}
+use Rattle.off_reader.specs.Off.{Header, Faces, at_end, Whole, ReadsOff, AnswersOff}
 use Rattle.part_text.specs.Made.{IsMade}
-
--- a zero byte
-pub zero_read : (decimals : ℕ) (bytes : List ℕ) (place : ℕ) → zero_place bytes ≡ Some place → ReadsOff decimals bytes (Err (fault_at (line_at bytes place) Binary))
-zero_read decimals bytes place e = subst (λ found. ReadsFrom decimals bytes found (Err (fault_at (line_at bytes place) Binary))) (sym e) refl
-
--- none
-pub text_read : (decimals : ℕ) (bytes : List ℕ) (start : List Token) (r : Reading Raw) → zero_place bytes ≡ None → AreTokens true bytes start → Whole decimals bytes start r → ReadsOff decimals bytes (read_value r)
-text_read decimals bytes start r e tokens h = subst (λ found. ReadsFrom decimals bytes found (read_value r)) (sym e) (start, tokens, r, h, refl)
 
 pub header_fails : (decimals : ℕ) (bytes : List ℕ) (start : List Token) (fault : PartFault) → Header bytes start (Err fault) → Whole decimals bytes start (Err fault)
 header_fails decimals bytes start fault h = (Err fault, h, refl)
@@ -41,10 +33,10 @@ ends decimals bytes vertices faces start first second third corners triangles r 
 -- ---- answers
 -- an error of a step is the answer of the whole
 pub error_answer : {A X : Type 0} (decimals : ℕ) (bytes : List ℕ) (P : Reading X → Type 0) (view : A → X) (error : PartError) (start left : List Token) → zero_place bytes ≡ None → AreTokens true bytes start → ((fault : PartFault) → P (Err fault) → Whole decimals bytes start (Err fault)) → IsMade view P (Err error) left → AnswersOff decimals bytes (Err error)
-error_answer decimals bytes P view (Part fault) start left none tokens h p = text_read decimals bytes start (Err fault) none tokens (h fault p)
+error_answer decimals bytes P view (Part fault) start left none tokens h p = text_read true (Whole decimals bytes) bytes start (Err fault) none tokens (h fault p)
 error_answer decimals bytes P view (Memory e) start left none tokens h p = tt
 
 -- and so is what stands behind the last face
 pub end_answer : (decimals : ℕ) (bytes : List ℕ) (vertices faces : ℕ) (start first second third : List Token) (corners : List Triple) (triangles : List Tri) (r : Reading Raw) → zero_place bytes ≡ None → AreTokens true bytes start → Header bytes start (Ok ((vertices, faces), first)) → Times vertices (Vertex decimals bytes) first (Ok (corners, second)) → Faces bytes corners faces 0 0 second (Ok (triangles, third)) → AreOne r (at_end (record { vertices = corners; triangles = triangles }) third) → ReadsOff decimals bytes (read_value r)
 end_answer decimals bytes vertices faces start first second third corners triangles r none tokens header rows others h =
-    text_read decimals bytes start r none tokens (ends decimals bytes vertices faces start first second third corners triangles r header rows others h)
+    text_read true (Whole decimals bytes) bytes start r none tokens (ends decimals bytes vertices faces start first second third corners triangles r header rows others h)

@@ -1,17 +1,16 @@
 -- What a text of OFF says: corners and triangles, or its one fault.
-use Rattle.std.specs.Prelude.{◌≡◌, ℕ, zero, suc, ◌+◌, ◌-◌, ◌==◌, true, nat_le, nat_lt, ◌&&◌, if◌then◌else◌, List, [], ◌∷◌, ◌++◌, length, map, fold, position, Option, Some, None, Result, Ok, Err, codes}
+use Rattle.std.specs.Prelude.{◌≡◌, ℕ, zero, suc, ◌+◌, ◌-◌, true, nat_le, nat_lt, ◌&&◌, if◌then◌else◌, List, [], ◌∷◌, ◌++◌, length, map, fold, Option, Some, None, Result, Ok, Err, codes}
 use Rattle.lattice.specs.declared.soup.Tri.{Tri}
 use Rattle.lattice.specs.Triple.{Triple}
 use Rattle.lex_lines.specs.declared.token.Token.{Token}
-use Rattle.lex_lines.specs.Places.{AreTokens, line_at}
 use Rattle.weld.specs.declared.fault.PartError.{PartError}
-use Rattle.weld.specs.declared.fault.PartError.TheVariants.{Part, Memory}
 use Rattle.weld.specs.declared.fault.PartFault.{PartFault}
 use Rattle.weld.specs.declared.fault.PartKind.TheVariants.{Binary, Prefixed, TooMany, BadIndex, FaceSize, FaceUnseen, Trailing}
 use Rattle.weld.specs.declared.fault.Want.TheVariants as want
 use Rattle.weld.specs.declared.raw_part.RawPart.{RawPart}
-use Rattle.weld.specs.Raw.{Raw, seen}
-use Rattle.part_text.specs.Steps.{Reading, Step, fault_at, Gives, ◌then◌, Times, Computes, Check, read_value}
+use Rattle.weld.specs.Raw.{Raw}
+use Rattle.part_text.specs.Steps.{Reading, Step, fault_at, Gives, ◌then◌, Times, Computes, Check}
+use Rattle.part_text.specs.Texts.{ReadsText, AnswersText}
 use Rattle.part_text.specs.Words.{text_of, NextToken, is_word, ends_with}
 use Rattle.part_text.specs.Vertices.{end, Vertex, SkipLine}
 use Rattle.off_reader.specs.Counts.{Count}
@@ -87,17 +86,10 @@ module _ (decimals : ℕ) (bytes : List ℕ) where
       Header bytes then λ counts. Times counts.0 (Vertex decimals bytes) then λ vertices. Faces bytes vertices counts.1 0 0
       then λ triangles. Computes (at_end (record { vertices = vertices; triangles = triangles }))
 
-  -- a zero byte, before anything else
-  abbrev pub ReadsFrom : Option ℕ → Result Raw PartFault → Type 0
-  ReadsFrom (Some place) r = r ≡ Err (fault_at (line_at bytes place) Binary)
-  ReadsFrom None r = (tokens : List Token) × AreTokens true bytes tokens × (made : Reading Raw) × Whole tokens made × (r ≡ read_value made)
-
   -- what the text says
   abbrev pub ReadsOff : Result Raw PartFault → Type 0
-  ReadsOff = ReadsFrom (position (λ byte. byte == 0) bytes)
+  ReadsOff = ReadsText true Whole bytes
 
   -- the answer is what the text says, or want of memory
   abbrev pub AnswersOff : Result RawPart PartError → Type 0
-  AnswersOff (Ok raw) = ReadsOff (Ok (seen raw))
-  AnswersOff (Err (Part fault)) = ReadsOff (Err fault)
-  AnswersOff (Err (Memory e)) = Unit {0}
+  AnswersOff = AnswersText true Whole bytes

@@ -3,3 +3,4 @@ pub mod Units
 pub mod Again
 pub mod Single
 pub mod FirstZero
+pub mod WholeTexts

@@ -64,6 +64,8 @@ one_edges s xs ys h k =
 pub at_most_as : (P : ℕ → ℕ → Type 0) (xs ys : List ℕ) (m n : ℕ) → xs ≡ ys → m ≡ n → IsAtMostPairs P xs m → IsAtMostPairs P ys n
 at_most_as P xs ys m n e f h = subst (λ (zs : List ℕ). IsAtMostPairs P zs n) e (subst (IsAtMostPairs P xs) f h)
 
--- a count over the lower halves is one over any list of the edges
-pub edges_counted : (s : Part) (P : ℕ → ℕ → Type 0) (twins : List ℕ) (n : ℕ) → AreTwins s.triangles twins → HasNoSideTwice s → IsAtMostPairs P (lower_halves_of twins) n → (halves : List ℕ) → AreEdges s halves → IsAtMostPairs P halves n
-edges_counted s P twins n paired once h halves are = at_most_as P (lower_halves_of twins) halves n n (one_edges s (lower_halves_of twins) halves (table_edges s twins paired once) are) refl h
+-- a count over the lower halves, by twins that were read, is one over any list of the edges
+pub edges_counted : (s : Part) (P : ℕ → ℕ → Type 0) (read twins : List ℕ) (n : ℕ) → read ≡ twins → AreTwins s.triangles twins → HasNoSideTwice s → IsAtMostPairs P (lower_halves_of read) n → (halves : List ℕ) → AreEdges s halves → IsAtMostPairs P halves n
+edges_counted s P read twins n same paired once h halves are =
+    let table = table_edges s read (subst (AreTwins s.triangles) (sym same) paired) once in
+    at_most_as P (lower_halves_of read) halves n n (one_edges s (lower_halves_of read) halves table are) refl h

@@ -1,4 +1,4 @@
--- The extents of edges and of triangles, and lists of them.
+-- The ranges of edges and of triangles, and lists of them.
 use Rattle.std.proofs.Common.{◌≡◌, ◌≢◌, ℕ, ◌+◌, ◌<◌, ◌≤◌, ◌^◌, ◌⊎◌, inl, inr, false, Result, Ok, Err, Vec, Global, List, [], ◌∷◌, ◌++◌, All, map, length, get_or, refl, sym, subst, ap, ◌∙◌, arith, to_z, of_z, eqb, true≢false}
 use Rattle.std.specs.Prelude.{AllPairs, Contains, IfOk, ℤ, pos, negsuc, ◌+ℤ◌, ◌≤ℤ◌, unsigned_abs}
 use Rattle.std.specs.Int.{w32, int_min, int_max}
@@ -20,9 +20,9 @@ use Rattle.meeting.specs.declared.range.Range.{Range}
 use Rattle.meeting.specs.Ranges.{IsEdgeRange, IsTriangleRange}
 use Rattle.meeting.proofs.BoxAxes.{read}
 use Rattle.meeting.proofs.Ranges.{ends_meet, meeting_ends, coordinates-by-ranges}
-use Rattle.solid_mesh.specs.inner.Extents.{IsExtentOf, IsEdgeExtent, IsTriangleExtent, AreOrdered}
+use Rattle.solid_mesh.specs.inner.NumberedRanges.{IsShiftedRange, IsRangeOfEdge, IsRangeOfTriangle, AreOrdered}
 use Rattle.solid_mesh.specs.Meetings.{HaveCommonX}
-use Rattle.solid_mesh.specs.declared.extent.Extent.{Extent}
+use Rattle.solid_mesh.specs.declared.numbered_range.NumberedRange.{NumberedRange}
 use Rattle.solid_mesh.proofs.Meets.{x_here}
 
 -- ---- ranges as the machine reads them
@@ -57,49 +57,49 @@ pub triangle_high : (a b c : Corner) (r : Range) → IsTriangleRange a.x b.x c.x
 triangle_high a b c r h =
     subst (λ (z : ℤ). z ≤ℤ pos 1048576) (sym h.to) (high (int_max a.x b.x) c.x _ (high a.x b.x _ (to_greatest a.x a.x_in_range) (to_greatest b.x b.x_in_range)) (to_greatest c.x c.x_in_range))
 
--- ---- where the extents of an edge and of a triangle meet
+-- ---- where the ranges of an edge and of a triangle meet
 lowered : (x y : ℕ) (a b : ℤ) → pos x ≡ a +ℤ pos 1048576 → pos y ≡ b +ℤ pos 1048576 → x ≤ y → a ≤ℤ b
 lowered x y a b e f h = omega (arith, ints)
 
 raised : (x y : ℕ) (a b : ℤ) → pos x ≡ a +ℤ pos 1048576 → pos y ≡ b +ℤ pos 1048576 → a ≤ℤ b → x ≤ y
 raised x y a b e f h = omega (arith, ints)
 
-pub ordered : (r : Range) (x : Extent) → IsExtentOf r x → x.from ≤ x.to
+pub ordered : (r : Range) (x : NumberedRange) → IsShiftedRange r x → x.from ≤ x.to
 ordered r x h = raised x.from x.to r.from r.to h.from h.to r.ordered
 
-module _ (s : Part) (halves : List ℕ) (e t : Extent) (edge : IsEdgeExtent s halves e) (tri : IsTriangleExtent s t) where
-  pub extents_meet : t.from ≤ e.to → e.from ≤ t.to → HaveCommonX s edge.half t.number
-  extents_meet h k =
-      let first = lowered t.from e.to tri.range.from edge.range.to tri.extent.from edge.extent.to h in
-      let second = lowered e.from t.to edge.range.from tri.range.to edge.extent.from tri.extent.to k in
+module _ (s : Part) (halves : List ℕ) (e t : NumberedRange) (edge : IsRangeOfEdge s halves e) (tri : IsRangeOfTriangle s t) where
+  pub ranges_common : t.from ≤ e.to → e.from ≤ t.to → HaveCommonX s edge.half t.number
+  ranges_common h k =
+      let first = lowered t.from e.to tri.range.from edge.range.to tri.shifted.from edge.shifted.to h in
+      let second = lowered e.from t.to edge.range.from tri.range.to edge.shifted.from tri.shifted.to k in
       (x_here s edge.half t.number edge.side tri.face tri.numbered).0
       ((coordinates-by-ranges tri.face.a.x tri.face.b.x tri.face.c.x edge.side.p.x edge.side.q.x tri.range edge.range tri.of_face edge.of_side).0 (ends_meet tri.range edge.range first second))
 
-  pub meeting_extents : HaveCommonX s edge.half t.number → (t.from ≤ e.to) × (e.from ≤ t.to)
-  meeting_extents h =
+  pub common_ranges : HaveCommonX s edge.half t.number → (t.from ≤ e.to) × (e.from ≤ t.to)
+  common_ranges h =
       let common = (coordinates-by-ranges tri.face.a.x tri.face.b.x tri.face.c.x edge.side.p.x edge.side.q.x tri.range edge.range tri.of_face edge.of_side).1
       ((x_here s edge.half t.number edge.side tri.face tri.numbered).1 h) in
       let ends = meeting_ends tri.range edge.range common in (
-        raised t.from e.to tri.range.from edge.range.to tri.extent.from edge.extent.to ends.0,
-        raised e.from t.to edge.range.from tri.range.to edge.extent.from tri.extent.to ends.1,
+        raised t.from e.to tri.range.from edge.range.to tri.shifted.from edge.shifted.to ends.0,
+        raised e.from t.to edge.range.from tri.range.to edge.shifted.from tri.shifted.to ends.1,
       )
 
--- ---- lists of extents
-abbrev pub number_of : Extent → ℕ
+-- ---- lists of ranges
+abbrev pub number_of : NumberedRange → ℕ
 number_of x = x.number
 
 -- the first n, in the order of their numbers
-pub record AreExtents (P : Extent → Type 0) (n : ℕ) (xs : List Extent) : Type 0 where
+pub record AreNumbered (P : NumberedRange → Type 0) (n : ℕ) (xs : List NumberedRange) : Type 0 where
   pub each : All P xs
-  pub numbers : map (λ (x : Extent). x.number) xs ≡ range_with_len 0 n
+  pub numbers : map (λ (x : NumberedRange). x.number) xs ≡ range_with_len 0 n
 
-module _ (P : Extent → Type 0) where
-  pub no_extents : AreExtents P 0 []
-  no_extents = record { each = All-nil P; numbers = refl }
+module _ (P : NumberedRange → Type 0) where
+  pub no_ranges : AreNumbered P 0 []
+  no_ranges = record { each = All-nil P; numbers = refl }
 
   -- one more
-  pub more_extents : (n : ℕ) (xs new : List Extent) (x : Extent) → AreExtents P n xs → P x → x.number ≡ n → new ≡ xs ++ x ∷ [] → AreExtents P (n + 1) new
-  more_extents n xs new x h here number e = record {
+  pub more_ranges : (n : ℕ) (xs new : List NumberedRange) (x : NumberedRange) → AreNumbered P n xs → P x → x.number ≡ n → new ≡ xs ++ x ∷ [] → AreNumbered P (n + 1) new
+  more_ranges n xs new x h here number e = record {
     each = subst (All P) (sym e) (All-push P xs x h.each here);
     numbers =
         ap (map number_of) e ∙ map_push number_of xs x ∙ (λ i. h.numbers i ++ number i ∷ [])
@@ -107,24 +107,24 @@ module _ (P : Extent → Type 0) where
   }
 
   -- in another order
-  pub ordered_extents : (n : ℕ) (xs ys : List Extent) → AreExtents P n xs → IsPermutation xs ys → IsNonDecreasingBy (λ (x : Extent). x.from) ys → AreOrdered P n ys
-  ordered_extents n xs ys h same up = record {
+  pub ordered_ranges : (n : ℕ) (xs ys : List NumberedRange) → AreNumbered P n xs → IsPermutation xs ys → IsNonDecreasingBy (λ (x : NumberedRange). x.from) ys → AreOrdered P n ys
+  ordered_ranges n xs ys h same up = record {
     each = All-permutation P xs ys same h.each;
     numbers = subst (λ (zs : List ℕ). IsPermutation zs (map number_of ys)) h.numbers (IsPermutation-map number_of xs ys same);
     order = up;
   }
 
-  module _ (n : ℕ) (xs : List Extent) (h : AreOrdered P n xs) where
+  module _ (n : ℕ) (xs : List NumberedRange) (h : AreOrdered P n xs) where
     pub count_of_ordered : length xs ≡ n
     count_of_ordered = sym (length-map xs number_of) ∙ length_permutation (range_with_len 0 n) (map number_of xs) h.numbers ∙ length-range_with_len 0 n
 
-    pub numbers_below : All (λ (x : Extent). x.number < n) xs
+    pub numbers_below : All (λ (x : NumberedRange). x.number < n) xs
     numbers_below i d within =
         let below : All (λ k. k < n) (range_with_len 0 n) = λ k e less. omega (arith, get_or-range_with_len 0 n k e (omega (arith, length-range_with_len 0 n)), length-range_with_len 0 n) in
         let here = All-permutation (λ k. k < n) (range_with_len 0 n) (map number_of xs) h.numbers below i 0 (omega (arith, length-map xs number_of)) in
         subst (λ k. k < n) (get_or-map number_of xs i d 0 within) here
 
-    pub numbers_differ : AllPairs (λ (x y : Extent). x.number ≢ y.number) xs
+    pub numbers_differ : AllPairs (λ (x y : NumberedRange). x.number ≢ y.number) xs
     numbers_differ i j d less within same =
         let apart : (k l e : ℕ) → k < l → l < length (range_with_len 0 n) → eqb (get_or (range_with_len 0 n) k e) (get_or (range_with_len 0 n) l e) ≡ false = λ k l e low up.
         let within_n : l < n = omega (arith, length-range_with_len 0 n) in
@@ -143,41 +143,41 @@ module _ (P : Extent → Type 0) where
         flips : (x y : ℕ) → eqb x y ≡ eqb y x
         flips x y = grind (arith, nat_tests)
 
-    pub number_there : (i : ℕ) → i < n → (x : Extent) × Contains xs x × (x.number ≡ i)
+    pub number_there : (i : ℕ) → i < n → (x : NumberedRange) × Contains xs x × (x.number ≡ i)
     number_there i within = by (Contains-permutation (range_with_len 0 n) (map number_of xs) i h.numbers listed)
       where
         listed : Contains (range_with_len 0 n) i
         listed = (i, omega (arith, length-range_with_len 0 n), get_or-range_with_len 0 n i i within ∙ omega arith)
 
-        at : (k : ℕ) → k < length xs → get_or (map number_of xs) k i ≡ i → (x : Extent) → get_or xs k x ≡ x → (x : Extent) × Contains xs x × (x.number ≡ i)
+        at : (k : ℕ) → k < length xs → get_or (map number_of xs) k i ≡ i → (x : NumberedRange) → get_or xs k x ≡ x → (x : NumberedRange) × Contains xs x × (x.number ≡ i)
         at k below is x here =
             let same : get_or (map number_of xs) k i ≡ (get_or xs k x).number = get_or-map number_of xs k x i below in
             let back : x.number ≡ (get_or xs k x).number = ap number_of (sym here) in
             (x, (k, below, here), back ∙ sym same ∙ is)
 
-        by : Contains (map number_of xs) i → (x : Extent) × Contains xs x × (x.number ≡ i)
+        by : Contains (map number_of xs) i → (x : NumberedRange) × Contains xs x × (x.number ≡ i)
         by (k, less, is) =
             let below : k < length xs = omega (arith, length-map xs number_of) in
             let (x, there) = found xs k below in
             at k below is x (get_or_from_slice_get xs k x x there)
 
 -- what was put in order
-pub ordered_ok : {E : Type 0} (P : Extent → Type 0) (m n : ℕ) (xs : List Extent) (r : Result (Vec Extent Global) E) → m ≡ n → AreExtents P m xs → IfOk r (λ v. IsPermutation xs v.items) → IfOk r (λ v. IsNonDecreasingBy (λ (x : Extent). x.from) v.items)
+pub ordered_ok : {E : Type 0} (P : NumberedRange → Type 0) (m n : ℕ) (xs : List NumberedRange) (r : Result (Vec NumberedRange Global) E) → m ≡ n → AreNumbered P m xs → IfOk r (λ v. IsPermutation xs v.items) → IfOk r (λ v. IsNonDecreasingBy (λ (x : NumberedRange). x.from) v.items)
     → IfOk r (λ v. AreOrdered P n v.items)
-ordered_ok P m n xs (Ok v) e h same up = subst (λ (k : ℕ). AreOrdered P k v.items) e (ordered_extents P m xs v.items h same up)
+ordered_ok P m n xs (Ok v) e h same up = subst (λ (k : ℕ). AreOrdered P k v.items) e (ordered_ranges P m xs v.items h same up)
 ordered_ok P m n xs (Err x) e h same up = tt
 
 -- two of one number are one
-pub same_extent : (P : Extent → Type 0) (n : ℕ) (xs : List Extent) → AreOrdered P n xs → (x y : Extent) → Contains xs x → Contains xs y → x.number ≡ y.number → x.from ≡ y.from
-same_extent P n xs h x y (i, below_i, at_i) (j, below_j, at_j) e = by (cases_order i j)
+pub same_range : (P : NumberedRange → Type 0) (n : ℕ) (xs : List NumberedRange) → AreOrdered P n xs → (x y : NumberedRange) → Contains xs x → Contains xs y → x.number ≡ y.number → x.from ≡ y.from
+same_range P n xs h x y (i, below_i, at_i) (j, below_j, at_j) e = by (cases_order i j)
   where
-    at_x : (d : Extent) → get_or xs i d ≡ x
+    at_x : (d : NumberedRange) → get_or xs i d ≡ x
     at_x d = get_or_default xs i d x below_i ∙ at_i
 
-    at_y : (d : Extent) → get_or xs j d ≡ y
+    at_y : (d : NumberedRange) → get_or xs j d ≡ y
     at_y d = get_or_default xs j d y below_j ∙ at_j
 
     by : (i ≡ j) ⊎ ((i < j) ⊎ (j < i)) → x.from ≡ y.from
-    by (inl same) = ap (λ (z : Extent). z.from) (sym (at_x x) ∙ ap (λ (k : ℕ). get_or xs k x) same ∙ at_y x)
+    by (inl same) = ap (λ (z : NumberedRange). z.from) (sym (at_x x) ∙ ap (λ (k : ℕ). get_or xs k x) same ∙ at_y x)
     by (inr (inl less)) = absurd (numbers_differ P n xs h i j x less below_j (ap number_of (at_x x) ∙ e ∙ sym (ap number_of (at_y x))))
     by (inr (inr less)) = absurd (numbers_differ P n xs h j i x less below_i (ap number_of (at_y x) ∙ sym e ∙ sym (ap number_of (at_x x))))

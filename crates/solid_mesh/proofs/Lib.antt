@@ -9,10 +9,10 @@ pub mod FirstMeeting
 pub mod FlatLemmas
 pub mod HalfLemmas
 pub mod Meets
-pub mod PlaceLemmas
 pub mod Readings
 pub mod Running
 pub mod Sharing
 pub mod SideLemmas
+pub mod SpotLemmas
 pub mod StarLemmas
 pub mod Sweeping

@@ -1,5 +1,5 @@
 -- Where a side and a triangle meet, by the corners that were read.
-use Rattle.std.proofs.Common.{◌≡◌, ℕ, ◌/◌, ◌%◌, ◌⊎◌, inl, inr, Bool, All, length, get_or, slice_get, Some, refl, sym, subst, ap, ◌∙◌, arith}
+use Rattle.std.proofs.Common.{◌≡◌, ℕ, ◌*◌, ◌/◌, ◌%◌, ◌<◌, ◌⊎◌, inl, inr, Bool, All, length, get_or, slice_get, Some, refl, sym, subst, ap, ◌∙◌, arith}
 use Rattle.std.specs.Prelude.{◌↔◌, IsTrue}
 use Rattle.std.proofs.lemmas.Option.{slice_get_read}
 use Rattle.lattice.specs.declared.points.Corner.{Corner}
@@ -192,8 +192,17 @@ module _ (s : Part) (t u : Tri) (a b c x y z : Corner) (at : AreAt s t a b c) (t
       )
 
 -- ---- a side and a triangle whose numbers were read
-module _ (s : Part) (in_range : All (IsBelow (length s.corners)) s.triangles) (half : ℕ) (t : Tri) (at : slice_get s.triangles (half / 3) ≡ Some t)
-    (m n : ℕ) (start : m ≡ start_of t (half % 3)) (end : n ≡ end_of t (half % 3)) (tri : ℕ) (u : Tri) (listed : slice_get s.triangles tri ≡ Some u) where
+module _ (s : Part) (in_range : All (IsBelow (length s.corners)) s.triangles) (half : ℕ) (within : half < 3 * length s.triangles) (t : Tri) (t_read : t ≡ get_or s.triangles (half / 3) t)
+    (m n : ℕ) (start : m ≡ start_of t (half % 3)) (end : n ≡ end_of t (half % 3)) (tri : ℕ) (tri_within : tri < length s.triangles) (u : Tri) (u_read : u ≡ get_or s.triangles tri u) where
+  below_third : (k n : ℕ) → k < 3 * n → k / 3 < n
+  below_third k n h = omega (arith, h)
+
+  at : slice_get s.triangles (half / 3) ≡ Some t
+  at = slice_get_read s.triangles (length s.triangles) (half / 3) t refl (below_third half (length s.triangles) within) t_read
+
+  listed : slice_get s.triangles tri ≡ Some u
+  listed = slice_get_read s.triangles (length s.triangles) tri u refl tri_within u_read
+
   abbrev e : Side s half
   e = side_there s in_range half t at m n start end
 

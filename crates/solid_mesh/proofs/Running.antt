@@ -6,21 +6,21 @@ use Rattle.std.proofs.lemmas.Option.{slice_get_read, slice_get_within, get_or_fr
 use Rattle.geometry.specs.Parts.{Part}
 use Rattle.geometry.proofs.Listed.{same_element}
 use Rattle.solid_mesh.specs.inner.Sweeps.{pair_of, least_of, IsInRun, IsInSweep, Swept}
-use Rattle.solid_mesh.specs.declared.extent.Extent.{Extent}
+use Rattle.solid_mesh.specs.declared.numbered_range.NumberedRange.{NumberedRange}
 use Rattle.solid_mesh.specs.declared.sweep.Found.{Found}
 use Rattle.solid_mesh.proofs.Sweeping.{swept-none, swept-as, swept-then}
 
 -- ---- elements and their places
-there : (xs : List Extent) (x : Extent) → Contains xs x → (k : ℕ) × (k < length xs) × (slice_get xs k ≡ Some x)
+there : (xs : List NumberedRange) (x : NumberedRange) → Contains xs x → (k : ℕ) × (k < length xs) × (slice_get xs k ≡ Some x)
 there xs x (k, below, is) = (k, below, slice_get_read xs (length xs) k x refl below (sym is))
 
-listed : (xs : List Extent) (x : Extent) (k : ℕ) → slice_get xs k ≡ Some x → Contains xs x
+listed : (xs : List NumberedRange) (x : NumberedRange) (k : ℕ) → slice_get xs k ≡ Some x → Contains xs x
 listed xs x k at = (k, slice_get_within xs k x at, get_or_from_slice_get xs k x x at)
 
 -- numbers that are equal stand at one place
-differ_at : (xs : List Extent) → AllPairs (λ (x y : Extent). x.number ≢ y.number) xs → (i j : ℕ) (x y : Extent) → i < j → slice_get xs i ≡ Some x → slice_get xs j ≡ Some y → x.number ≡ y.number → ⊥
+differ_at : (xs : List NumberedRange) → AllPairs (λ (x y : NumberedRange). x.number ≢ y.number) xs → (i j : ℕ) (x y : NumberedRange) → i < j → slice_get xs i ≡ Some x → slice_get xs j ≡ Some y → x.number ≡ y.number → ⊥
 differ_at xs differ i j x y less at_i at_j same =
-    let number = λ (z : Extent). z.number in
+    let number = λ (z : NumberedRange). z.number in
     differ i j x less (slice_get_within xs j y at_j) (ap number (get_or_from_slice_get xs i x x at_i) ∙ same ∙ sym (ap number (get_or_from_slice_get xs j y x at_j)))
 
 -- ---- pairs
@@ -33,14 +33,14 @@ pair_second false a b c d e = ap (λ (p : ℕ × ℕ). p.1) e
 pair_second true a b c d e = ap (λ (p : ℕ × ℕ). p.0) e
 
 -- ---- a run: the pairs with those at the places from start on and below k
-abbrev pub IsInPlaces : Bool → List Extent → Extent → ℕ → ℕ → (ℕ × ℕ) → Type 0
-IsInPlaces turned others this start k p = (j : ℕ) × (x : Extent) × (start ≤ j) × (j < k) × (slice_get others j ≡ Some x) × (p ≡ pair_of turned this.number x.number)
+abbrev pub IsInPlaces : Bool → List NumberedRange → NumberedRange → ℕ → ℕ → (ℕ × ℕ) → Type 0
+IsInPlaces turned others this start k p = (j : ℕ) × (x : NumberedRange) × (start ≤ j) × (j < k) × (slice_get others j ≡ Some x) × (p ≡ pair_of turned this.number x.number)
 
-module _ (s : Part) (halves : List ℕ) (turned : Bool) (others : List Extent) (this : Extent) (start : ℕ) where
+module _ (s : Part) (halves : List ℕ) (turned : Bool) (others : List NumberedRange) (this : NumberedRange) (start : ℕ) where
   pub run_none : (x : Found) → Swept s halves (IsInPlaces turned others this start start) x x
   run_none x = swept-none s halves (IsInPlaces turned others this start start) (λ p (j, y, from, below, at, is). omega arith) x
 
-  module _ (differ : AllPairs (λ (x y : Extent). x.number ≢ y.number) others) (k : ℕ) (from : start ≤ k) (other : Extent) (at : slice_get others k ≡ Some other) (pair : ℕ × ℕ) (is : pair ≡ pair_of turned this.number other.number) where
+  module _ (differ : AllPairs (λ (x y : NumberedRange). x.number ≢ y.number) others) (k : ℕ) (from : start ≤ k) (other : NumberedRange) (at : slice_get others k ≡ Some other) (pair : ℕ × ℕ) (is : pair ≡ pair_of turned this.number other.number) where
     pub run_more : (x y z : Found) → Swept s halves (IsInPlaces turned others this start k) x y → Swept s halves (λ p. p ≡ pair) y z → Swept s halves (IsInPlaces turned others this start (k + 1)) x z
     run_more x y z first second =
         swept-then s halves (IsInPlaces turned others this start k) (λ p. p ≡ pair) (IsInPlaces turned others this start (k + 1))
@@ -54,14 +54,14 @@ module _ (s : Part) (halves : List ℕ) (turned : Bool) (others : List Extent) (
           | inl less ↦ inl (j, o, low, less, at_j, same)
           | inr more ↦
               let one : j ≡ k = omega arith in
-              inr (same ∙ ap (λ (z : Extent). pair_of turned this.number z.number) (same_element others j k o other one at_j at) ∙ sym is)
+              inr (same ∙ ap (λ (z : NumberedRange). pair_of turned this.number z.number) (same_element others j k o other one at_j at) ∙ sym is)
         ]
 
   -- where those before start begin too early, and those from k on too late, the run is whole
-  pub run_whole : (k : ℕ) → ((j : ℕ) (d : Extent) → j < start → (get_or others j d).from < least_of turned this)
-      → ((j : ℕ) (d : Extent) → start ≤ j → j < length others → least_of turned this ≤ (get_or others j d).from)
-      → ((j : ℕ) (d : Extent) → start ≤ j → j < k → (get_or others j d).from ≤ this.to)
-      → ((j : ℕ) (d : Extent) → k ≤ j → j < length others → this.to < (get_or others j d).from)
+  pub run_whole : (k : ℕ) → ((j : ℕ) (d : NumberedRange) → j < start → (get_or others j d).from < least_of turned this)
+      → ((j : ℕ) (d : NumberedRange) → start ≤ j → j < length others → least_of turned this ≤ (get_or others j d).from)
+      → ((j : ℕ) (d : NumberedRange) → start ≤ j → j < k → (get_or others j d).from ≤ this.to)
+      → ((j : ℕ) (d : NumberedRange) → k ≤ j → j < length others → this.to < (get_or others j d).from)
       → (x y : Found) → Swept s halves (IsInPlaces turned others this start k) x y → Swept s halves (IsInRun turned others this) x y
   run_whole k early from_start inside late x y h = swept-as s halves (IsInPlaces turned others this start k) (IsInRun turned others this) to back x y h
     where
@@ -71,8 +71,8 @@ module _ (s : Part) (halves : List ℕ) (turned : Bool) (others : List Extent) (
           let here : get_or others j o ≡ o = get_or_from_slice_get others j o o at in (
             o,
             listed others o j at,
-            subst (λ (z : Extent). least_of turned this ≤ z.from) here (from_start j o low within),
-            subst (λ (z : Extent). z.from ≤ this.to) here (inside j o low below),
+            subst (λ (z : NumberedRange). least_of turned this ≤ z.from) here (from_start j o low within),
+            subst (λ (z : NumberedRange). z.from ≤ this.to) here (inside j o low below),
             is,
           )
 
@@ -82,27 +82,27 @@ module _ (s : Part) (halves : List ℕ) (turned : Bool) (others : List Extent) (
           let here : get_or others j o ≡ o = get_or_from_slice_get others j o o at in
           (j, o, not_early j o here low (cases_lt j start), not_late j o here high within (cases_lt j k), at, is)
         where
-          not_early : (j : ℕ) (o : Extent) → get_or others j o ≡ o → least_of turned this ≤ o.from → ((j < start) ⊎ (start ≤ j)) → start ≤ j
+          not_early : (j : ℕ) (o : NumberedRange) → get_or others j o ≡ o → least_of turned this ≤ o.from → ((j < start) ⊎ (start ≤ j)) → start ≤ j
           not_early j o here low (inl less) =
-              let before : o.from < least_of turned this = subst (λ (z : Extent). z.from < least_of turned this) here (early j o less) in
+              let before : o.from < least_of turned this = subst (λ (z : NumberedRange). z.from < least_of turned this) here (early j o less) in
               absurd (omega (arith, before, low))
           not_early j o here low (inr more) = more
 
-          not_late : (j : ℕ) (o : Extent) → get_or others j o ≡ o → o.from ≤ this.to → j < length others → ((j < k) ⊎ (k ≤ j)) → j < k
+          not_late : (j : ℕ) (o : NumberedRange) → get_or others j o ≡ o → o.from ≤ this.to → j < length others → ((j < k) ⊎ (k ≤ j)) → j < k
           not_late j o here high within (inl less) = less
           not_late j o here high within (inr more) =
-              let after : this.to < o.from = subst (λ (z : Extent). this.to < z.from) here (late j o more within) in
+              let after : this.to < o.from = subst (λ (z : NumberedRange). this.to < z.from) here (late j o more within) in
               absurd (omega (arith, after, high))
 
 -- ---- a sweep: the runs of the first n
-abbrev pub IsInFirst : Bool → List Extent → List Extent → ℕ → (ℕ × ℕ) → Type 0
-IsInFirst turned these others n p = (j : ℕ) × (x : Extent) × (j < n) × (slice_get these j ≡ Some x) × IsInRun turned others x p
+abbrev pub IsInFirst : Bool → List NumberedRange → List NumberedRange → ℕ → (ℕ × ℕ) → Type 0
+IsInFirst turned these others n p = (j : ℕ) × (x : NumberedRange) × (j < n) × (slice_get these j ≡ Some x) × IsInRun turned others x p
 
-module _ (s : Part) (halves : List ℕ) (turned : Bool) (these others : List Extent) where
+module _ (s : Part) (halves : List ℕ) (turned : Bool) (these others : List NumberedRange) where
   pub sweep_none : (x : Found) → Swept s halves (IsInFirst turned these others 0) x x
   sweep_none x = swept-none s halves (IsInFirst turned these others 0) (λ p (j, y, below, at, run). omega arith) x
 
-  pub sweep_more : AllPairs (λ (x y : Extent). x.number ≢ y.number) these → (n : ℕ) (this : Extent) → slice_get these n ≡ Some this
+  pub sweep_more : AllPairs (λ (x y : NumberedRange). x.number ≢ y.number) these → (n : ℕ) (this : NumberedRange) → slice_get these n ≡ Some this
       → (x y z : Found) → Swept s halves (IsInFirst turned these others n) x y → Swept s halves (IsInRun turned others this) y z → Swept s halves (IsInFirst turned these others (n + 1)) x z
   sweep_more differ n this at x y z first second =
       swept-then s halves (IsInFirst turned these others n) (IsInRun turned others this) (IsInFirst turned these others (n + 1))
@@ -117,7 +117,7 @@ module _ (s : Part) (halves : List ℕ) (turned : Bool) (these others : List Ext
         | inl less ↦ inl (j, o, less, at_j, run)
         | inr more ↦
             let one : j ≡ n = omega arith in
-            inr (subst (λ (v : Extent). IsInRun turned others v p) (same_element these j n o this one at_j at) run)
+            inr (subst (λ (v : NumberedRange). IsInRun turned others v p) (same_element these j n o this one at_j at) run)
       ]
 
   pub sweep_whole : (n : ℕ) → n ≡ length these → (x y : Found) → Swept s halves (IsInFirst turned these others n) x y → Swept s halves (IsInSweep turned these others) x y

@@ -10,7 +10,7 @@ use Rattle.geometry.specs.Parts.{Part, Face, HasNoFlatTriangle, start_of}
 use Rattle.geometry.proofs.EachEdge.{flat_face}
 use Rattle.geometry.proofs.Listed.{face_at}
 use Rattle.solid_mesh.specs.declared.faults.MeshFault.TheVariants.{SameWay}
-use Rattle.solid_mesh.specs.declared.sides.Side.{Side}
+use Rattle.solid_mesh.specs.declared.sides.DirectedSide.{DirectedSide}
 use Rattle.solid_mesh.specs.Faults.{ShareSide, SharesEarlier, HasFault}
 use Rattle.solid_mesh.specs.inner.Halves.{triangle_at, start_at, end_at, side_at, first_sides}
 use Rattle.solid_mesh.proofs.FirstFound.{first_is_least}
@@ -34,7 +34,7 @@ share_side s half other h g e = record {
   other = other;
   m = start_at s.triangles other;
   n = end_at s.triangles other;
-  goes = half_between s half _ _ h (ap (λ (x : Side). x.from) e) (ap (λ (x : Side). x.to) e);
+  goes = half_between s half _ _ h (ap (λ (x : DirectedSide). x.from) e) (ap (λ (x : DirectedSide). x.to) e);
   goes_too = half_between s other _ _ g refl refl;
   of_first = refl;
   of_second = refl;
@@ -61,7 +61,7 @@ module _ (s : Part) (in_range : All (IsBelow (length s.corners)) s.triangles) (n
           let none : Tri = record { a = 0; b = 0; c = 0 } in
           let f = face_at s in_range (triangle_at s.triangles half) (half / 3) (slice_get-get_or s.triangles (half / 3) none (omega arith)) in
           absurd (starts_differ s f (none_flat f) (other % 3) (half % 3) first (omega arith)
-          (ap (λ (k : ℕ). start_of (get_or s.triangles k none) (other % 3)) (sym one) ∙ ap (λ (x : Side). x.from) e))
+          (ap (λ (k : ℕ). start_of (get_or s.triangles k none) (other % 3)) (sym one) ∙ ap (λ (x : DirectedSide). x.from) e))
 
   -- the second triangle is the one at whose half a side first occurs again; the first is the least of those that share a side with it
   pub same_way : (half : ℕ) → half < 3 * length s.triangles → IsDistinct same_side (first_sides s.triangles half)

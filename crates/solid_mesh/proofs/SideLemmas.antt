@@ -18,17 +18,17 @@ use Rattle.geometry.specs.Parts.{Part, IsHalf, HasNoFlatTriangle, HasNoSideTwice
 use Rattle.solid_mesh.specs.declared.faults.MeshFault.TheVariants.{Unpaired}
 use Rattle.solid_mesh.specs.Faults.{IsLeast, IsUnpaired, HasFault}
 use Rattle.solid_mesh.specs.inner.Halves.{start_at, end_at, side_at, sides_of, first_sides, GoesBack}
-use Rattle.solid_mesh.specs.declared.sides.Side.{Side}
+use Rattle.solid_mesh.specs.declared.sides.DirectedSide.{DirectedSide}
 use Rattle.solid_mesh.proofs.FirstFound.{first_is_least}
 use Rattle.solid_mesh.proofs.HalfLemmas.{half_between, half_within, start_of_half, end_of_half}
 
 -- the test of two sides, number by number
-abbrev pub same_side : Side → Side → Bool
+abbrev pub same_side : DirectedSide → DirectedSide → Bool
 same_side x y = (x.from == y.from) && (x.to == y.to)
 
-pub decides_same : (x y : Side) → Decides (same_side x y) (x ≡ y)
+pub decides_same : (x y : DirectedSide) → Decides (same_side x y) (x ≡ y)
 decides_same x y =
-    Decides-like (same_side x y) (λ (p, q). λ i. record { from = p i; to = q i }) (λ e. (ap (λ (s : Side). s.from) e, ap (λ (s : Side). s.to) e))
+    Decides-like (same_side x y) (λ (p, q). λ i. record { from = p i; to = q i }) (λ e. (ap (λ (s : DirectedSide). s.from) e, ap (λ (s : DirectedSide). s.to) e))
     (Decides-and (x.from == y.from) (x.to == y.to) (Decides-eqb x.from y.from) (Decides-eqb x.to y.to))
 
 true_of_not : (b : Bool) → not b ≡ false → b ≡ true
@@ -40,17 +40,17 @@ false_of_not true h = cc
 false_of_not false h = refl
 
 -- the side back
-abbrev pub reversed : Side → Side
+abbrev pub reversed : DirectedSide → DirectedSide
 reversed x = record { from = x.to; to = x.from }
 
 module _ (triangles : List Tri) (n : ℕ) where
-  pub side_here : (k : ℕ) (d : Side) → k < n → get_or (first_sides triangles n) k d ≡ side_at triangles k
+  pub side_here : (k : ℕ) (d : DirectedSide) → k < n → get_or (first_sides triangles n) k d ≡ side_at triangles k
   side_here k d h = get_or-map-range_with_len (side_at triangles) 0 n k k d h (omega arith)
 
   pub few_sides : length (first_sides triangles n) ≡ n
   few_sides = length-map-range_with_len (side_at triangles) 0 n
 
-  module _ (keys : List Side) (e : keys ≡ first_sides triangles n) where
+  module _ (keys : List DirectedSide) (e : keys ≡ first_sides triangles n) where
     pub count_of : length keys ≡ n
     count_of = ap length e ∙ few_sides
 
@@ -66,7 +66,7 @@ module _ (triangles : List Tri) (n : ℕ) where
 
 module _ (s : Part) where
   half_with : (half m n : ℕ) → half < 3 * length s.triangles → side_at s.triangles half ≡ record { from = m; to = n } → IsHalf s half m n
-  half_with half m n h e = half_between s half m n h (ap (λ (x : Side). x.from) e) (ap (λ (x : Side). x.to) e)
+  half_with half m n h e = half_between s half m n h (ap (λ (x : DirectedSide). x.from) e) (ap (λ (x : DirectedSide). x.to) e)
 
   side_of : (half m n : ℕ) → IsHalf s half m n → side_at s.triangles half ≡ record { from = m; to = n }
   side_of half m n h = λ i. record { from = start_of_half s half h i; to = end_of_half s half h i }
@@ -84,12 +84,12 @@ module _ (s : Part) where
       by (inr (inl less)) p q same = absurd (sides_apart s.triangles (3 * length s.triangles) distinct half other less q same)
       by (inr (inr less)) p q same = absurd (sides_apart s.triangles (3 * length s.triangles) distinct other half less p (sym same))
 
-  module _ (half : ℕ) (keys : List Side) (v : Side) (in_order : keys ≡ first_sides s.triangles (length keys)) (is : v ≡ side_at s.triangles half) where
-    key_here : (k : ℕ) (d : Side) → k < length keys → get_or keys k d ≡ side_at s.triangles k
-    key_here k d h = ap (λ (xs : List Side). get_or xs k d) in_order ∙ side_here s.triangles (length keys) k d h
+  module _ (half : ℕ) (keys : List DirectedSide) (v : DirectedSide) (in_order : keys ≡ first_sides s.triangles (length keys)) (is : v ≡ side_at s.triangles half) where
+    key_here : (k : ℕ) (d : DirectedSide) → k < length keys → get_or keys k d ≡ side_at s.triangles k
+    key_here k d h = ap (λ (xs : List DirectedSide). get_or xs k d) in_order ∙ side_here s.triangles (length keys) k d h
 
     -- a half with this side among the listed ones passes the test
-    passes : (other : ℕ) (d : Side) → other < length keys → side_at s.triangles other ≡ side_at s.triangles half → same_side v (get_or keys other d) ≡ true
+    passes : (other : ℕ) (d : DirectedSide) → other < length keys → side_at s.triangles other ≡ side_at s.triangles half → same_side v (get_or keys other d) ≡ true
     passes other d h e = (decides_same _ _).1 (is ∙ sym e ∙ sym (key_here other d h))
 
     -- the place where the side is found is that of a half with this side, and of the first one
@@ -118,14 +118,14 @@ module _ (s : Part) where
         by (k, within, e) = (k, within, sym (key_here k v within) ∙ e ∙ is)
 
   -- a side that is inserted now
-  pub more_sides : (half : ℕ) (keys : List Side) (v : Side) → keys ≡ first_sides s.triangles half → v ≡ side_at s.triangles half
-      → (new : List Side) → new ≡ insert_key same_side keys v → not (list_any (same_side v) keys) ≡ true → new ≡ first_sides s.triangles (half + 1)
+  pub more_sides : (half : ℕ) (keys : List DirectedSide) (v : DirectedSide) → keys ≡ first_sides s.triangles half → v ≡ side_at s.triangles half
+      → (new : List DirectedSide) → new ≡ insert_key same_side keys v → not (list_any (same_side v) keys) ≡ true → new ≡ first_sides s.triangles (half + 1)
   more_sides half keys v in_order is new e h =
       e ∙ ap (λ (b : Bool). if b then keys else keys ++ v ∷ []) (false_of_not (list_any (same_side v) keys) h)
       ∙ (λ i. in_order i ++ is i ∷ []) ∙ sym (map-range_with_len_more (side_at s.triangles) 0 half half (omega arith))
 
   -- a side that was inserted before changes nothing
-  pub same_sides : (half : ℕ) (keys : List Side) (v : Side) → keys ≡ first_sides s.triangles half → (new : List Side) → new ≡ insert_key same_side keys v → not (list_any (same_side v) keys) ≡ false → new ≡ first_sides s.triangles half
+  pub same_sides : (half : ℕ) (keys : List DirectedSide) (v : DirectedSide) → keys ≡ first_sides s.triangles half → (new : List DirectedSide) → new ≡ insert_key same_side keys v → not (list_any (same_side v) keys) ≡ false → new ≡ first_sides s.triangles half
   same_sides half keys v in_order new e h = e ∙ ap (λ (b : Bool). if b then keys else keys ++ v ∷ []) (true_of_not (list_any (same_side v) keys) h) ∙ in_order
 
   -- a side whose reverse isn't among all sides has none
@@ -143,13 +143,13 @@ module _ (s : Part) where
   }
 
   -- the half at the place of a side's reverse goes back
-  pub goes_back : (half other : ℕ) (d : Side) → other < length (sides_of s.triangles) → same_side (reversed (side_at s.triangles half)) (get_or (sides_of s.triangles) other d) ≡ true → GoesBack s.triangles half other
+  pub goes_back : (half other : ℕ) (d : DirectedSide) → other < length (sides_of s.triangles) → same_side (reversed (side_at s.triangles half)) (get_or (sides_of s.triangles) other d) ≡ true → GoesBack s.triangles half other
   goes_back half other d h t =
       let within : other < 3 * length s.triangles = omega (arith, few_sides s.triangles (3 * length s.triangles)) in
       let e = (decides_same _ _).0 t ∙ side_here s.triangles (3 * length s.triangles) other d within in
-      record { within = within; start = sym (ap (λ (x : Side). x.from) e); end = sym (ap (λ (x : Side). x.to) e) }
+      record { within = within; start = sym (ap (λ (x : DirectedSide). x.from) e); end = sym (ap (λ (x : DirectedSide). x.to) e) }
 
-  module _ (half : ℕ) (keys : List Side) (v : Side) (all : keys ≡ sides_of s.triangles) (is : v ≡ side_at s.triangles half) where
+  module _ (half : ℕ) (keys : List DirectedSide) (v : DirectedSide) (all : keys ≡ sides_of s.triangles) (is : v ≡ side_at s.triangles half) where
     -- the index of the side back is a half that goes back
     pub found_back : (other : ℕ) → Some other ≡ position (same_side (reversed v)) keys → GoesBack s.triangles half other
     found_back other e =

@@ -2,6 +2,7 @@
 use Rattle.std.proofs.Common.{◌≡◌, ◌≢◌, ℕ, ◌+◌, ◌-◌, ◌<◌, ◌≤◌, ◌⊎◌, inl, inr, List, [], ◌∷◌, ◌++◌, All, length, get_or, slice_get, Some, None, Option, refl, sym, subst, ◌∙◌, arith}
 use Rattle.std.specs.Prelude.{AllPairs}
 use Rattle.std.proofs.lemmas.Bool.{cases_lt}
+use Rattle.std.proofs.lemmas.Option.{slice_get-get_or}
 use Rattle.std.proofs.lemmas.List.{length-append, get_or_append_left, get_or-append_right}
 use Rattle.std.proofs.lemmas.List.Elements.{All-nil, All-cons, All-append, All-weaker}
 use Rattle.geometry.specs.Parts.{Part}
@@ -98,7 +99,13 @@ module _ (s : Part) (halves : List ℕ) where
       by p meets h (inr b) = second.least p b meets h
 
   -- ---- one test
-  module _ (edge tri half : ℕ) (at : slice_get halves edge ≡ Some half) (old new : Found) (one_box : new.meter.boxes ≡ old.meter.boxes + 1) where
+  module _ (edge tri : ℕ) (within : edge < length halves) (old new : Found) (one_box : new.meter.boxes ≡ old.meter.boxes + 1) where
+    abbrev half : ℕ
+    half = get_or halves edge 0
+
+    at : slice_get halves edge ≡ Some half
+    at = slice_get-get_or halves edge 0 within
+
     abbrev This : (ℕ × ℕ) → Type 0
     This p = p ≡ (edge, tri)
 

@@ -4,14 +4,15 @@
 
 mod doubles;
 mod edges;
-mod extent;
-mod extents;
 mod faults;
 mod flats;
+mod numbered_range;
+mod numbered_ranges;
 mod pairs;
-mod places;
 mod sides;
+mod signs;
 mod solid;
+mod spots;
 mod stars;
 mod sweep;
 #[cfg(test)]

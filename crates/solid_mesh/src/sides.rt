@@ -12,13 +12,13 @@ use std::alloc::{AllocError, Global};
 
 /// A directed side, by the numbers of the corner that it begins at and of the one that it ends at.
 #[derive(Clone, Copy, PartialEq, Eq, Hash, Debug)]
-pub(crate) struct Side {
+pub(crate) struct DirectedSide {
     pub from: u32,
     pub to: u32,
 }
 
 /// The directed sides in the order of the halves, so that each stands at the number of its half.
-pub(crate) fn index_sides(alloc: Global, soup: &Soup) -> Result<IndexSet<Side>, MeshError>
+pub(crate) fn index_sides(alloc: Global, soup: &Soup) -> Result<IndexSet<DirectedSide>, MeshError>
     requires few { length (part_of soup.now).triangles ≤ 20000 }
     requires none_flat { HasNoFlatTriangle (part_of soup.now) }
     ensures sides { IfOk result (λ sides. sides.keys ≡ sides_of (part_of soup.now).triangles) }
@@ -37,7 +37,7 @@ pub(crate) fn index_sides(alloc: Global, soup: &Soup) -> Result<IndexSet<Side>, 
 }
 
 /// The first triangle with a directed side of `second`, or `second` if no earlier one has any.
-fn first_sharing(soup: &Soup, sides: &IndexSet<Side>, second: u32) -> u32
+fn first_sharing(soup: &Soup, sides: &IndexSet<DirectedSide>, second: u32) -> u32
     requires within { second < length (part_of soup.now).triangles }
     requires few { length (part_of soup.now).triangles ≤ 20000 }
     requires sides { sides.now.keys ≡ first_sides (part_of soup.now).triangles (length sides.now.keys) }
@@ -54,7 +54,7 @@ fn first_sharing(soup: &Soup, sides: &IndexSet<Side>, second: u32) -> u32
 }
 
 /// The first triangle with the side of this half, or `first` if that is less.
-fn earlier(soup: &Soup, sides: &IndexSet<Side>, half: u32, first: u32) -> u32
+fn earlier(soup: &Soup, sides: &IndexSet<DirectedSide>, half: u32, first: u32) -> u32
     requires within { half < 3 * length (part_of soup.now).triangles }
     requires few { length (part_of soup.now).triangles ≤ 20000 }
     requires sides { sides.now.keys ≡ first_sides (part_of soup.now).triangles (length sides.now.keys) }
@@ -74,7 +74,7 @@ fn earlier(soup: &Soup, sides: &IndexSet<Side>, half: u32, first: u32) -> u32
 pub(crate) fn find_twins(
     alloc: Global,
     soup: &Soup,
-    sides: &IndexSet<Side>,
+    sides: &IndexSet<DirectedSide>,
 ) -> Result<Vec<u32>, MeshError>
     requires few { length (part_of soup.now).triangles ≤ 20000 }
     requires none_flat { HasNoFlatTriangle (part_of soup.now) }
@@ -86,8 +86,8 @@ pub(crate) fn find_twins(
 {
     let mut twins = Vec::new(alloc);
     for half in 0..3 * soup.triangles.len() as u32 {
-        let Side { from, to } = side_at(soup, half);
-        match sides.get_index_of(&Side { from: to, to: from }) {
+        let DirectedSide { from, to } = side_at(soup, half);
+        match sides.get_index_of(&DirectedSide { from: to, to: from }) {
             Some(other) => twins.push(other as u32)?,
             None => return Err(MeshError::Mesh(MeshFault::Unpaired(half / 3, half % 3))),
         }
@@ -110,12 +110,12 @@ pub(crate) fn find_lower(alloc: Global, twins: &[u32]) -> Result<Vec<u32>, Alloc
 }
 
 /// The side along a half.
-fn side_at(soup: &Soup, half: u32) -> Side
+fn side_at(soup: &Soup, half: u32) -> DirectedSide
     requires { half < 3 * length (part_of soup.now).triangles }
     ensures { result ≡ side_at (part_of soup.now).triangles half }
 {
     let (from, to) = ends(&soup.triangles[(half / 3) as usize], half % 3);
-    Side { from, to }
+    DirectedSide { from, to }
 }
 
 /// The corners between which side 0, 1 or 2 of a triangle goes.

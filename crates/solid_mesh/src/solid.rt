@@ -12,8 +12,9 @@ ghost use Rattle.solid_mesh.specs.inner.Stars.{AreStars, lists_of};
 use crate::edges::{find_edges, pair_sides};
 use crate::faults::MeshError;
 use crate::pairs::PairMeter;
-use crate::places::{share, turned};
 use crate::sides::ends;
+use crate::signs::facing_sign;
+use crate::spots::spot_at;
 use crate::stars::find_stars;
 use exact_frac::Frac;
 use lattice::{Corner, Dir, Soup, Spot, Tri};
@@ -189,7 +190,7 @@ impl Solid {
         ensures { (f : Face (solid_part self.now)) → f.number ≡ tri → result ≡ face_sign (of_dir d.now) f }
     {
         let Tri { a, b, c } = self.triangle(tri);
-        turned(d, &self.corner(a), &self.corner(b), &self.corner(c))
+        facing_sign(d, &self.corner(a), &self.corner(b), &self.corner(c))
     }
 
     /// The spot at the share `t` of the way along an edge, from 0 at its corner `a` to 1 at its corner `b`.
@@ -209,6 +210,6 @@ impl Solid {
             left: _,
             right: _,
         } = self.edge(edge);
-        share(&self.corner(a), &self.corner(b), t)
+        spot_at(&self.corner(a), &self.corner(b), t)
     }
 }

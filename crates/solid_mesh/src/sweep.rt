@@ -3,13 +3,13 @@ ghost use Rattle.std.specs.Prelude.{◌≡◌, ◌≢◌, ℕ, ◌+◌, ◌*◌,
 ghost use Rattle.std.specs.List.{All, AllPairs};
 ghost use Rattle.std.specs.List.Sorted.{IsNonDecreasingBy};
 ghost use Rattle.geometry.specs.Parts.{part_of, IsClosed, AreEdges};
-ghost use Rattle.solid_mesh.specs.declared.extent.Extent.{Extent};
-ghost use Rattle.solid_mesh.specs.inner.Extents.{IsEdgeExtent, IsTriangleExtent, AreOrdered};
+ghost use Rattle.solid_mesh.specs.declared.numbered_range.NumberedRange.{NumberedRange};
+ghost use Rattle.solid_mesh.specs.inner.NumberedRanges.{IsRangeOfEdge, IsRangeOfTriangle, AreOrdered};
 ghost use Rattle.solid_mesh.specs.Meetings.{HaveCommonX, HaveCommonBox, IsAtMostPairs};
 ghost use Rattle.solid_mesh.specs.inner.Sweeps.{pair_of, count_of, least_of, ComesBefore, Swept, IsInRun, IsInSweep, IsFirst};
 
-use crate::extent::Extent;
-use crate::extents::{edge_extents, triangle_extents};
+use crate::numbered_range::NumberedRange;
+use crate::numbered_ranges::{edge_ranges, triangle_ranges};
 use crate::pairs::{PairMeter, box_test, pair_test};
 use lattice::Soup;
 use std::alloc::{AllocError, Global};
@@ -44,20 +44,25 @@ pub(crate) fn find_meeting(alloc: Global, soup: &Soup, halves: &[u32]) -> Result
     ensures few_boxes { IfOk result (λ found. found.meter.boxes < 2 ^ 62) }
     ensures few_pairs { IfOk result (λ found. found.meter.pairs < 2 ^ 62) }
 {
-    let edges = edge_extents(alloc, soup, halves)?;
-    let triangles = triangle_extents(alloc, soup)?;
+    let edges = edge_ranges(alloc, soup, halves)?;
+    let triangles = triangle_ranges(alloc, soup)?;
     Ok(sweep_both(soup, halves, &edges, &triangles))
 }
 
-/// The same, by the extents of the edges and of the triangles.
-fn sweep_both(soup: &Soup, halves: &[u32], edges: &[Extent], triangles: &[Extent]) -> Found
+/// The same, by the ranges of the edges and of the triangles.
+fn sweep_both(
+    soup: &Soup,
+    halves: &[u32],
+    edges: &[NumberedRange],
+    triangles: &[NumberedRange],
+) -> Found
     requires few_edges { length halves.now ≤ 60000 }
     requires few_triangles { length (part_of soup.now).triangles ≤ 20000 }
     requires closed { IsClosed (part_of soup.now) }
     requires are_edges { AreEdges (part_of soup.now) halves.now }
     requires halves { All (λ half. half < 3 * length (part_of soup.now).triangles) halves.now }
-    requires edges { AreOrdered (IsEdgeExtent (part_of soup.now) halves.now) (length halves.now) edges.now }
-    requires triangles { AreOrdered (IsTriangleExtent (part_of soup.now)) (length (part_of soup.now).triangles) triangles.now }
+    requires edges { AreOrdered (IsRangeOfEdge (part_of soup.now) halves.now) (length halves.now) edges.now }
+    requires triangles { AreOrdered (IsRangeOfTriangle (part_of soup.now)) (length (part_of soup.now).triangles) triangles.now }
     ensures boxes { IsAtMostPairs (HaveCommonX (part_of soup.now)) halves.now result.meter.boxes }
     ensures pairs { IsAtMostPairs (HaveCommonBox (part_of soup.now)) halves.now result.meter.pairs }
     ensures first { IsFirst (part_of soup.now) halves.now result.first }
@@ -78,8 +83,8 @@ fn sweep_both(soup: &Soup, halves: &[u32], edges: &[Extent], triangles: &[Extent
 fn sweep(
     soup: &Soup,
     halves: &[u32],
-    these: &[Extent],
-    others: &[Extent],
+    these: &[NumberedRange],
+    others: &[NumberedRange],
     turned: bool,
     found: &mut Found,
 )
@@ -106,8 +111,8 @@ fn sweep(
 fn run(
     soup: &Soup,
     halves: &[u32],
-    this: &Extent,
-    others: &[Extent],
+    this: &NumberedRange,
+    others: &[NumberedRange],
     turned: bool,
     found: &mut Found,
 )
@@ -135,20 +140,20 @@ fn run(
 }
 
 /// From where on the others begin.
-fn least(this: &Extent, turned: bool) -> u32
+fn least(this: &NumberedRange, turned: bool) -> u32
     ensures { result ≡ least_of turned this.now }
 {
     if turned { this.from + 1 } else { this.from }
 }
 
 /// The first place of one that begins at `least` or later.
-fn first_from(extents: &[Extent], least: u32) -> usize
-    requires { IsNonDecreasingBy (λ x. x.from) extents.now }
-    ensures bound { result ≤ length extents.now }
-    ensures before { (k : ℕ) (d : Extent) → k < result → (slice_index_or extents.now k d).from < least }
-    ensures after { (k : ℕ) (d : Extent) → result ≤ k → k < length extents.now → least ≤ (slice_index_or extents.now k d).from }
+fn first_from(ranges: &[NumberedRange], least: u32) -> usize
+    requires { IsNonDecreasingBy (λ x. x.from) ranges.now }
+    ensures bound { result ≤ length ranges.now }
+    ensures before { (k : ℕ) (d : NumberedRange) → k < result → (slice_index_or ranges.now k d).from < least }
+    ensures after { (k : ℕ) (d : NumberedRange) → result ≤ k → k < length ranges.now → least ≤ (slice_index_or ranges.now k d).from }
 {
-    extents.partition_point(|x| x.from < least)
+    ranges.partition_point(|x| x.from < least)
 }
 
 /// The edge's number and the triangle's.

@@ -1,19 +1,19 @@
 -- A text of ASCII STL has one reading.
-use Rattle.std.proofs.Common.{◌≡◌, ℕ, zero, suc, ◌+◌, ◌==◌, nat_lt, Bool, true, false, List, [], ◌∷◌, Option, Some, None, position, sym, ap, subst, ◌∙◌, Result}
+use Rattle.std.proofs.Common.{◌≡◌, ℕ, zero, suc, ◌+◌, nat_lt, Bool, true, false, List, [], ◌∷◌, Result}
 use Rattle.lex_lines.specs.declared.token.Token.{Token}
-use Rattle.lex_lines.proofs.Only.{only_tokens}
 use Rattle.weld.specs.Raw.{Raw}
 use Rattle.weld.specs.declared.fault.PartFault.{PartFault}
 use Rattle.weld.specs.declared.fault.PartKind.TheVariants.{TooMany, Expected}
 use Rattle.weld.specs.declared.fault.Want.TheVariants as want
 use Rattle.weld.specs.declared.fault.Word.{Word}
 use Rattle.weld.specs.declared.fault.Word.TheVariants as word
-use Rattle.part_text.specs.Steps.{Reading, Step, checked, read_value}
+use Rattle.part_text.specs.Steps.{Reading, Step, checked}
 use Rattle.part_text.specs.Words.{text_of, is_word}
 use Rattle.part_text.specs.Vertices.{end}
 use Rattle.part_text.proofs.Single.{AreSame, IsSingle, one_computed, one_given, same_then, one_then, one_next, one_vertex, one_skip}
+use Rattle.part_text.proofs.WholeTexts.{one_text}
 use Rattle.stl_reader.specs.Letters.{letters_of}
-use Rattle.stl_reader.specs.Stl.{Keyword, WordLine, Numbers, Opening, Closing, facet_or_end, FacetOrEnd, AnotherSolid, Either, Corner, Corners, Facet, Facets, raw_of, Whole, ReadsFrom, ReadsStl}
+use Rattle.stl_reader.specs.Stl.{Keyword, WordLine, Numbers, Opening, Closing, facet_or_end, FacetOrEnd, AnotherSolid, Either, Corner, Corners, Facet, Facets, raw_of, Whole, ReadsStl}
 
 -- ---- words
 module _ (bytes : List ℕ) where
@@ -74,12 +74,9 @@ module _ (decimals : ℕ) (bytes : List ℕ) where
   whole_at tokens r s (turns, p) (more, q) =
       (same_then (one_line bytes word.Solid) (λ _. same_then (same_facets turns more 0) (λ facets. one_given (raw_of facets)))).one tokens r s p q
 
-  one_from : (zero_byte : Option ℕ) (r s : Result Raw PartFault) → ReadsFrom decimals bytes zero_byte r → ReadsFrom decimals bytes zero_byte s → r ≡ s
-  one_from (Some place) r s e h = e ∙ sym h
-  one_from None r s (tokens, a, made, p, e) (others, b, other, q, h) =
-      let same : others ≡ tokens = only_tokens false bytes others tokens b a in
-      e ∙ ap read_value (whole_at tokens made other p (subst (λ (l : List Token). Whole decimals bytes l other) same q)) ∙ sym h
+  one_whole : IsSingle (Whole decimals bytes)
+  one_whole = record { one = whole_at }
 
   -- what a text says is one thing
   pub only_reading : (r s : Result Raw PartFault) → ReadsStl decimals bytes r → ReadsStl decimals bytes s → r ≡ s
-  only_reading r s = one_from (position (λ byte. byte == 0) bytes) r s
+  only_reading r s = one_text false (Whole decimals bytes) bytes one_whole r s

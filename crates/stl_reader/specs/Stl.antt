@@ -1,20 +1,19 @@
 -- What a text of ASCII STL says: the corners of its facets, or its one fault.
-use Rattle.std.specs.Prelude.{◌≡◌, ℕ, zero, suc, ◌+◌, ◌*◌, ◌==◌, Bool, true, false, nat_lt, if◌then◌else◌, List, [], ◌∷◌, length, map, position, Option, Some, None, Result, Ok, Err, codes}
+use Rattle.std.specs.Prelude.{ℕ, zero, suc, ◌+◌, ◌*◌, Bool, true, false, nat_lt, if◌then◌else◌, List, [], ◌∷◌, length, map, Result, Ok, Err, codes}
 use Rattle.std.specs.List.{flat_map, range_with_len}
 use Rattle.lattice.specs.declared.soup.Tri.{Tri}
 use Rattle.lattice.specs.Triple.{Triple}
 use Rattle.lex_lines.specs.declared.token.Token.{Token}
-use Rattle.lex_lines.specs.Places.{AreTokens, line_at}
 use Rattle.weld.specs.declared.fault.PartError.{PartError}
-use Rattle.weld.specs.declared.fault.PartError.TheVariants.{Part, Memory}
 use Rattle.weld.specs.declared.fault.PartFault.{PartFault}
-use Rattle.weld.specs.declared.fault.PartKind.TheVariants.{Binary, TooMany, Expected}
+use Rattle.weld.specs.declared.fault.PartKind.TheVariants.{TooMany, Expected}
 use Rattle.weld.specs.declared.fault.Want.TheVariants as want
 use Rattle.weld.specs.declared.fault.Word.{Word}
 use Rattle.weld.specs.declared.fault.Word.TheVariants as word
 use Rattle.weld.specs.declared.raw_part.RawPart.{RawPart}
-use Rattle.weld.specs.Raw.{Raw, seen}
-use Rattle.part_text.specs.Steps.{Reading, Step, fault_at, Gives, ◌then◌, Computes, Check, read_value}
+use Rattle.weld.specs.Raw.{Raw}
+use Rattle.part_text.specs.Steps.{Reading, Step, fault_at, Gives, ◌then◌, Computes, Check}
+use Rattle.part_text.specs.Texts.{ReadsText, AnswersText}
 use Rattle.part_text.specs.Words.{text_of, NextToken, is_word}
 use Rattle.part_text.specs.Vertices.{end, Vertex, SkipLine}
 use Rattle.stl_reader.specs.Letters.{letters_of}
@@ -102,17 +101,10 @@ module _ (decimals : ℕ) (bytes : List ℕ) where
   abbrev pub Whole : Step Raw
   Whole tokens r = (turns : ℕ) × (WordLine bytes word.Solid then λ _. Facets decimals bytes turns 0 then λ facets. Gives (raw_of facets)) tokens r
 
-  -- a zero byte, before anything else
-  abbrev pub ReadsFrom : Option ℕ → Result Raw PartFault → Type 0
-  ReadsFrom (Some place) r = r ≡ Err (fault_at (line_at bytes place) Binary)
-  ReadsFrom None r = (tokens : List Token) × AreTokens false bytes tokens × (made : Reading Raw) × Whole tokens made × (r ≡ read_value made)
-
   -- what the text says
   abbrev pub ReadsStl : Result Raw PartFault → Type 0
-  ReadsStl = ReadsFrom (position (λ byte. byte == 0) bytes)
+  ReadsStl = ReadsText false Whole bytes
 
   -- the answer is what the text says, or want of memory
   abbrev pub AnswersStl : Result RawPart PartError → Type 0
-  AnswersStl (Ok raw) = ReadsStl (Ok (seen raw))
-  AnswersStl (Err (Part fault)) = ReadsStl (Err fault)
-  AnswersStl (Err (Memory e)) = Unit {0}
+  AnswersStl = AnswersText false Whole bytes

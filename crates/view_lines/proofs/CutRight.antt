@@ -28,7 +28,7 @@ use Rattle.line_merge.proofs.Zips.{zip_left, zip_right}
 use Rattle.line_merge.specs.Merging.{AreStrips, LiesOnStrip, IsClear, AreMerged}
 use Rattle.cut_plane.specs.declared.segments.Segment.{Segment}
 use Rattle.cut_plane.specs.Loops.{IsSegmentOf, AreBorders}
-use Rattle.solid_mesh.proofs.PlaceLemmas.{share_on_edge}
+use Rattle.solid_mesh.proofs.SpotLemmas.{share_on_edge}
 use Rattle.span_slow.specs.CutSpans.{IsAnswerInCut, AreCutSpans}
 use Rattle.view_lines.specs.inner.Strips.{IsStripOf, IsBorderStrip, AreCutStrips}
 use Rattle.view_lines.proofs.BorderWays.{segment_of_point}

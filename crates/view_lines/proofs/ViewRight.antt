@@ -22,7 +22,7 @@ use Rattle.geometry.proofs.Sights.{ordinary_along}
 use Rattle.geometry.specs.Places.{HasNoOrdinaryEnd}
 use Rattle.line_merge.proofs.Zips.{zip_right}
 use Rattle.line_merge.specs.Merging.{AreStrips, LiesOnStrip, IsClear, AreMerged}
-use Rattle.solid_mesh.proofs.PlaceLemmas.{share_on_edge}
+use Rattle.solid_mesh.proofs.SpotLemmas.{share_on_edge}
 use Rattle.span_slow.specs.Spans.{IsAnswer}
 use Rattle.view_lines.specs.inner.Strips.{IsStripOf, TellHidden, AreEdgeStrips}
 use Rattle.view_lines.proofs.EdgeStrips.{Origin, origin_ends, origin_runs, off_strip_ends, point_of_strip, edge_under, strip_of_span}

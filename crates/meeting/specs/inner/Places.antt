@@ -1,5 +1,6 @@
 -- Places of an edge that are in a triangle.
-use Rattle.std.specs.Prelude.{◌≡◌, ℤ, pos, ◌+ℤ◌, ◌*ℤ◌, ◌≤ℤ◌, ◌<ℤ◌}
+use Rattle.std.specs.Prelude.{◌≡◌, ◌⊎◌, ℤ, pos, ◌+ℤ◌, ◌-ℤ◌, ◌*ℤ◌, ◌≤ℤ◌, ◌<ℤ◌}
+use Rattle.meeting.specs.declared.course.Heights.{Heights}
 use Rattle.meeting.specs.declared.course.Offset.{Offset}
 use Rattle.meeting.specs.declared.course.Course.{Course}
 
@@ -15,9 +16,17 @@ pub record Place (x : Course) : Type 0 where
   pub ca : pos 0 ≤ℤ ((i *ℤ x.ca.start) +ℤ (j *ℤ x.ca.end))
   pub ab : pos 0 ≤ℤ ((i *ℤ x.ab.start) +ℤ (j *ℤ x.ab.end))
 
+-- the edge has an end below the plane and one above it, or one in it and one off it
+abbrev pub GoesThrough : Heights → Type 0
+GoesThrough h = ((h.start ≤ℤ pos 0) × (pos 0 ≤ℤ h.end) × (h.start <ℤ h.end)) ⊎ ((pos 0 ≤ℤ h.start) × (h.end ≤ℤ pos 0) × (h.end <ℤ h.start))
+
+-- where the edge goes through the plane, it is not to the right of the side: how far it is to the left there, times a square
+abbrev pub IsLeftInPlane : Heights → Offset → Type 0
+IsLeftInPlane h x = pos 0 ≤ℤ ((h.end -ℤ h.start) *ℤ ((h.end *ℤ x.start) -ℤ (h.start *ℤ x.end)))
+
 -- where x begins below 0, it ends at 0 or above
-abbrev pub Reaches : Offset → Type 0
-Reaches x = x.start <ℤ pos 0 → pos 0 ≤ℤ x.end
+abbrev pub IsLeftSomewhere : Offset → Type 0
+IsLeftSomewhere x = x.start <ℤ pos 0 → pos 0 ≤ℤ x.end
 
 -- where x begins below 0 and y ends there, x comes up to 0 no later than y goes below
 abbrev pub IsInOrder : Offset → Offset → Type 0
@@ -25,6 +34,6 @@ IsInOrder x y = x.start <ℤ pos 0 → y.end <ℤ pos 0 → (x.start *ℤ y.end)
 
 -- each of the two is at least 0 somewhere, and there is a place where both are
 pub record Agree (x y : Offset) : Type 0 where
-  pub reaches : Reaches x
+  pub somewhere : IsLeftSomewhere x
   pub ahead : IsInOrder x y
   pub behind : IsInOrder y x

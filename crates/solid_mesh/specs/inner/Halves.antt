@@ -3,7 +3,7 @@ use Rattle.std.specs.Prelude.{◌≡◌, ℕ, ◌*◌, ◌/◌, ◌%◌, ◌<◌
 use Rattle.std.specs.List.{range_with_len}
 use Rattle.lattice.specs.declared.soup.Tri.{Tri}
 use Rattle.geometry.specs.Parts.{start_of, end_of}
-use Rattle.solid_mesh.specs.declared.sides.Side.{Side}
+use Rattle.solid_mesh.specs.declared.sides.DirectedSide.{DirectedSide}
 
 -- the triangle that a half is a side of; of a number that no half has, three zeros
 abbrev pub triangle_at : List Tri → ℕ → Tri
@@ -16,15 +16,15 @@ abbrev pub end_at : List Tri → ℕ → ℕ
 end_at triangles half = end_of (triangle_at triangles half) (half % 3)
 
 -- the side along a half
-abbrev pub side_at : List Tri → ℕ → Side
+abbrev pub side_at : List Tri → ℕ → DirectedSide
 side_at triangles half = record { from = start_at triangles half; to = end_at triangles half }
 
 -- the sides along the first halves, in order
-abbrev pub first_sides : List Tri → ℕ → List Side
+abbrev pub first_sides : List Tri → ℕ → List DirectedSide
 first_sides triangles count = map (side_at triangles) (range_with_len 0 count)
 
 -- the sides along all halves, in order
-abbrev pub sides_of : List Tri → List Side
+abbrev pub sides_of : List Tri → List DirectedSide
 sides_of triangles = first_sides triangles (3 * length triangles)
 
 -- the other number is that of a half which goes back

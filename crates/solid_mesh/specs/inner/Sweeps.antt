@@ -4,7 +4,7 @@ use Rattle.geometry.specs.Parts.{Part}
 use Rattle.solid_mesh.specs.Faults.{IsLeast, MeetsAt}
 use Rattle.solid_mesh.specs.Meetings.{HaveCommonBox, MeetApart}
 use Rattle.solid_mesh.specs.inner.Meetings.{HasNoMeeting}
-use Rattle.solid_mesh.specs.declared.extent.Extent.{Extent}
+use Rattle.solid_mesh.specs.declared.numbered_range.NumberedRange.{NumberedRange}
 use Rattle.solid_mesh.specs.declared.sweep.Meeting.{Meeting}
 use Rattle.solid_mesh.specs.declared.sweep.Found.{Found}
 
@@ -24,18 +24,18 @@ count_of s halves true = length s.triangles
 
 -- ---- the pairs that are tested
 -- from where on the others begin
-abbrev pub least_of : Bool → Extent → ℕ
+abbrev pub least_of : Bool → NumberedRange → ℕ
 least_of false this = this.from
 least_of true this = this.from + 1
 
 -- the pair of this one and another that begins in its range
-abbrev pub IsInRun : Bool → List Extent → Extent → (ℕ × ℕ) → Type 0
+abbrev pub IsInRun : Bool → List NumberedRange → NumberedRange → (ℕ × ℕ) → Type 0
 IsInRun turned others this p =
-    (x : Extent) × Contains others x × (least_of turned this ≤ x.from) × (x.from ≤ this.to) × (p ≡ pair_of turned this.number x.number)
+    (x : NumberedRange) × Contains others x × (least_of turned this ≤ x.from) × (x.from ≤ this.to) × (p ≡ pair_of turned this.number x.number)
 
 -- the same of some one of these
-abbrev pub IsInSweep : Bool → List Extent → List Extent → (ℕ × ℕ) → Type 0
-IsInSweep turned these others p = (this : Extent) × Contains these this × IsInRun turned others this p
+abbrev pub IsInSweep : Bool → List NumberedRange → List NumberedRange → (ℕ × ℕ) → Type 0
+IsInSweep turned these others p = (this : NumberedRange) × Contains these this × IsInRun turned others this p
 
 -- ---- what was found
 -- the pair is before the one that was found, if one was

@@ -2,7 +2,7 @@ use Rattle.std.proofs.Common.{◌≡◌, ℕ, ◌<◌, ◌≤◌, ◌⊎◌, inl
 use Rattle.std.proofs.lemmas.Bool.{cases_lt}
 use Rattle.std.proofs.lemmas.Option.{slice_get_read, get_or_from_slice_get}
 use Rattle.geometry.specs.Parts.{part_of}
-use Rattle.solid_mesh.specs.declared.extent.Extent.{Extent}
+use Rattle.solid_mesh.specs.declared.numbered_range.NumberedRange.{NumberedRange}
 use Rattle.solid_mesh.proofs.Running.{run_more, run_whole}
 use Rattle.solid_mesh.proofs.sweep.run.Goals as goal
 
@@ -17,7 +17,7 @@ returns-then-other-this-clause-swept c =
     (λ j d h. omega (arith, c.first_from-start.ensures.before j d h, c.least.ensures))
     (λ j d h within. omega (arith, c.first_from-start.ensures.after j d h within, c.least.ensures))
     c.loop-k.invariant.inside
-    (λ j d more within. omega (arith, c.requires.order k j d more within, ap (λ (x : Extent). x.from) (get_or_from_slice_get others k other d at), c.if-other-this.true))
+    (λ j d more within. omega (arith, c.requires.order k j d more within, ap (λ (x : NumberedRange). x.from) (get_or_from_slice_get others k other d at), c.if-other-this.true))
     _ _ c.loop-k.invariant.swept
 
 pub loop-k-preserved : goal.loop-k-preserved
@@ -38,13 +38,13 @@ loop-k-preserved c =
       pairs = omega (arith, c.loop-k.invariant.pairs, c.test.ensures.pairs);
     }
   where
-    by : (others : List Extent) (this : Extent) (k start : ℕ) (other : Extent) → slice_get others k ≡ Some other → other.from ≤ this.to → ((j : ℕ) (d : Extent) → start ≤ j → j < k → (get_or others j d).from ≤ this.to)
-        → (j : ℕ) (d : Extent) → start ≤ j → j < k + 1 → ((j < k) ⊎ (k ≤ j)) → (get_or others j d).from ≤ this.to
+    by : (others : List NumberedRange) (this : NumberedRange) (k start : ℕ) (other : NumberedRange) → slice_get others k ≡ Some other → other.from ≤ this.to → ((j : ℕ) (d : NumberedRange) → start ≤ j → j < k → (get_or others j d).from ≤ this.to)
+        → (j : ℕ) (d : NumberedRange) → start ≤ j → j < k + 1 → ((j < k) ⊎ (k ≤ j)) → (get_or others j d).from ≤ this.to
     by others this k start other at upto before j d low below (inl less) = before j d low less
     by others this k start other at upto before j d low below (inr more) =
         let one : k ≡ j = omega arith in
         let here : get_or others j d ≡ other = ap (λ (n : ℕ). get_or others n d) (sym one) ∙ get_or_from_slice_get others k other d at in
-        subst (λ (x : Extent). x.from ≤ this.to) (sym here) upto
+        subst (λ (x : NumberedRange). x.from ≤ this.to) (sym here) upto
 
 pub returns-clause-swept : goal.returns-clause-swept
 returns-clause-swept c =

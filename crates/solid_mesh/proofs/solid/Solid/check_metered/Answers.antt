@@ -1,6 +1,4 @@
-use Rattle.std.proofs.Common.{sym, subst}
 use Rattle.geometry.specs.Parts.{part_of}
-use Rattle.solid_mesh.specs.inner.Halves.{AreTwins}
 use Rattle.solid_mesh.specs.Meetings.{HaveCommonX, HaveCommonBox}
 use Rattle.solid_mesh.proofs.Apart.{shared_only}
 use Rattle.solid_mesh.proofs.Counted.{edges_counted}
@@ -8,39 +6,27 @@ use Rattle.solid_mesh.proofs.solid.Solid.check_metered.Goals as goal
 
 pub returns-in_err-lower_halves-clause-boxes : goal.returns-in_err-lower_halves-clause-boxes
 returns-in_err-lower_halves-clause-boxes c =
-    let s = part_of c.args.soup in
-    let paired = subst (AreTwins s.triangles) (sym c.deref.ensures.value) c.in_ok-twins.ensures.twins in
-    edges_counted s (HaveCommonX s) c.deref.result.now _ paired c.in_ok-twins.ensures.closed.once c.find_edges.ensures.boxes
+    edges_counted (part_of c.args.soup) (HaveCommonX (part_of c.args.soup)) c.deref.result.now _ _ c.deref.ensures.value c.in_ok-twins.ensures.twins c.in_ok-twins.ensures.closed.once c.find_edges.ensures.boxes
 
 pub returns-in_err-lower_halves-clause-pairs : goal.returns-in_err-lower_halves-clause-pairs
 returns-in_err-lower_halves-clause-pairs c =
-    let s = part_of c.args.soup in
-    let paired = subst (AreTwins s.triangles) (sym c.deref.ensures.value) c.in_ok-twins.ensures.twins in
-    edges_counted s (HaveCommonBox s) c.deref.result.now _ paired c.in_ok-twins.ensures.closed.once c.find_edges.ensures.pairs
+    edges_counted (part_of c.args.soup) (HaveCommonBox (part_of c.args.soup)) c.deref.result.now _ _ c.deref.ensures.value c.in_ok-twins.ensures.twins c.in_ok-twins.ensures.closed.once c.find_edges.ensures.pairs
 
 pub returns-in_err-stars-clause-boxes : goal.returns-in_err-stars-clause-boxes
 returns-in_err-stars-clause-boxes c =
-    let s = part_of c.args.soup in
-    let paired = subst (AreTwins s.triangles) (sym c.deref.ensures.value) c.in_ok-twins.ensures.twins in
-    edges_counted s (HaveCommonX s) c.deref.result.now _ paired c.in_ok-twins.ensures.closed.once c.find_edges.ensures.boxes
+    edges_counted (part_of c.args.soup) (HaveCommonX (part_of c.args.soup)) c.deref.result.now _ _ c.deref.ensures.value c.in_ok-twins.ensures.twins c.in_ok-twins.ensures.closed.once c.find_edges.ensures.boxes
 
 pub returns-in_err-stars-clause-pairs : goal.returns-in_err-stars-clause-pairs
 returns-in_err-stars-clause-pairs c =
-    let s = part_of c.args.soup in
-    let paired = subst (AreTwins s.triangles) (sym c.deref.ensures.value) c.in_ok-twins.ensures.twins in
-    edges_counted s (HaveCommonBox s) c.deref.result.now _ paired c.in_ok-twins.ensures.closed.once c.find_edges.ensures.pairs
+    edges_counted (part_of c.args.soup) (HaveCommonBox (part_of c.args.soup)) c.deref.result.now _ _ c.deref.ensures.value c.in_ok-twins.ensures.twins c.in_ok-twins.ensures.closed.once c.find_edges.ensures.pairs
 
 pub returns-clause-boxes : goal.returns-clause-boxes
 returns-clause-boxes c =
-    let s = part_of c.args.soup in
-    let paired = subst (AreTwins s.triangles) (sym c.deref.ensures.value) c.in_ok-twins.ensures.twins in
-    edges_counted s (HaveCommonX s) c.deref.result.now _ paired c.in_ok-twins.ensures.closed.once c.find_edges.ensures.boxes
+    edges_counted (part_of c.args.soup) (HaveCommonX (part_of c.args.soup)) c.deref.result.now _ _ c.deref.ensures.value c.in_ok-twins.ensures.twins c.in_ok-twins.ensures.closed.once c.find_edges.ensures.boxes
 
 pub returns-clause-pairs : goal.returns-clause-pairs
 returns-clause-pairs c =
-    let s = part_of c.args.soup in
-    let paired = subst (AreTwins s.triangles) (sym c.deref.ensures.value) c.in_ok-twins.ensures.twins in
-    edges_counted s (HaveCommonBox s) c.deref.result.now _ paired c.in_ok-twins.ensures.closed.once c.find_edges.ensures.pairs
+    edges_counted (part_of c.args.soup) (HaveCommonBox (part_of c.args.soup)) c.deref.result.now _ _ c.deref.ensures.value c.in_ok-twins.ensures.twins c.in_ok-twins.ensures.closed.once c.find_edges.ensures.pairs
 
 pub returns-clause-sound : goal.returns-clause-sound
 returns-clause-sound c =

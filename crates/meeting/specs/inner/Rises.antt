@@ -1,9 +1,0 @@
--- How far a corner is above a plane.
-use Rattle.std.specs.Prelude.{ℤ}
-use Rattle.lattice.specs.declared.points.Corner.{Corner}
-use Rattle.lattice.specs.Triple.{dot}
-use Rattle.geometry.specs.Faces.{difference, normal}
-
--- positive where the corner p is above the plane of a, b and c, 0 where it is in the plane; the normal points up
-abbrev pub rise_of : Corner → Corner → Corner → Corner → ℤ
-rise_of a b c p = dot (difference a p) (normal a b c)
