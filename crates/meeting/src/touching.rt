@@ -49,7 +49,19 @@ pub fn touches_beyond(a: &Corner, b: &Corner, c: &Corner, q: &Corner) -> bool
     is_beyond(left_of(&d, c, a, q), left_of(&d, a, b, q))
 }
 
-/// Whether a corner in the triangle's plane is to the right of neither side from the first corner, and not on both.
+/// The same, of a flat triangle.
+fn touches_beyond_flat(a: &Corner, b: &Corner, c: &Corner, q: &Corner) -> bool
+    requires { IsFlat a.now b.now c.now }
+    ensures { IsTrue result ↔ TouchBeyond a.now b.now c.now q.now }
+{
+    if is_one_way(a, b, q) {
+        return true;
+    }
+    is_one_way(a, c, q)
+}
+
+/// Whether a corner in the triangle's plane, by how far it is to the left of the two sides from the first corner, is to the
+/// right of neither and not on both: then the edge to it has another common point than that first corner.
 fn is_beyond(ca: i128, ab: i128) -> bool
     requires first { unsigned_abs ca < 2 ^ 48 }
     requires second { unsigned_abs ab < 2 ^ 48 }
@@ -62,17 +74,6 @@ fn is_beyond(ca: i128, ab: i128) -> bool
         return false;
     }
     ca + ab > 0
-}
-
-/// The same, of a flat triangle.
-fn touches_beyond_flat(a: &Corner, b: &Corner, c: &Corner, q: &Corner) -> bool
-    requires { IsFlat a.now b.now c.now }
-    ensures { IsTrue result ↔ TouchBeyond a.now b.now c.now q.now }
-{
-    if is_one_way(a, b, q) {
-        return true;
-    }
-    is_one_way(a, c, q)
 }
 
 /// A direction along which the corners of the triangle with this normal are seen counterclockwise: the signs of the normal.
