@@ -1,22 +1,10 @@
-//! Whole runs over files in memory: sheets of worked examples, refusals by their lines, and parts that were cut off. There is
-//! no code here but tests.
+//! Whole runs by calls: what a drawing has, and a plotter of the caller's own. There is no code here but tests; the runs that are
+//! told by words and files stand in run_cases.
 #![tactic(auto)]
 
 #[cfg(test)]
-mod counts;
-#[cfg(test)]
-mod cuts;
-#[cfg(test)]
-mod parts;
+mod drawings;
 #[cfg(test)]
 mod plots;
 #[cfg(test)]
-mod refusals;
-#[cfg(test)]
 mod runs;
-#[cfg(test)]
-mod samples;
-#[cfg(test)]
-mod sheets;
-#[cfg(test)]
-mod strokes;

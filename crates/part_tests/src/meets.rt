@@ -1,0 +1,167 @@
+// Small edges and triangles, through one another and in one plane, and one of the greatest size.
+use lattice::Corner;
+use meeting::{boxes_meet, edge_range, ranges_meet, touches, touches_beyond, triangle_range};
+
+fn at(place: &[i8; 3]) -> Corner {
+    Corner {
+        x: place[0].into(),
+        y: place[1].into(),
+        z: place[2].into(),
+    }
+}
+
+#[test]
+fn edges_and_a_slanted_triangle(rt: HostRuntime) {
+    let (a, b, c) = (at(&[0, 0, 0]), at(&[6, 0, 2]), at(&[0, 6, 2]));
+    for (name, p, q, expected) in [
+        ("through it", [1, 2, 0], [1, 2, 2], true),
+        ("past it", [5, 4, 0], [5, 4, 6], false),
+        ("ends in it", [1, 2, 5], [1, 2, 1], true),
+        ("ends above it", [1, 2, 5], [1, 2, 2], false),
+        ("begins in it and goes down", [1, 2, 1], [1, 2, -3], true),
+        ("through a side", [3, 3, 3], [3, 3, 0], true),
+        ("beside a side", [4, 3, 0], [4, 3, 9], false),
+        ("through a corner", [6, 0, 0], [6, 0, 3], true),
+        ("in its plane, apart", [9, 0, 3], [0, 9, 3], false),
+        ("in its plane, across", [3, -3, 0], [3, 6, 3], true),
+        ("in its plane, along a side", [9, -3, 2], [3, 3, 2], true),
+        (
+            "in its plane, in line with a side",
+            [12, -6, 2],
+            [9, -3, 2],
+            false,
+        ),
+        ("in its plane, inside", [1, 2, 1], [2, 1, 1], true),
+        ("in its plane, at a corner", [-3, 3, 0], [3, -3, 0], true),
+        (
+            "in its plane, short of a corner",
+            [-6, 6, 0],
+            [-3, 3, 0],
+            false,
+        ),
+    ] {
+        assert_eq!(rt; touches(&a, &b, &c, &at(&p), &at(&q)), expected, "{name}");
+    }
+}
+
+const FAR: i32 = 1048576;
+
+#[test]
+fn edges_and_an_upright_triangle_of_the_greatest_size(rt: HostRuntime) {
+    let a = Corner {
+        x: -FAR,
+        y: 0,
+        z: -FAR,
+    };
+    let b = Corner {
+        x: FAR,
+        y: 0,
+        z: -FAR,
+    };
+    let c = Corner { x: 0, y: 0, z: FAR };
+    for (name, p, q, expected) in [
+        (
+            "through it",
+            Corner {
+                x: 1,
+                y: -FAR,
+                z: -FAR,
+            },
+            Corner {
+                x: -1,
+                y: FAR,
+                z: FAR,
+            },
+            true,
+        ),
+        (
+            "apart",
+            Corner {
+                x: FAR,
+                y: -FAR,
+                z: 1 - FAR,
+            },
+            Corner {
+                x: FAR,
+                y: FAR,
+                z: 1 - FAR,
+            },
+            false,
+        ),
+        (
+            "at a corner",
+            Corner {
+                x: FAR,
+                y: -FAR,
+                z: -FAR,
+            },
+            Corner {
+                x: FAR,
+                y: FAR,
+                z: -FAR,
+            },
+            true,
+        ),
+        (
+            "in its plane, at the tip",
+            Corner {
+                x: -FAR,
+                y: 0,
+                z: FAR,
+            },
+            Corner {
+                x: FAR,
+                y: 0,
+                z: FAR,
+            },
+            true,
+        ),
+        (
+            "in its plane, beside the tip",
+            Corner {
+                x: FAR,
+                y: 0,
+                z: FAR,
+            },
+            Corner { x: 1, y: 0, z: FAR },
+            false,
+        ),
+    ] {
+        assert_eq!(rt; touches(&a, &b, &c, &p, &q), expected, "{name}");
+    }
+}
+
+#[test]
+fn edges_from_a_corner(rt: HostRuntime) {
+    let (a, b, c) = (at(&[0, 0, 0]), at(&[6, 0, 2]), at(&[0, 6, 2]));
+    for (name, q, expected) in [
+        ("within it", [1, 2, 1], true),
+        ("along a side", [6, 0, 2], true),
+        ("along half a side", [0, 3, 1], true),
+        ("to the opposite side", [3, 3, 2], true),
+        ("through it and on", [12, 12, 8], true),
+        ("away from it, in its plane", [3, -3, 0], false),
+        ("back from it", [-1, -2, -1], false),
+        ("back from a side", [-6, 0, -2], false),
+        ("up from it", [1, 2, 2], false),
+        ("nowhere", [0, 0, 0], false),
+    ] {
+        assert_eq!(rt; touches_beyond(&a, &b, &c, &at(&q)), expected, "{name}");
+    }
+}
+
+#[test]
+fn ranges_and_boxes(rt: HostRuntime) {
+    let (edge, triangle) = (edge_range(5, -3), triangle_range(9, 5, 7));
+    assert_eq!(rt;
+        (edge.from, edge.to, triangle.from, triangle.to),
+        (-3, 5, 5, 9)
+    );
+    assert!(rt; ranges_meet(&edge, &triangle) && !ranges_meet(&edge_range(4, 3), &triangle));
+    let (a, b, c) = (at(&[0, 0, 0]), at(&[6, 0, 2]), at(&[0, 6, 2]));
+    let (inside, above, beside) = (at(&[5, 5, 2]), at(&[5, 5, 3]), at(&[5, 7, 1]));
+    assert!(rt; boxes_meet(&a, &b, &c, &inside, &above));
+    assert!(rt; boxes_meet(&a, &b, &c, &beside, &inside));
+    assert!(rt; !boxes_meet(&a, &b, &c, &above, &above));
+    assert!(rt; !boxes_meet(&a, &b, &c, &beside, &beside));
+}

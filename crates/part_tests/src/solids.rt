@@ -1,0 +1,386 @@
+// The cube with an edge of 10 units, what is made of it, parts that make no solid, and single sides and triangles.
+use exact_frac::Frac;
+use fixtures::{CUBES, soup};
+use lattice::{Dir, Tri};
+use sample_part::boxes;
+use solid_mesh::{Edge, MeshError, MeshFault, PairMeter, Solid, box_test, pair_test};
+use std::alloc::Global;
+use std::test::Fail;
+
+// A tetrahedron on the cube's corners 0, 3, 1 and 4.
+const TETRA: [[u32; 3]; 4] = [[0, 3, 1], [0, 1, 4], [0, 4, 3], [1, 3, 4]];
+
+// The cube, and over it a tetrahedron with its tip, corner 9, down.
+const OVER: [[u32; 3]; 16] = [
+    [0, 3, 2],
+    [0, 2, 1],
+    [4, 5, 6],
+    [4, 6, 7],
+    [0, 1, 5],
+    [0, 5, 4],
+    [1, 2, 6],
+    [1, 6, 5],
+    [2, 3, 7],
+    [2, 7, 6],
+    [3, 0, 4],
+    [3, 4, 7],
+    [10, 11, 12],
+    [11, 10, 9],
+    [12, 11, 9],
+    [10, 12, 9],
+];
+
+// Corners 0 to 7 of the cube, corner 8 in one line with 0 and 1, and the corners 9 to 12 of the tetrahedron.
+fn corners(tip: i16) -> [[i16; 3]; 13] {
+    [
+        [0, 0, 0],
+        [10, 0, 0],
+        [10, 10, 0],
+        [0, 10, 0],
+        [0, 0, 10],
+        [10, 0, 10],
+        [10, 10, 10],
+        [0, 10, 10],
+        [20, 0, 0],
+        [5, 5, tip],
+        [0, 0, 20],
+        [10, 0, 20],
+        [5, 10, 20],
+    ]
+}
+
+// The solid of these corners and triangles, or why there is none.
+fn checked(
+    alloc: Global,
+    tip: i16,
+    triangles: &[[u32; 3]],
+    meter: &mut PairMeter,
+) -> Result<Solid, Option<MeshError>> {
+    let Ok(soup) = soup(alloc, &corners(tip), triangles) else {
+        return Err(None);
+    };
+    if triangles.is_empty() || triangles.len() > 100 || meter.boxes > 9 || meter.pairs > 9 {
+        return Err(None);
+    }
+    match Solid::check_metered(alloc, soup, meter) {
+        Ok(solid) => Ok(solid),
+        Err(error) => Err(Some(error)),
+    }
+}
+
+#[test]
+fn the_first_fault_is_told(rt: HostRuntime) {
+    let [bottom, side, third, _] = TETRA;
+    for (tip, triangles, fault) in [
+        (
+            11,
+            [bottom, [8, 1, 0], [1, 8, 0]].as_slice(),
+            MeshFault::Flat(1),
+        ),
+        (11, &[bottom, [0, 4, 1], side], MeshFault::SameWay(0, 1)),
+        // the first side of the last triangle is the second's, and its second side is the first's
+        (
+            11,
+            &[[0, 1, 2], [3, 4, 0], [4, 0, 1]],
+            MeshFault::SameWay(0, 2),
+        ),
+        (11, &[bottom, side, third], MeshFault::Unpaired(0, 1)),
+        (11, &CUBES[..11], MeshFault::Unpaired(3, 2)),
+        (11, &[bottom], MeshFault::Unpaired(0, 0)),
+        (11, &[bottom, [1, 3, 0]], MeshFault::Double(0, 1)),
+        (
+            11,
+            &[[0, 1, 2], [4, 5, 6], [5, 4, 6], [1, 0, 2]],
+            MeshFault::Double(1, 2),
+        ),
+        // a tip on the cube, and in it
+        (10, &OVER, MeshFault::Meet(7, 13)),
+        (9, &OVER, MeshFault::Meet(7, 13)),
+    ] {
+        let mut meter = PairMeter { boxes: 0, pairs: 0 };
+        let found = checked(rt.alloc(), tip, triangles, &mut meter).err();
+        assert_eq!(rt; found, Some(Some(MeshError::Mesh(fault))));
+    }
+}
+
+#[test]
+fn tests_are_counted(rt: HostRuntime) -> Result<(), Fail> {
+    let mut meter = PairMeter { boxes: 5, pairs: 7 };
+    let Ok(solid) = checked(rt.alloc(), 11, &OVER, &mut meter) else {
+        return Err("no solid".into());
+    };
+    let counted = PairMeter {
+        boxes: 347,
+        pairs: 187,
+    };
+    assert_eq!(rt; (solid.edges(), meter), (24, counted));
+    let text = format!(in rt.alloc(); "{}", MeshError::Mesh(MeshFault::Double(1, 2)))?;
+    assert_eq!(rt;
+        text.as_str(),
+        "triangles 1 and 2 have the same three corners"
+    );
+    Ok(())
+}
+
+// 512 cubes: as many boxes are tested as there are pairs of an edge and a triangle whose ranges of x meet; all pairs would be
+// 56,623,104.
+#[test]
+fn a_grid_is_swept(rt: HostRuntime) -> Result<(), Fail> {
+    let Ok(soup) = boxes(rt.alloc(), 8) else {
+        return Err("no sample".into());
+    };
+    assert!(rt; soup.corners.len() == 4_096 && soup.triangles.len() == 6_144);
+    let mut meter = PairMeter { boxes: 0, pairs: 0 };
+    let solid = Solid::check_metered(rt.alloc(), soup, &mut meter)?;
+    assert_eq!(rt; (solid.edges(), meter.boxes), (9_216, 6_422_528));
+    Ok(())
+}
+
+#[test]
+fn the_cube_is_read(rt: HostRuntime) -> Result<(), Fail> {
+    let mut meter = PairMeter { boxes: 0, pairs: 0 };
+    let Ok(s) = checked(rt.alloc(), 11, &CUBES[..12], &mut meter) else {
+        return Err("no solid".into());
+    };
+    assert_eq!(rt; (s.corners(), s.triangles(), s.edges()), (13, 12, 18));
+    assert_eq!(rt; (s.corner(6).x, s.corner(6).y, s.corner(6).z), (10, 10, 10));
+    assert_eq!(rt; s.triangle(8), Tri { a: 2, b: 3, c: 7 });
+    assert_eq!(rt; s.star(6), [2, 3, 6, 7, 9].as_slice());
+    assert!(rt; s.star(8).is_empty());
+    assert_eq!(rt; (s.twin(0), s.twin(30)), (30, 0));
+    assert_eq!(rt;
+        s.edge(0),
+        Edge {
+            a: 0,
+            b: 3,
+            left: 0,
+            right: 10
+        }
+    );
+    assert_eq!(rt;
+        s.edge(17),
+        Edge {
+            a: 4,
+            b: 3,
+            left: 10,
+            right: 11
+        }
+    );
+    let spot = s.spot(1, &Frac { num: 1, den: 4 });
+    assert_eq!(rt; (spot.x, spot.y, spot.z, spot.w), (10, 40, 0, 4));
+    let front = Dir::new(0, -1, 0)?;
+    assert_eq!(rt;
+        (s.sign(&front, 4), s.sign(&front, 0), s.sign(&front, 8)),
+        (1, 0, -1)
+    );
+    Ok(())
+}
+
+#[test]
+fn a_side_and_a_triangle(rt: HostRuntime) -> Result<(), Fail> {
+    let soup = soup(rt.alloc(), &corners(10), &OVER)?;
+    assert!(rt; soup.triangles.len() == 16);
+    let mut meter = PairMeter { boxes: 0, pairs: 0 };
+    // the diagonal of the cube's top, and a face from the tip
+    assert!(rt; box_test(&soup, 8, 13, &mut meter));
+    // a side of the cube's bottom, and its top
+    assert!(rt; !box_test(&soup, 0, 2, &mut meter));
+    assert!(rt; pair_test(&soup, 8, 13, &mut meter));
+    // a triangle that has the side, and one that has its first corner alone
+    assert!(rt; !pair_test(&soup, 8, 2, &mut meter));
+    assert!(rt; !pair_test(&soup, 0, 4, &mut meter));
+    assert_eq!(rt; (meter.boxes, meter.pairs), (2, 3));
+    Ok(())
+}
+
+// Three corners of a triangle.
+type Face = [[i16; 3]; 3];
+
+// A triangle that isn't flat.
+const FACE: Face = [[0, 0, 0], [6, 0, 0], [0, 6, 0]];
+
+// Flat triangles: the third corner is between the others, or the first; all are at one place.
+const LINE: Face = [[0, 0, 0], [6, 0, 0], [2, 0, 0]];
+
+const SPLIT: Face = [[2, 0, 0], [0, 0, 0], [6, 0, 0]];
+
+const POINT: Face = [[1, 1, 1], [1, 1, 1], [1, 1, 1]];
+
+// Whether a triangle's first side meets another. They have three corners of a face and two ends, 3 and 4.
+fn meets(
+    alloc: Global,
+    face: &Face,
+    ends: &[[i16; 3]; 2],
+    side: [u32; 2],
+    last: u32,
+) -> Option<bool> {
+    let [a, b, c] = *face;
+    let [p, q] = *ends;
+    let [m, n] = side;
+    let triangles = [[m, n, n], [0, last / 2, last]];
+    let soup = soup(alloc, &[a, b, c, p, q], &triangles).ok()?;
+    let mut meter = PairMeter { boxes: 0, pairs: 0 };
+    Some(pair_test(&soup, 0, 1, &mut meter))
+}
+
+#[test]
+fn a_side_and_a_face(rt: HostRuntime) {
+    for (name, ends, side, expected) in [
+        (
+            "on into it from a shared corner",
+            [[2, 2, 0], [9, 9, 9]],
+            [0, 3],
+            true,
+        ),
+        (
+            "away from a shared corner",
+            [[2, -2, 0], [9, 9, 9]],
+            [0, 3],
+            false,
+        ),
+        (
+            "at a corner with another number",
+            [[0, 0, 0], [-1, 0, 0]],
+            [3, 4],
+            true,
+        ),
+        ("of length 0, in it", [[1, 1, 0], [1, 1, 0]], [3, 4], true),
+        (
+            "of length 0, beside it",
+            [[5, 5, 0], [5, 5, 0]],
+            [3, 4],
+            false,
+        ),
+        (
+            "of length 0, from a shared corner",
+            [[0, 0, 0], [9, 9, 9]],
+            [0, 3],
+            false,
+        ),
+        (
+            "one corner number, in it",
+            [[1, 1, 0], [9, 9, 9]],
+            [3, 3],
+            true,
+        ),
+        (
+            "one corner number, its own",
+            [[1, 1, 0], [9, 9, 9]],
+            [0, 0],
+            false,
+        ),
+    ] {
+        let found = meets(rt.alloc(), &FACE, &ends, side, 2);
+        assert_eq!(rt; found, Some(expected), "{name}");
+    }
+}
+
+// The number is that of the triangle's last corner. Where it is 1, the first corner is there twice.
+#[test]
+fn a_side_and_a_flat_triangle(rt: HostRuntime) {
+    for (name, face, last, ends, side, expected) in [
+        ("across it", LINE, 2, [[4, -1, 0], [4, 1, 0]], [3, 4], true),
+        (
+            "across its first side",
+            SPLIT,
+            2,
+            [[1, -1, 0], [1, 1, 0]],
+            [3, 4],
+            true,
+        ),
+        (
+            "across its last side",
+            SPLIT,
+            2,
+            [[4, -1, 0], [4, 1, 0]],
+            [3, 4],
+            true,
+        ),
+        (
+            "past its end",
+            LINE,
+            2,
+            [[7, -1, 0], [7, 1, 0]],
+            [3, 4],
+            false,
+        ),
+        ("over it", LINE, 2, [[4, -1, 1], [4, 1, 1]], [3, 4], false),
+        ("beside it", LINE, 2, [[0, 1, 0], [6, 1, 0]], [3, 4], false),
+        (
+            "in its line, up to it",
+            LINE,
+            2,
+            [[9, 0, 0], [6, 0, 0]],
+            [3, 4],
+            true,
+        ),
+        (
+            "in its line, apart",
+            LINE,
+            2,
+            [[9, 0, 0], [7, 0, 0]],
+            [3, 4],
+            false,
+        ),
+        (
+            "in its line, around it",
+            LINE,
+            2,
+            [[-1, 0, 0], [9, 0, 0]],
+            [3, 4],
+            true,
+        ),
+        (
+            "along it from a shared corner",
+            LINE,
+            2,
+            [[4, 0, 0], [9, 9, 9]],
+            [2, 3],
+            true,
+        ),
+        (
+            "back from it",
+            LINE,
+            2,
+            [[-1, 0, 0], [9, 9, 9]],
+            [0, 3],
+            false,
+        ),
+        ("up from it", LINE, 2, [[1, 1, 0], [9, 9, 9]], [0, 3], false),
+        (
+            "through a point",
+            POINT,
+            2,
+            [[0, 0, 0], [2, 2, 2]],
+            [3, 4],
+            true,
+        ),
+        (
+            "past a point",
+            POINT,
+            2,
+            [[0, 0, 0], [2, 2, 3]],
+            [3, 4],
+            false,
+        ),
+        (
+            "across one with a corner twice",
+            LINE,
+            1,
+            [[4, -1, 0], [4, 1, 0]],
+            [3, 4],
+            true,
+        ),
+        (
+            "along one with a corner twice",
+            LINE,
+            1,
+            [[4, 0, 0], [9, 9, 9]],
+            [0, 3],
+            true,
+        ),
+    ] {
+        let found = meets(rt.alloc(), &face, &ends, side, last);
+        assert_eq!(rt; found, Some(expected), "{name}");
+    }
+}

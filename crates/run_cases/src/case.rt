@@ -1,0 +1,49 @@
+// A case: a run, and what must come of it.
+use dec_text::Name;
+use std::alloc::{AllocError, Global};
+
+// A run by its words, over these files, and what is told of its end.
+#[derive(Drop)]
+pub(crate) struct Case {
+    pub(crate) name: String,
+    pub(crate) words: Vec<String>,
+    pub(crate) files: Vec<(Name, Vec<u8>)>,
+    pub(crate) fail: Vec<u64>,
+    pub(crate) status: u8,
+    pub(crate) said: Vec<u8>,
+    pub(crate) warned: Vec<u8>,
+    pub(crate) kept: Vec<(Name, Vec<u8>)>,
+    pub(crate) made: Vec<Name>,
+    pub(crate) gone: Vec<Name>,
+    pub(crate) beginnings: Option<(Name, usize)>,
+    pub(crate) differs: String,
+}
+
+impl Case {
+    // A case of which nothing is told yet.
+    pub(crate) fn new(alloc: Global, name: &str) -> Result<Case, AllocError> {
+        Ok(Case {
+            name: String::from_str(alloc, name)?,
+            words: Vec::new(alloc),
+            files: Vec::new(alloc),
+            fail: Vec::new(alloc),
+            status: 0,
+            said: Vec::new(alloc),
+            warned: Vec::new(alloc),
+            kept: Vec::new(alloc),
+            made: Vec::new(alloc),
+            gone: Vec::new(alloc),
+            beginnings: None,
+            differs: String::new(alloc),
+        })
+    }
+
+    // It tells that the drawing is there.
+    pub(crate) fn has_drawing(&self) -> bool {
+        let kept = self.kept.iter().any(|file| file.0.as_str() == DRAWING);
+        kept || self.made.iter().any(|name| name.as_str() == DRAWING)
+    }
+}
+
+// The name of a drawing where none is given.
+pub(crate) const DRAWING: &str = "drawing.svg";

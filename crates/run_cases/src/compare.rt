@@ -1,0 +1,113 @@
+// What comes of the run of a case, beside what the case tells.
+use crate::case::{Case, DRAWING};
+use dec_text::Name;
+use desk::MemoryDesk;
+use draw_core::draw;
+use plot_rack::{ListPlotter, Plotter};
+use std::alloc::{AllocError, Global};
+use std::io;
+
+// The desk of a case. Of one file it has so many bytes alone.
+fn desk_of(alloc: Global, case: &Case, cut: Option<(&str, usize)>) -> io::Result<MemoryDesk> {
+    let mut files = Vec::new(alloc);
+    for (name, bytes) in &case.files {
+        let mut end = bytes.len();
+        if let Some((of, most)) = cut {
+            if of == name.as_str() {
+                end = end.min(most);
+            }
+        }
+        let Ok(name) = Name::new(alloc, name.as_str()) else {
+            return Err(io::Error::from(io::ErrorKind::OutOfMemory));
+        };
+        files.push((name, bytes[..end].to_vec(alloc)?))?;
+    }
+    Ok(MemoryDesk::new(alloc, files, case.fail.clone()?))
+}
+
+// Runs the words over the desk, and answers the status.
+fn run(alloc: Global, words: &[String], desk: &mut MemoryDesk) -> io::Result<u8> {
+    let mut extras: Vec<Box<dyn Plotter>> = Vec::new(alloc);
+    extras.push(Box::new(alloc, ListPlotter::new(alloc))?)?;
+    Ok(draw(alloc, words, desk, extras).status)
+}
+
+// Adds a word to what differs.
+fn add(told: &mut String, word: &str) -> Result<(), AllocError> {
+    told.push(' ')?;
+    told.push_str(word)
+}
+
+// Adds each file that isn't as the case tells.
+fn add_kept(told: &mut String, case: &Case, desk: &MemoryDesk) -> io::Result<()> {
+    for (name, bytes) in &case.kept {
+        if desk.file(name.as_str()) != Some(bytes.as_slice()) {
+            add(told, name.as_str())?;
+        }
+    }
+    Ok(())
+}
+
+// Adds each of these files of which the desk has none, or has one.
+fn add_found(told: &mut String, names: &[Name], desk: &MemoryDesk, wanted: bool) -> io::Result<()> {
+    for name in names {
+        if desk.file(name.as_str()).is_some() != wanted {
+            add(told, name.as_str())?;
+        }
+    }
+    Ok(())
+}
+
+// What differs, each word behind a blank.
+fn differences(alloc: Global, case: &Case) -> io::Result<String> {
+    let mut desk = desk_of(alloc, case, None)?;
+    let status = run(alloc, &case.words, &mut desk)?;
+    let mut told = String::new(alloc);
+    if status != case.status {
+        add(&mut told, "status")?;
+    }
+    if desk.said_bytes() != case.said.as_slice() {
+        add(&mut told, "said")?;
+    }
+    if desk.warned_bytes() != case.warned.as_slice() {
+        add(&mut told, "warned")?;
+    }
+    if !case.has_drawing() && desk.file(DRAWING).is_some() {
+        add(&mut told, DRAWING)?;
+    }
+    add_kept(&mut told, case, &desk)?;
+    add_found(&mut told, &case.made, &desk, true)?;
+    add_found(&mut told, &case.gone, &desk, false)?;
+    Ok(told)
+}
+
+fn length_of(case: &Case, name: &str) -> usize {
+    for file in &case.files {
+        if file.0.as_str() == name {
+            return file.1.len();
+        }
+    }
+    0
+}
+
+// The lengths of those beginnings of a file whose status is not as it is to be, each behind a blank.
+fn beginnings(alloc: Global, case: &Case, name: &str, most: usize) -> io::Result<String> {
+    let mut told = String::new(alloc);
+    let whole = length_of(case, name);
+    for end in 0..=whole {
+        let mut desk = desk_of(alloc, case, Some((name, end)))?;
+        let status = run(alloc, &case.words, &mut desk)?;
+        if (status == 0) != (whole - end <= most) {
+            add(&mut told, &format!(in alloc; "{end}")?)?;
+        }
+    }
+    Ok(told)
+}
+
+// What differs of what a case tells, each word behind a blank.
+pub(crate) fn told_wrongly(alloc: Global, case: &Case) -> io::Result<String> {
+    match &case.beginnings {
+        Some((name, most)) => beginnings(alloc, case, name.as_str(), *most),
+        None => differences(alloc, case),
+    }
+}

@@ -1,0 +1,9 @@
+//! Tests of what goes on a sheet: where views stand, strokes, the text of a sheet, and plotters.
+#![tactic(auto)]
+
+#[cfg(test)]
+mod plotters;
+#[cfg(test)]
+mod sheets;
+#[cfg(test)]
+mod views;

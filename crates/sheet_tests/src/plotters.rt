@@ -1,0 +1,191 @@
+// Plotters that a test brings: which of them are taken, and when the others are dropped.
+ghost use Rattle.std.specs.Prelude.{◌≡◌, pos, length, IfOk};
+ghost use Rattle.std.specs.Fmt.{signed_decimal};
+
+use dec_text::{Name, push_int};
+use exact_frac::{Frac, OutOfMemory};
+use plot_rack::{ListPlotter, Plotter, Rack, RackError};
+use sheet_plan::{Mark, Stroke};
+use std::alloc::Global;
+use std::cell::Cell;
+use std::rc::Rc;
+use std::test::Fail;
+
+// The text of a number.
+fn number_text(alloc: Global, number: usize) -> Result<Vec<u8>, OutOfMemory>
+    ensures { IfOk result (λ text. text.items ≡ signed_decimal (pos number)) }
+{
+    let mut text = Vec::new(alloc);
+    push_int(&mut text, number as i128)?;
+    Ok(text)
+}
+
+// What became of a plotter: how many strokes it took, and whether it was dropped.
+#[derive(Clone, Copy, PartialEq, Eq, Debug)]
+struct Outcome {
+    strokes: u32,
+    dropped: bool,
+}
+
+// A plotter whose text is the number of its strokes. It marks its outcome.
+struct Counter {
+    alloc: Global,
+    page: Option<(i64, i64)>,
+    strokes: Vec<Stroke>,
+    text: Vec<u8>,
+    outcome: Rc<Cell<Outcome>>,
+    ghost counted: { text.items ≡ signed_decimal (pos (length strokes.items)) },
+}
+
+impl Drop for Counter {
+    fn drop(self) {
+        let outcome = self.outcome.get();
+        self.outcome.set(Outcome {
+            strokes: outcome.strokes,
+            dropped: true,
+        });
+        let Counter {
+            alloc: _,
+            page: _,
+            strokes: _,
+            text: _,
+            outcome: _,
+        } = self;
+    }
+}
+
+impl Plotter for Counter {
+    ghost use Rattle.std.specs.Prelude.{codes};
+
+    ghost plot = { λ counter. record { suffix = codes "count"; page = counter.page; strokes = counter.strokes.items; paper = λ page strokes. signed_decimal (pos (length strokes)) } };
+
+    fn suffix(&self) -> &str {
+        "count"
+    }
+
+    fn page(&mut self, width: i64, height: i64) -> Result<(), OutOfMemory> {
+        let text = number_text(self.alloc, 0)?;
+        self.page = Some((width, height));
+        self.strokes.clear();
+        self.text = text;
+        Ok(())
+    }
+
+    fn stroke(&mut self, stroke: Stroke) -> Result<(), OutOfMemory> {
+        let text = number_text(self.alloc, self.strokes.len() + 1)?;
+        self.strokes.push(stroke)?;
+        self.text = text;
+        let outcome = self.outcome.get();
+        self.outcome.set(Outcome {
+            strokes: outcome.strokes.saturating_add(1),
+            dropped: outcome.dropped,
+        });
+        Ok(())
+    }
+
+    fn text(&self) -> &[u8] {
+        &self.text
+    }
+}
+
+impl Counter {
+    fn new(alloc: Global, outcome: &Rc<Cell<Outcome>>) -> Result<Counter, OutOfMemory> {
+        Ok(Counter {
+            alloc,
+            page: None,
+            strokes: Vec::new(alloc),
+            text: number_text(alloc, 0)?,
+            outcome: Rc::clone(outcome)?,
+        })
+    }
+}
+
+fn new_outcome(alloc: Global) -> Result<Rc<Cell<Outcome>>, OutOfMemory> {
+    let outcome = Outcome {
+        strokes: 0,
+        dropped: false,
+    };
+    Ok(Rc::new(alloc, Cell::new(outcome))?)
+}
+
+// A stroke of the first view.
+fn stroke(mark: Mark) -> Stroke {
+    let zero = Frac { num: 0, den: 1 }.reduce();
+    Stroke {
+        view: 0,
+        mark,
+        u1: zero,
+        v1: zero,
+        u2: zero,
+        v2: zero,
+        x1: 2000,
+        y1: 4500,
+        x2: 2000,
+        y2: 3500,
+    }
+}
+
+const DROPPED: Outcome = Outcome {
+    strokes: 0,
+    dropped: true,
+};
+
+#[test]
+fn the_first_of_a_suffix(rt: HostRuntime) -> Result<(), Fail> {
+    let alloc = rt.alloc();
+    let (first, second) = (new_outcome(alloc)?, new_outcome(alloc)?);
+    let mut boxes: Vec<Box<dyn Plotter>> = Vec::new(alloc);
+    boxes.push(Box::new(alloc, ListPlotter::new(alloc))?)?;
+    boxes.push(Box::new(alloc, Counter::new(alloc, &first)?)?)?;
+    boxes.push(Box::new(alloc, Counter::new(alloc, &second)?)?)?;
+    let names = [Name::new(alloc, "count")?];
+    let mut rack = Rack::choose(alloc, boxes, &names)?;
+    assert!(rt; rack.len() == 1);
+    assert_eq!(rt; second.get(), DROPPED);
+    rack.draw(42000, 29700, &[stroke(Mark::Solid), stroke(Mark::Hatch)])?;
+    assert_eq!(rt;
+        first.get(),
+        Outcome {
+            strokes: 2,
+            dropped: false
+        }
+    );
+    assert_eq!(rt; rack.suffix(0), "count");
+    assert_eq!(rt; rack.text(0), b"2".as_slice());
+    drop(rack);
+    assert_eq!(rt;
+        first.get(),
+        Outcome {
+            strokes: 2,
+            dropped: true
+        }
+    );
+    Ok(())
+}
+
+#[test]
+fn what_is_not_named_is_dropped(rt: HostRuntime) -> Result<(), Fail> {
+    let alloc = rt.alloc();
+    let handed_in = new_outcome(alloc)?;
+    let mut boxes: Vec<Box<dyn Plotter>> = Vec::new(alloc);
+    boxes.push(Box::new(alloc, Counter::new(alloc, &handed_in)?)?)?;
+    let mut rack = Rack::choose(alloc, boxes, &[])?;
+    rack.draw(42000, 29700, &[stroke(Mark::Dashed)])?;
+    assert_eq!(rt; (rack.len(), handed_in.get()), (0, DROPPED));
+    Ok(())
+}
+
+#[test]
+fn a_name_without_a_plotter(rt: HostRuntime) -> Result<(), Fail> {
+    let alloc = rt.alloc();
+    let handed_in = new_outcome(alloc)?;
+    let mut boxes: Vec<Box<dyn Plotter>> = Vec::new(alloc);
+    boxes.push(Box::new(alloc, Counter::new(alloc, &handed_in)?)?)?;
+    let names = [Name::new(alloc, "count")?, Name::new(alloc, "mill")?];
+    let refused = Rack::choose(alloc, boxes, &names).map(|rack| rack.len());
+    assert_eq!(rt;
+        (refused, handed_in.get()),
+        (Err(RackError::NoPlotter(1)), DROPPED)
+    );
+    Ok(())
+}

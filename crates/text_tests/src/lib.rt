@@ -1,0 +1,16 @@
+//! Tests of the lowest crates and of what is read: fractions, places, intervals, numbers, desks, words, jobs and the texts of
+//! parts. What whole runs show of them stands in run_cases.
+#![tactic(auto)]
+
+#[cfg(test)]
+mod desks;
+#[cfg(test)]
+mod fractions;
+#[cfg(test)]
+mod places;
+#[cfg(test)]
+mod readers;
+#[cfg(test)]
+mod stretches;
+#[cfg(test)]
+mod tokens;
