@@ -39,8 +39,6 @@ mod ends;
 mod meter;
 mod sight;
 mod solid_sight;
-#[cfg(test)]
-mod tests;
 mod turns;
 mod ways;
 

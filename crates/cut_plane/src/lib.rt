@@ -11,8 +11,6 @@ mod loops;
 mod parity;
 mod seen;
 mod segments;
-#[cfg(test)]
-mod tests;
 
 pub use loops::{Section, borders};
 pub use parity::inside;

@@ -36,18 +36,3 @@ impl Name {
         self.text.as_str()
     }
 }
-
-#[cfg(test)]
-mod tests {
-    use super::*;
-    use std::test::Fail;
-
-    #[test]
-    fn a_name_is_its_text(rt: HostRuntime) -> Result<(), Fail> {
-        for text in ["", "cube.off", "Würfel"] {
-            let name = Name::new(rt.alloc(), text)?;
-            assert_eq!(rt; name.as_str(), text);
-        }
-        Ok(())
-    }
-}

@@ -300,37 +300,3 @@ pub fn fixed(bytes: &[u8], decimals: u8) -> Result<i32, NumberFault>
         },
     }
 }
-
-#[cfg(test)]
-mod tests {
-    use super::*;
-
-    #[test]
-    fn fixed_with_three_decimals(rt: HostRuntime) {
-        let rows = [
-            ("1048.576", Ok(1048576)),
-            ("1048.5764", Ok(1048576)),
-            ("1048.5765", Err(NumberFault::TooLarge)),
-            ("-0.0005", Ok(-1)),
-            ("+.5", Ok(500)),
-            ("5.", Ok(5000)),
-            ("1.000000e+01", Ok(10000)),
-            ("1e-9", Ok(0)),
-            ("0e999999999999", Ok(0)),
-            ("1e4", Err(NumberFault::TooLarge)),
-            ("nan", Err(NumberFault::NotANumber(0))),
-            (".", Err(NumberFault::NotANumber(1))),
-            ("1e", Err(NumberFault::NotANumber(2))),
-            ("1.2.3", Err(NumberFault::NotANumber(3))),
-            ("", Err(NumberFault::NotANumber(0))),
-            ("+", Err(NumberFault::NotANumber(1))),
-            ("1e+", Err(NumberFault::NotANumber(3))),
-            ("-.e", Err(NumberFault::NotANumber(2))),
-        ];
-        for (text, units) in rows {
-            let bytes = text.as_bytes();
-            assert!(rt; bytes.len() < 100);
-            assert_eq!(rt; fixed(bytes, 3), units, "{text}");
-        }
-    }
-}

@@ -3,8 +3,6 @@
 
 mod command;
 mod errors;
-#[cfg(test)]
-mod tests;
 mod words;
 
 pub use errors::WordsError;

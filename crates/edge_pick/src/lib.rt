@@ -16,8 +16,6 @@ mod order;
 mod order_ends;
 mod order_search;
 mod runs;
-#[cfg(test)]
-mod tests;
 
 use crate::edges::{drawn_edges, outline_edges};
 use crate::runs::find_runs;

@@ -12,7 +12,5 @@ mod meetings;
 mod numbers;
 mod places;
 mod stretches;
-#[cfg(test)]
-mod tests;
 
 pub use filling::hatch;

@@ -7,8 +7,6 @@
 mod interval;
 mod order;
 mod remainders;
-#[cfg(test)]
-mod tests;
 mod unions;
 
 pub use interval::Interval;

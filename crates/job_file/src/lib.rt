@@ -11,8 +11,6 @@ mod job;
 mod read;
 mod settings;
 mod table;
-#[cfg(test)]
-mod tests;
 mod texts;
 mod view;
 mod views;

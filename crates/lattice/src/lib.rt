@@ -14,8 +14,6 @@ mod pieces;
 mod points;
 mod products;
 mod soup;
-#[cfg(test)]
-mod tests;
 
 pub use cuts::{Cut, CutFault};
 pub use lines::Line;

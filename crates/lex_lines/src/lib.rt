@@ -11,5 +11,3 @@ mod tokens;
 pub use token::Token;
 pub use tokens::Tokens;
 
-#[cfg(test)]
-mod tests;

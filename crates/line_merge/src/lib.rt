@@ -9,7 +9,5 @@ mod marks;
 mod merging;
 mod numbering;
 mod stretches;
-#[cfg(test)]
-mod tests;
 
 pub use merging::merge;

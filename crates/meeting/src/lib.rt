@@ -13,8 +13,6 @@ mod course;
 mod edges;
 mod places;
 mod range;
-#[cfg(test)]
-mod tests;
 mod touching;
 
 pub use boxes::{boxes_meet, edge_range, ranges_meet, triangle_range};

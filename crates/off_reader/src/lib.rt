@@ -9,8 +9,6 @@ mod faces;
 mod fan;
 mod header;
 mod off;
-#[cfg(test)]
-mod tests;
 mod vertices;
 
 pub use off::read_off;

@@ -7,8 +7,6 @@
 mod list;
 mod plotter;
 mod rack;
-#[cfg(test)]
-mod tests;
 
 pub use list::ListPlotter;
 pub use plotter::Plotter;

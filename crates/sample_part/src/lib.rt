@@ -7,8 +7,6 @@ mod cubes;
 mod errors;
 mod faces;
 mod sample;
-#[cfg(test)]
-mod tests;
 
 pub use errors::SampleError;
 pub use sample::boxes;

@@ -15,8 +15,6 @@ mod planning;
 mod shapes;
 mod sheet;
 mod strokes;
-#[cfg(test)]
-mod tests;
 
 pub use bounds::Extent;
 pub use errors::PlanError;

@@ -15,8 +15,6 @@ mod solid;
 mod spots;
 mod stars;
 mod sweep;
-#[cfg(test)]
-mod tests;
 
 pub use faults::{MeshError, MeshFault};
 pub use pairs::{PairMeter, box_test, pair_test};

@@ -32,8 +32,6 @@ mod finder;
 mod order;
 mod span;
 mod step;
-#[cfg(test)]
-mod tests;
 mod tour;
 mod walk;
 

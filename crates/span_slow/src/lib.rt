@@ -32,8 +32,6 @@ mod linear;
 mod section;
 mod seen;
 mod span;
-#[cfg(test)]
-mod tests;
 mod view;
 
 use crate::alternating::spans_of;

@@ -7,7 +7,5 @@ mod facets;
 mod keywords;
 mod raw;
 mod stl;
-#[cfg(test)]
-mod tests;
 
 pub use stl::read_stl;

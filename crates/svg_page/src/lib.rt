@@ -2,7 +2,5 @@
 #![tactic(auto)]
 
 mod page;
-#[cfg(test)]
-mod tests;
 
 pub use page::svg;

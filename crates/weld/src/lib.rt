@@ -3,8 +3,6 @@
 
 mod fault;
 mod raw_part;
-#[cfg(test)]
-mod tests;
 mod welding;
 
 pub use fault::{PartError, PartFault, PartKind, Want, Word};

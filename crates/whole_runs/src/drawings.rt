@@ -1,13 +1,13 @@
 // What a drawing has: its job, its solid, its views, its counts and its meter.
 use crate::runs::{desk_of, words_of};
 use cross_find::SolidSight;
-use draw_core::{Drawing, bound, draw};
+use draw_core::{Drawing, draw};
 use edge_pick::{Crease, pick};
 use exact_frac::Frac;
 use fixtures::{CUBE_TEXT, MOVED_TEXT};
 use lattice::{Dir, Style, ViewSpec};
 use solid_mesh::Solid;
-use span_count::{AllOutlines, spans_counted};
+use span_count::{AllOutlines, bound, spans_counted};
 use std::alloc::Global;
 use std::test::Fail;
 
