@@ -5,4 +5,5 @@ pub mod Lists
 pub mod Numbered
 pub mod Numberings
 pub mod OrderSearch
+pub mod PickedSizes
 pub mod Picking

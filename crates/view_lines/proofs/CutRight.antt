@@ -1,5 +1,5 @@
 -- Strips of the drawn edges beyond the plane and of the section's borders, put together, are right for the cut view.
-use Rattle.std.proofs.Common.{◌≡◌, ℕ, ◌+◌, ◌<◌, ◌⊎◌, inl, inr, List, All, length, Contains, get_or, false, sym, subst, ◌∙◌, arith}
+use Rattle.std.proofs.Common.{◌≡◌, ℕ, ◌+◌, ◌<◌, ◌⊎◌, inl, inr, List, All, length, Contains, get_or, false, sym, subst, arith}
 use Rattle.std.specs.Prelude.{ℤ, pos, ◌<ℤ◌, ◌≤ℤ◌}
 use Rattle.std.proofs.lemmas.Int.{ints, by_lt_z}
 use Rattle.std.proofs.lemmas.List.Elements.{All-contains, Contains-get_or, Contains-append_cases, Contains-append_left, Contains-append_right}
@@ -10,18 +10,16 @@ use Rattle.lattice.specs.Triple.{Triple}
 use Rattle.lattice.specs.Points.{Point, IsPoint, OnOneSight, of_spot}
 use Rattle.lattice.specs.Lines.{IsSameLine, AreStripEnds}
 use Rattle.lattice.specs.Cuts.{Plane, toward_of, IsBeyond}
-use Rattle.geometry.specs.Faces.{share_point, IsPointOfFace, IsPointOfEdge}
+use Rattle.geometry.specs.Faces.{share_point, IsPointOfFace}
 use Rattle.geometry.specs.Parts.{Part, Face, Edge, IsNumbered, IsClosed}
 use Rattle.geometry.specs.Cuts.{EdgeOrBorder, edge, border, step_of, PassesUnder, IsOnBorder, IsDrawnInCut, IsHiddenInCut, IsOrdinaryInCut}
 use Rattle.geometry.specs.Scenes.{IsSeenAt, AreRightInCut}
 use Rattle.geometry.specs.Views.{IsDrawn, IsOrdinary, AreDrawnEdges}
 use Rattle.geometry.proofs.Borders.{on_plane_is_visible}
 use Rattle.geometry.proofs.BorderSteps.{ordinary_along_cut}
-use Rattle.geometry.proofs.EachEdge.{numbered_edge}
 use Rattle.geometry.proofs.StepLines.{RunsAlong, one_line}
 use Rattle.geometry.proofs.OnLines.{on_line_between}
-use Rattle.geometry.proofs.Shares.{edge_share}
-use Rattle.geometry.specs.Places.{HasNoEndAt}
+use Rattle.geometry.specs.Places.{IsBetween, HasNoEndAt}
 use Rattle.hiding.proofs.CutPlanes.{ordinary-in-plain}
 use Rattle.hiding.proofs.FrontEnds.{not-at-start, not-at-finish}
 use Rattle.line_merge.proofs.Zips.{zip_left, zip_right}
@@ -30,12 +28,13 @@ use Rattle.cut_plane.specs.declared.segments.Segment.{Segment}
 use Rattle.cut_plane.specs.Loops.{IsSegmentOf, AreBorders}
 use Rattle.solid_mesh.proofs.SpotLemmas.{share_on_edge}
 use Rattle.span_slow.specs.CutSpans.{IsAnswerInCut, AreCutSpans}
-use Rattle.view_lines.specs.inner.Strips.{IsStripOf, IsBorderStrip, AreCutStrips}
+use Rattle.span_slow.specs.declared.span.Span.{Span}
+use Rattle.view_lines.specs.inner.Strips.{IsBorderStrip, AreCutStrips}
 use Rattle.view_lines.proofs.BorderWays.{segment_of_point}
 use Rattle.view_lines.proofs.BorderStrips.{border_strip_ends, strip_runs, off_border_ends, point_of_border, strip_of_border}
-use Rattle.view_lines.proofs.EdgeStrips.{Origin, origin_ends, origin_runs, off_strip_ends, point_of_strip, edge_under, strip_of_span}
+use Rattle.view_lines.proofs.EdgeScenes.{IsKeptPlace, edge_origin, strip_of_edge_point}
+use Rattle.view_lines.proofs.EdgeStrips.{IsSpanOf, Origin, origin_ends, origin_runs, off_strip_ends, point_of_strip, edge_under}
 use Rattle.view_lines.proofs.SpanPlaces.{weak, inner_of_between}
-use Rattle.view_lines.proofs.StripLists.{edge_of_strip, strips_of_edge}
 use Rattle.view_lines.proofs.StripScenes.{Shows, ShowAt, right_of_merged}
 use Rattle.view_lines.proofs.CutPlaces.{in_part, span_beyond}
 
@@ -61,32 +60,45 @@ module _ (c : Plane) (fraction : ℕ) (s : Part) (halves numbers : List ℕ) (se
     of_edge : Origin d Drawn Hidden Ordinary s y → Source y
     of_border : (x : Segment) → IsSegmentOf c s x → IsBorderStrip x y → Source y
 
-  edge_origin : (y : Strip) → Contains given.of_edges y → Origin d Drawn Hidden Ordinary s y
-  edge_origin y listed =
-      let (i, here, n, in_here, of_i) = edge_of_strip d (AreCutSpans c) halves numbers given.of_edges given.edges y listed in
-      let (e, numbered) = there i (All-contains (λ k. k < length halves) numbers i drawn.within n) in
-      let group = of_i e numbered in
-      let (x, in_spans, is) = zip_right (IsStripOf d e) group.spans here group.each y in_here in
-      let within = in_part c e group.spans group.right.covers x in_spans in
-      let is_drawn = (drawn.exactly i e numbered).0 n in
+  right : (e : Edge s) → IsDrawn d fraction e → (spans : List Span) → AreCutSpans c e spans → (x : Span) → Contains spans x → IsSpanOf d Drawn Hidden Ordinary e x
+  right e is_drawn spans cut x listed =
+      let within = in_part c e spans cut.covers x listed in
       record {
-        edge = e;
-        span = x;
         seen = is_drawn.1;
-        is = is;
         earlier = within.earlier;
-        ends = All-contains (λ x. HasNoEndAt Ordinary e x.from x.to) group.spans x group.right.ends in_spans;
+        ends = All-contains (λ x. HasNoEndAt Ordinary e x.from x.to) spans x cut.ends listed;
         drawn = λ n m positive between.
             let strict = inner_of_between x.from x.to n m positive x.from_place x.to_place between in
             inl (e, is_drawn, share_on_edge e.a e.b n m (weak (pos 0) n strict.0) (weak n m strict.1) positive, within.within n m positive between);
-        answer = All-contains (IsAnswerInCut c e) group.spans x group.right.answers in_spans;
+        answer = All-contains (IsAnswerInCut c e) spans x cut.answers listed;
       }
+
+  -- an ordinary point of an edge is not at its corners
+  strict_place : (e : Edge s) (n m : ℤ) → pos 0 <ℤ m → pos 0 ≤ℤ n → n ≤ℤ m → Ordinary (share_point e.a e.b n m) → (pos 0 <ℤ n) × (n <ℤ m)
+  strict_place e n m whole least most here = (
+    by_lt_z (pos 0) n (λ h. h) (λ h. absurd (not-at-start d s e n m whole least most (equal n (pos 0) h least) plain)),
+    by_lt_z n m (λ h. h) (λ h. absurd (not-at-finish d s e n m whole least most (equal n m most h) plain)),
+  )
+    where
+      plain : IsOrdinary d s (share_point e.a e.b n m)
+      plain = ordinary-in-plain c s (share_point e.a e.b n m) here
+
+      equal : (x y : ℤ) → x ≤ℤ y → y ≤ℤ x → x ≡ y
+      equal x y h g = omega (arith, ints)
+
+  find : (e : Edge s) (spans : List Span) → AreCutSpans c e spans → (n m : ℤ) → IsKeptPlace Ordinary (IsBeyond c) e n m → (x : Span) × Contains spans x × IsBetween x.from x.to n m
+  find e spans cut n m at =
+      span_beyond c e n m at.positive at.ordinary (strict_place e n m at.positive at.least at.most at.ordinary) at.kept spans cut.covers
+      (λ x listed. All-contains (λ x. HasNoEndAt Ordinary e x.from x.to) spans x cut.ends listed)
+
+  origin : (y : Strip) → Contains given.of_edges y → Origin d Drawn Hidden Ordinary s y
+  origin = edge_origin d Drawn Hidden Ordinary (IsBeyond c) fraction s halves numbers there drawn (AreCutSpans c) right find given.of_edges given.edges
 
   source : (y : Strip) → Contains strips y → Source y
   source y listed = by (Contains-append_cases given.of_edges given.of_borders y (subst (λ ys. Contains ys y) given.together listed))
     where
       by : Contains given.of_edges y ⊎ Contains given.of_borders y → Source y
-      by (inl here) = of_edge (edge_origin y here)
+      by (inl here) = of_edge (origin y here)
       by (inr here) =
           let (x, in_segments, is) = zip_right IsBorderStrip segments given.of_borders given.borders y here in
           of_border x (All-contains (IsSegmentOf c s) segments x borders.each in_segments) is
@@ -179,40 +191,11 @@ module _ (c : Plane) (fraction : ℕ) (s : Part) (halves numbers : List ℕ) (se
           border_shows f y q is.hidden on_border sight,
         )
 
-    -- an ordinary point of an edge is not at its corners
-    strict_place : (e : Edge s) (n m : ℤ) → pos 0 <ℤ m → pos 0 ≤ℤ n → n ≤ℤ m → Ordinary (share_point e.a e.b n m) → (pos 0 <ℤ n) × (n <ℤ m)
-    strict_place e n m whole least most here = (
-      by_lt_z (pos 0) n (λ h. h) (λ h. absurd (not-at-start d s e n m whole least most (equal n (pos 0) h least) plain)),
-      by_lt_z n m (λ h. h) (λ h. absurd (not-at-finish d s e n m whole least most (equal n m most h) plain)),
-    )
-      where
-        plain : IsOrdinary d s (share_point e.a e.b n m)
-        plain = ordinary-in-plain c s (share_point e.a e.b n m) here
-
-        equal : (x y : ℤ) → x ≤ℤ y → y ≤ℤ x → x ≡ y
-        equal x y h g = omega (arith, ints)
-
-    within_one : (i j : ℕ) → 0 < i + j → (pos 0 <ℤ pos (i + j)) × (pos 0 ≤ℤ pos j) × (pos j ≤ℤ pos (i + j))
-    within_one i j some = (omega (arith, ints), omega (arith, ints), omega (arith, ints))
-
-    strip_of_edge_point : (q : Point) (e : Edge s) → IsDrawn d fraction e → IsPointOfEdge e.a e.b q → IsBeyond c q → OnOneSight d q p → HasStrip q
-    strip_of_edge_point q given_edge drawn_edge on_given beyond sight =
-        let (i, e, numbered, is_drawn, (k, j, some, q_is)) = numbered_edge s closed d fraction halves drawn.edges q (given_edge, drawn_edge, on_given) in
-        let (here, in_strips, of_i) = strips_of_edge d (AreCutSpans c) halves numbers given.of_edges given.edges i ((drawn.exactly i e numbered).1 is_drawn) in
-        let group = of_i e numbered in
-        let at = q_is ∙ edge_share e.a e.b k j in
-        let (whole, least, most) = within_one k j some in
-        let q_sight = subst (λ (q : Point). OnOneSight d q p) at sight in
-        let ordinary_here = ordinary_along_cut c s p (share_point e.a e.b (pos j) (pos (k + j))) whole q_sight ordinary in
-        let (x, in_spans, within) = span_beyond c e (pos j) (pos (k + j)) whole ordinary_here (strict_place e (pos j) (pos (k + j)) whole least most ordinary_here) (subst (IsBeyond c) at beyond)
-        group.spans group.right.covers (λ x listed. All-contains (λ x. HasNoEndAt Ordinary e x.from x.to) group.spans x group.right.ends listed) in
-        let answer = All-contains (IsAnswerInCut c e) group.spans x group.right.answers in_spans (pos j) (pos (k + j)) whole within ordinary_here in
-        let (y, listed, on, shows) = strip_of_span d Drawn Hidden Ordinary e (AreCutSpans c) here group x in_spans p q (pos j) (pos (k + j)) whole least most within at sight
-        (inl (given_edge, drawn_edge, on_given, beyond)) answer in
-        (y, of_edges y (in_strips y listed), on, shows)
-
     strip_of : (q : Point) → IsSeenAt d Drawn p q → HasStrip q
-    strip_of q (inl (e, is_drawn, on_edge, beyond), sight) = strip_of_edge_point q e is_drawn on_edge beyond sight
+    strip_of q (inl (e, is_drawn, on_edge, beyond), sight) =
+        let (y, listed, on, shows) = strip_of_edge_point d Drawn Hidden Ordinary (IsBeyond c) fraction s halves numbers there drawn (AreCutSpans c) right find given.of_edges given.edges
+        closed (ordinary_along_cut c s) p q ordinary (e, is_drawn, on_edge) beyond (inl (e, is_drawn, on_edge, beyond)) sight in
+        (y, of_edges y listed, on, shows)
     strip_of q (inr (f, on_border), sight) = strip_of_border_point f q on_border sight
 
     shown : ShowAt d Drawn Hidden strips p

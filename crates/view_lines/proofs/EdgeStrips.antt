@@ -20,40 +20,44 @@ use Rattle.view_lines.proofs.SpanSums.{HasPlace, place_of_sum, sum_of_place}
 use Rattle.view_lines.proofs.StripPlaces.{span_ends, off_ends, within_of_strip, strip_of_within}
 use Rattle.view_lines.proofs.StripScenes.{Shows}
 
--- the edge and the span of it that the strip is: within it are drawn points, and it tells which are hidden
+-- a span of an edge: within it are drawn points, and it tells which are hidden
+pub record IsSpanOf (d : Triple) (Drawn Hidden Ordinary : Point → Type 0) {s : Part} (e : Edge s) (x : Span) : Type 0 where
+  pub seen : ¬ IsEndOn d e
+  pub earlier : IsEarlier x.from x.to
+  pub ends : HasNoEndAt Ordinary e x.from x.to
+  pub drawn : (n m : ℤ) → pos 0 <ℤ m → IsBetween x.from x.to n m → Drawn (share_point e.a e.b n m)
+  pub answer : (n m : ℤ) → pos 0 <ℤ m → IsBetween x.from x.to n m → Ordinary (share_point e.a e.b n m) → IsTrue x.hidden ↔ Hidden (share_point e.a e.b n m)
+
+-- the edge and the span of it that the strip is
 pub record Origin (d : Triple) (Drawn Hidden Ordinary : Point → Type 0) (s : Part) (y : Strip) : Type 0 where
   pub edge : Edge s
   pub span : Span
-  pub seen : ¬ IsEndOn d edge
   pub is : IsStripOf d edge span y
-  pub earlier : IsEarlier span.from span.to
-  pub ends : HasNoEndAt Ordinary edge span.from span.to
-  pub drawn : (n m : ℤ) → pos 0 <ℤ m → IsBetween span.from span.to n m → Drawn (share_point edge.a edge.b n m)
-  pub answer : (n m : ℤ) → pos 0 <ℤ m → IsBetween span.from span.to n m → Ordinary (share_point edge.a edge.b n m) → IsTrue span.hidden ↔ Hidden (share_point edge.a edge.b n m)
+  pub of : IsSpanOf d Drawn Hidden Ordinary edge span
 
 told_alike : (a b : Bool) {P : Type 0} → a ≡ b → IsTrue b ↔ P → IsTrue a ↔ P
 told_alike a b {P} same tells = subst (λ (c : Bool). IsTrue c ↔ P) (sym same) tells
 
 module _ (d : Triple) (Drawn Hidden Ordinary : Point → Type 0) (s : Part) (y : Strip) (o : Origin d Drawn Hidden Ordinary s y) where
   pub origin_ends : AreStripEnds d y.line y.a y.b
-  origin_ends = span_ends d o.edge o.span y.line y.a y.b o.is.line o.is.from o.is.to o.earlier o.seen
+  origin_ends = span_ends d o.edge o.span y.line y.a y.b o.is.line o.is.from o.is.to o.of.earlier o.of.seen
 
   pub origin_runs : RunsAlong d y.line (difference o.edge.a o.edge.b)
-  origin_runs = edge_runs d o.edge y.line o.seen o.is.line.first o.is.line.second
+  origin_runs = edge_runs d o.edge y.line o.of.seen o.is.line.first o.is.line.second
 
   module _ (stays : StaysAlong d Ordinary) (p : Point) (ordinary : Ordinary p) where
     pub off_strip_ends : (¬ OnOneSight d (of_spot y.a) p) × (¬ OnOneSight d (of_spot y.b) p)
-    off_strip_ends = off_ends d o.edge o.span y o.is p Ordinary stays o.ends ordinary
+    off_strip_ends = off_ends d o.edge o.span y o.is p Ordinary stays o.of.ends ordinary
 
     place : LiesOnStrip d y p → HasPlace d o.edge o.span p
-    place on = place_of_sum d o.edge o.span p Ordinary stays o.earlier o.ends ordinary (within_of_strip d o.edge o.span y o.is p on)
+    place on = place_of_sum d o.edge o.span p Ordinary stays o.of.earlier o.of.ends ordinary (within_of_strip d o.edge o.span y o.is p on)
 
     -- at each of its places the strip shows what is so
     shows_at : (h : HasPlace d o.edge o.span p) → Shows d Drawn Hidden y p (share_point o.edge.a o.edge.b h.n h.m)
     shows_at h = record {
-      drawn = o.drawn h.n h.m h.positive h.within;
+      drawn = o.of.drawn h.n h.m h.positive h.within;
       sight = h.sight;
-      tells = told_alike y.hidden o.span.hidden o.is.hidden (o.answer h.n h.m h.positive h.within (stays p (share_point o.edge.a o.edge.b h.n h.m) h.positive h.sight ordinary));
+      tells = told_alike y.hidden o.span.hidden o.is.hidden (o.of.answer h.n h.m h.positive h.within (stays p (share_point o.edge.a o.edge.b h.n h.m) h.positive h.sight ordinary));
     }
 
     pub point_of_strip : LiesOnStrip d y p → (q : Point) × Shows d Drawn Hidden y p q

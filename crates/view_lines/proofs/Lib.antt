@@ -1,12 +1,11 @@
-pub mod Ascending
 pub mod BorderStrips
 pub mod BorderWays
 pub mod CountedEdges
 pub mod CountedSpans
 pub mod CutPlaces
 pub mod CutRight
+pub mod EdgeScenes
 pub mod EdgeStrips
-pub mod PickedSizes
 pub mod SpanPlaces
 pub mod SpanSums
 pub mod StripLists

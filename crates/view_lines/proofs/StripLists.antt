@@ -1,22 +1,30 @@
 -- Lists of strips, edge by edge: one edge more, the edge of a strip and the strips of an edge.
-use Rattle.std.proofs.Common.{ℕ, zero, suc, ◌⊎◌, inl, inr, List, [], ◌∷◌, ◌++◌, Contains, refl, sym, subst, ap, ◌∙◌, arith, append-nil, append_assoc}
+use Rattle.std.proofs.Common.{ℕ, zero, suc, ◌≡◌, ◌⊎◌, inl, inr, List, [], ◌∷◌, ◌++◌, Contains, refl, sym, subst, ap, ◌∙◌, arith, append-nil, append_assoc}
 use Rattle.std.proofs.lemmas.List.Elements.{Contains-append_cases, Contains-append_left, Contains-append_right}
 use Rattle.lattice.specs.declared.pieces.Strip.{Strip}
 use Rattle.lattice.specs.Triple.{Triple}
 use Rattle.geometry.specs.Parts.{Part, Edge, IsNumbered}
 use Rattle.line_merge.proofs.Lists.{contains_rest, contains_first}
 use Rattle.span_slow.specs.declared.span.Span.{Span}
-use Rattle.view_lines.specs.inner.Strips.{AreStripsOf, AreEdgeStrips}
+use Rattle.std.specs.List.{AllZip}
+use Rattle.view_lines.specs.inner.Strips.{IsStripOf, AreStripsOf, AreEdgeStrips}
 
 module _ (d : Triple) {s : Part} (Right : Edge s → List Span → Type 0) (halves : List ℕ) where
   -- these are the strips of the edge with the number i
   abbrev pub AreOf : ℕ → List Strip → Type 0
   AreOf i strips = (e : Edge s) → IsNumbered halves i e → AreStripsOf d Right e strips
 
-  pub edge_more : (numbers : List ℕ) (strips : List Strip) (i : ℕ) (more : List Strip) → AreEdgeStrips d Right halves numbers strips → AreOf i more → AreEdgeStrips d Right halves (numbers ++ i ∷ []) (strips ++ more)
+  edge_more : (numbers : List ℕ) (strips : List Strip) (i : ℕ) (more : List Strip) → AreEdgeStrips d Right halves numbers strips → AreOf i more → AreEdgeStrips d Right halves (numbers ++ i ∷ []) (strips ++ more)
   edge_more [] strips i more h of_i = (more, [], ap (λ ys. ys ++ more) h ∙ sym (append-nil more), of_i, refl)
   edge_more (k ∷ ks) strips i more (here, rest, parted, of_k, later) of_i =
       (here, rest ++ more, ap (λ ys. ys ++ more) parted ∙ append_assoc here rest more, of_k, edge_more ks rest i more later of_i)
+
+  -- the strips of the spans of one edge more came to the end
+  pub edge_added : (numbers : List ℕ) (old new here : List Strip) (i : ℕ) (spans : List Span) → new ≡ old ++ here → ((e : Edge s) → IsNumbered halves i e → Right e spans)
+      → ((e : Edge s) → IsNumbered halves i e → AllZip (IsStripOf d e) spans here) → AreEdgeStrips d Right halves numbers old → AreEdgeStrips d Right halves (numbers ++ i ∷ []) new
+  edge_added numbers old new here i spans added right each so_far =
+      subst (λ (ys : List Strip). AreEdgeStrips d Right halves (numbers ++ i ∷ []) ys) (sym added)
+      (edge_more numbers old i here so_far (λ e n. record { spans = spans; right = right e n; each = each e n }))
 
   pub edge_of_strip : (numbers : List ℕ) (strips : List Strip) → AreEdgeStrips d Right halves numbers strips → (y : Strip) → Contains strips y
       → (i : ℕ) × (here : List Strip) × Contains numbers i × Contains here y × AreOf i here

@@ -1,33 +1,29 @@
 -- Strips of the drawn edges, put together, are right for the view.
-use Rattle.std.proofs.Common.{ℕ, ◌+◌, ◌<◌, List, length, Contains, get_or, subst, ◌∙◌, arith}
-use Rattle.std.specs.Prelude.{pos, ◌<ℤ◌, ◌≤ℤ◌}
-use Rattle.std.proofs.lemmas.Int.{ints}
+use Rattle.std.proofs.Common.{ℕ, ◌<◌, List, length, Contains, get_or}
+use Rattle.std.specs.Prelude.{ℤ, pos}
 use Rattle.std.proofs.lemmas.List.Elements.{All-contains, Contains-get_or}
 use Rattle.lattice.specs.declared.pieces.Piece.{Piece}
 use Rattle.lattice.specs.declared.pieces.Strip.{Strip}
 use Rattle.lattice.specs.Triple.{Triple}
-use Rattle.lattice.specs.Points.{Point, IsPoint, difference, OnOneSight}
+use Rattle.lattice.specs.Points.{Point, IsPoint, difference}
 use Rattle.lattice.specs.Lines.{IsSameLine}
-use Rattle.geometry.specs.Faces.{share_point}
 use Rattle.geometry.specs.Parts.{Part, Edge, IsNumbered, IsClosed}
 use Rattle.geometry.specs.Pieces.{AreRight}
 use Rattle.geometry.specs.Scenes.{IsSeenAt}
-use Rattle.geometry.specs.Views.{IsHidden, IsOrdinary, IsDrawnPoint, AreDrawnEdges}
-use Rattle.geometry.proofs.EachEdge.{numbered_edge}
+use Rattle.geometry.specs.Views.{IsDrawn, IsHidden, IsOrdinary, IsDrawnPoint, AreDrawnEdges}
 use Rattle.geometry.proofs.StepLines.{one_line}
 use Rattle.geometry.proofs.OnLines.{on_line_between}
 use Rattle.geometry.proofs.Scenes.{plain_of_scene}
-use Rattle.geometry.proofs.Shares.{edge_share}
 use Rattle.geometry.proofs.Sights.{ordinary_along}
-use Rattle.geometry.specs.Places.{HasNoOrdinaryEnd}
-use Rattle.line_merge.proofs.Zips.{zip_right}
+use Rattle.geometry.specs.Places.{IsBetween, HasNoOrdinaryEnd}
 use Rattle.line_merge.specs.Merging.{AreStrips, LiesOnStrip, IsClear, AreMerged}
 use Rattle.solid_mesh.proofs.SpotLemmas.{share_on_edge}
 use Rattle.span_slow.specs.Spans.{IsAnswer}
-use Rattle.view_lines.specs.inner.Strips.{IsStripOf, TellHidden, AreEdgeStrips}
-use Rattle.view_lines.proofs.EdgeStrips.{Origin, origin_ends, origin_runs, off_strip_ends, point_of_strip, edge_under, strip_of_span}
+use Rattle.span_slow.specs.declared.span.Span.{Span}
+use Rattle.view_lines.specs.inner.Strips.{TellHidden, AreEdgeStrips}
+use Rattle.view_lines.proofs.EdgeScenes.{IsKeptPlace, edge_origin, strip_of_edge_point}
+use Rattle.view_lines.proofs.EdgeStrips.{IsSpanOf, Origin, origin_ends, origin_runs, off_strip_ends, point_of_strip, edge_under}
 use Rattle.view_lines.proofs.SpanPlaces.{earlier_in, span_of_place, weak, inner_of_between}
-use Rattle.view_lines.proofs.StripLists.{edge_of_strip, strips_of_edge}
 use Rattle.view_lines.proofs.StripScenes.{Shows, ShowAt, right_of_merged}
 
 module _ (d : Triple) (fraction : ℕ) (s : Part) (halves numbers : List ℕ) (strips : List Strip) (closed : IsClosed s)
@@ -42,29 +38,32 @@ module _ (d : Triple) (fraction : ℕ) (s : Part) (halves numbers : List ℕ) (s
   abbrev Ordinary : Point → Type 0
   Ordinary = IsOrdinary d s
 
+  abbrev Kept : Point → Type 0
+  Kept q = Unit {0}
+
+  right : (e : Edge s) → IsDrawn d fraction e → (spans : List Span) → TellHidden d e spans → (x : Span) → Contains spans x → IsSpanOf d Drawn Hidden Ordinary e x
+  right e is_drawn spans told x listed =
+      let (from, to, zero_is, one_is, follow) = told.covers in
+      record {
+        seen = is_drawn.1;
+        earlier = earlier_in from to spans follow x listed;
+        ends = All-contains (λ x. HasNoOrdinaryEnd d e x.from x.to) spans x told.ends listed;
+        drawn = λ n m positive within.
+            let inner = inner_of_between x.from x.to n m positive x.from_place x.to_place within in
+            (e, is_drawn, share_on_edge e.a e.b n m (weak (pos 0) n inner.0) (weak n m inner.1) positive);
+        answer = All-contains (IsAnswer d e) spans x told.answers listed;
+      }
+
+  find : (e : Edge s) (spans : List Span) → TellHidden d e spans → (n m : ℤ) → IsKeptPlace Ordinary Kept e n m → (x : Span) × Contains spans x × IsBetween x.from x.to n m
+  find e spans told n m at =
+      span_of_place d Ordinary (ordinary_along d s) e n m at.positive at.ordinary at.least at.most spans told.covers
+      (λ x listed. All-contains (λ x. HasNoOrdinaryEnd d e x.from x.to) spans x told.ends listed)
+
   abbrev FromEdge : Strip → Type 0
   FromEdge y = Origin d Drawn Hidden Ordinary s y
 
   origin : (y : Strip) → Contains strips y → FromEdge y
-  origin y c =
-      let (i, here, n, in_here, of_i) = edge_of_strip d (TellHidden d) halves numbers strips given y c in
-      let (e, numbered) = there i (All-contains (λ k. k < length halves) numbers i drawn.within n) in
-      let group = of_i e numbered in
-      let (x, in_spans, is) = zip_right (IsStripOf d e) group.spans here group.each y in_here in
-      let (from, to, zero_is, one_is, follow) = group.right.covers in
-      let is_drawn = (drawn.exactly i e numbered).0 n in
-      record {
-        edge = e;
-        span = x;
-        seen = is_drawn.1;
-        is = is;
-        earlier = earlier_in from to group.spans follow x in_spans;
-        ends = All-contains (λ x. HasNoOrdinaryEnd d e x.from x.to) group.spans x group.right.ends in_spans;
-        drawn = λ n m positive within.
-            let inner = inner_of_between x.from x.to n m positive x.from_place x.to_place within in
-            (e, is_drawn, share_on_edge e.a e.b n m (weak (pos 0) n inner.0) (weak n m inner.1) positive);
-        answer = All-contains (IsAnswer d e) group.spans x group.right.answers in_spans;
-      }
+  origin = edge_origin d Drawn Hidden Ordinary Kept fraction s halves numbers there drawn (TellHidden d) right find strips given
 
   pub are_strips : AreStrips d strips
   are_strips k y within = let z = get_or strips k y in origin_ends d Drawn Hidden Ordinary s z (origin z (Contains-get_or strips k y within))
@@ -92,24 +91,11 @@ module _ (d : Triple) (fraction : ℕ) (s : Part) (halves numbers : List ℕ) (s
       one_line = λ y z c e on_y on_z. same_line y z (origin y c) (origin z e) on_y on_z;
     }
 
-    within_one : (i j : ℕ) → 0 < i + j → (pos 0 <ℤ pos (i + j)) × (pos 0 ≤ℤ pos j) × (pos j ≤ℤ pos (i + j))
-    within_one i j some = (omega (arith, ints), omega (arith, ints), omega (arith, ints))
-
     -- each drawn point on the line of sight is on a strip
     strip_of : (q : Point) → IsSeenAt d Drawn p q → (y : Strip) × Contains strips y × LiesOnStrip d y p × Shown y q
     strip_of q (on_drawn, sight) =
-        let (i, e, numbered, is_drawn, (k, j, some, q_is)) = numbered_edge s closed d fraction halves drawn.edges q on_drawn in
-        let (here, in_strips, of_i) = strips_of_edge d (TellHidden d) halves numbers strips given i ((drawn.exactly i e numbered).1 is_drawn) in
-        let group = of_i e numbered in
-        let at = q_is ∙ edge_share e.a e.b k j in
-        let (whole, least, most) = within_one k j some in
-        let q_sight = subst (λ (q : Point). OnOneSight d q p) at sight in
-        let ordinary_here = ordinary_along d s p (share_point e.a e.b (pos j) (pos (k + j))) whole q_sight ordinary in
-        let (x, in_spans, within) = span_of_place d Ordinary (ordinary_along d s) e (pos j) (pos (k + j)) whole ordinary_here least most group.spans group.right.covers
-        (λ x c. All-contains (λ x. HasNoOrdinaryEnd d e x.from x.to) group.spans x group.right.ends c) in
-        let answer = All-contains (IsAnswer d e) group.spans x group.right.answers in_spans (pos j) (pos (k + j)) whole within ordinary_here in
-        let (y, c, on, shows) = strip_of_span d Drawn Hidden Ordinary e (TellHidden d) here group x in_spans p q (pos j) (pos (k + j)) whole least most within at sight on_drawn answer in
-        (y, in_strips y c, on, shows)
+        strip_of_edge_point d Drawn Hidden Ordinary Kept fraction s halves numbers there drawn (TellHidden d) right find strips given
+        closed (ordinary_along d s) p q ordinary on_drawn tt on_drawn sight
 
     shown : ShowAt d Drawn Hidden strips p
     shown = record {

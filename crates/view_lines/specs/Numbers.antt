@@ -1,5 +1,5 @@
 -- The numbers of a view, and their sums.
-use Rattle.std.specs.Prelude.{◌≡◌, ◌<◌, ◌+◌, ℕ, List, length}
+use Rattle.std.specs.Prelude.{◌≡◌, ◌<◌, ◌+◌, ℕ, length}
 use Rattle.edge_pick.specs.Picked.{IsPicked}
 use Rattle.edge_pick.specs.declared.Picked.{Picked}
 use Rattle.lattice.specs.Creases.{fraction_of}

@@ -3,7 +3,7 @@ use Rattle.lattice.specs.Creases.{fraction_of}
 use Rattle.lattice.specs.Points.{of_dir}
 use Rattle.cross_find.specs.SolidSights.{state_of}
 use Rattle.view_lines.proofs.CountedEdges.{has_room, few_tests, counts_of_entries}
-use Rattle.view_lines.proofs.PickedSizes.{few_drawn}
+use Rattle.edge_pick.proofs.PickedSizes.{few_drawn}
 use Rattle.view_lines.proofs.counts.counts_along.Goals as goal
 
 pub bound-bound-requires : goal.bound-bound-requires

@@ -1,8 +1,7 @@
-use Rattle.std.proofs.Common.{◌+◌, ◌++◌, ℕ, List, All, length, ◌<◌, take, get_or, sym, subst}
+use Rattle.std.proofs.Common.{ℕ, List, All, length, ◌<◌, take, get_or, sym, subst}
 use Rattle.std.specs.List.{AllZip}
 use Rattle.std.proofs.lemmas.List.{take_all, take_more}
 use Rattle.std.proofs.lemmas.List.Elements.{All-contains, Contains-get_or}
-use Rattle.lattice.specs.declared.pieces.Strip.{Strip}
 use Rattle.lattice.specs.Triple.{Triple}
 use Rattle.geometry.specs.Parts.{Edge, IsNumbered}
 use Rattle.geometry.specs.Views.{IsEndOn}
@@ -11,9 +10,9 @@ use Rattle.solid_mesh.proofs.Facts.{edge_there}
 use Rattle.span_slow.specs.declared.span.Span.{Span}
 use Rattle.geometry.specs.Places.{IsEarlier}
 use Rattle.span_slow.specs.Views.{direction_in, AreSpansIn}
-use Rattle.view_lines.specs.inner.Strips.{IsStripOf, AreStripsOf, AreEdgeStrips}
+use Rattle.view_lines.specs.inner.Strips.{IsStripOf, AreEdgeStrips}
 use Rattle.view_lines.proofs.CutPlaces.{view_earlier}
-use Rattle.view_lines.proofs.StripLists.{edge_more}
+use Rattle.view_lines.proofs.StripLists.{edge_added}
 use Rattle.view_lines.proofs.strips.edge_strips.Goals as goal
 
 pub loop-edge-init : goal.loop-edge-init
@@ -38,22 +37,17 @@ add_strips-requires-clause-ordered c =
 
 pub loop-edge-preserved : goal.loop-edge-preserved
 loop-edge-preserved c =
-    let s = solid_part c.args.solid.now in
-    let halves = edge_halves c.args.solid.now in
     let view = c.args.view.now in
     let d = direction_in view in
+    let halves = edge_halves c.args.solid.now in
     let numbers = c.args.numbers.now in
     let i = c.loop-edge.edge-index in
+    let spans = c.in_ok-spans.spans.items in
     let (here, added, zip) = c.in_ok-add_strips.ensures in
-    let of_edge : (e : Edge s) → IsNumbered halves (get_or numbers i 0) e → AreStripsOf d (AreSpansIn view) e here = λ e n. record {
-      spans = c.in_ok-spans.spans.items;
-      right = c.in_ok-spans.ensures e n;
-      each = subst (λ (xs : List Span). AllZip (IsStripOf d e) xs here) c.deref.ensures.value
-          (subst (λ (v : Triple). AllZip (IsStripOf v e) c.deref.result.now here) c.requires.along (zip e n));
-    } in
-    let more = edge_more d (AreSpansIn view) halves (take i numbers) c.loop-edge.strips.items (get_or numbers i 0) here c.loop-edge.invariant of_edge in
-    subst (λ (ys : List Strip). AreEdgeStrips d {s = s} (AreSpansIn view) halves (take (i + 1) numbers) ys) (sym added)
-    (subst (λ (ns : List ℕ). AreEdgeStrips d {s = s} (AreSpansIn view) halves ns (c.loop-edge.strips.items ++ here)) (sym (take_more numbers i 0 c.loop-edge-test.true)) more)
+    let each : (e : Edge (solid_part c.args.solid.now)) → IsNumbered halves (get_or numbers i 0) e → AllZip (IsStripOf d e) spans here = λ e n.
+    subst (λ (xs : List Span). AllZip (IsStripOf d e) xs here) c.deref.ensures.value (subst (λ (v : Triple). AllZip (IsStripOf v e) c.deref.result.now here) c.requires.along (zip e n)) in
+    subst (λ (ns : List ℕ). AreEdgeStrips d {s = solid_part c.args.solid.now} (AreSpansIn view) halves ns c.add_strips.new.strips.items) (sym (take_more numbers i 0 c.loop-edge-test.true))
+    (edge_added d (AreSpansIn view) halves (take i numbers) c.loop-edge.strips.items c.add_strips.new.strips.items here (get_or numbers i 0) spans added c.in_ok-spans.ensures each c.loop-edge.invariant)
 
 pub returns : goal.returns
 returns c =
