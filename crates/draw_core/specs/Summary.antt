@@ -3,7 +3,7 @@ use Rattle.std.specs.Prelude.{◌≡◌, ℕ, Bool, true, false, List, ◌++◌,
 use Rattle.std.specs.Fmt.{decimal}
 use Rattle.desk.specs.Files.{AppendsFront}
 use Rattle.lattice.specs.declared.pieces.Style.{Style}
-use Rattle.lattice.specs.declared.pieces.Style.TheVariants.{Solid, Dashed}
+use Rattle.lattice.specs.declared.pieces.Style.TheVariants.{Solid, Dashed, Chain}
 use Rattle.solid_mesh.specs.Solids.{solid_part}
 use Rattle.svg_page.specs.Texts.{◌⊕◌}
 use Rattle.draw_core.specs.Numbers.{SumsViews}
@@ -29,8 +29,13 @@ summary_line triangles views edges runs bound solid dashed hatch = first_half tr
 abbrev pub is_style : Style → Style → Bool
 is_style Solid Solid = true
 is_style Solid Dashed = false
+is_style Solid Chain = false
 is_style Dashed Solid = false
 is_style Dashed Dashed = true
+is_style Dashed Chain = false
+is_style Chain Solid = false
+is_style Chain Dashed = false
+is_style Chain Chain = true
 
 -- how many pieces of all views are drawn in a style, and how many hatch lines there are
 abbrev pub pieces_in : Style → List ViewDrawing → ℕ

@@ -25,11 +25,10 @@ pub(crate) struct Summary {
 fn is_style(style: Style, piece: &Piece) -> bool
     ensures { result ≡ is_style style piece.now.style }
 {
-    match (style, piece.style) {
-        (Style::Solid, Style::Solid) => true,
-        (Style::Solid, Style::Dashed) => false,
-        (Style::Dashed, Style::Solid) => false,
-        (Style::Dashed, Style::Dashed) => true,
+    match style {
+        Style::Solid => matches!(piece.style, Style::Solid),
+        Style::Dashed => matches!(piece.style, Style::Dashed),
+        Style::Chain => matches!(piece.style, Style::Chain),
     }
 }
 

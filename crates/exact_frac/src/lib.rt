@@ -1,10 +1,10 @@
 //! Fractions of whole numbers, compared, reduced and rounded exactly, in 128 bits.
 //!
-//! Two fractions are compared as Euclid's algorithm goes, by their whole parts and then by what is left, so no cross
-//! product is formed and no pair overflows. No call takes memory.
+//! Two fractions are compared by their cross products where these can't overflow, and else as Euclid's algorithm goes, by
+//! their whole parts and then by what is left. No call takes memory.
 #![tactic(auto)]
 
-ghost use Rattle.std.specs.Prelude.{◌≡◌, ◌+◌, ◌*◌, ◌<◌, ◌≤◌, ◌^◌, pos, ◌+ℤ◌, ◌*ℤ◌, ◌<ℤ◌, unsigned_abs};
+ghost use Rattle.std.specs.Prelude.{◌≡◌, ◌+◌, ◌*◌, ◌<◌, ◌≤◌, ◌^◌, ◌↔◌, IsTrue, pos, ◌+ℤ◌, ◌*ℤ◌, ◌<ℤ◌, unsigned_abs};
 ghost use Rattle.std.specs.Int.{IsGcd};
 ghost use Rattle.std.specs.Ordering.{nat_cmp, as_partial_cmp, eq_by_cmp};
 ghost use Rattle.std.specs.Cmp.{partial_order_from_total, partial_equiv_from_equiv, eq_by_cmp_equiv};
@@ -69,15 +69,16 @@ impl Ord for Frac {
 
     ghost matches_eq = { λ x y. refl };
 
-    /// The order of the two values, by at most 184 steps of Euclid's algorithm on each fraction.
+    /// The order of the two values: by two products where all four numbers are below 2^64 in size, and else by at most 184
+    /// steps of Euclid's algorithm on each fraction.
     fn cmp(&self, other: &Frac) -> Ordering {
         let (left, right) = (self.num.unsigned_abs(), other.num.unsigned_abs());
         let (left_den, right_den) = (self.den.unsigned_abs(), other.den.unsigned_abs());
         match (self.num < 0, other.num < 0) {
             (true, false) => Ordering::Less,
             (false, true) => Ordering::Greater,
-            (false, false) => compare_ratios(left, left_den, right, right_den),
-            (true, true) => compare_ratios(right, right_den, left, left_den),
+            (false, false) => compare_unsigned(left, left_den, right, right_den),
+            (true, true) => compare_unsigned(right, right_den, left, left_den),
         }
     }
 }
@@ -112,6 +113,26 @@ impl PartialEq for Frac {
     fn eq(&self, other: &Frac) -> bool {
         self.cmp(other) == Ordering::Equal
     }
+}
+
+/// The order of `a / b` and `c / d`.
+fn compare_unsigned(a: u128, b: u128, c: u128, d: u128) -> Ordering
+    requires left_den { 0 < b }
+    requires right_den { 0 < d }
+    ensures { result ≡ nat_cmp (a * d) (c * b) }
+{
+    if fits_64(a) && fits_64(b) && fits_64(c) && fits_64(d) {
+        (a * d).cmp(&(c * b))
+    } else {
+        compare_ratios(a, b, c, d)
+    }
+}
+
+/// The number is below 2^64, so that a product of two such fits.
+fn fits_64(n: u128) -> bool
+    ensures { IsTrue result ↔ n < 2 ^ 64 }
+{
+    n <= u64::MAX.into()
 }
 
 /// The order of `a / b` and `c / d`, by their whole parts and then by what is left, turned round.

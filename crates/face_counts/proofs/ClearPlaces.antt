@@ -9,7 +9,7 @@ use Rattle.lattice.specs.Triple.{Triple, det, right_axis, up_axis}
 use Rattle.lattice.specs.Points.{difference, OnOneSight}
 use Rattle.geometry.specs.Faces.{share_point, edge_sum}
 use Rattle.geometry.specs.Parts.{Part, Face, Edge, IsClosed}
-use Rattle.geometry.specs.Views.{IsOrdinary, PassesOver}
+use Rattle.geometry.specs.Views.{IsOrdinary, IsSeenOver}
 use Rattle.geometry.proofs.Shares.{edge_share}
 use Rattle.hiding.specs.Screens.{Screen, area_of, turn_of}
 use Rattle.hiding.specs.Values.{IsSideOf}
@@ -79,7 +79,7 @@ module _ (p q a b : Screen) (n m : ℤ) (on_line : turn_of (place_of p q n m) a 
 -- ---- an ordinary point
 module _ (d : Triple) {s : Part} (closed : IsClosed s) (in_range : All (IsBelow (length s.corners)) s.triangles) (e : Edge s)
     (n m : ℤ) (after : pos 0 <ℤ n) (before : n <ℤ m) (ordinary : IsOrdinary d s (share_point e.a e.b n m)) where
-  over_itself : PassesOver d e (share_point e.a e.b n m)
+  over_itself : IsSeenOver d e (share_point e.a e.b n m)
   over_itself =
       let (u, hu) = natural (m -ℤ n) (omega (arith, ints)) in
       let (v, hv) = natural n (omega (arith, ints)) in

@@ -12,7 +12,7 @@ use Rattle.lattice.proofs.SightLines.{sight_of_along}
 use Rattle.geometry.specs.Faces.{edge_sum}
 use Rattle.geometry.specs.Parts.{Part, Edge}
 use Rattle.geometry.specs.Places.{point_at}
-use Rattle.geometry.specs.Views.{IsOrdinary, PassesOver, face_sign}
+use Rattle.geometry.specs.Views.{IsOrdinary, IsSeenOver, face_sign}
 use Rattle.hiding.proofs.SidePoints.{share-of-edge}
 use Rattle.hiding.proofs.ScreenSides.{pos_at}
 use Rattle.counting.specs.Counts.{Side, to_left, to_right, turn_to}
@@ -109,7 +109,7 @@ module _ (d : Triple) {s : Part} (e o : Edge s) (r : Frac) (here : IsCrossedAt d
   second_turn = ends_turn d (difference e.a e.b) (difference o.a o.b) (difference e.a o.a) (difference e.a o.b) (sum_of e.a.x o.a.x o.b.x) (sum_of e.a.y o.a.y o.b.y) (sum_of e.a.z o.a.z o.b.z)
 
   -- the outline's point with these weights is on the line of sight of the place
-  over : (i j : ℕ) (σ : ℤ) → 0 < i + j → pos i ≡ σ *ℤ turn_to d e.a e.b o.b → pos j ≡ pos 0 -ℤ (σ *ℤ turn_to d e.a e.b o.a) → PassesOver d o (point_at e r)
+  over : (i j : ℕ) (σ : ℤ) → 0 < i + j → pos i ≡ σ *ℤ turn_to d e.a e.b o.b → pos j ≡ pos 0 -ℤ (σ *ℤ turn_to d e.a e.b o.a) → IsSeenOver d o (point_at e r)
   over i j σ some is_i is_j =
       let turn = turn_to d e.a e.b o.a in
       let climb = climb_of d e o in
@@ -131,7 +131,7 @@ module _ (d : Triple) {s : Part} (e o : Edge s) (r : Frac) (here : IsCrossedAt d
         }),
       )
 
-  outline_over : IsAcross (turn_to d e.a e.b o.a) (turn_to d e.a e.b o.b) → PassesOver d o (point_at e r)
+  outline_over : IsAcross (turn_to d e.a e.b o.a) (turn_to d e.a e.b o.b) → IsSeenOver d o (point_at e r)
   outline_over (inl (first, second, less)) = up _ _ first second less refl refl
     where
       one : (x y : ℤ) → x ≡ y → y ≡ pos 1 *ℤ x
@@ -140,7 +140,7 @@ module _ (d : Triple) {s : Part} (e o : Edge s) (r : Frac) (here : IsCrossedAt d
       opposite : (x y : ℤ) (n : ℕ) → x ≡ y → pos n ≡ pos 0 -ℤ y → pos n ≡ pos 0 -ℤ (pos 1 *ℤ x)
       opposite x y n e f = omega (arith, ints)
 
-      up : (x y : ℤ) → x ≤ℤ pos 0 → pos 0 ≤ℤ y → x <ℤ y → turn_to d e.a e.b o.a ≡ x → turn_to d e.a e.b o.b ≡ y → PassesOver d o (point_at e r)
+      up : (x y : ℤ) → x ≤ℤ pos 0 → pos 0 ≤ℤ y → x <ℤ y → turn_to d e.a e.b o.a ≡ x → turn_to d e.a e.b o.b ≡ y → IsSeenOver d o (point_at e r)
       up x (negsuc j) p q l ex ey = absurd (omega (arith, ints))
       up (pos zero) (pos j) p q l ex ey = over j 0 (pos 1) (omega (arith, ints)) (one _ _ ey) (opposite _ (pos 0) 0 ex refl)
       up (pos (suc i)) (pos j) p q l ex ey = absurd (omega (arith, ints))
@@ -153,7 +153,7 @@ module _ (d : Triple) {s : Part} (e o : Edge s) (r : Frac) (here : IsCrossedAt d
       same : (x y : ℤ) → x ≡ y → y ≡ pos 0 -ℤ (negsuc 0 *ℤ x)
       same x y e = omega (arith, ints)
 
-      down : (y x : ℤ) → y ≤ℤ pos 0 → pos 0 ≤ℤ x → y <ℤ x → turn_to d e.a e.b o.b ≡ y → turn_to d e.a e.b o.a ≡ x → PassesOver d o (point_at e r)
+      down : (y x : ℤ) → y ≤ℤ pos 0 → pos 0 ≤ℤ x → y <ℤ x → turn_to d e.a e.b o.b ≡ y → turn_to d e.a e.b o.a ≡ x → IsSeenOver d o (point_at e r)
       down y (negsuc j) p q l ey ex = absurd (omega (arith, ints))
       down (pos zero) (pos j) p q l ey ex = over 0 j (negsuc 0) (omega (arith, ints)) (opposite _ (pos 0) 0 ey refl) (same _ _ ex)
       down (pos (suc i)) (pos j) p q l ey ex = absurd (omega (arith, ints))
@@ -195,7 +195,7 @@ crossing_not_ordinary d {s} e o c r here ordinary =
     let p = c.passes in
     let up = least (reach_of d e o) (climb_of d e o) r.num r.den r.positive here p.after p.before in
     let down = most (reach_of d e o) (climb_of d e o) r.num r.den r.positive here p.after p.before in
-    let own : PassesOver d e (point_at e r) =
+    let own : IsSeenOver d e (point_at e r) =
     (point_at e r, share-of-edge e.a e.b r.num r.den r.positive (weak r.num up) (below r.num r.den down), record { across = refl; upward = refl }) in
     climbs (reach_of d e o) (climb_of d e o) r.num r.den r.positive here p.after p.before
     (ordinary.off_crossings e o own (outline_over d e o r here (goes_across d e o c)))

@@ -11,7 +11,7 @@ use Rattle.lattice.specs.Cuts.{Plane, toward_of, plane_height}
 use Rattle.lattice.proofs.Vectors.{Letters, letters, dots, crosses}
 use Rattle.geometry.specs.Faces.{normal, IsPointOfFace}
 use Rattle.geometry.specs.Parts.{Part, Face}
-use Rattle.geometry.specs.Cuts.{EdgeOrBorder, border, step_of, IsOnBorder, PassesUnder, IsOrdinaryInCut}
+use Rattle.geometry.specs.Cuts.{EdgeOrBorder, border, step_of, IsOnBorder, IsSeenOverInCut, IsOrdinaryInCut}
 use Rattle.geometry.proofs.Sights.{sight_on}
 
 -- from one point to another, times both divisors
@@ -104,5 +104,5 @@ ordinary_along_cut c s p q positive h ordinary = record {
     d : Triple
     d = toward_of c
 
-    along : (x : EdgeOrBorder s) → PassesUnder c x q → PassesUnder c x p
+    along : (x : EdgeOrBorder s) → IsSeenOverInCut c x q → IsSeenOverInCut c x p
     along x (r, on, g) = (r, on, sight_on d r q p positive g h)

@@ -5,7 +5,6 @@ pub mod EachEdge
 pub mod EdgeLines
 pub mod StepLines
 pub mod OnLines
-pub mod Scenes
 pub mod Counts
 pub mod Borders
 pub mod BorderSteps

@@ -6,7 +6,7 @@ use Rattle.integers.proofs.Signs.{zero_of_mul}
 use Rattle.lattice.specs.Triple.{Triple}
 use Rattle.lattice.specs.Points.{Point, IsPoint, point_of, OnOneSight, across_of, upward_of}
 use Rattle.geometry.specs.Parts.{Part, Edge}
-use Rattle.geometry.specs.Views.{IsOrdinary, PassesOver}
+use Rattle.geometry.specs.Views.{IsOrdinary, IsSeenOver}
 
 -- two fractions with the value of a third are of one value
 cancel : (u v w a b c : ℤ) → pos 0 <ℤ b → u *ℤ b ≡ v *ℤ a → v *ℤ c ≡ w *ℤ b → u *ℤ c ≡ w *ℤ a
@@ -33,5 +33,5 @@ module _ (d : Triple) where
     off_crossings = λ e f over_e over_f. ordinary.off_crossings e f (along e over_e) (along f over_f);
   }
     where
-      along : (e : Edge s) → PassesOver d e q → PassesOver d e p
+      along : (e : Edge s) → IsSeenOver d e q → IsSeenOver d e p
       along e (r, on_edge, k) = (r, on_edge, sight_on r q p positive k h)

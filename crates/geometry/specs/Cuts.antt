@@ -117,11 +117,12 @@ abbrev pub step_of : Plane → {s : Part} → EdgeOrBorder s → Triple
 step_of c (edge e) = difference e.a e.b
 step_of c (border f) = cross (toward_of c) (normal f.a f.b f.c)
 
-abbrev pub PassesUnder : Plane → {s : Part} → EdgeOrBorder s → Point → Type 0
-PassesUnder c x p = (q : Point) × IsOnEdgeOrBorder c x q × OnOneSight (toward_of c) q p
+-- it has a point on the line of sight of p
+abbrev pub IsSeenOverInCut : Plane → {s : Part} → EdgeOrBorder s → Point → Type 0
+IsSeenOverInCut c x p = (q : Point) × IsOnEdgeOrBorder c x q × OnOneSight (toward_of c) q p
 
 -- no corner and no end of a border is on its line of sight, and any two edges or borders with a point on it have parallel projections
 pub record IsOrdinaryInCut (c : Plane) (s : Part) (p : Point) : Type 0 where
   pub off_corners : (k : Corner) → Contains s.corners k → ¬ OnOneSight (toward_of c) (point_of k) p
   pub off_ends : (e : Edge s) (q : Point) → IsPointOfEdge e.a e.b q → IsOnPlane c q → ¬ OnOneSight (toward_of c) q p
-  pub off_crossings : (x y : EdgeOrBorder s) → PassesUnder c x p → PassesUnder c y p → det (toward_of c) (step_of c x) (step_of c y) ≡ pos 0
+  pub off_crossings : (x y : EdgeOrBorder s) → IsSeenOverInCut c x p → IsSeenOverInCut c y p → det (toward_of c) (step_of c x) (step_of c y) ≡ pos 0

@@ -1,13 +1,11 @@
--- What lies on a piece, when a list of pieces is right for a plain view, and the order of pieces.
-use Rattle.std.specs.Prelude.{◌≡◌, ◌⊎◌, ◌↔◌, ℕ, ◌+◌, ◌<◌, pos, ◌+ℤ◌, ◌-ℤ◌, ◌*ℤ◌, ◌<ℤ◌, List, Contains, All, AllPairs}
+-- What lies on a piece, when pieces are whole, and their order.
+use Rattle.std.specs.Prelude.{◌≡◌, ◌⊎◌, ℕ, ◌+◌, ◌<◌, pos, ◌+ℤ◌, ◌-ℤ◌, ◌*ℤ◌, ◌<ℤ◌, List, Contains, All, AllPairs}
 use Rattle.lattice.specs.declared.points.Spot.{Spot}
 use Rattle.lattice.specs.declared.pieces.Piece.{Piece}
 use Rattle.lattice.specs.declared.pieces.Style.{Style}
-use Rattle.lattice.specs.declared.pieces.Style.TheVariants.{Solid, Dashed}
+use Rattle.lattice.specs.declared.pieces.Style.TheVariants.{Solid, Dashed, Chain}
 use Rattle.lattice.specs.Triple.{Triple}
-use Rattle.lattice.specs.Points.{Point, IsPoint, of_spot, across_of, upward_of, OnOneSight}
-use Rattle.geometry.specs.Parts.{Part}
-use Rattle.geometry.specs.Views.{IsHidden, IsOrdinary, IsDrawnPoint}
+use Rattle.lattice.specs.Points.{Point, of_spot, across_of, upward_of, OnOneSight}
 
 -- the sum of two spots with whole weights
 abbrev pub spot_sum : Spot → Spot → ℕ → ℕ → Point
@@ -28,19 +26,6 @@ LiesOn d l p = LiesBetween d l.a l.b p
 -- on some piece of this style
 abbrev pub LiesOnStyle : Triple → List Piece → Style → Point → Type 0
 LiesOnStyle d pieces style p = (l : Piece) × Contains pieces l × (l.style ≡ style) × LiesOn d l p
-
--- a drawn point is on the line of sight of p
-abbrev pub IsDrawnAt : Triple → ℕ → Part → Point → Point → Type 0
-IsDrawnAt d fraction s p q = IsDrawnPoint d fraction s q × OnOneSight d q p
-
--- a drawn point that is not hidden is on the line of sight of p
-abbrev pub SeesDrawn : Triple → ℕ → Part → Point → Type 0
-SeesDrawn d fraction s p = (q : Point) × IsDrawnPoint d fraction s q × OnOneSight d q p × ¬ IsHidden d s q
-
--- drawn points are on the line of sight of p, and all of them are hidden
-pub record SeesOnlyHidden (d : Triple) (fraction : ℕ) (s : Part) (p : Point) : Type 0 where
-  pub some : (q : Point) × IsDrawnAt d fraction s p q
-  pub hidden : (q : Point) → IsDrawnAt d fraction s p q → IsHidden d s q
 
 -- the projections of the two pieces are parallel
 abbrev pub ArePiecesParallel : Triple → Piece → Piece → Type 0
@@ -67,17 +52,6 @@ LieOnOnce d pieces p = AllPairs (λ l m. LiesOn d l p → ¬ LiesOn d m p) piece
 abbrev pub AreWhole : Triple → List Piece → Type 0
 AreWhole d pieces = AllPairs (λ l m. l.style ≡ m.style → ArePiecesParallel d l m → ¬ ShareAnEnd d l m) pieces
 
--- The pieces are right for the part, the crease's fraction and the direction.
-pub record AreRight (d : Triple) (fraction : ℕ) (s : Part) (pieces : List Piece) : Type 0 where
-  pub proper : AreProper d pieces
-  -- an ordinary point lies on a solid piece exactly if a drawn point that is not hidden is on its line of sight
-  pub visible : (p : Point) → IsPoint p → IsOrdinary d s p → LiesOnStyle d pieces Solid p ↔ SeesDrawn d fraction s p
-  -- it lies on a dashed piece exactly if only hidden drawn points are
-  pub hidden : (p : Point) → IsPoint p → IsOrdinary d s p → LiesOnStyle d pieces Dashed p ↔ SeesOnlyHidden d fraction s p
-  -- no two pieces share an ordinary point
-  pub once : (p : Point) → IsPoint p → IsOrdinary d s p → LieOnOnce d pieces p
-  pub whole : AreWhole d pieces
-
 -- ---- the order of pieces
 -- p has the lesser U, or the same U and the lesser V
 abbrev pub IsBefore : Triple → Point → Point → Type 0
@@ -85,10 +59,11 @@ IsBefore d p q =
     ((across_of d p *ℤ q.w) <ℤ (across_of d q *ℤ p.w))
     ⊎ ((across_of d p *ℤ q.w ≡ across_of d q *ℤ p.w) × ((upward_of d p *ℤ q.w) <ℤ (upward_of d q *ℤ p.w)))
 
--- solid pieces stand before dashed ones
+-- solid pieces stand before dashed ones, and these before chain ones
 abbrev pub rank_of : Style → ℕ
 rank_of Solid = 0
 rank_of Dashed = 1
+rank_of Chain = 2
 
 -- l stands before m: by its style, then by its end a, then by its end b
 abbrev pub StandsBefore : Triple → Piece → Piece → Type 0

@@ -1,13 +1,14 @@
 -- When a list of pieces is right for what a view draws and hides.
 use Rattle.std.specs.Prelude.{◌↔◌, ℕ, List}
 use Rattle.lattice.specs.declared.pieces.Piece.{Piece}
-use Rattle.lattice.specs.declared.pieces.Style.TheVariants.{Solid, Dashed}
+use Rattle.lattice.specs.declared.pieces.Style.TheVariants.{Solid, Dashed, Chain}
 use Rattle.lattice.specs.Triple.{Triple}
 use Rattle.lattice.specs.Points.{Point, IsPoint, OnOneSight}
 use Rattle.lattice.specs.Cuts.{Plane, toward_of}
 use Rattle.geometry.specs.Parts.{Part}
 use Rattle.geometry.specs.Cuts.{IsDrawnInCut, IsHiddenInCut, IsOrdinaryInCut}
 use Rattle.geometry.specs.Pieces.{LiesOnStyle, AreProper, LieOnOnce, AreWhole}
+use Rattle.geometry.specs.Views.{IsHidden, IsOrdinary, IsDrawnPoint}
 
 -- a drawn point is on the line of sight of p
 abbrev pub IsSeenAt : Triple → (Point → Type 0) → Point → Point → Type 0
@@ -29,9 +30,15 @@ pub record AreRightIn (d : Triple) (Drawn Hidden Ordinary : Point → Type 0) (p
   pub visible : (p : Point) → IsPoint p → Ordinary p → LiesOnStyle d pieces Solid p ↔ SeesVisible d Drawn Hidden p
   -- it lies on a dashed piece exactly if only hidden drawn points are
   pub hidden : (p : Point) → IsPoint p → Ordinary p → LiesOnStyle d pieces Dashed p ↔ SeesHiddenAlone d Drawn Hidden p
+  -- and on no chain piece
+  pub chain : (p : Point) → IsPoint p → Ordinary p → ¬ LiesOnStyle d pieces Chain p
   -- no two pieces share an ordinary point
   pub once : (p : Point) → IsPoint p → Ordinary p → LieOnOnce d pieces p
   pub whole : AreWhole d pieces
+
+-- right for the plain view of the part along d, with the crease's fraction
+abbrev pub AreRight : Triple → ℕ → Part → List Piece → Type 0
+AreRight d fraction s pieces = AreRightIn d (IsDrawnPoint d fraction s) (IsHidden d s) (IsOrdinary d s) pieces
 
 -- right for a cut view of the part, with the crease's fraction
 abbrev pub AreRightInCut : Plane → ℕ → Part → List Piece → Type 0

@@ -29,7 +29,7 @@ MeetInSharedCorners s = (e : Edge s) (f : Face s) (q : Point) → MeetsFace e f 
 abbrev pub MeetsElsewhere : {s : Part} → Edge s → Face s → Type 0
 MeetsElsewhere e f = (q : Point) × MeetsFace e f q × ¬ IsAtSharedCorner e f q
 
--- a surface that is closed and oriented, and neither folds, touches nor pierces itself
+-- a surface that is closed and oriented, and doesn't fold onto itself; its edges meet faces of other edges only in corners that both have
 pub record IsSound (s : Part) : Type 0 where
   pub some : 0 < length s.triangles
   pub closed : IsClosed s

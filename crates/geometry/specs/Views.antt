@@ -59,13 +59,13 @@ abbrev pub AreParallel : Triple → {s : Part} → Edge s → Edge s → Type 0
 AreParallel d e f = det d (difference e.a e.b) (difference f.a f.b) ≡ pos 0
 
 -- the edge has a point on the line of sight of p
-abbrev pub PassesOver : Triple → {s : Part} → Edge s → Point → Type 0
-PassesOver d e p = (q : Point) × IsPointOfEdge e.a e.b q × OnOneSight d q p
+abbrev pub IsSeenOver : Triple → {s : Part} → Edge s → Point → Type 0
+IsSeenOver d e p = (q : Point) × IsPointOfEdge e.a e.b q × OnOneSight d q p
 
 -- no corner is on its line of sight, and any two edges with a point on it have parallel projections
 pub record IsOrdinary (d : Triple) (s : Part) (p : Point) : Type 0 where
   pub off_corners : (c : Corner) → Contains s.corners c → ¬ OnOneSight d (point_of c) p
-  pub off_crossings : (e f : Edge s) → PassesOver d e p → PassesOver d f p → AreParallel d e f
+  pub off_crossings : (e f : Edge s) → IsSeenOver d e p → IsSeenOver d f p → AreParallel d e f
 
 -- a point of a drawn edge
 abbrev pub IsDrawnPoint : Triple → ℕ → Part → Point → Type 0

@@ -17,7 +17,7 @@ use Rattle.lattice.specs.Lines.{IsOnLine}
 use Rattle.lattice.specs.Cuts.{Plane, toward_of}
 use Rattle.lattice.proofs.OnLines.{weighted_sum, product_of_sum, on_line_of_sum, on_line_of_sight}
 use Rattle.geometry.specs.Parts.{Part, Face, HasNoFlatTriangle}
-use Rattle.geometry.specs.Cuts.{border, PassesUnder, start_corner, end_corner}
+use Rattle.geometry.specs.Cuts.{border, IsSeenOverInCut, start_corner, end_corner}
 use Rattle.geometry.proofs.Sights.{sight_on}
 use Rattle.cut_plane.specs.declared.segments.Segment.{Segment}
 use Rattle.cut_plane.specs.Loops.{AreBorders}
@@ -89,7 +89,7 @@ module _ (c : Plane) (small : unsigned_abs c.at ≤ 2 ^ 20) (s : Part) (whole : 
   abbrev d : Triple
   d = toward_of c
 
-  module _ (f : Face s) (number : ℤ) (p q : Point) (p_there : IsPoint p) (q_there : IsPoint q) (at_p : IsAt d (number *ℤ pos spacing) p) (at_q : IsAt d (number *ℤ pos spacing) q) (under_p : PassesUnder c (border f) p) (under_q : PassesUnder c (border f) q)
+  module _ (f : Face s) (number : ℤ) (p q : Point) (p_there : IsPoint p) (q_there : IsPoint q) (at_p : IsAt d (number *ℤ pos spacing) p) (at_q : IsAt d (number *ℤ pos spacing) q) (under_p : IsSeenOverInCut c (border f) p) (under_q : IsSeenOverInCut c (border f) q)
       (less : (across_of d p *ℤ q.w) <ℤ (across_of d q *ℤ p.w)) where
     abbrev D : ℤ
     D = number *ℤ pos spacing

@@ -20,7 +20,7 @@ use Rattle.lattice.specs.Triple.{Triple}
 use Rattle.lattice.specs.Points.{Point, IsPoint, of_spot, across_of}
 use Rattle.lattice.specs.Cuts.{Plane, toward_of}
 use Rattle.geometry.specs.Parts.{Part, Face, IsClosed}
-use Rattle.geometry.specs.Cuts.{IsInSection, border, PassesUnder}
+use Rattle.geometry.specs.Cuts.{IsInSection, border, IsSeenOverInCut}
 use Rattle.cut_plane.specs.declared.segments.Segment.{Segment}
 use Rattle.cut_plane.specs.Loops.{IsSegmentOf, AreBorders}
 use Rattle.cut_plane.proofs.Lists.{contains_first, contains_rest, contains_cases, contains_none, each_contains, pairs_first, pairs_rest}
@@ -242,7 +242,7 @@ module _ (c : Plane) (small : unsigned_abs c.at ≤ 2 ^ 20) (s : Part) (closed :
 
   -- ---- off borders
   module _ (f : Face s) (x : HatchLine) (there : Contains lines x) where
-    never_less : (p q : Point) → IsPoint p → IsPoint q → LiesOnHatch d x p → LiesOnHatch d x q → PassesUnder c (border f) p → PassesUnder c (border f) q → (across_of d p *ℤ q.w) <ℤ (across_of d q *ℤ p.w) → ⊥
+    never_less : (p q : Point) → IsPoint p → IsPoint q → LiesOnHatch d x p → LiesOnHatch d x q → IsSeenOverInCut c (border f) p → IsSeenOverInCut c (border f) q → (across_of d p *ℤ q.w) <ℤ (across_of d q *ℤ p.w) → ⊥
     never_less p q p_there q_there lies_p lies_q under_p under_q less =
         let (i, listed, over) = zip_right (IsLineOver c) rest lines steps.drawn x there in
         let run = run_of i listed in

@@ -5,7 +5,7 @@ use Rattle.lattice.specs.Triple.{Triple}
 use Rattle.lattice.specs.Points.{Point, IsPoint, of_spot, across_of, OnOneSight}
 use Rattle.lattice.specs.Cuts.{Plane, toward_of, IsOnPlane}
 use Rattle.geometry.specs.Parts.{Part, Face}
-use Rattle.geometry.specs.Cuts.{IsInSection, border, PassesUnder}
+use Rattle.geometry.specs.Cuts.{IsInSection, border, IsSeenOverInCut}
 use Rattle.geometry.specs.Pieces.{LiesBetween}
 use Rattle.section_parity.specs.Diagonals.{diagonal_of, IsUnderBorder}
 
@@ -30,7 +30,7 @@ LiesOnHatch d x p = LiesBetween d x.a x.b p
 
 -- the line does not run along the face's border: any two of its points under that are seen at one place
 abbrev pub IsOffBorder : Plane → {s : Part} → Face s → HatchLine → Type 0
-IsOffBorder c f x = (p q : Point) → IsPoint p → IsPoint q → LiesOnHatch (toward_of c) x p → LiesOnHatch (toward_of c) x q → PassesUnder c (border f) p → PassesUnder c (border f) q → OnOneSight (toward_of c) p q
+IsOffBorder c f x = (p q : Point) → IsPoint p → IsPoint q → LiesOnHatch (toward_of c) x p → LiesOnHatch (toward_of c) x q → IsSeenOverInCut c (border f) p → IsSeenOverInCut c (border f) q → OnOneSight (toward_of c) p q
 
 -- no point lies on both
 abbrev pub AreApart : Triple → HatchLine → HatchLine → Type 0

@@ -12,7 +12,7 @@ use Rattle.lattice.proofs.Vectors.{Letters, letters, dots, crosses, dot_somewher
 use Rattle.lattice.proofs.SightLines.{along_of_sight, sight_of_along}
 use Rattle.geometry.specs.Faces.{normal, facing_of, face_sum, share_point, FaceHides, IsPointOfFace}
 use Rattle.geometry.specs.Parts.{Part, Face, Edge}
-use Rattle.geometry.specs.Cuts.{edge, border, PassesUnder, IsOrdinaryInCut}
+use Rattle.geometry.specs.Cuts.{edge, border, IsSeenOverInCut, IsOrdinaryInCut}
 use Rattle.geometry.proofs.BorderSteps.{along_normal}
 use Rattle.hiding.specs.Values.{value_at, side_of, depth_of, IsBehind, AreCornersOf}
 use Rattle.hiding.specs.CutValues.{below_of, under_of, HidesInCut}
@@ -230,7 +230,7 @@ module _ (c : Plane) (s : Part) (e : Edge s) (n m : ℤ) (positive : pos 0 <ℤ 
       → det (toward_of c) (difference e.a e.b) (cross (toward_of c) (normal i j k)) ≡ pos 0
   border-parallel ordinary q on_face on same = by corners
     where
-      under : PassesUnder c (edge e) here
+      under : IsSeenOverInCut c (edge e) here
       under = (here, share-of-edge e.a e.b n m positive least most, record { across = refl; upward = refl })
 
       by : AreCornersOf f i j k → det (toward_of c) (difference e.a e.b) (cross (toward_of c) (normal i j k)) ≡ pos 0

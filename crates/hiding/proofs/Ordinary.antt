@@ -10,7 +10,7 @@ use Rattle.lattice.specs.Points.{Point, IsPoint, OnOneSight, point_of, differenc
 use Rattle.lattice.proofs.SightAxes.{sight_of_one_point}
 use Rattle.geometry.specs.Faces.{IsPointOfEdge}
 use Rattle.geometry.specs.Parts.{Part, Face, Edge, IsHalf, IsClosed, start_of, end_of}
-use Rattle.geometry.specs.Views.{IsOrdinary, PassesOver}
+use Rattle.geometry.specs.Views.{IsOrdinary, IsSeenOver}
 use Rattle.geometry.specs.Sound.{MeetsFace, MeetInSharedCorners}
 use Rattle.geometry.proofs.Listed.{face_at}
 use Rattle.geometry.proofs.Sights.{sight_on}
@@ -78,7 +78,7 @@ module _ (d : Triple) (s : Part) (p : Point) where
   not-at-corner c listed same r = r.off_corners c listed same
 
   -- a side of a face and an edge cross
-  pub not-at-crossing : IsClosed s → All (IsBelow (length s.corners)) s.triangles → (e : Edge s) → PassesOver d e p → (f : Face s) (k l : Corner) → IsSideOf f k l
+  pub not-at-crossing : IsClosed s → All (IsBelow (length s.corners)) s.triangles → (e : Edge s) → IsSeenOver d e p → (f : Face s) (k l : Corner) → IsSideOf f k l
       → (q : Point) → IsPointOfEdge k l q → OnOneSight d q p → ¬ (det d (difference e.a e.b) (difference k l) ≡ pos 0) → ¬ IsOrdinary d s p
   not-at-crossing closed in_range e over f k l side q on_side same crosses r =
       let here = side-edge s closed in_range f k l side in

@@ -12,7 +12,7 @@ use Rattle.lattice.specs.Points.{Point, point_of, of_corner, scaled, difference,
 use Rattle.lattice.proofs.SightAxes.{agree_of_sight, sight_of_agreement, one_point_of_agreement, sight_of_one_point}
 use Rattle.geometry.specs.Faces.{share_point, edge_sum, IsPointOfEdge}
 use Rattle.geometry.specs.Parts.{Part, Face, Edge}
-use Rattle.geometry.specs.Views.{IsOrdinary, PassesOver}
+use Rattle.geometry.specs.Views.{IsOrdinary, IsSeenOver}
 use Rattle.geometry.specs.Sound.{IsSound}
 use Rattle.hiding.specs.Values.{SideHides, IsSideOf, IsAhead, IsInLine, IsBehindSide, offset, side_of, value_at, past_of, short_of, behind_of}
 use Rattle.hiding.proofs.Values.{behind-share}
@@ -217,7 +217,7 @@ module _ (d axis : Triple) (somewhere : ¬ IsZero d) (s : Part) (sound : IsSound
   weights : Weights
   weights = let w = share-of-edge e.a e.b n m positive least most in record { u = w.0; v = w.1; some = w.2; same = w.3 }
 
-  over : PassesOver d e place
+  over : IsSeenOver d e place
   over = (place, share-of-edge e.a e.b n m positive least most, record { across = refl; upward = refl })
 
   -- a side with parallel projection that has a point on the share's line of sight is in line with the edge

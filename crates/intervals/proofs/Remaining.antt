@@ -11,7 +11,7 @@ use Rattle.std.proofs.lemmas.List.Elements.{All-nil, All-push, All-weaker, All-a
 use Rattle.std.proofs.lemmas.List.Quantifiers.{all_pairs_push}
 use Rattle.intervals.specs.declared.interval.Interval.{Interval}
 use Rattle.intervals.specs.Cuts.{IsNotAfter, IsCut, IsProper, AreApart, Crosses, CrossesAny, IsEndOf, AreRest}
-use Rattle.intervals.specs.Steps.{IsAdded, IsRestAdded, EndBefore}
+use Rattle.intervals.specs.inner.Steps.{IsAdded, IsRestAdded, EndBefore}
 use Rattle.intervals.proofs.Lists.{any_of, any_left, any_right, any_cases, any_push, any_last, none, one, of_one, pairs_append}
 use Rattle.intervals.proofs.Orders.{either, not_true, not_less, not_after, less, itself, not_after_less, less_not_after, not_after_not_after, cut_false, before_value, up_to_value}
 

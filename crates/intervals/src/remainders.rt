@@ -2,7 +2,7 @@
 ghost use Rattle.std.specs.Prelude.{◌≡◌, ℕ, ◌<◌, slice_index_or, IfOk, OnOk};
 ghost use Rattle.std.specs.declared.cmp.Ordering.TheVariants.{Less};
 ghost use Rattle.intervals.specs.Cuts.{IsProper, AreApart, AreRest};
-ghost use Rattle.intervals.specs.Steps.{IsAdded, IsRestAdded, EndBefore};
+ghost use Rattle.intervals.specs.inner.Steps.{IsAdded, IsRestAdded, EndBefore};
 
 use crate::interval::Interval;
 use crate::order::{earlier, is_before, later};

@@ -8,7 +8,8 @@ use Rattle.integers.proofs.Ring.{var, con, ◌⊖◌, ◌⊗◌, ring}
 use Rattle.integers.proofs.Signs.{mul_pos, square_pos, pos_of_mul}
 use Rattle.exact_frac.specs.Divisors.{IsGreatestDivisor}
 use Rattle.exact_frac.proofs.Divisors.{exact}
-use Rattle.lattice.specs.LowestTerms.{leading_of, HaveNoCommonDivisor, IsLeadingDivisor}
+use Rattle.lattice.specs.LowestTerms.{leading_of, HaveNoCommonDivisor}
+use Rattle.lattice.specs.inner.LeadingDivisors.{IsLeadingDivisor}
 
 -- ---- the first that isn't 0
 leading_zero : (a b : ℤ) → a ≡ pos 0 → leading_of a b ≡ b

@@ -6,7 +6,7 @@ use Rattle.lattice.specs.declared.cuts.Cut.{Cut}
 use Rattle.lattice.specs.Triple.{Triple, negated}
 use Rattle.lattice.specs.Points.{Point, height_of}
 
--- a plane across an axis, half a unit beyond `at`, as seen by the viewer, and the side of the axis from which the viewer looks
+-- a plane across an axis, half a unit farther from the viewer than `at`, and the side of the axis from which the viewer looks
 pub record Plane : Type 0 where
   pub axis : Axis
   pub at : ℤ

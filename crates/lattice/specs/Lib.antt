@@ -6,3 +6,4 @@ pub mod LowestTerms
 pub mod Points
 pub mod Triangles
 pub mod Triple
+pub mod inner

@@ -18,7 +18,7 @@ mod soup;
 pub use cuts::{Cut, CutFault};
 pub use lines::Line;
 pub use normals::Normal;
-pub use pieces::{Crease, HatchLine, Piece, Strip, Style, ViewSpec};
+pub use pieces::{Crease, HatchLine, Piece, Strip, StripKind, Style, ViewSpec};
 pub use points::{Axis, Corner, Dir, DirFault, Spot, Vector};
 pub use products::{across, cross, det3, height, same_sight, upward, view_cross};
 pub use soup::{Soup, Tri};

@@ -1,6 +1,7 @@
 // Lines of a view, in lowest terms.
 ghost use Rattle.std.specs.Prelude.{◌≡◌, ◌+◌, ◌<◌, ◌≤◌, ◌^◌, pos, ◌+ℤ◌, ◌*ℤ◌, ◌<ℤ◌, unsigned_abs};
-ghost use Rattle.lattice.specs.LowestTerms.{leading_of, HaveNoCommonDivisor, IsLeadingDivisor};
+ghost use Rattle.lattice.specs.LowestTerms.{leading_of, HaveNoCommonDivisor};
+ghost use Rattle.lattice.specs.inner.LeadingDivisors.{IsLeadingDivisor};
 ghost use Rattle.lattice.specs.Triple.{IsWithin, dot};
 ghost use Rattle.lattice.specs.Points.{of_dir, of_vector, point_of, scaled, OnOneSight};
 

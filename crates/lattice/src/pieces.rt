@@ -36,6 +36,8 @@ pub enum Style {
     Solid,
     /// A hidden line.
     Dashed,
+    /// The trace of a cut's plane.
+    Chain,
 }
 
 /// A straight piece of a drawing, from one spot to the other.
@@ -53,6 +55,14 @@ pub struct HatchLine {
     pub b: Spot,
 }
 
+/// What a strip is of: a visible line, a hidden one, or the trace of a cut's plane.
+#[derive(Clone, Copy, PartialEq, Eq, Debug)]
+pub enum StripKind {
+    Seen,
+    Hidden,
+    Trace,
+}
+
 /// A part of a line that is drawn, before lines that coincide are put together. From some direction both spots are seen on
 /// the line, and not at one place.
 #[derive(Clone, Copy, Debug)]
@@ -60,7 +70,7 @@ pub struct Strip {
     pub line: Line,
     pub a: Spot,
     pub b: Spot,
-    pub hidden: bool,
+    pub kind: StripKind,
     ghost seen: { ∥ AreStripEndsInSomeView line a b ∥₁ },
 }
 

@@ -208,7 +208,7 @@ impl Dir {
         }
     }
 
-    /// The up axis of the view: the direction cross the right axis. Right, up and direction are a right-handed system.
+    /// The up axis of the view: the direction cross the right axis. Its components are at most 162 in size.
     pub fn up(&self) -> Vector
         ensures axis { of_vector result ≡ up_axis (of_dir self.now) }
         ensures size { IsWithin 162 (of_vector result) }

@@ -108,7 +108,7 @@ pub fn upward(d: &Dir, p: &Spot) -> Frac
     along(&d.up(), p)
 }
 
-/// The two spots are on one projector: they are seen at one place.
+/// The two spots are on one line of sight: their U and their V agree, and their difference is a multiple of the direction.
 pub fn same_sight(d: &Dir, p: &Spot, q: &Spot) -> bool
     ensures sight { IsTrue result ↔ OnOneSight (of_dir d.now) (of_spot p.now) (of_spot q.now) }
     ensures along { IsTrue result ↔ DifferAlong (of_dir d.now) (of_spot p.now) (of_spot q.now) }

@@ -19,9 +19,9 @@ use Rattle.lattice.specs.Lines.{IsOnLine, IsSameLine, AreStripEnds}
 use Rattle.geometry.specs.Pieces.{LiesBetween, IsBefore}
 use Rattle.geometry.proofs.OnLines.{on_line_between}
 use Rattle.line_merge.specs.declared.marks.Mark.{Mark}
-use Rattle.line_merge.specs.Marks.{seen_order, mark_order, IsMark}
+use Rattle.line_merge.specs.inner.Marks.{seen_order, mark_order, IsMark}
 use Rattle.line_merge.specs.Merging.{AreStrips}
-use Rattle.line_merge.specs.Numbering.{IsNumbering}
+use Rattle.line_merge.specs.inner.Numbering.{IsNumbering}
 use Rattle.integers.proofs.Chains.{chained, chained_total, chained_ratios, before_less}
 use Rattle.line_merge.proofs.Sights.{view_order, before, order_of_before, order_back, sight}
 use Rattle.line_merge.proofs.MarkOrders.{order_on_line}

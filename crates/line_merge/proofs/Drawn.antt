@@ -5,7 +5,7 @@ use Rattle.std.specs.declared.cmp.Ordering.{Ordering}
 use Rattle.std.specs.declared.cmp.Ordering.TheVariants.{Less, Equal, Greater}
 use Rattle.lattice.specs.declared.lines.Line.{Line}
 use Rattle.lattice.specs.declared.pieces.Style.{Style}
-use Rattle.lattice.specs.declared.pieces.Style.TheVariants.{Solid, Dashed}
+use Rattle.lattice.specs.declared.pieces.Style.TheVariants.{Solid, Dashed, Chain}
 use Rattle.lattice.specs.declared.pieces.Strip.{Strip}
 use Rattle.lattice.specs.Triple.{Triple}
 use Rattle.lattice.specs.Points.{of_spot, OnOneSight}
@@ -16,8 +16,8 @@ use Rattle.geometry.specs.Pieces.{IsBefore, rank_of, StandsBefore, ArePiecesPara
 use Rattle.geometry.proofs.Sights.{sight_back}
 use Rattle.line_merge.specs.declared.marks.Mark.{Mark}
 use Rattle.line_merge.specs.declared.stretches.Stretch.{Stretch}
-use Rattle.line_merge.specs.Marks.{seen_order, mark_order, IsMark}
-use Rattle.line_merge.specs.Stretches.{stretch_order, piece_of}
+use Rattle.line_merge.specs.inner.Marks.{seen_order, mark_order, IsMark}
+use Rattle.line_merge.specs.inner.Stretches.{stretch_order, piece_of}
 use Rattle.line_merge.proofs.Sights.{before, sight, not_seen, before_on}
 use Rattle.line_merge.proofs.MarkOrders.{seen_is, order_on_line}
 use Rattle.line_merge.proofs.Courses.{AreNumberedStrips, IsCourse, first_on, second_on}
@@ -36,14 +36,24 @@ then_equal Greater s h = cc
 rank_less : (x y : Style) (o : Ordering) → ordering_then (nat_cmp (rank_of x) (rank_of y)) o ≡ Less → (rank_of x < rank_of y) ⊎ ((x ≡ y) × (o ≡ Less))
 rank_less Solid Solid o h = inr (refl, h)
 rank_less Solid Dashed o h = inl (omega arith)
+rank_less Solid Chain o h = inl (omega arith)
 rank_less Dashed Solid o h = cc
 rank_less Dashed Dashed o h = inr (refl, h)
+rank_less Dashed Chain o h = inl (omega arith)
+rank_less Chain Solid o h = cc
+rank_less Chain Dashed o h = cc
+rank_less Chain Chain o h = inr (refl, h)
 
 rank_equal : (x y : Style) (o : Ordering) → ordering_then (nat_cmp (rank_of x) (rank_of y)) o ≡ Equal → (x ≡ y) × (o ≡ Equal)
 rank_equal Solid Solid o h = (refl, h)
 rank_equal Solid Dashed o h = cc
+rank_equal Solid Chain o h = cc
 rank_equal Dashed Solid o h = cc
 rank_equal Dashed Dashed o h = (refl, h)
+rank_equal Dashed Chain o h = cc
+rank_equal Chain Solid o h = cc
+rank_equal Chain Dashed o h = cc
+rank_equal Chain Chain o h = (refl, h)
 
 module _ (d : Triple) (x y : Stretch) (from_x : IsMark d x.from) (to_x : IsMark d x.to) (from_y : IsMark d y.from) (to_y : IsMark d y.to) where
   abbrev tails : Ordering

@@ -14,9 +14,9 @@ use Rattle.geometry.specs.Pieces.{LiesBetween}
 use Rattle.geometry.proofs.Shares.{sum_turned}
 use Rattle.line_merge.specs.declared.marks.Mark.{Mark}
 use Rattle.line_merge.specs.declared.numbering.Numbered.{Numbered}
-use Rattle.line_merge.specs.Marks.{mark_order, IsMarkOf, IsIntervalOf}
+use Rattle.line_merge.specs.inner.Marks.{mark_order, IsMarkOf, IsIntervalOf}
 use Rattle.line_merge.specs.Merging.{AreStrips, LiesOnStrip}
-use Rattle.line_merge.specs.Numbering.{numbered_by}
+use Rattle.line_merge.specs.inner.Numbering.{numbered_by}
 use Rattle.line_merge.proofs.Courses.{cut_at, line_cut, is_line_cut, AreNumberedStrips, IsOnNumbered, IsEnd, IsOffEnds, IsCourse, crossed, lies, meets, one_line_of, course_of}
 use Rattle.line_merge.proofs.Lists.{filter_map}
 use Rattle.line_merge.proofs.Zips.{zip_left, zip_right, zip_map}

@@ -6,5 +6,6 @@ pub mod Sights
 pub mod Between
 pub mod Courses
 pub mod Given
+pub mod Layers
 pub mod Drawn
 pub mod Merged

@@ -12,8 +12,8 @@ use Rattle.lattice.specs.Points.{of_spot, across_of, upward_of, IsRatio, OnOneSi
 use Rattle.lattice.specs.Lines.{AreStripEnds}
 use Rattle.line_merge.specs.declared.marks.Mark.{Mark}
 use Rattle.line_merge.specs.declared.numbering.Numbered.{Numbered}
-use Rattle.line_merge.specs.Laws.{mark_order_total}
-use Rattle.line_merge.specs.Marks.{seen_order, mark_order, IsMark, IsMarkOf, IsIntervalOf}
+use Rattle.line_merge.specs.inner.Laws.{mark_order_total}
+use Rattle.line_merge.specs.inner.Marks.{seen_order, mark_order, IsMark, IsMarkOf, IsIntervalOf}
 use Rattle.line_merge.proofs.Sights.{view_order, sight}
 
 order_by_ratios : (f g : Frac) (k l m n : ℤ) → IsRatio f k l → IsRatio g m n → order_of f g ≡ int_cmp (k *ℤ n) (m *ℤ l)

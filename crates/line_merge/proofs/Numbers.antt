@@ -14,7 +14,7 @@ use Rattle.lattice.specs.declared.lines.Line.{Line}
 use Rattle.lattice.specs.declared.pieces.Strip.{Strip}
 use Rattle.lattice.specs.Lines.{IsSameLine}
 use Rattle.line_merge.specs.declared.numbering.Numbered.{Numbered}
-use Rattle.line_merge.specs.Numbering.{numbered_by, AreNumbered}
+use Rattle.line_merge.specs.inner.Numbering.{numbered_by, AreNumbered}
 use Rattle.line_merge.proofs.Zips.{zip_more, zip_left, zip_weaker}
 
 -- the test of two lines, number by number

@@ -1,5 +1,2 @@
-pub mod Laws
-pub mod Marks
 pub mod Merging
-pub mod Numbering
-pub mod Stretches
+pub mod inner

@@ -5,7 +5,7 @@ ghost use Rattle.std.specs.Cmp.{partial_order_from_total, partial_equiv_from_equ
 ghost use Rattle.std.proofs.Common.{refl};
 ghost use Rattle.lattice.specs.Points.{of_dir};
 ghost use Rattle.lattice.specs.Lines.{AreStripEnds};
-ghost use Rattle.line_merge.specs.Marks.{seen_order, IsMarkOf, IsIntervalOf};
+ghost use Rattle.line_merge.specs.inner.Marks.{seen_order, IsMarkOf, IsIntervalOf};
 
 use crate::numbering::Numbered;
 use exact_frac::Frac;
@@ -61,8 +61,8 @@ pub(crate) fn compare_seen(s: &Mark, t: &Mark) -> Ordering
 }
 
 impl Ord for Mark {
-    ghost use Rattle.line_merge.specs.Marks.{mark_order};
-    ghost use Rattle.line_merge.specs.Laws.{mark_order_total};
+    ghost use Rattle.line_merge.specs.inner.Marks.{mark_order};
+    ghost use Rattle.line_merge.specs.inner.Laws.{mark_order_total};
 
     ghost cmp = { mark_order };
 
@@ -82,8 +82,8 @@ impl Ord for Mark {
 }
 
 impl PartialOrd for Mark {
-    ghost use Rattle.line_merge.specs.Marks.{mark_order};
-    ghost use Rattle.line_merge.specs.Laws.{mark_order_total};
+    ghost use Rattle.line_merge.specs.inner.Marks.{mark_order};
+    ghost use Rattle.line_merge.specs.inner.Laws.{mark_order_total};
 
     ghost partial_cmp = { as_partial_cmp mark_order };
 
@@ -95,14 +95,14 @@ impl PartialOrd for Mark {
 }
 
 impl Eq for Mark {
-    ghost use Rattle.line_merge.specs.Laws.{mark_order_total};
+    ghost use Rattle.line_merge.specs.inner.Laws.{mark_order_total};
 
     ghost laws = { eq_by_cmp_equiv mark_order_total };
 }
 
 impl PartialEq for Mark {
-    ghost use Rattle.line_merge.specs.Marks.{mark_order};
-    ghost use Rattle.line_merge.specs.Laws.{mark_order_total};
+    ghost use Rattle.line_merge.specs.inner.Marks.{mark_order};
+    ghost use Rattle.line_merge.specs.inner.Laws.{mark_order_total};
 
     ghost eq = { eq_by_cmp mark_order };
 

@@ -1,50 +1,83 @@
 // From the strips of a view to its pieces.
-ghost use Rattle.std.specs.Prelude.{◌≡◌, ◌++◌, map, not, IfOk, OnOk};
+ghost use Rattle.std.specs.Prelude.{◌≡◌, ◌++◌, map, IfOk, OnOk};
 ghost use Rattle.std.specs.List.{All, AllZip, filter};
 ghost use Rattle.lattice.specs.Points.{of_dir};
 ghost use Rattle.lattice.specs.Lines.{AreStripEnds};
-ghost use Rattle.line_merge.specs.Marks.{IsIntervalOf};
 ghost use Rattle.line_merge.specs.Merging.{AreStrips, AreMerged};
-ghost use Rattle.line_merge.specs.Stretches.{stretch_of, piece_of};
+ghost use Rattle.line_merge.specs.inner.Kinds.{is_up_to};
+ghost use Rattle.line_merge.specs.inner.Marks.{IsIntervalOf, AreUnitedOf};
+ghost use Rattle.line_merge.specs.inner.Stretches.{stretch_of, piece_of};
 
 use crate::marks::{Mark, interval_of};
 use crate::numbering::{Numbered, number_lines};
 use crate::stretches::Stretch;
 use exact_frac::OutOfMemory;
 use intervals::{Interval, rest, united};
-use lattice::{Dir, Piece, Strip, Style};
+use lattice::{Dir, Piece, Strip, StripKind, Style};
 use std::alloc::Global;
 
-/// The pieces of these strips: visible goes before hidden where strips coincide, strips of one style that overlap or touch are
-/// one piece, and pieces neither overlap nor go on where another of their line and style ends. Solid pieces stand first; then
-/// they are in the order of U and V of their ends, of which `a` is the lesser. Memory as the strips; each strip's line is hashed
-/// once, and the rest of the time is near linear in the number of strips, but for sorting their ends and the pieces.
+/// The pieces of these strips: where strips coincide, visible goes before hidden and hidden before traces; strips of one style
+/// that overlap or touch are one piece, and pieces neither overlap nor go on where another of their line and style ends. Solid
+/// pieces stand first, then dashed ones, then chain ones; pieces of one style are in the order of U and V of their ends, of
+/// which `a` is the lesser. Memory as the strips; each strip's line is hashed once, and the rest of the time is near linear in
+/// the number of strips, but for sorting their ends and the pieces.
 pub fn merge(alloc: Global, d: &Dir, strips: &[Strip]) -> Result<Vec<Piece>, OutOfMemory>
     requires { AreStrips (of_dir d.now) strips.now }
     ensures { IfOk result (λ pieces. AreMerged (of_dir d.now) strips.now pieces.items) }
 {
     let numbered = number_lines(alloc, strips)?;
-    let all = united(alloc, intervals_of(alloc, d, &numbered)?)?;
-    let seen = not_hidden(alloc, &numbered)?;
-    let visible = united(alloc, intervals_of(alloc, d, &seen)?)?;
-    let hidden = rest(alloc, &all, &visible)?;
+    let visible = united_up_to(alloc, d, &numbered, StripKind::Seen)?;
+    let drawn = united_up_to(alloc, d, &numbered, StripKind::Hidden)?;
+    let all = united_up_to(alloc, d, &numbered, StripKind::Trace)?;
+    let hidden = rest(alloc, &drawn, &visible)?;
+    let traces = rest(alloc, &all, &drawn)?;
     let mut stretches = Vec::new(alloc);
     add(&mut stretches, &visible, Style::Solid)?;
     add(&mut stretches, &hidden, Style::Dashed)?;
+    add(&mut stretches, &traces, Style::Chain)?;
     stretches.sort()?;
     pieces_of(alloc, &stretches)
 }
 
-/// The strips that aren't hidden.
-fn not_hidden(alloc: Global, numbered: &[Numbered]) -> Result<Vec<Numbered>, OutOfMemory>
-    ensures { IfOk result (λ seen. seen.items ≡ filter (λ x. not x.strip.hidden) numbered.now) }
+/// The intervals of the strips of the kinds up to this one, put together.
+fn united_up_to(
+    alloc: Global,
+    d: &Dir,
+    numbered: &[Numbered],
+    last: StripKind,
+) -> Result<Vec<Interval<Mark>>, OutOfMemory>
+    requires { All (λ x. AreStripEnds (of_dir d.now) x.strip.line x.strip.a x.strip.b) numbered.now }
+    ensures { IfOk result (λ united. AreUnitedOf (of_dir d.now) (filter (λ x. is_up_to last x.strip.kind) numbered.now) united.items) }
 {
-    let seen = numbered
+    let kept = kept_up_to(alloc, numbered, last)?;
+    united(alloc, intervals_of(alloc, d, &kept)?)
+}
+
+/// The strips of the kinds up to this one.
+fn kept_up_to(
+    alloc: Global,
+    numbered: &[Numbered],
+    last: StripKind,
+) -> Result<Vec<Numbered>, OutOfMemory>
+    ensures { IfOk result (λ kept. kept.items ≡ filter (λ x. is_up_to last x.strip.kind) numbered.now) }
+{
+    let kept = numbered
         .iter()
-        .filter(|x| !x.strip.hidden)
+        .filter(|x| is_up_to(last, x.strip.kind))
         .copied()
         .collect(alloc)?;
-    Ok(seen)
+    Ok(kept)
+}
+
+/// The kind is the last one or goes before it: seen, hidden, trace.
+fn is_up_to(last: StripKind, kind: StripKind) -> bool
+    ensures { result ≡ is_up_to last kind }
+{
+    match last {
+        StripKind::Seen => matches!(kind, StripKind::Seen),
+        StripKind::Hidden => !matches!(kind, StripKind::Trace),
+        StripKind::Trace => true,
+    }
 }
 
 /// The interval of each strip.

@@ -1,6 +1,6 @@
 // Strips by the numbers of their lines.
 ghost use Rattle.std.specs.Prelude.{IfOk};
-ghost use Rattle.line_merge.specs.Numbering.{AreNumbered};
+ghost use Rattle.line_merge.specs.inner.Numbering.{AreNumbered};
 
 use exact_frac::OutOfMemory;
 use indexmap::IndexSet;

@@ -11,7 +11,7 @@ use lattice::{Piece, Style};
 use std::cmp::Ordering;
 
 /// What is drawn of a line in one style, from the lesser mark to the greater. Stretches are in the order of their pieces:
-/// solid ones first, then by where they begin, then by where they end.
+/// solid ones first, then dashed ones, then chain ones, and then by where they begin, then by where they end.
 #[derive(Clone, Copy)]
 pub(crate) struct Stretch {
     pub style: Style,
@@ -20,7 +20,7 @@ pub(crate) struct Stretch {
 }
 
 impl Stretch {
-    ghost use Rattle.line_merge.specs.Stretches.{stretch_of, piece_of};
+    ghost use Rattle.line_merge.specs.inner.Stretches.{stretch_of, piece_of};
 
     /// The interval, drawn in this style.
     pub(crate) fn new(style: Style, interval: &Interval<Mark>) -> Stretch
@@ -52,12 +52,13 @@ fn rank(style: Style) -> u8
     match style {
         Style::Solid => 0,
         Style::Dashed => 1,
+        Style::Chain => 2,
     }
 }
 
 impl Ord for Stretch {
-    ghost use Rattle.line_merge.specs.Stretches.{stretch_order};
-    ghost use Rattle.line_merge.specs.Laws.{stretch_order_total};
+    ghost use Rattle.line_merge.specs.inner.Stretches.{stretch_order};
+    ghost use Rattle.line_merge.specs.inner.Laws.{stretch_order_total};
 
     ghost cmp = { stretch_order };
 
@@ -80,8 +81,8 @@ impl Ord for Stretch {
 }
 
 impl PartialOrd for Stretch {
-    ghost use Rattle.line_merge.specs.Stretches.{stretch_order};
-    ghost use Rattle.line_merge.specs.Laws.{stretch_order_total};
+    ghost use Rattle.line_merge.specs.inner.Stretches.{stretch_order};
+    ghost use Rattle.line_merge.specs.inner.Laws.{stretch_order_total};
 
     ghost partial_cmp = { as_partial_cmp stretch_order };
 
@@ -93,14 +94,14 @@ impl PartialOrd for Stretch {
 }
 
 impl Eq for Stretch {
-    ghost use Rattle.line_merge.specs.Laws.{stretch_order_total};
+    ghost use Rattle.line_merge.specs.inner.Laws.{stretch_order_total};
 
     ghost laws = { eq_by_cmp_equiv stretch_order_total };
 }
 
 impl PartialEq for Stretch {
-    ghost use Rattle.line_merge.specs.Stretches.{stretch_order};
-    ghost use Rattle.line_merge.specs.Laws.{stretch_order_total};
+    ghost use Rattle.line_merge.specs.inner.Stretches.{stretch_order};
+    ghost use Rattle.line_merge.specs.inner.Laws.{stretch_order_total};
 
     ghost eq = { eq_by_cmp stretch_order };
 

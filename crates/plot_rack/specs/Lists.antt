@@ -4,12 +4,13 @@ use Rattle.std.specs.List.{flat_map}
 use Rattle.std.specs.Fmt.{signed_decimal}
 use Rattle.exact_frac.specs.declared.Frac.{Frac}
 use Rattle.sheet_plan.specs.declared.sheet.Mark.{Mark}
-use Rattle.sheet_plan.specs.declared.sheet.Mark.TheVariants.{Solid, Dashed, Hatch}
+use Rattle.sheet_plan.specs.declared.sheet.Mark.TheVariants.{Solid, Dashed, Chain, Hatch}
 use Rattle.sheet_plan.specs.declared.sheet.Stroke.{Stroke}
 
 abbrev pub mark_word : Mark → List ℕ
 mark_word Solid = codes "solid"
 mark_word Dashed = codes "dashed"
+mark_word Chain = codes "chain"
 mark_word Hatch = codes "hatch"
 
 -- a fraction in lowest terms, as `n` where it is whole, and else as `n/d`

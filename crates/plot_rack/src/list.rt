@@ -109,6 +109,7 @@ fn mark_word(mark: Mark) -> &'static str
     match mark {
         Mark::Solid => "solid",
         Mark::Dashed => "dashed",
+        Mark::Chain => "chain",
         Mark::Hatch => "hatch",
     }
 }

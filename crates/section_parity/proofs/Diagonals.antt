@@ -13,7 +13,7 @@ use Rattle.lattice.specs.Points.{Point, IsPoint, point_of}
 use Rattle.lattice.specs.Cuts.{Plane, toward_of, IsBeyond, IsBeforePlane}
 use Rattle.geometry.specs.Faces.{IsPointOfFace}
 use Rattle.geometry.specs.Parts.{Part, Face, IsClosed}
-use Rattle.geometry.specs.Cuts.{border, start_corner, end_corner, over_of, GoesBeyond, IsBorderOf, IsCrossed, IsInSection, PassesUnder}
+use Rattle.geometry.specs.Cuts.{border, start_corner, end_corner, over_of, GoesBeyond, IsBorderOf, IsCrossed, IsInSection, IsSeenOverInCut}
 use Rattle.geometry.proofs.Borders.{over_before, over_beyond, side_of_corner, not_both_sides, border_of_crossed}
 use Rattle.section_parity.proofs.OverDiagonals.{CrossesLeftOf, HasCrossingLeftOf, HasOddLeft}
 use Rattle.section_parity.specs.Diagonals.{IsUnderBorder}
@@ -61,7 +61,7 @@ alone_before c k l m p q = before (over_before c k p.0) (over_beyond c l p.1) (o
 alone_beyond : (c : Plane) (k l m : Corner) → GoesBeyond c l k → GoesBeyond c m k → IsAlone c k l m
 alone_beyond c k l m p q = beyond (over_beyond c k p.1) (over_before c l p.0) (over_before c m q.0)
 
-module _ (c : Plane) {s : Part} (f : Face s) (p : Point) (is_point : IsPoint p) (off : ¬ PassesUnder c (border f) p) where
+module _ (c : Plane) {s : Part} (f : Face s) (p : Point) (is_point : IsPoint p) (off : ¬ IsSeenOverInCut c (border f) p) where
   abbrev d : Triple
   d = toward_of c
 

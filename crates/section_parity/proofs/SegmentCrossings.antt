@@ -10,7 +10,7 @@ use Rattle.lattice.specs.Points.{Point, of_spot, point_of}
 use Rattle.lattice.specs.Cuts.{Plane, toward_of}
 use Rattle.geometry.specs.Faces.{difference, normal, IsPointOfFace, share_point}
 use Rattle.geometry.specs.Parts.{Part, Face, Edge, HasNoFlatTriangle}
-use Rattle.geometry.specs.Cuts.{border, PassesUnder}
+use Rattle.geometry.specs.Cuts.{border, IsSeenOverInCut}
 use Rattle.cut_plane.specs.declared.segments.Segment.{Segment}
 use Rattle.cut_plane.specs.Loops.{IsSegmentOf, AreBorders}
 use Rattle.cut_plane.proofs.FaceCorners.{HaveSame, have_same}
@@ -131,7 +131,7 @@ crosses_alike c {s = s} f g number e n m crosses = record { passes = under cross
     on : (r : Point) → IsPointOfFace f.a f.b f.c r → IsPointOfFace g.a g.b g.c r
     on r there = subst (λ (k : Corner). IsPointOfFace g.a g.b k r) same.c (subst (λ (k : Corner). IsPointOfFace g.a k f.c r) same.b (subst (λ (k : Corner). IsPointOfFace k f.b f.c r) same.a there))
 
-    under : PassesUnder c (border f) (share_point e.a e.b n m) → PassesUnder c (border g) (share_point e.a e.b n m)
+    under : IsSeenOverInCut c (border f) (share_point e.a e.b n m) → IsSeenOverInCut c (border g) (share_point e.a e.b n m)
     under (r, on_border, sight) = (r, (on r on_border.0, on_border.1), sight)
 
 -- each border has a segment

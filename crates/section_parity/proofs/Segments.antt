@@ -17,7 +17,7 @@ use Rattle.lattice.proofs.SameLines.{along_line}
 use Rattle.lattice.proofs.Vectors.{letters, dots}
 use Rattle.geometry.specs.Faces.{difference, IsFlat, share_point, IsPointOfFace}
 use Rattle.geometry.specs.Parts.{Part, Face, Edge}
-use Rattle.geometry.specs.Cuts.{border, IsOnBorder, IsBorderOf, PassesUnder}
+use Rattle.geometry.specs.Cuts.{border, IsOnBorder, IsBorderOf, IsSeenOverInCut}
 use Rattle.cut_plane.specs.Loops.{IsBorderLine}
 use Rattle.cut_plane.proofs.RightOf.{first_alone, second_alone}
 use Rattle.cut_plane.proofs.BorderPoints.{IsMixOf, AreEnds, border_ends}
@@ -249,7 +249,7 @@ module _ (c : Plane) {s : Part} (f : Face s) (whole : ¬ IsFlat f.a f.b f.c) (k 
       z : Point
       z = share_point e.a e.b i j
 
-      by : PassesUnder c (border f) z → IsRootOf start end i j × IsSeenBetween d k l z
+      by : IsSeenOverInCut c (border f) z → IsRootOf start end i j × IsSeenBetween d k l z
       by (r, on, sight) = (
         record {
           root = sym (value_share d line e.a e.b i j) ∙ value_on _ _ (on_line_of_sight d line r z (point_of_face f.a f.b f.c r on.0) sight (on_line r on.0 on.1));

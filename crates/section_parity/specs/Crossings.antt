@@ -5,11 +5,11 @@ use Rattle.lattice.specs.Triple.{det}
 use Rattle.lattice.specs.Cuts.{Plane, toward_of}
 use Rattle.geometry.specs.Faces.{share_point}
 use Rattle.geometry.specs.Parts.{Part, Face, Edge}
-use Rattle.geometry.specs.Cuts.{edge, border, step_of, PassesUnder}
+use Rattle.geometry.specs.Cuts.{edge, border, step_of, IsSeenOverInCut}
 
 -- the face's border has a point on the line of sight of the place n / m of the edge, and the projections of the two are not parallel
 pub record CrossesAt (c : Plane) {s : Part} (f : Face s) (e : Edge s) (n m : ℤ) : Type 0 where
-  pub passes : PassesUnder c (border f) (share_point e.a e.b n m)
+  pub passes : IsSeenOverInCut c (border f) (share_point e.a e.b n m)
   pub turns : det (toward_of c) (step_of c (edge e)) (step_of c (border f)) ≢ pos 0
 
 -- a place of the edge, with a short divisor

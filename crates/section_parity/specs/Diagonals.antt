@@ -4,7 +4,7 @@ use Rattle.lattice.specs.Triple.{Triple}
 use Rattle.lattice.specs.Points.{Point, across_of, upward_of}
 use Rattle.lattice.specs.Cuts.{Plane}
 use Rattle.geometry.specs.Parts.{Part, Face}
-use Rattle.geometry.specs.Cuts.{border, PassesUnder}
+use Rattle.geometry.specs.Cuts.{border, IsSeenOverInCut}
 
 -- U - V, times w
 abbrev pub diagonal_of : Triple → Point → ℤ
@@ -12,4 +12,4 @@ diagonal_of d p = across_of d p -ℤ upward_of d p
 
 -- a border has a point on the line of sight
 abbrev pub IsUnderBorder : Plane → Part → Point → Type 0
-IsUnderBorder c s p = (f : Face s) × PassesUnder c (border f) p
+IsUnderBorder c s p = (f : Face s) × IsSeenOverInCut c (border f) p

@@ -4,7 +4,7 @@ use Rattle.exact_frac.specs.declared.Frac.{Frac}
 use Rattle.lattice.specs.declared.pieces.HatchLine.{HatchLine}
 use Rattle.lattice.specs.declared.pieces.Piece.{Piece}
 use Rattle.lattice.specs.declared.pieces.Style.{Style}
-use Rattle.lattice.specs.declared.pieces.Style.TheVariants.{Solid, Dashed}
+use Rattle.lattice.specs.declared.pieces.Style.TheVariants.{Solid, Dashed, Chain}
 use Rattle.lattice.specs.declared.points.Spot.{Spot}
 use Rattle.lattice.specs.Points.{Point, of_dir, of_spot, across_of, upward_of}
 use Rattle.sheet_plan.specs.declared.sheet.Mark.{Mark}
@@ -23,10 +23,11 @@ pub record IsShownAt (sheet : Sheet) (place : Spread) (p : Point) (x y : ℤ) : 
   pub right : x ≡ sheet_x (measure_of sheet.scale sheet.decimals) (of_dir place.d) place.x0 p
   pub down : y ≡ sheet_y (measure_of sheet.scale sheet.decimals) (of_dir place.d) place.y0 p
 
--- a visible line is solid, a hidden one dashed
+-- a visible line is solid, a hidden one dashed, and a trace a chain line
 abbrev pub mark_of : Style → Mark
 mark_of Solid = mark.Solid
 mark_of Dashed = mark.Dashed
+mark_of Chain = mark.Chain
 
 -- the fraction's value is n / w
 abbrev pub HasValue : Frac → ℤ → ℤ → Type 0

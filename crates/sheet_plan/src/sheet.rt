@@ -42,6 +42,8 @@ pub enum Mark {
     Solid,
     /// A hidden line.
     Dashed,
+    /// The trace of a cut's plane.
+    Chain,
     /// A line of the hatching of a section.
     Hatch,
 }

@@ -94,5 +94,6 @@ fn mark_of(style: Style) -> Mark
     match style {
         Style::Solid => Mark::Solid,
         Style::Dashed => Mark::Dashed,
+        Style::Chain => Mark::Chain,
     }
 }

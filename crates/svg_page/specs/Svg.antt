@@ -4,7 +4,7 @@ use Rattle.std.specs.List.{filter, flat_map}
 use Rattle.std.specs.Fmt.{signed_decimal}
 use Rattle.integers.specs.Floors.{floor_of}
 use Rattle.sheet_plan.specs.declared.sheet.Mark.{Mark}
-use Rattle.sheet_plan.specs.declared.sheet.Mark.TheVariants.{Solid, Dashed, Hatch}
+use Rattle.sheet_plan.specs.declared.sheet.Mark.TheVariants.{Solid, Dashed, Chain, Hatch}
 use Rattle.sheet_plan.specs.declared.sheet.Sheet.{Sheet}
 use Rattle.sheet_plan.specs.declared.sheet.Stroke.{Stroke}
 use Rattle.svg_page.specs.Texts.{◌⊕◌}
@@ -47,6 +47,7 @@ title_line height (byte ∷ bytes) = before_title height ++ flat_map escaped (by
 abbrev pub pen : Mark → List ℕ
 pen Solid = codes "stroke-width=\"50\""
 pen Dashed = codes "stroke-width=\"35\" stroke-dasharray=\"300 150\""
+pen Chain = codes "stroke-width=\"25\" stroke-dasharray=\"600 150 75 150\""
 pen Hatch = codes "stroke-width=\"18\""
 
 -- the line of a stroke

@@ -142,6 +142,7 @@ fn pen(mark: Mark) -> &'static str
     match mark {
         Mark::Solid => "stroke-width=\"50\"",
         Mark::Dashed => "stroke-width=\"35\" stroke-dasharray=\"300 150\"",
+        Mark::Chain => "stroke-width=\"25\" stroke-dasharray=\"600 150 75 150\"",
         Mark::Hatch => "stroke-width=\"18\"",
     }
 }

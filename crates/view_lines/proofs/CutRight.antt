@@ -1,10 +1,12 @@
 -- Strips of the drawn edges beyond the plane and of the section's borders, put together, are right for the cut view.
-use Rattle.std.proofs.Common.{◌≡◌, ℕ, ◌+◌, ◌<◌, ◌⊎◌, inl, inr, List, All, length, Contains, get_or, false, sym, subst, arith}
+use Rattle.std.proofs.Common.{◌≡◌, ℕ, ◌+◌, ◌<◌, ◌⊎◌, inl, inr, List, All, length, Contains, get_or, sym, subst, arith}
 use Rattle.std.specs.Prelude.{ℤ, pos, ◌<ℤ◌, ◌≤ℤ◌}
 use Rattle.std.proofs.lemmas.Int.{ints, by_lt_z}
 use Rattle.std.proofs.lemmas.List.Elements.{All-contains, Contains-get_or, Contains-append_cases, Contains-append_left, Contains-append_right}
 use Rattle.lattice.specs.declared.pieces.Piece.{Piece}
 use Rattle.lattice.specs.declared.pieces.Strip.{Strip}
+use Rattle.lattice.specs.declared.pieces.StripKind.{StripKind}
+use Rattle.lattice.specs.declared.pieces.StripKind.TheVariants.{Seen}
 use Rattle.lattice.specs.Triangles.{IsBelow}
 use Rattle.lattice.specs.Triple.{Triple}
 use Rattle.lattice.specs.Points.{Point, IsPoint, OnOneSight, of_spot}
@@ -12,7 +14,7 @@ use Rattle.lattice.specs.Lines.{IsSameLine, AreStripEnds}
 use Rattle.lattice.specs.Cuts.{Plane, toward_of, IsBeyond}
 use Rattle.geometry.specs.Faces.{share_point, IsPointOfFace}
 use Rattle.geometry.specs.Parts.{Part, Face, Edge, IsNumbered, IsClosed}
-use Rattle.geometry.specs.Cuts.{EdgeOrBorder, edge, border, step_of, PassesUnder, IsOnBorder, IsDrawnInCut, IsHiddenInCut, IsOrdinaryInCut}
+use Rattle.geometry.specs.Cuts.{EdgeOrBorder, edge, border, step_of, IsSeenOverInCut, IsOnBorder, IsDrawnInCut, IsHiddenInCut, IsOrdinaryInCut}
 use Rattle.geometry.specs.Scenes.{IsSeenAt, AreRightInCut}
 use Rattle.geometry.specs.Views.{IsDrawn, IsOrdinary, AreDrawnEdges}
 use Rattle.geometry.proofs.Borders.{on_plane_is_visible}
@@ -35,7 +37,7 @@ use Rattle.view_lines.proofs.BorderStrips.{border_strip_ends, strip_runs, off_bo
 use Rattle.view_lines.proofs.EdgeScenes.{IsKeptPlace, edge_origin, strip_of_edge_point}
 use Rattle.view_lines.proofs.EdgeStrips.{IsSpanOf, Origin, origin_ends, origin_runs, off_strip_ends, point_of_strip, edge_under}
 use Rattle.view_lines.proofs.SpanPlaces.{weak, inner_of_between}
-use Rattle.view_lines.proofs.StripScenes.{Shows, ShowAt, right_of_merged}
+use Rattle.view_lines.proofs.StripScenes.{TellsOf, Shows, ShowAt, right_of_merged}
 use Rattle.view_lines.proofs.CutPlaces.{in_part, span_beyond}
 
 -- ---- all strips
@@ -122,7 +124,7 @@ module _ (c : Plane) (fraction : ℕ) (s : Part) (halves numbers : List ℕ) (se
     -- the edge or the border that a strip is of: its line runs along it
     record Way (y : Strip) : Type 0 where
       way : EdgeOrBorder s
-      under : PassesUnder c way p
+      under : IsSeenOverInCut c way p
       runs : RunsAlong d y.line (step_of c way)
 
     way_of : (y : Strip) → Source y → LiesOnStrip d y p → Way y
@@ -152,18 +154,18 @@ module _ (c : Plane) (fraction : ℕ) (s : Part) (halves numbers : List ℕ) (se
     }
 
     -- a border point is drawn and not hidden
-    border_shows : (f : Face s) (y : Strip) (q : Point) → y.hidden ≡ false → IsOnBorder c f q → OnOneSight d q p → Shown y q
+    border_shows : (f : Face s) (y : Strip) (q : Point) → y.kind ≡ Seen → IsOnBorder c f q → OnOneSight d q p → Shown y q
     border_shows f y q visible on_border sight = record {
       drawn = inr (f, on_border);
       sight = sight;
-      tells = (λ hides. absurd (let none = visible in cc), λ hides. absurd (on_plane_is_visible c s q on_border.1 hides));
+      tells = subst (λ (k : StripKind). TellsOf k (Hidden q)) (sym visible) (on_plane_is_visible c s q on_border.1);
     }
 
     point_of : (y : Strip) → Source y → LiesOnStrip d y p → (q : Point) × Shown y q
     point_of y (of_edge o) on = point_of_strip d Drawn Hidden Ordinary s y o (ordinary_along_cut c s) p ordinary on
     point_of y (of_border x h is) on =
         let (q, on_border, sight) = point_of_border c s closed in_range x h y is p on in
-        (q, border_shows h.face y q is.hidden on_border sight)
+        (q, border_shows h.face y q is.kind on_border sight)
 
     -- ---- the strip of a drawn point on the line of sight
     abbrev HasStrip : Point → Type 0
@@ -188,7 +190,7 @@ module _ (c : Plane) (fraction : ℕ) (s : Part) (halves numbers : List ℕ) (se
           y,
           of_borders y (k, below, at),
           strip_of_border c s closed in_range x h y is p q (face_there f q on_border.0) on_its sight,
-          border_shows f y q is.hidden on_border sight,
+          border_shows f y q is.kind on_border sight,
         )
 
     strip_of : (q : Point) → IsSeenAt d Drawn p q → HasStrip q

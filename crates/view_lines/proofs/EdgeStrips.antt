@@ -1,5 +1,5 @@
 -- The strip of a span of an edge: its ends, its line, and what it shows at an ordinary point.
-use Rattle.std.proofs.Common.{◌≡◌, Bool, List, Contains, sym, subst, IsTrue, ◌↔◌}
+use Rattle.std.proofs.Common.{◌≡◌, List, Contains, sym, subst, IsTrue, ◌↔◌}
 use Rattle.std.specs.Prelude.{ℤ, pos, ◌<ℤ◌, ◌≤ℤ◌}
 use Rattle.lattice.specs.declared.pieces.Strip.{Strip}
 use Rattle.lattice.specs.Triple.{Triple}
@@ -18,7 +18,7 @@ use Rattle.view_lines.specs.inner.Strips.{IsStripOf, AreStripsOf}
 use Rattle.view_lines.proofs.SpanPlaces.{StaysAlong}
 use Rattle.view_lines.proofs.SpanSums.{HasPlace, place_of_sum, sum_of_place}
 use Rattle.view_lines.proofs.StripPlaces.{span_ends, off_ends, within_of_strip, strip_of_within}
-use Rattle.view_lines.proofs.StripScenes.{Shows}
+use Rattle.view_lines.proofs.StripScenes.{TellsOf, kind_tells, Shows}
 
 -- a span of an edge: within it are drawn points, and it tells which are hidden
 pub record IsSpanOf (d : Triple) (Drawn Hidden Ordinary : Point → Type 0) {s : Part} (e : Edge s) (x : Span) : Type 0 where
@@ -34,9 +34,6 @@ pub record Origin (d : Triple) (Drawn Hidden Ordinary : Point → Type 0) (s : P
   pub span : Span
   pub is : IsStripOf d edge span y
   pub of : IsSpanOf d Drawn Hidden Ordinary edge span
-
-told_alike : (a b : Bool) {P : Type 0} → a ≡ b → IsTrue b ↔ P → IsTrue a ↔ P
-told_alike a b {P} same tells = subst (λ (c : Bool). IsTrue c ↔ P) (sym same) tells
 
 module _ (d : Triple) (Drawn Hidden Ordinary : Point → Type 0) (s : Part) (y : Strip) (o : Origin d Drawn Hidden Ordinary s y) where
   pub origin_ends : AreStripEnds d y.line y.a y.b
@@ -57,7 +54,7 @@ module _ (d : Triple) (Drawn Hidden Ordinary : Point → Type 0) (s : Part) (y :
     shows_at h = record {
       drawn = o.of.drawn h.n h.m h.positive h.within;
       sight = h.sight;
-      tells = told_alike y.hidden o.span.hidden o.is.hidden (o.of.answer h.n h.m h.positive h.within (stays p (share_point o.edge.a o.edge.b h.n h.m) h.positive h.sight ordinary));
+      tells = kind_tells y.kind o.span.hidden o.is.kind (o.of.answer h.n h.m h.positive h.within (stays p (share_point o.edge.a o.edge.b h.n h.m) h.positive h.sight ordinary));
     }
 
     pub point_of_strip : LiesOnStrip d y p → (q : Point) × Shows d Drawn Hidden y p q
@@ -81,6 +78,6 @@ module _ (d : Triple) (Drawn Hidden Ordinary : Point → Type 0) {s : Part} (e :
         record {
           drawn = drawn;
           sight = sight;
-          tells = subst (λ (q : Point). IsTrue y.hidden ↔ Hidden q) (sym at) (told_alike y.hidden x.hidden is.hidden answer);
+          tells = subst (λ (q : Point). TellsOf y.kind (Hidden q)) (sym at) (kind_tells y.kind x.hidden is.kind answer);
         },
       )

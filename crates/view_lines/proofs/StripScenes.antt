@@ -1,61 +1,96 @@
 -- Strips that show what a view draws and hides are put together to pieces that are right for it.
-use Rattle.std.proofs.Common.{◌≡◌, Bool, true, false, List, Contains, ◌↔◌, refl, IsTrue}
+use Rattle.std.proofs.Common.{◌≡◌, Bool, true, false, List, Contains, ◌↔◌, refl, sym, subst, IsTrue}
 use Rattle.lattice.specs.declared.pieces.Piece.{Piece}
 use Rattle.lattice.specs.declared.pieces.Strip.{Strip}
+use Rattle.lattice.specs.declared.pieces.StripKind.{StripKind}
+use Rattle.lattice.specs.declared.pieces.StripKind.TheVariants.{Seen, Hidden, Trace}
 use Rattle.lattice.specs.Triple.{Triple}
 use Rattle.lattice.specs.Points.{Point, IsPoint, OnOneSight}
 use Rattle.geometry.specs.Scenes.{IsSeenAt, SeesVisible, SeesHiddenAlone, AreRightIn}
-use Rattle.line_merge.specs.Merging.{LiesOnStrip, IsClear, LiesOnVisible, LiesOnHiddenOnly, AreMerged}
+use Rattle.line_merge.specs.Merging.{LiesOnStrip, IsClear, LiesOnKind, AreMerged}
+use Rattle.view_lines.specs.inner.Strips.{kind_of}
 
--- the strip is hidden exactly if the drawn point on the line of sight is
-pub record Shows (d : Triple) (Drawn Hidden : Point → Type 0) (y : Strip) (p q : Point) : Type 0 where
+-- a strip of this kind is hidden or seen, as its point is
+abbrev pub TellsOf : StripKind → Type 0 → Type 0
+TellsOf Seen P = ¬ P
+TellsOf Hidden P = P
+TellsOf Trace P = ⊥
+
+-- the kind of a span that tells whether it is hidden
+pub kind_tells : (k : StripKind) (hidden : Bool) {P : Type 0} → k ≡ kind_of hidden → IsTrue hidden ↔ P → TellsOf k P
+kind_tells k hidden {P} is tells = subst (λ (k : StripKind). TellsOf k P) (sym is) (by hidden tells)
+  where
+    by : (hidden : Bool) → IsTrue hidden ↔ P → TellsOf (kind_of hidden) P
+    by true tells = tells.0 refl
+    by false tells = λ p. let t = tells.1 p in cc
+
+-- the strip is hidden exactly if the drawn point on the line of sight is, and else seen
+pub record Shows (d : Triple) (Drawn Hides : Point → Type 0) (y : Strip) (p q : Point) : Type 0 where
   pub drawn : Drawn q
   pub sight : OnOneSight d q p
-  pub tells : IsTrue y.hidden ↔ Hidden q
+  pub tells : TellsOf y.kind (Hides q)
 
 -- a strip lies on the line of sight of p exactly where a drawn point is on it, and shows it
-pub record ShowAt (d : Triple) (Drawn Hidden : Point → Type 0) (strips : List Strip) (p : Point) : Type 0 where
+pub record ShowAt (d : Triple) (Drawn Hides : Point → Type 0) (strips : List Strip) (p : Point) : Type 0 where
   pub clear : IsClear d strips p
-  pub point_of : (y : Strip) → Contains strips y → LiesOnStrip d y p → (q : Point) × Shows d Drawn Hidden y p q
-  pub strip_of : (q : Point) → IsSeenAt d Drawn p q → (y : Strip) × Contains strips y × LiesOnStrip d y p × Shows d Drawn Hidden y p q
+  pub point_of : (y : Strip) → Contains strips y → LiesOnStrip d y p → (q : Point) × Shows d Drawn Hides y p q
+  pub strip_of : (q : Point) → IsSeenAt d Drawn p q → (y : Strip) × Contains strips y × LiesOnStrip d y p × Shows d Drawn Hides y p q
 
-not_hidden : (hidden : Bool) {P : Type 0} → hidden ≡ false → IsTrue hidden ↔ P → ¬ P
-not_hidden hidden visible tells p = let t = tells.1 p in cc
+of_kind : (k l : StripKind) (P : Type 0) → k ≡ l → TellsOf k P → TellsOf l P
+of_kind k l P same tells = subst (λ (k : StripKind). TellsOf k P) same tells
 
-is_visible : (hidden : Bool) {P : Type 0} → ¬ P → IsTrue hidden ↔ P → hidden ≡ false
-is_visible true unseen tells = absurd (unseen (tells.0 refl))
-is_visible false unseen tells = refl
+seen_of : (k : StripKind) (P : Type 0) → TellsOf k P → ¬ P → k ≡ Seen
+seen_of Seen P tells unseen = refl
+seen_of Hidden P tells unseen = absurd (unseen tells)
+seen_of Trace P tells unseen = absurd tells
 
-module _ (d : Triple) (Drawn Hidden : Point → Type 0) (strips : List Strip) where
-  module _ (p : Point) (shown : ShowAt d Drawn Hidden strips p) where
-    visible : LiesOnVisible d strips p ↔ SeesVisible d Drawn Hidden p
+hidden_of : (k : StripKind) (P : Type 0) → TellsOf k P → P → k ≡ Hidden
+hidden_of Seen P tells p = absurd (tells p)
+hidden_of Hidden P tells p = refl
+hidden_of Trace P tells p = absurd tells
+
+hides_of : (k : StripKind) (P : Type 0) → TellsOf k P → ¬ (k ≡ Seen) → P
+hides_of Seen P tells none = absurd (none refl)
+hides_of Hidden P tells none = tells
+hides_of Trace P tells none = absurd tells
+
+module _ (d : Triple) (Drawn Hides : Point → Type 0) (strips : List Strip) where
+  module _ (p : Point) (shown : ShowAt d Drawn Hides strips p) where
+    visible : LiesOnKind d strips Seen p ↔ SeesVisible d Drawn Hides p
     visible = (
-      λ v. let (y, c, unhidden, on) = v in let (q, shows) = shown.point_of y c on in (q, shows.drawn, shows.sight, not_hidden y.hidden unhidden shows.tells),
-      λ v. let (q, drawn, sight, unseen) = v in let (y, c, on, shows) = shown.strip_of q (drawn, sight) in (y, c, is_visible y.hidden unseen shows.tells, on),
+      λ v. let (y, c, is, on) = v in let (q, shows) = shown.point_of y c on in (q, shows.drawn, shows.sight, of_kind y.kind Seen (Hides q) is shows.tells),
+      λ v. let (q, drawn, sight, unseen) = v in let (y, c, on, shows) = shown.strip_of q (drawn, sight) in (y, c, seen_of y.kind (Hides q) shows.tells unseen, on),
     )
 
-    hidden : LiesOnHiddenOnly d strips p ↔ SeesHiddenAlone d Drawn Hidden p
+    hidden : (LiesOnKind d strips Hidden p × ¬ LiesOnKind d strips Seen p) ↔ SeesHiddenAlone d Drawn Hides p
     hidden = (
-      λ h. record {
-        some = let (y, c, on) = h.some in let (q, shows) = shown.point_of y c on in (q, (shows.drawn, shows.sight));
-        hidden = λ q at. let (y, c, on, shows) = shown.strip_of q at in shows.tells.0 (h.hidden y c on);
+      λ h. let ((y, c, is, on), none) = h in record {
+        some = let (q, shows) = shown.point_of y c on in (q, (shows.drawn, shows.sight));
+        hidden = λ q at. let (z, e, on_z, shows) = shown.strip_of q at in hides_of z.kind (Hides q) shows.tells (λ seen. none (z, e, seen, on_z));
       },
-      λ h. record {
-        some = let (q, at) = h.some in let (y, c, on, shows) = shown.strip_of q at in (y, c, on);
-        hidden = λ y c on. let (q, shows) = shown.point_of y c on in shows.tells.1 (h.hidden q (shows.drawn, shows.sight));
-      },
+      λ h. (
+        let (q, at) = h.some in let (y, c, on, shows) = shown.strip_of q at in (y, c, hidden_of y.kind (Hides q) shows.tells (h.hidden q at), on),
+        λ v. let (y, c, is, on) = v in let (q, shows) = shown.point_of y c on in of_kind y.kind Seen (Hides q) is shows.tells (h.hidden q (shows.drawn, shows.sight)),
+      ),
     )
+
+    no_trace : (y : Strip) → Contains strips y → LiesOnStrip d y p → ¬ (y.kind ≡ Trace)
+    no_trace y c on is = let (q, shows) = shown.point_of y c on in of_kind y.kind Trace (Hides q) is shows.tells
 
   both : {A B C : Type 0} → A ↔ B → B ↔ C → A ↔ C
   both f g = (λ a. g.0 (f.0 a), λ c. f.1 (g.1 c))
 
   -- the strips put together are a right list
-  pub right_of_merged : (Ordinary : Point → Type 0) → ((p : Point) → IsPoint p → Ordinary p → ShowAt d Drawn Hidden strips p)
-      → (pieces : List Piece) → AreMerged d strips pieces → AreRightIn d Drawn Hidden Ordinary pieces
+  pub right_of_merged : (Ordinary : Point → Type 0) → ((p : Point) → IsPoint p → Ordinary p → ShowAt d Drawn Hides strips p)
+      → (pieces : List Piece) → AreMerged d strips pieces → AreRightIn d Drawn Hides Ordinary pieces
   right_of_merged Ordinary shown pieces merged = record {
     proper = merged.proper;
     visible = λ p positive ordinary. let at = shown p positive ordinary in both (merged.visible p positive at.clear) (visible p at);
     hidden = λ p positive ordinary. let at = shown p positive ordinary in both (merged.hidden p positive at.clear) (hidden p at);
+    chain = λ p positive ordinary on.
+        let at = shown p positive ordinary in
+        let traces = (merged.traces p positive at.clear).0 on in
+        let (y, c, on_y) = traces.some in no_trace p at y c on_y (traces.traces y c on_y);
     once = λ p positive ordinary. merged.once p positive (shown p positive ordinary).clear;
     whole = merged.whole;
   }

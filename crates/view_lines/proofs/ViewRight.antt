@@ -8,12 +8,10 @@ use Rattle.lattice.specs.Triple.{Triple}
 use Rattle.lattice.specs.Points.{Point, IsPoint, difference}
 use Rattle.lattice.specs.Lines.{IsSameLine}
 use Rattle.geometry.specs.Parts.{Part, Edge, IsNumbered, IsClosed}
-use Rattle.geometry.specs.Pieces.{AreRight}
-use Rattle.geometry.specs.Scenes.{IsSeenAt}
+use Rattle.geometry.specs.Scenes.{IsSeenAt, AreRight}
 use Rattle.geometry.specs.Views.{IsDrawn, IsHidden, IsOrdinary, IsDrawnPoint, AreDrawnEdges}
 use Rattle.geometry.proofs.StepLines.{one_line}
 use Rattle.geometry.proofs.OnLines.{on_line_between}
-use Rattle.geometry.proofs.Scenes.{plain_of_scene}
 use Rattle.geometry.proofs.Sights.{ordinary_along}
 use Rattle.geometry.specs.Places.{IsBetween, HasNoOrdinaryEnd}
 use Rattle.line_merge.specs.Merging.{AreStrips, LiesOnStrip, IsClear, AreMerged}
@@ -106,4 +104,4 @@ module _ (d : Triple) (fraction : ℕ) (s : Part) (halves numbers : List ℕ) (s
 
   -- the strips put together are a right list
   pub right_view : (pieces : List Piece) → AreMerged d strips pieces → AreRight d fraction s pieces
-  right_view pieces merged = plain_of_scene d fraction s pieces (right_of_merged d Drawn Hidden strips Ordinary shown pieces merged)
+  right_view pieces merged = right_of_merged d Drawn Hidden strips Ordinary shown pieces merged

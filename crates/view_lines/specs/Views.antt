@@ -9,8 +9,8 @@ use Rattle.lattice.specs.declared.pieces.Piece.{Piece}
 use Rattle.lattice.specs.declared.pieces.ViewSpec.{ViewSpec}
 use Rattle.lattice.specs.declared.pieces.ViewSpec.TheVariants.{Plain, Section}
 use Rattle.geometry.specs.Parts.{Part}
-use Rattle.geometry.specs.Pieces.{AreRight, AreInOrder}
-use Rattle.geometry.specs.Scenes.{AreRightInCut}
+use Rattle.geometry.specs.Pieces.{AreInOrder}
+use Rattle.geometry.specs.Scenes.{AreRight, AreRightInCut}
 use Rattle.hatch_fill.specs.Hatching.{IsHatching}
 use Rattle.solid_mesh.specs.declared.solid.Solid.{Solid}
 use Rattle.solid_mesh.specs.Solids.{solid_part}

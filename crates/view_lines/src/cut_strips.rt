@@ -22,7 +22,7 @@ use cut_plane::{Section, Segment, borders};
 use edge_pick::{Crease, pick};
 use exact_frac::OutOfMemory;
 use hatch_fill::hatch;
-use lattice::{Cut, Piece, Strip, ViewSpec};
+use lattice::{Cut, Piece, Strip, StripKind, ViewSpec};
 use line_merge::merge;
 use solid_mesh::Solid;
 use span_slow::View;
@@ -37,7 +37,7 @@ fn border_strip(segment: &Segment) -> Strip
         line: segment.line,
         a: segment.a,
         b: segment.b,
-        hidden: false,
+        kind: StripKind::Seen,
     }
 }
 

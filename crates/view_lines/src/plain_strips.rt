@@ -3,7 +3,8 @@ ghost use Rattle.std.specs.Prelude.{◌≡◌, ◌≢◌, ◌↔◌, ℕ, ◌+�
 ghost use Rattle.std.specs.List.{AllZip};
 ghost use Rattle.lattice.specs.Creases.{fraction_of};
 ghost use Rattle.lattice.specs.Points.{of_dir};
-ghost use Rattle.geometry.specs.Pieces.{AreRight, AreInOrder};
+ghost use Rattle.geometry.specs.Pieces.{AreInOrder};
+ghost use Rattle.geometry.specs.Scenes.{AreRight};
 ghost use Rattle.solid_mesh.specs.Solids.{solid_part, edge_halves};
 ghost use Rattle.view_lines.specs.Counts.{AreCountsAlong};
 ghost use Rattle.view_lines.specs.Numbers.{CountsView, AreBelow};

@@ -8,10 +8,10 @@ ghost use Rattle.solid_mesh.specs.Solids.{solid_part, edge_halves};
 ghost use Rattle.geometry.specs.Places.{IsEarlier};
 ghost use Rattle.span_slow.specs.Views.{direction_in, IsViewOf, AreSpansIn};
 ghost use Rattle.edge_pick.specs.inner.Edges.{OfEdge};
-ghost use Rattle.view_lines.specs.inner.Strips.{IsEdgeLine, IsStripOf, AreEdgeStrips};
+ghost use Rattle.view_lines.specs.inner.Strips.{kind_of, IsEdgeLine, IsStripOf, AreEdgeStrips};
 
 use exact_frac::OutOfMemory;
-use lattice::{Dir, Line, Strip};
+use lattice::{Dir, Line, Strip, StripKind};
 use solid_mesh::Solid;
 use span_slow::{Span, View, spans_slow};
 use std::alloc::Global;
@@ -38,7 +38,18 @@ fn strip_of(solid: &Solid, d: &Dir, edge: u32, line: &Line, span: &Span) -> Stri
         line: *line,
         a: solid.spot(edge, &span.from),
         b: solid.spot(edge, &span.to),
-        hidden: span.hidden,
+        kind: kind_of(span.hidden),
+    }
+}
+
+/// What a strip of a hidden span is of, or of a visible one.
+fn kind_of(hidden: bool) -> StripKind
+    ensures { result ≡ kind_of hidden }
+{
+    if hidden {
+        StripKind::Hidden
+    } else {
+        StripKind::Seen
     }
 }
 

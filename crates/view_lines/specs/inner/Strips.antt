@@ -1,8 +1,10 @@
 -- Strips that are the spans of edges, and those that are the segments of borders.
-use Rattle.std.specs.Prelude.{◌≡◌, ℕ, false, List, [], ◌∷◌, ◌++◌, All}
+use Rattle.std.specs.Prelude.{◌≡◌, ℕ, Bool, true, false, List, [], ◌∷◌, ◌++◌, All}
 use Rattle.std.specs.List.{AllZip}
 use Rattle.lattice.specs.declared.lines.Line.{Line}
 use Rattle.lattice.specs.declared.pieces.Strip.{Strip}
+use Rattle.lattice.specs.declared.pieces.StripKind.{StripKind}
+use Rattle.lattice.specs.declared.pieces.StripKind.TheVariants.{Seen, Hidden}
 use Rattle.lattice.specs.Triple.{Triple}
 use Rattle.lattice.specs.Points.{of_spot, point_of}
 use Rattle.lattice.specs.Lines.{IsOnLine}
@@ -25,12 +27,17 @@ pub record IsEdgeLine (d : Triple) {s : Part} (e : Edge s) (l : Line) : Type 0 w
   pub first : IsOnLine d l (point_of e.a)
   pub second : IsOnLine d l (point_of e.b)
 
+-- a strip of a hidden span is hidden, one of a visible span is seen
+abbrev pub kind_of : Bool → StripKind
+kind_of true = Hidden
+kind_of false = Seen
+
 -- the strip is the whole span, on the line of its edge
 pub record IsStripOf (d : Triple) {s : Part} (e : Edge s) (x : Span) (strip : Strip) : Type 0 where
   pub line : IsEdgeLine d e strip.line
   pub from : of_spot strip.a ≡ point_at e x.from
   pub to : of_spot strip.b ≡ point_at e x.to
-  pub hidden : strip.hidden ≡ x.hidden
+  pub kind : strip.kind ≡ kind_of x.hidden
 
 -- the strips are spans of the edge that are right, one each, in order
 pub record AreStripsOf (d : Triple) {s : Part} (Right : Edge s → List Span → Type 0) (e : Edge s) (strips : List Strip) : Type 0 where
@@ -49,7 +56,7 @@ pub record IsBorderStrip (x : Segment) (strip : Strip) : Type 0 where
   pub line : strip.line ≡ x.line
   pub from : of_spot strip.a ≡ of_spot x.a
   pub to : of_spot strip.b ≡ of_spot x.b
-  pub hidden : strip.hidden ≡ false
+  pub kind : strip.kind ≡ Seen
 
 -- the strips of a cut view: those of the edges with these numbers, and then one for each segment
 pub record AreCutStrips (c : Plane) (s : Part) (halves numbers : List ℕ) (segments : List Segment) (strips : List Strip) : Type 0 where

@@ -2,7 +2,7 @@ use Rattle.std.proofs.Common.{◌≡◌, List, [], get_or, refl, sym, subst, ◌
 use Rattle.std.proofs.lemmas.List.{append-nil}
 use Rattle.intervals.specs.declared.interval.Interval.{Interval}
 use Rattle.intervals.specs.Cuts.{IsProper}
-use Rattle.intervals.specs.Steps.{IsAdded}
+use Rattle.intervals.specs.inner.Steps.{IsAdded}
 use Rattle.intervals.proofs.Lists.{one}
 use Rattle.intervals.proofs.Orders.{not_after, not_after_less, itself}
 use Rattle.intervals.proofs.Remaining.{added_on, rest_first, begin_later, known_first, closed_first, rest_last, rest_more}

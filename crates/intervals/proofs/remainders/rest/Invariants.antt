@@ -1,7 +1,7 @@
 use Rattle.std.proofs.Common.{ℕ, ◌≤◌, ◌<◌, take, length, get_or}
 use Rattle.intervals.specs.declared.interval.Interval.{Interval}
 use Rattle.intervals.specs.Cuts.{AreRest}
-use Rattle.intervals.specs.Steps.{EndBefore}
+use Rattle.intervals.specs.inner.Steps.{EndBefore}
 use Rattle.intervals.proofs.remainders.rest.Given as goal
 
 -- what is left of the whole ones so far is there, and the parts passed end before those to come begin

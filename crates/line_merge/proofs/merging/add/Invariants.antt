@@ -1,5 +1,5 @@
 use Rattle.std.proofs.Common.{◌≡◌, ◌++◌, map, take}
-use Rattle.line_merge.specs.Stretches.{stretch_of}
+use Rattle.line_merge.specs.inner.Stretches.{stretch_of}
 use Rattle.line_merge.proofs.merging.add.Given as goal
 
 abbrev pub invariant-loop-x : goal.invariant-loop-x

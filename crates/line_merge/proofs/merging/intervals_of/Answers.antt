@@ -3,7 +3,7 @@ use Rattle.std.specs.List.{AllZip}
 use Rattle.intervals.specs.declared.interval.Interval.{Interval}
 use Rattle.lattice.specs.Points.{of_dir}
 use Rattle.line_merge.specs.declared.marks.Mark.{Mark}
-use Rattle.line_merge.specs.Marks.{IsIntervalOf}
+use Rattle.line_merge.specs.inner.Marks.{IsIntervalOf}
 use Rattle.line_merge.proofs.Zips.{zip_more}
 use Rattle.line_merge.proofs.merging.intervals_of.Goals as goal
 

@@ -13,4 +13,4 @@ invariant_of-result c =
     record { seen = merely (d, subst (λ (v : Triple). AreStripEnds v x.line x.a x.b) (sym same) (segment_ends plane s closed x is)) }
 
 pub returns : goal.returns
-returns c = record { line = refl; from = refl; to = refl; hidden = refl }
+returns c = record { line = refl; from = refl; to = refl; kind = refl }

@@ -17,4 +17,4 @@ invariant_of-result c =
     }
 
 pub returns : goal.returns
-returns c e n = record { line = c.requires.on_line e n; from = c.spot.ensures.at e n; to = c.spot-2.ensures.at e n; hidden = refl }
+returns c e n = record { line = c.requires.on_line e n; from = c.spot.ensures.at e n; to = c.spot-2.ensures.at e n; kind = c.kind_of.ensures }

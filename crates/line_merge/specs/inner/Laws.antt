@@ -3,8 +3,8 @@ use Rattle.std.specs.Cmp.{IsTotalOrder, nat_cmp_total, on_total, then_total}
 use Rattle.exact_frac.specs.Laws.{order_of_total}
 use Rattle.line_merge.specs.declared.marks.Mark.{Mark}
 use Rattle.line_merge.specs.declared.stretches.Stretch.{Stretch}
-use Rattle.line_merge.specs.Marks.{seen_order, mark_order}
-use Rattle.line_merge.specs.Stretches.{stretch_order}
+use Rattle.line_merge.specs.inner.Marks.{seen_order, mark_order}
+use Rattle.line_merge.specs.inner.Stretches.{stretch_order}
 use Rattle.geometry.specs.Pieces.{rank_of}
 
 seen_order_total : IsTotalOrder seen_order

@@ -7,7 +7,7 @@ use Rattle.lattice.specs.declared.pieces.Style.{Style}
 use Rattle.geometry.specs.Pieces.{rank_of}
 use Rattle.line_merge.specs.declared.marks.Mark.{Mark}
 use Rattle.line_merge.specs.declared.stretches.Stretch.{Stretch}
-use Rattle.line_merge.specs.Marks.{seen_order}
+use Rattle.line_merge.specs.inner.Marks.{seen_order}
 
 -- by the style, then by where it begins, then by where it ends
 abbrev pub stretch_order : Stretch → Stretch → Ordering

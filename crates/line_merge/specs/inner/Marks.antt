@@ -1,9 +1,11 @@
--- Marks: where spots are seen on lines, their order, and the intervals of strips.
-use Rattle.std.specs.Prelude.{◌≡◌, ℕ, ◌⊎◌}
+-- Marks: where spots are seen on lines, their order, the intervals of strips, and these put together.
+use Rattle.std.specs.Prelude.{◌≡◌, ℕ, ◌⊎◌, List}
+use Rattle.std.specs.List.{AllZip}
 use Rattle.std.specs.Ordering.{nat_cmp, ordering_then}
 use Rattle.std.specs.declared.cmp.Ordering.{Ordering}
 use Rattle.std.specs.declared.cmp.Ordering.TheVariants.{Less}
 use Rattle.exact_frac.specs.Frac.{order_of}
+use Rattle.intervals.specs.Cuts.{AreUnited}
 use Rattle.intervals.specs.declared.interval.Interval.{Interval}
 use Rattle.lattice.specs.declared.points.Spot.{Spot}
 use Rattle.lattice.specs.Triple.{Triple}
@@ -33,3 +35,9 @@ pub record IsMarkOf (d : Triple) (n : ℕ) (p : Spot) (t : Mark) : Type 0 where
 pub record IsIntervalOf (d : Triple) (x : Numbered) (i : Interval Mark) : Type 0 where
   pub proper : mark_order i.from i.to ≡ Less
   pub ends : (IsMarkOf d x.line x.strip.a i.from × IsMarkOf d x.line x.strip.b i.to) ⊎ (IsMarkOf d x.line x.strip.b i.from × IsMarkOf d x.line x.strip.a i.to)
+
+-- these are the intervals of the strips, put together
+pub record AreUnitedOf (d : Triple) (given : List Numbered) (joined : List (Interval Mark)) : Type 0 where
+  pub intervals : List (Interval Mark)
+  pub each : AllZip (IsIntervalOf d) given intervals
+  pub united : AreUnited mark_order intervals joined
