@@ -14,13 +14,13 @@ pub data Side : Type 0 where
   to_right : Side
 
 -- positive where c is seen to the left of the line from a to b, 0 where it is seen on the line
-abbrev pub turn_to : Triple → Corner → Corner → Corner → ℤ
-turn_to d a b c = det d (difference a b) (difference a c)
+abbrev pub orientation_of : Triple → Corner → Corner → Corner → ℤ
+orientation_of d a b c = det d (difference a b) (difference a c)
 
 -- c is seen strictly on that side of the line from a to b
 abbrev pub StandsOn : Side → Triple → Corner → Corner → Corner → Type 0
-StandsOn to_left d a b c = pos 0 <ℤ turn_to d a b c
-StandsOn to_right d a b c = turn_to d a b c <ℤ pos 0
+StandsOn to_left d a b c = pos 0 <ℤ orientation_of d a b c
+StandsOn to_right d a b c = orientation_of d a b c <ℤ pos 0
 
 -- the face has a corner strictly on that side of the edge's line
 abbrev pub ReachesTo : Side → Triple → {s : Part} → Edge s → Face s → Type 0

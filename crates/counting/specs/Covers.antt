@@ -29,18 +29,3 @@ pub record IsCountedNext (k : Side) (d : Triple) {s : Part} (e : Edge s) (at_b :
 -- 1 where P holds, else 0
 abbrev pub IsOneWhere : Type 0 → ℕ → Type 0
 IsOneWhere P n = ((n ≡ 1) × P) ⊎ ((n ≡ 0) × ¬ P)
-
--- for each face of the part, in order, 1 where it is counted next to the end and else 0
-pub record AreCovers (k : Side) (d : Triple) {s : Part} (e : Edge s) (at_b : Bool) (covers : List ℕ) : Type 0 where
-  pub long : length covers ≡ length s.triangles
-  pub each : (i x : ℕ) → slice_get covers i ≡ Some x → (f : Face s) → f.number ≡ i → IsOneWhere (IsCountedNext k d e at_b f) x
-
--- the same for the faces with these numbers
-abbrev pub AreCoversOf : Side → Triple → {s : Part} → Edge s → Bool → List ℕ → List ℕ → Type 0
-AreCoversOf k d {s = s} e at_b numbers covers = AllZip (λ i x. (f : Face s) → f.number ≡ i → IsOneWhere (IsCountedNext k d e at_b f) x) numbers covers
-
--- so many faces are counted on that side next to the end
-pub record AreCountedNext (k : Side) (d : Triple) {s : Part} (e : Edge s) (at_b : Bool) (n : ℕ) : Type 0 where
-  pub covers : List ℕ
-  pub next : AreCovers k d e at_b covers
-  pub all : n ≡ sum covers

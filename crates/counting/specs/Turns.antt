@@ -27,14 +27,14 @@ abbrev pub Passes : Way → Way → Way → Type 0
 Passes x w y =
     ((pos 0 <ℤ turn_from x w) × (pos 0 <ℤ turn_from w y)) ⊎ ((pos 0 <ℤ turn_from w y) × (pos 0 <ℤ turn_from y x)) ⊎ ((pos 0 <ℤ turn_from y x) × (pos 0 <ℤ turn_from x w))
 
--- the way a hair to that side of x; the hair is 1 / h of its length
-abbrev pub lean : Side → ℤ → Way → Way
-lean to_left h x = record { u = (h *ℤ x.u) -ℤ x.v; v = (h *ℤ x.v) +ℤ x.u }
-lean to_right h x = record { u = (h *ℤ x.u) +ℤ x.v; v = (h *ℤ x.v) -ℤ x.u }
+-- the way x, perturbed to that side by 1 / h of its length
+abbrev pub perturbed : Side → ℤ → Way → Way
+perturbed to_left h x = record { u = (h *ℤ x.u) -ℤ x.v; v = (h *ℤ x.v) +ℤ x.u }
+perturbed to_right h x = record { u = (h *ℤ x.u) +ℤ x.v; v = (h *ℤ x.v) -ℤ x.u }
 
--- the turn from a hair to the side k of x to a hair to the side l of y passes w, for every hair that is fine enough
+-- the turn from x, perturbed to the side k, to y, perturbed to the side l, passes w for every perturbation that is small enough
 abbrev pub TurnPasses : Side → Way → Side → Way → Way → Type 0
-TurnPasses k x l y w = (least : ℤ) × ((h : ℤ) → least <ℤ h → Passes (lean k h x) w (lean l h y))
+TurnPasses k x l y w = (least : ℤ) × ((h : ℤ) → least <ℤ h → Passes (perturbed k h x) w (perturbed l h y))
 
 -- ---- ends of edges
 -- the way in the view from a corner to another
@@ -65,7 +65,7 @@ side_from true k = other_side k
 
 -- ---- the share of an outline
 -- the outline does not have the corner c with this number, and some point of it is strictly nearer on c's line of sight
-pub record PassesOver (d : Triple) (number : ℕ) (c : Corner) {s : Part} (o : Edge s) : Type 0 where
+pub record IsNearerOver (d : Triple) (number : ℕ) (c : Corner) {s : Part} (o : Edge s) : Type 0 where
   pub not_first : o.m ≢ number
   pub not_second : o.n ≢ number
   pub point : Point
@@ -77,11 +77,11 @@ pub record PassesOver (d : Triple) (number : ℕ) (c : Corner) {s : Part} (o : E
 abbrev pub PassesEnd : Triple → Corner → Side → Way → Side → Way → Corner → Type 0
 PassesEnd d c k x l y p = (¬ OnOneSight d (point_of c) (point_of p)) × TurnPasses k x l y (way_to d c p)
 
--- what the outline changes of a count by the turn about c, from a hair to the side k of x to a hair to the side l of y
+-- what the outline changes of a count by the turn about c, from x, perturbed to the side k, to y, perturbed to the side l
 pub data HasTurned (d : Triple) (number : ℕ) (c : Corner) (k : Side) (x : Way) (l : Side) (y : Way) {s : Part} (o : Edge s) : ℤ → Type 0 where
-  over : PassesOver d number c o → (first second : ℕ) → IsOneWhere (PassesEnd d c k x l y o.a) first → IsOneWhere (PassesEnd d c k x l y o.b) second
+  over : IsNearerOver d number c o → (first second : ℕ) → IsOneWhere (PassesEnd d c k x l y o.a) first → IsOneWhere (PassesEnd d c k x l y o.b) second
       → HasTurned d number c k x l y o ((face_sign d o.left -ℤ face_sign d o.right) *ℤ (pos second -ℤ pos first))
-  not_over : ¬ PassesOver d number c o → HasTurned d number c k x l y o (pos 0)
+  not_over : ¬ IsNearerOver d number c o → HasTurned d number c k x l y o (pos 0)
 
 -- what the outline changes of a count about the corner of e, from the end of e there to the end of e', which is at that corner where this is asked
 abbrev pub HasTurnedAt : Side → Triple → {s : Part} → Edge s → Bool → Edge s → Bool → Edge s → ℤ → Type 0

@@ -6,39 +6,39 @@ use Rattle.lattice.specs.Triple.{Triple, det}
 use Rattle.geometry.specs.Faces.{difference}
 use Rattle.geometry.specs.Parts.{Part, Edge}
 use Rattle.geometry.specs.Views.{face_sign}
-use Rattle.counting.specs.Counts.{Side, turn_to}
-use Rattle.counting.specs.Shares.{mark, change_of, climb_of, reach_of, rise_of, PassesNearer, IsCrossedAt}
+use Rattle.counting.specs.Counts.{Side, orientation_of}
+use Rattle.counting.specs.Shares.{mark, change_of, denominator_of, numerator_of, height_numerator_of, PassesNearer, IsCrossedAt}
 use Rattle.exact_frac.specs.declared.Frac.{Frac}
-use Rattle.cross_find.specs.Crossings.{PassesBy, IsCrossedBy}
+use Rattle.cross_find.specs.inner.Lines.{PassesBy, IsCrossedBy}
 
 module _ (d : Triple) {s : Part} (e o : Edge s) (a b p q : Corner) (at_a : e.a ≡ a) (at_b : e.b ≡ b) (at_p : o.a ≡ p) (at_q : o.b ≡ q) where
-  module _ (climb reach rise : ℤ) (is_climb : climb ≡ det d (difference a b) (difference p q)) (is_reach : reach ≡ det d (difference a p) (difference p q))
-      (is_rise : rise ≡ det (difference a b) (difference p q) (difference a p)) where
-    same_climb : climb ≡ climb_of d e o
-    same_climb = is_climb ∙ sym (λ i. det d (difference (at_a i) (at_b i)) (difference (at_p i) (at_q i)))
+  module _ (denominator numerator height_numerator : ℤ) (is_denominator : denominator ≡ det d (difference a b) (difference p q)) (is_numerator : numerator ≡ det d (difference a p) (difference p q))
+      (is_height_numerator : height_numerator ≡ det (difference a b) (difference p q) (difference a p)) where
+    same_denominator : denominator ≡ denominator_of d e o
+    same_denominator = is_denominator ∙ sym (λ i. det d (difference (at_a i) (at_b i)) (difference (at_p i) (at_q i)))
 
-    same_reach : reach ≡ reach_of d e o
-    same_reach = is_reach ∙ sym (λ i. det d (difference (at_a i) (at_p i)) (difference (at_p i) (at_q i)))
+    same_numerator : numerator ≡ numerator_of d e o
+    same_numerator = is_numerator ∙ sym (λ i. det d (difference (at_a i) (at_p i)) (difference (at_p i) (at_q i)))
 
-    same_rise : rise ≡ rise_of e o
-    same_rise = is_rise ∙ sym (λ i. det (difference (at_a i) (at_b i)) (difference (at_p i) (at_q i)) (difference (at_a i) (at_p i)))
+    same_height_numerator : height_numerator ≡ height_numerator_of e o
+    same_height_numerator = is_height_numerator ∙ sym (λ i. det (difference (at_a i) (at_b i)) (difference (at_p i) (at_q i)) (difference (at_a i) (at_p i)))
 
-    same_passes : PassesBy climb reach rise ≡ PassesBy (climb_of d e o) (reach_of d e o) (rise_of e o)
-    same_passes = λ i. PassesBy (same_climb i) (same_reach i) (same_rise i)
+    same_passes : PassesBy denominator numerator height_numerator ≡ PassesBy (denominator_of d e o) (numerator_of d e o) (height_numerator_of e o)
+    same_passes = λ i. PassesBy (same_denominator i) (same_numerator i) (same_height_numerator i)
 
-    pub passes_nearer : PassesBy climb reach rise → PassesNearer d e o
+    pub passes_nearer : PassesBy denominator numerator height_numerator → PassesNearer d e o
     passes_nearer h =
-        let g : PassesBy (climb_of d e o) (reach_of d e o) (rise_of e o) = subst (λ (T : Type 0). T) same_passes h in
+        let g : PassesBy (denominator_of d e o) (numerator_of d e o) (height_numerator_of e o) = subst (λ (T : Type 0). T) same_passes h in
         record { after = g.after; before = g.before; nearer = g.nearer }
 
-    pub passes_by : PassesNearer d e o → PassesBy climb reach rise
+    pub passes_by : PassesNearer d e o → PassesBy denominator numerator height_numerator
     passes_by g = subst (λ (T : Type 0). T) (sym same_passes) (record { after = g.after; before = g.before; nearer = g.nearer })
 
-    pub crossed_at : (r : Frac) → IsCrossedBy climb reach r → IsCrossedAt d e o r
-    crossed_at r h = sym (λ i. r.num *ℤ same_climb i) ∙ h.at ∙ (λ i. same_reach i *ℤ r.den)
+    pub crossed_at : (r : Frac) → IsCrossedBy denominator numerator r → IsCrossedAt d e o r
+    crossed_at r h = sym (λ i. r.num *ℤ same_denominator i) ∙ h.at ∙ (λ i. same_numerator i *ℤ r.den)
 
-  pub changed : (k : Side) (turn from to change : ℤ) → turn ≡ face_sign d o.left -ℤ face_sign d o.right → from ≡ turn_to d a b p → to ≡ turn_to d a b q
+  pub changed : (k : Side) (turn from to change : ℤ) → turn ≡ face_sign d o.left -ℤ face_sign d o.right → from ≡ orientation_of d a b p → to ≡ orientation_of d a b q
       → change ≡ turn *ℤ (mark k from -ℤ mark k to) → change ≡ change_of k d e o
   changed k turn from to change is_turn is_from is_to is =
       is ∙ (λ i. is_turn i *ℤ (mark k (is_from i) -ℤ mark k (is_to i)))
-      ∙ sym (λ i. (face_sign d o.left -ℤ face_sign d o.right) *ℤ (mark k (turn_to d (at_a i) (at_b i) (at_p i)) -ℤ mark k (turn_to d (at_a i) (at_b i) (at_q i))))
+      ∙ sym (λ i. (face_sign d o.left -ℤ face_sign d o.right) *ℤ (mark k (orientation_of d (at_a i) (at_b i) (at_p i)) -ℤ mark k (orientation_of d (at_a i) (at_b i) (at_q i))))

@@ -1,12 +1,12 @@
--- Ways, hairs and their products as the machine computes them.
+-- Ways, perturbations and their products as the machine computes them.
 use Rattle.std.proofs.Common.{◌≡◌, ◌⊎◌, inl, inr, ◌<◌, ◌≤◌, ◌+◌, ◌*◌, ◌^◌, Bool, refl, sym, ap, subst, ◌∙◌, arith, unsigned_abs, to_z, of_z}
 use Rattle.std.specs.Prelude.{ℤ, pos, ◌+ℤ◌, ◌-ℤ◌, ◌*ℤ◌, ◌<ℤ◌, ◌≤ℤ◌, ◌↔◌, IsTrue}
 use Rattle.std.specs.Int.{w128}
 use Rattle.integers.proofs.Worth.{Reads, below, pass, times, minus, known}
 use Rattle.counting.specs.Counts.{Side, to_left, to_right}
 use Rattle.counting.specs.Turns.{Way, turn_from, product_of}
-use Rattle.face_counts.specs.Corners.{hair, hair_of}
-use Rattle.face_counts.specs.CornerTests.{PassesBetween}
+use Rattle.face_counts.specs.inner.Perturbations.{perturbation_between, perturbation_of}
+use Rattle.face_counts.specs.inner.CornerTests.{PassesBetween}
 
 -- a number below 2^64 passes
 pub wide : (x : ℤ) → unsigned_abs x < 2 ^ 64 → to_z w128 (of_z w128 x) ≡ x
@@ -41,32 +41,32 @@ between_by v w f g {r = r} e h l t =
     let x = subst (λ (T : Type 0). IsTrue r ↔ T) (λ i. (e i ≡ pos 0) × (h i ≤ℤ pos 0) × (pos 0 <ℤ l i)) t in
     (λ s. let p = x.0 s in record { on_line = p.0; between = p.1; nearer = p.2 }, λ p. x.1 (p.on_line, p.between, p.nearer))
 
--- ---- hairs
-hair_small : (k : Side) → unsigned_abs (hair_of k) ≤ 1
-hair_small to_left = omega arith
-hair_small to_right = omega arith
+-- ---- perturbations
+perturbation_small : (k : Side) → unsigned_abs (perturbation_of k) ≤ 1
+perturbation_small to_left = omega arith
+perturbation_small to_right = omega arith
 
-pub hair_passed : (x : ℤ) → unsigned_abs x ≤ 2 → to_z w128 (of_z w128 x) ≡ x
-hair_passed x h = (pass w128 (known x 2 h) tt).is
+pub perturbation_passed : (x : ℤ) → unsigned_abs x ≤ 2 → to_z w128 (of_z w128 x) ≡ x
+perturbation_passed x h = (pass w128 (known x 2 h) tt).is
 
-pub less_hair : (k : Side) (x : ℤ) → x ≡ hair_of k → to_z w128 (of_z w128 (pos 0 -ℤ to_z w128 (of_z w128 x))) ≡ pos 0 -ℤ hair_of k
-less_hair k x e = ap (λ z. to_z w128 (of_z w128 (pos 0 -ℤ to_z w128 (of_z w128 z)))) e ∙ by k
+pub less_perturbation : (k : Side) (x : ℤ) → x ≡ perturbation_of k → to_z w128 (of_z w128 (pos 0 -ℤ to_z w128 (of_z w128 x))) ≡ pos 0 -ℤ perturbation_of k
+less_perturbation k x e = ap (λ z. to_z w128 (of_z w128 (pos 0 -ℤ to_z w128 (of_z w128 z)))) e ∙ by k
   where
-    by : (k : Side) → to_z w128 (of_z w128 (pos 0 -ℤ to_z w128 (of_z w128 (hair_of k)))) ≡ pos 0 -ℤ hair_of k
+    by : (k : Side) → to_z w128 (of_z w128 (pos 0 -ℤ to_z w128 (of_z w128 (perturbation_of k)))) ≡ pos 0 -ℤ perturbation_of k
     by to_left = refl
     by to_right = refl
 
-pub one_hair : (k : Side) (x : ℤ) → x ≡ hair_of k → to_z w128 (of_z w128 x) ≡ hair_of k
-one_hair k x e = ap (λ z. to_z w128 (of_z w128 z)) e ∙ by k
+pub one_perturbation : (k : Side) (x : ℤ) → x ≡ perturbation_of k → to_z w128 (of_z w128 x) ≡ perturbation_of k
+one_perturbation k x e = ap (λ z. to_z w128 (of_z w128 z)) e ∙ by k
   where
-    by : (k : Side) → to_z w128 (of_z w128 (hair_of k)) ≡ hair_of k
+    by : (k : Side) → to_z w128 (of_z w128 (perturbation_of k)) ≡ perturbation_of k
     by to_left = refl
     by to_right = refl
 
-pub two_hairs : (k l : Side) (x y : ℤ) → x ≡ hair_of k → y ≡ hair_of l → to_z w128 (of_z w128 (to_z w128 (of_z w128 x) -ℤ to_z w128 (of_z w128 y))) ≡ hair l k
-two_hairs k l x y e f = (λ i. to_z w128 (of_z w128 (to_z w128 (of_z w128 (e i)) -ℤ to_z w128 (of_z w128 (f i))))) ∙ by k l
+pub two_perturbations : (k l : Side) (x y : ℤ) → x ≡ perturbation_of k → y ≡ perturbation_of l → to_z w128 (of_z w128 (to_z w128 (of_z w128 x) -ℤ to_z w128 (of_z w128 y))) ≡ perturbation_between l k
+two_perturbations k l x y e f = (λ i. to_z w128 (of_z w128 (to_z w128 (of_z w128 (e i)) -ℤ to_z w128 (of_z w128 (f i))))) ∙ by k l
   where
-    by : (k l : Side) → to_z w128 (of_z w128 (to_z w128 (of_z w128 (hair_of k)) -ℤ to_z w128 (of_z w128 (hair_of l)))) ≡ hair l k
+    by : (k l : Side) → to_z w128 (of_z w128 (to_z w128 (of_z w128 (perturbation_of k)) -ℤ to_z w128 (of_z w128 (perturbation_of l)))) ≡ perturbation_between l k
     by to_left to_left = refl
     by to_left to_right = refl
     by to_right to_left = refl

@@ -5,9 +5,9 @@ use Rattle.lattice.specs.declared.points.Corner.{Corner}
 use Rattle.lattice.specs.Triple.{Triple}
 use Rattle.geometry.specs.Faces.{facing_of}
 use Rattle.geometry.specs.Parts.{Part, Edge, Face}
-use Rattle.counting.specs.Counts.{Side, to_left, to_right, turn_to, ReachesTo}
+use Rattle.counting.specs.Counts.{Side, to_left, to_right, orientation_of, ReachesTo}
 use Rattle.counting.specs.Covers.{HidesNext, IsCountedNext, IsOneWhere}
-use Rattle.cross_find.specs.Ends.{HidesAt}
+use Rattle.cross_find.specs.inner.Ends.{HidesAt}
 
 module _ (d : Triple) {s : Part} (e : Edge s) (f : Face s) where
   hides_at : (at_b : Bool) → HidesNext d e at_b f → HidesAt at_b d f.a f.b f.c e.a e.b
@@ -41,9 +41,9 @@ module _ (d : Triple) {s : Part} (e : Edge s) (f : Face s) where
         by (inl (is, reaches)) = inl (is, record { turned = here.0; hides = hides_next at_b here.1; reaches = reaches })
         by (inr (is, none)) = inr (is, λ c. none c.reaches)
 
-    module _ (p q r : ℤ) (is_p : p ≡ turn_to d a b x) (is_q : q ≡ turn_to d a b y) (is_r : r ≡ turn_to d a b z) where
-      turn : (t : ℤ) (c k : Corner) → t ≡ turn_to d a b k → c ≡ k → t ≡ turn_to d e.a e.b c
-      turn t c k is at = is ∙ sym (λ i. turn_to d (is_a i) (is_b i) (at i))
+    module _ (p q r : ℤ) (is_p : p ≡ orientation_of d a b x) (is_q : q ≡ orientation_of d a b y) (is_r : r ≡ orientation_of d a b z) where
+      turn : (t : ℤ) (c k : Corner) → t ≡ orientation_of d a b k → c ≡ k → t ≡ orientation_of d e.a e.b c
+      turn t c k is at = is ∙ sym (λ i. orientation_of d (is_a i) (is_b i) (at i))
 
       pub reaches_left : (n : ℕ) → IsOneWhere ((pos 0 <ℤ p) ⊎ (pos 0 <ℤ q) ⊎ (pos 0 <ℤ r)) n → IsOneWhere (ReachesTo to_left d e f) n
       reaches_left n one =

@@ -4,8 +4,8 @@ use Rattle.std.specs.Prelude.{ℤ, pos, ◌+ℤ◌, ◌-ℤ◌, ◌*ℤ◌, ◌<
 use Rattle.std.proofs.lemmas.Int.{ints, by_lt_z}
 use Rattle.integers.proofs.Ring.{Expr, var, con, ◌⊕◌, ◌⊖◌, ◌⊗◌, ring}
 use Rattle.integers.proofs.Signs.{mul_nonneg, mul_pos, pos_of_mul}
-use Rattle.hiding.specs.Values.{value_at}
-use Rattle.cross_find.specs.Ends.{HoldsNext, IsNotBelow, IsAbove}
+use Rattle.hiding.specs.inner.Values.{value_at}
+use Rattle.cross_find.specs.inner.Ends.{HoldsNext, IsNotBelow, IsAbove}
 
 weaker : (a : ℤ) → pos 0 <ℤ a → pos 0 ≤ℤ a
 weaker a h = omega (arith, ints)

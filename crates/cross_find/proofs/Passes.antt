@@ -1,11 +1,11 @@
--- Where two lines cross, by numbers: turned so that climb is at least 0, and told in terms of an edge and an outline.
+-- Where two lines cross, by numbers: turned so that denominator is at least 0, and told in terms of an edge and an outline.
 use Rattle.std.proofs.Common.{◌≡◌, [], ◌∷◌, Option, Some, None, refl, sym, subst, ap, ◌∙◌, arith}
 use Rattle.std.specs.Prelude.{ℤ, pos, ◌-ℤ◌, ◌*ℤ◌, ◌<ℤ◌, ◌≤ℤ◌, ◌<◌, ◌^◌, unsigned_abs, MatchOption, IfSome}
 use Rattle.std.proofs.lemmas.Int.{ints, by_lt_z}
 use Rattle.integers.proofs.Ring.{var, con, ◌⊖◌, ◌⊗◌, ring, gap_of_less, less_by}
 use Rattle.integers.proofs.Signs.{mul_pos, pos_of_mul}
 use Rattle.exact_frac.specs.declared.Frac.{Frac}
-use Rattle.cross_find.specs.Crossings.{PassesBy, PassesForward, IsCrossedBy}
+use Rattle.cross_find.specs.inner.Lines.{PassesBy, PassesForward, IsCrossedBy}
 
 -- ---- from an answer to another
 pub match_map : {A : Type 0} {P P' : Type 0} {Q Q' : A → Type 0} (o : Option A) → (P → P') → ((a : A) → Q a → Q' a) → MatchOption o P Q → MatchOption o P' Q'
@@ -16,7 +16,7 @@ pub some_of : {A : Type 0} (P : Type 0) {Q R : A → Type 0} (o : Option A) → 
 some_of P None g h = tt
 some_of P (Some a) g h = g a h
 
--- ---- where climb is at least 0
+-- ---- where denominator is at least 0
 module _ (c h r : ℤ) where
   above : pos 0 ≤ℤ c → PassesBy c h r → pos 0 <ℤ c
   above least p = by_lt_z (pos 0) c (λ k. k) (λ most. absurd (none h c least most p.after))

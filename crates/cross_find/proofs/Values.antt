@@ -7,11 +7,11 @@ use Rattle.lattice.specs.Triple.{Triple, dot, det}
 use Rattle.lattice.specs.Points.{point_of, difference}
 use Rattle.lattice.proofs.Vectors.{Letters, letters, dots}
 use Rattle.geometry.specs.Faces.{normal}
-use Rattle.hiding.specs.Values.{side_of, depth_of}
+use Rattle.hiding.specs.inner.Values.{side_of, depth_of}
 use Rattle.hiding.proofs.Values.{offset-corner}
-use Rattle.counting.specs.Counts.{turn_to}
+use Rattle.counting.specs.Counts.{orientation_of}
 
-pub side_at : (d : Triple) (k l p : Corner) → turn_to d k l p ≡ side_of d k l (point_of p)
+pub side_at : (d : Triple) (k l p : Corner) → orientation_of d k l p ≡ side_of d k l (point_of p)
 side_at d k l p = ap (λ (t : Triple). det d (difference k l) t) (sym (offset-corner k p))
 
 -- from p to a, and from a to p

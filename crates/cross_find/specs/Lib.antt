@@ -1,5 +1,4 @@
-pub mod Sights
 pub mod Crossings
-pub mod Ends
+pub mod Sights
 pub mod SolidSights
-pub mod Ways
+pub mod inner

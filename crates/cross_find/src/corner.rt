@@ -2,9 +2,9 @@
 ghost use Rattle.std.specs.Prelude.{◌≡◌, ◌⊎◌, ◌↔◌, ◌<◌, ◌≤◌, ◌^◌, pos, ◌+ℤ◌, ◌-ℤ◌, ◌*ℤ◌, ◌<ℤ◌, ◌≤ℤ◌, unsigned_abs, IsTrue};
 ghost use Rattle.lattice.specs.Points.{of_dir};
 ghost use Rattle.counting.specs.Turns.{turn_from, product_of, way_to};
-ghost use Rattle.face_counts.specs.Corners.{hair_of, IsLeft, TwoAreLeft};
-ghost use Rattle.face_counts.specs.CornerTests.{PassesBetween};
-ghost use Rattle.cross_find.specs.Ways.{way_of, side_of};
+ghost use Rattle.face_counts.specs.inner.Perturbations.{perturbation_of, IsLeft, TwoAreLeft};
+ghost use Rattle.face_counts.specs.inner.CornerTests.{PassesBetween};
+ghost use Rattle.cross_find.specs.inner.Ways.{way_of, side_of};
 
 use crate::ways::Way;
 use lattice::{Corner, Dir, Vector};
@@ -42,22 +42,22 @@ pub(crate) fn are_in_line(x: &Way, y: &Way) -> bool
     turn_from(x, y) == 0
 }
 
-/// 1 for a hair to the left of a way, -1 for one to the right.
-fn hair(left: bool) -> i128
-    ensures value { result ≡ hair_of (side_of left) }
+/// 1 for a perturbation to the left of a way, -1 for one to the right.
+fn perturbation(left: bool) -> i128
+    ensures value { result ≡ perturbation_of (side_of left) }
     ensures size { unsigned_abs result ≤ 1 }
 {
     if left { 1 } else { -1 }
 }
 
-/// A product, times how far two hairs are apart.
-fn by_hair(hair: i128, product: i128) -> i128
-    requires hair { unsigned_abs hair ≤ 2 }
+/// A product, times how far two perturbations are apart.
+fn by_perturbation(perturbation: i128, product: i128) -> i128
+    requires perturbation { unsigned_abs perturbation ≤ 2 }
     requires product { unsigned_abs product < 2 ^ 62 }
-    ensures value { result ≡ hair *ℤ product }
+    ensures value { result ≡ perturbation *ℤ product }
     ensures size { unsigned_abs result < 2 ^ 64 }
 {
-    hair * product
+    perturbation * product
 }
 
 /// The first number is above 0, or it is 0 and the second is above 0.
@@ -67,12 +67,15 @@ fn is_above(first: i128, second: i128) -> bool
     first > 0 || (first == 0 && second > 0)
 }
 
-/// `y` is to the left of `x`, or along the same line and the hair turns to the left.
-fn is_left(hair: i128, x: &Way, y: &Way) -> bool
-    requires { unsigned_abs hair ≤ 2 }
-    ensures { IsTrue result ↔ IsLeft hair (way_of x.now) (way_of y.now) }
+/// `y` is to the left of `x`, or along the same line and the perturbation turns to the left.
+fn is_left(perturbation: i128, x: &Way, y: &Way) -> bool
+    requires { unsigned_abs perturbation ≤ 2 }
+    ensures { IsTrue result ↔ IsLeft perturbation (way_of x.now) (way_of y.now) }
 {
-    is_above(turn_from(x, y), by_hair(hair, product_of(x, y)))
+    is_above(
+        turn_from(x, y),
+        by_perturbation(perturbation, product_of(x, y)),
+    )
 }
 
 fn any_two(a: bool, b: bool, c: bool) -> bool
@@ -85,7 +88,7 @@ fn any_two(a: bool, b: bool, c: bool) -> bool
 pub(crate) fn passes(x: &Way, x_left: bool, y: &Way, y_left: bool, w: &Way) -> bool
     ensures { IsTrue result ↔ TwoAreLeft (side_of x_left) (way_of x.now) (side_of y_left) (way_of y.now) (way_of w.now) }
 {
-    let (k, l) = (hair(x_left), hair(y_left));
+    let (k, l) = (perturbation(x_left), perturbation(y_left));
     any_two(is_left(-k, x, w), is_left(l, w, y), is_left(k - l, y, x))
 }
 

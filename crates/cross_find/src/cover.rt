@@ -3,13 +3,13 @@ ghost use Rattle.std.specs.Prelude.{◌≡◌, ◌⊎◌, ◌≢◌, ◌↔◌, 
 ghost use Rattle.lattice.specs.Points.{of_dir, point_of};
 ghost use Rattle.geometry.specs.Faces.{facing_of};
 ghost use Rattle.geometry.specs.Parts.{Edge, Face, IsNumbered};
-ghost use Rattle.hiding.specs.Values.{side_of, depth_of};
+ghost use Rattle.hiding.specs.inner.Values.{side_of, depth_of};
 ghost use Rattle.solid_mesh.specs.Solids.{solid_part, edge_halves};
 ghost use Rattle.counting.specs.Counts.{to_left, to_right};
 ghost use Rattle.counting.specs.Covers.{IsCountedNext, IsOneWhere};
-ghost use Rattle.cross_find.specs.Ends.{HidesAt, HidesFrom, IsNotBelow, IsAbove};
+ghost use Rattle.cross_find.specs.inner.Ends.{HidesAt, HidesFrom, IsNotBelow, IsAbove};
 
-use crate::ends::{ends, turn_to};
+use crate::ends::{ends, orientation_of};
 use crate::meter::{End, Meter};
 use lattice::{Corner, Dir, Vector, det3};
 use solid_mesh::Solid;
@@ -48,9 +48,9 @@ pub fn cover_test(solid: &Solid, d: &Dir, end: End, tri: u32, meter: &mut Meter)
     if !hides_at(d, &a, &b, end.at_b, &t) {
         return (0, 0);
     }
-    let x = turn_to(d, &a, &b, &t.a);
-    let y = turn_to(d, &a, &b, &t.b);
-    let z = turn_to(d, &a, &b, &t.c);
+    let x = orientation_of(d, &a, &b, &t.a);
+    let y = orientation_of(d, &a, &b, &t.b);
+    let z = orientation_of(d, &a, &b, &t.c);
     (any_above(x, y, z), any_below(x, y, z))
 }
 
@@ -82,7 +82,7 @@ fn hides_at(d: &Dir, a: &Corner, b: &Corner, at_b: bool, t: &Corners) -> bool
 fn hides_next(d: &Dir, o: &Corner, q: &Corner, t: &Corners) -> bool
     ensures { IsTrue result ↔ ((facing_of (of_dir d.now) t.now.a t.now.b t.now.c ≢ pos 0) × HidesFrom (of_dir d.now) t.now.a t.now.b t.now.c o.now q.now) }
 {
-    let facing = turn_to(d, &t.a, &t.b, &t.c);
+    let facing = orientation_of(d, &t.a, &t.b, &t.c);
     if facing > 0 {
         front_hides_next(d, o, q, t)
     } else if facing < 0 {
@@ -129,8 +129,8 @@ fn side(d: &Dir, k: &Corner, l: &Corner, o: &Corner, q: &Corner) -> Linear
     ensures there { result.there ≡ side_of (of_dir d.now) k.now l.now (point_of q.now) }
 {
     Linear {
-        here: turn_to(d, k, l, o),
-        there: turn_to(d, k, l, q),
+        here: orientation_of(d, k, l, o),
+        there: orientation_of(d, k, l, q),
     }
 }
 

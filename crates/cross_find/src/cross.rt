@@ -9,23 +9,24 @@ ghost use Rattle.geometry.specs.Views.{face_sign};
 ghost use Rattle.solid_mesh.specs.Solids.{solid_part, edge_halves};
 ghost use Rattle.counting.specs.Counts.{to_left, to_right};
 ghost use Rattle.counting.specs.Shares.{mark, change_of, PassesNearer, IsCrossedAt};
-ghost use Rattle.cross_find.specs.Crossings.{IsAcross, PassesBy, PassesForward, IsCrossedBy};
+ghost use Rattle.cross_find.specs.inner.Lines.{PassesBy, PassesForward, IsCrossedBy};
+ghost use Rattle.cross_find.specs.Crossings.{IsAcross};
 
-use crate::ends::{ends, turn_to};
+use crate::ends::{ends, orientation_of};
 use crate::meter::{Crossing, Meter};
 use exact_frac::Frac;
 use lattice::{Corner, Dir, Vector, det3, view_cross};
 use solid_mesh::Solid;
 
-/// Two lines as they are seen: they cross at the place reach / climb of the first, where the second is higher by rise / climb.
+/// Two lines as they are seen: they cross at the place numerator / denominator of the first, where the second is higher by height_numerator / denominator.
 #[derive(Clone, Copy)]
 struct TwoLines {
-    climb: i128,
-    reach: i128,
-    rise: i128,
-    ghost climb_small: { unsigned_abs climb < 2 ^ 48 },
-    ghost reach_small: { unsigned_abs reach < 2 ^ 48 },
-    ghost rise_small: { unsigned_abs rise < 2 ^ 66 },
+    denominator: i128,
+    numerator: i128,
+    height_numerator: i128,
+    ghost denominator_small: { unsigned_abs denominator < 2 ^ 48 },
+    ghost numerator_small: { unsigned_abs numerator < 2 ^ 48 },
+    ghost height_numerator_small: { unsigned_abs height_numerator < 2 ^ 66 },
 }
 
 /// What is changed of the count to the left, and of the count to the right.
@@ -79,24 +80,24 @@ fn passing(solid: &Solid, d: &Dir, edge: u32, outline: u32) -> Option<Frac>
 
 /// How the line from `p` to `q` is seen to cross that from `a` to `b`.
 fn lines(d: &Dir, a: &Corner, b: &Corner, p: &Corner, q: &Corner) -> TwoLines
-    ensures climb { result.climb ≡ det (of_dir d.now) (difference a.now b.now) (difference p.now q.now) }
-    ensures reach { result.reach ≡ det (of_dir d.now) (difference a.now p.now) (difference p.now q.now) }
-    ensures rise { result.rise ≡ det (difference a.now b.now) (difference p.now q.now) (difference a.now p.now) }
+    ensures denominator { result.denominator ≡ det (of_dir d.now) (difference a.now b.now) (difference p.now q.now) }
+    ensures numerator { result.numerator ≡ det (of_dir d.now) (difference a.now p.now) (difference p.now q.now) }
+    ensures height_numerator { result.height_numerator ≡ det (difference a.now b.now) (difference p.now q.now) (difference a.now p.now) }
 {
     let (along, over) = (Vector::between(a, b), Vector::between(p, q));
     let way = Vector::between(a, p);
     TwoLines {
-        climb: view_cross(d, &along, &over),
-        reach: view_cross(d, &way, &over),
-        rise: det3(&along, &over, &way),
+        denominator: view_cross(d, &along, &over),
+        numerator: view_cross(d, &way, &over),
+        height_numerator: det3(&along, &over, &way),
     }
 }
 
 /// The inner place of the first line at which the second crosses it, strictly nearer.
 fn inner_place(x: &TwoLines) -> Option<Frac>
-    ensures { MatchOption result (¬ PassesBy x.now.climb x.now.reach x.now.rise) (λ r. PassesBy x.now.climb x.now.reach x.now.rise × IsCrossedBy x.now.climb x.now.reach r) }
+    ensures { MatchOption result (¬ PassesBy x.now.denominator x.now.numerator x.now.height_numerator) (λ r. PassesBy x.now.denominator x.now.numerator x.now.height_numerator × IsCrossedBy x.now.denominator x.now.numerator r) }
 {
-    if x.climb > 0 {
+    if x.denominator > 0 {
         place_within(x)
     } else {
         place_within(&turned(x))
@@ -105,27 +106,27 @@ fn inner_place(x: &TwoLines) -> Option<Frac>
 
 /// The same three with the other sign.
 fn turned(x: &TwoLines) -> TwoLines
-    ensures climb { result.climb ≡ pos 0 -ℤ x.now.climb }
-    ensures reach { result.reach ≡ pos 0 -ℤ x.now.reach }
-    ensures rise { result.rise ≡ pos 0 -ℤ x.now.rise }
+    ensures denominator { result.denominator ≡ pos 0 -ℤ x.now.denominator }
+    ensures numerator { result.numerator ≡ pos 0 -ℤ x.now.numerator }
+    ensures height_numerator { result.height_numerator ≡ pos 0 -ℤ x.now.height_numerator }
 {
     TwoLines {
-        climb: -x.climb,
-        reach: -x.reach,
-        rise: -x.rise,
+        denominator: -x.denominator,
+        numerator: -x.numerator,
+        height_numerator: -x.height_numerator,
     }
 }
 
-/// The same, where climb is at least 0.
+/// The same, where denominator is at least 0.
 fn place_within(x: &TwoLines) -> Option<Frac>
-    ensures { MatchOption result (¬ PassesForward x.now.climb x.now.reach x.now.rise) (λ r. PassesForward x.now.climb x.now.reach x.now.rise × (r.num ≡ x.now.reach) × (r.den ≡ x.now.climb)) }
+    ensures { MatchOption result (¬ PassesForward x.now.denominator x.now.numerator x.now.height_numerator) (λ r. PassesForward x.now.denominator x.now.numerator x.now.height_numerator × (r.num ≡ x.now.numerator) × (r.den ≡ x.now.denominator)) }
 {
-    if x.reach <= 0 || x.reach >= x.climb || x.rise <= 0 {
+    if x.numerator <= 0 || x.numerator >= x.denominator || x.height_numerator <= 0 {
         return None;
     }
     Some(Frac {
-        num: x.reach,
-        den: x.climb,
+        num: x.numerator,
+        den: x.denominator,
     })
 }
 
@@ -141,7 +142,7 @@ fn changes(solid: &Solid, d: &Dir, edge: u32, outline: u32) -> CountChanges
     let (a, b) = ends(solid, edge);
     let (p, q) = ends(solid, outline);
     let turn = turn_of(solid, d, outline);
-    let (from, to) = (turn_to(d, &a, &b, &p), turn_to(d, &a, &b, &q));
+    let (from, to) = (orientation_of(d, &a, &b, &p), orientation_of(d, &a, &b, &q));
     CountChanges {
         left: times(turn, left_mark(from), left_mark(to)),
         right: times(turn, right_mark(from), right_mark(to)),

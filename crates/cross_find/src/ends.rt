@@ -3,7 +3,7 @@ ghost use Rattle.std.specs.Prelude.{◌≡◌, ◌<◌, ◌^◌, length, unsigne
 ghost use Rattle.lattice.specs.Points.{of_dir};
 ghost use Rattle.geometry.specs.Parts.{Edge, IsNumbered};
 ghost use Rattle.solid_mesh.specs.Solids.{solid_part, edge_halves};
-ghost use Rattle.counting.specs.Counts.{turn_to};
+ghost use Rattle.counting.specs.Counts.{orientation_of};
 
 use lattice::{Corner, Dir, Vector, view_cross};
 use solid_mesh::Solid;
@@ -18,8 +18,8 @@ pub(crate) fn ends(solid: &Solid, edge: u32) -> (Corner, Corner)
 }
 
 /// Positive where `c` is seen to the left of the line from `a` to `b`, 0 where it is seen on the line.
-pub(crate) fn turn_to(d: &Dir, a: &Corner, b: &Corner, c: &Corner) -> i128
-    ensures value { result ≡ turn_to (of_dir d.now) a.now b.now c.now }
+pub(crate) fn orientation_of(d: &Dir, a: &Corner, b: &Corner, c: &Corner) -> i128
+    ensures value { result ≡ orientation_of (of_dir d.now) a.now b.now c.now }
     ensures size { unsigned_abs result < 2 ^ 48 }
 {
     view_cross(d, &Vector::between(a, b), &Vector::between(a, c))

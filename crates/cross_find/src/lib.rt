@@ -10,16 +10,16 @@
 //! - `cross_test`: where an outline passes nearer over an edge, and by how much the two counts change there. A corner of the
 //!   outline on the edge's line counts as standing to its right for the left count, and to its left for the right count.
 //! - `corner_test`: by how much an outline changes the two counts about a corner, from the end of one edge there to that of another.
-//!   Next to its end an edge's left count is that of the faces over a hair to the left of it. So the turn goes counterclockwise,
-//!   less than once around, from a hair beside the first edge to a hair beside the second. An outline that passes nearer over the
+//!   Next to its end an edge's left count is that of the faces over its way perturbed to the left. So the turn goes
+//!   counterclockwise, less than once around, from the first edge's perturbed way to the second's. An outline that passes nearer over the
 //!   corner changes the count where the turn passes the way to one of its ends. Faces and outlines that have the corner are left
 //!   out: there the triangles at the corner are tested again. Left and right are those along the edge from its first end, and are
 //!   exchanged as they are seen from its second.
 //!
-//! No hair is made. Whether a way is to the left of another is the sign of the turn between them and, where the two are along one
-//! line, that of their product times how far their hairs are apart. So an end of an
-//! outline that is seen along an edge is to one side of its hair. Two hairs on one side of one way are the same, and the turn
-//! between them, as from an edge to itself, passes nothing, and not all ways around.
+//! No perturbed way is made. Whether a way is to the left of another is the sign of the turn between them and, where the two are
+//! along one line, that of their product times how far their perturbations are apart. So an end of an outline that is seen along an
+//! edge is to one side of its perturbed way. Two perturbations of one way to one side are the same, and the turn between them, as
+//! from an edge to itself, passes nothing, and not all ways around.
 //!
 //! Deviations from Appel: 1) there are two counts in place of one, since outlines may run along the edge's line or end on it;
 //! 2) all is decided by signs of determinants of whole coordinates, and the place of a crossing is the quotient of two of them,

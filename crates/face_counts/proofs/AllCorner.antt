@@ -3,13 +3,14 @@ use Rattle.std.proofs.Common.{◌≡◌, ◌⊎◌, ℕ, ◌+◌, ◌*◌, ◌<�
 use Rattle.std.specs.Prelude.{ℤ, pos, negsuc, ◌+ℤ◌, ◌-ℤ◌, ◌*ℤ◌, ◌<ℤ◌}
 use Rattle.std.proofs.lemmas.Int.{ints}
 use Rattle.hiding.proofs.ScreenSides.{pos_at}
-use Rattle.hiding.specs.Screens.{lead_of, Screen, area_of, SideCovers}
+use Rattle.hiding.proofs.Screens.{lead_of, Screen, area_of, SideCovers}
 use Rattle.integers.proofs.Ring.{var, con, ◌⊕◌, ◌⊖◌, ◌⊗◌, ring}
 use Rattle.counting.specs.Counts.{Side}
-use Rattle.face_counts.specs.Shares.{IsTally, CountsAt, Touches, IsSign, edge_on, front, back, Adds}
-use Rattle.counting.specs.Turns.{Way, lean}
-use Rattle.face_counts.specs.Corners.{way, IsBelow, IsFine, EndPasses, Ends, Suits, HasCorner, AllCornerLaw}
-use Rattle.face_counts.specs.Sums.{keep}
+use Rattle.face_counts.specs.inner.Tallies.{IsTally}
+use Rattle.face_counts.proofs.Shares.{CountsAt, Touches, IsSign, edge_on, front, back, Adds}
+use Rattle.counting.specs.Turns.{Way, perturbed}
+use Rattle.face_counts.proofs.CornerLaws.{way, IsBelow, IsFine, EndPasses, Ends, Suits, HasCorner, AllCornerLaw}
+use Rattle.face_counts.proofs.SumsBelow.{keep}
 use Rattle.face_counts.proofs.Names.{P, A, B, C, Zero, values, lead}
 use Rattle.face_counts.proofs.Signs.{up, clash_zero}
 use Rattle.face_counts.proofs.Sides.{tally_of, same_tally}
@@ -76,10 +77,10 @@ own_quiet o a b d sign ow (back down) some h s = own_clear o b a d ow (pos_at _ 
 module _ (c c' : Side) (o q q' a b d : Screen) (k n m n' m' : ℤ) (ow : o.w ≡ pos 1) (qw : q.w ≡ pos 1) (qw' : q'.w ≡ pos 1)
     (apart : ¬ ((o.u ≡ q.u) × (o.v ≡ q.v))) (apart' : ¬ ((o.u ≡ q'.u) × (o.v ≡ q'.v))) where
   abbrev X : Way
-  X = lean c k (way o q)
+  X = perturbed c k (way o q)
 
   abbrev Y : Way
-  Y = lean c' k (way o q')
+  Y = perturbed c' k (way o q')
 
   scaled : (y p r s t u v : ℤ) → y ≡ ((r -ℤ p) +ℤ (t -ℤ s)) +ℤ (v -ℤ u) → y ≡ six (pos 1) p r s t u v
   scaled y p r s t u v e = omega (arith, ints)
@@ -184,8 +185,8 @@ all_corner c c' o q q' s k n m n' m' before after starts ends ow qw qw' apart ap
         let a = s.from (3 * i) in
         let b = s.from (3 * i + 1) in
         let d = s.from (3 * i + 2) in
-        let x = lean c k (way o q) in
-        let y = lean c' k (way o q') in
+        let x = perturbed c k (way o q) in
+        let y = perturbed c' k (way o q') in
         any_change c c' o q q' a b d k n m n' m' ow qw qw' apart apart' (is.is_sign i l) (faces i l) (t i l) (t' i l)
         record {
           at_ab_a = subst (λ w. IsTally (EndPasses o a w a x y) (starts (3 * i))) (is.first i l) (from_ends (3 * i) (in_first i l));
@@ -202,8 +203,8 @@ all_corner c c' o q q' s k n m n' m' before after starts ends ow qw qw' apart ap
 
     pair : (h : ℕ) → h < 3 * s.triangles → share h +ℤ share (s.twin h) ≡ (s.sign h -ℤ s.sign (s.twin h)) *ℤ (ends h -ℤ starts h)
     pair h l =
-        let x = lean c k (way o q) in
-        let y = lean c' k (way o q') in
+        let x = perturbed c k (way o q) in
+        let y = perturbed c' k (way o q') in
         let u = from_ends (s.twin h) (is.within h l) in
         let v = to_ends (s.twin h) (is.within h l) in
         let u' = subst (λ w. IsTally (EndPasses o w (s.to (s.twin h)) w x y) (starts (s.twin h))) (is.starts h l) u in

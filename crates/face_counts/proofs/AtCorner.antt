@@ -13,11 +13,11 @@ use Rattle.geometry.specs.Faces.{face_sum, edge_sum}
 use Rattle.geometry.specs.Parts.{Part, Face, Edge, IsHalf, IsCornerOf, start_of, end_of}
 use Rattle.geometry.specs.Sound.{MeetsFace, IsSound}
 use Rattle.geometry.proofs.Listed.{same_element}
-use Rattle.hiding.specs.Screens.{Screen}
+use Rattle.hiding.proofs.Screens.{Screen}
 use Rattle.hiding.proofs.Decisions.{either_or}
 use Rattle.hiding.proofs.OnScreens.{unpack, dot_sum}
-use Rattle.face_counts.specs.Shares.{Touches}
-use Rattle.face_counts.specs.Corners.{HasCorner}
+use Rattle.face_counts.proofs.Shares.{Touches}
+use Rattle.face_counts.proofs.CornerLaws.{HasCorner}
 use Rattle.face_counts.proofs.EdgePasses.{same_or_not}
 use Rattle.face_counts.proofs.HalfFaces.{corner_of_side}
 use Rattle.face_counts.proofs.OneFace.{touches_rotate}

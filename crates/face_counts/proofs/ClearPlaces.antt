@@ -11,19 +11,19 @@ use Rattle.geometry.specs.Faces.{share_point, edge_sum}
 use Rattle.geometry.specs.Parts.{Part, Face, Edge, IsClosed}
 use Rattle.geometry.specs.Views.{IsOrdinary, IsSeenOver}
 use Rattle.geometry.proofs.Shares.{edge_share}
-use Rattle.hiding.specs.Screens.{Screen, area_of, turn_of}
-use Rattle.hiding.specs.Values.{IsSideOf}
+use Rattle.hiding.proofs.Screens.{Screen, area_of, turn_of}
+use Rattle.hiding.specs.inner.Values.{IsSideOf}
 use Rattle.hiding.proofs.Decisions.{same_or}
 use Rattle.hiding.proofs.OnScreens.{dot_edge_sum}
 use Rattle.hiding.proofs.Ordinary.{not-at-crossing}
 use Rattle.hiding.proofs.Readings.{dot-share}
 use Rattle.hiding.proofs.Weights.{natural}
-use Rattle.face_counts.specs.Places.{place_of}
-use Rattle.face_counts.specs.Shares.{climb_of, IsClearOf, IsClear}
+use Rattle.face_counts.proofs.Places.{place_of}
+use Rattle.face_counts.proofs.Shares.{denominator_of, IsClearOf, IsClear}
 use Rattle.face_counts.proofs.Names.{P, Q, A, B, M, Zero, flat_values, area, turn, at}
 use Rattle.face_counts.proofs.Signs.{up_weak}
-use Rattle.face_counts.proofs.Sides.{climb-areas}
-use Rattle.face_counts.proofs.Seen.{on, scale, climb_seen}
+use Rattle.face_counts.proofs.Sides.{denominator-areas}
+use Rattle.face_counts.proofs.Seen.{on, scale, denominator_seen}
 
 -- ---- where a side's line has a place of the edge, the side's corners weighed by each other's distance are at that place
 module _ (p q a b : Screen) (n m : ℤ) (on_line : turn_of (place_of p q n m) a b ≡ pos 0) where
@@ -59,19 +59,19 @@ module _ (p q a b : Screen) (n m : ℤ) (on_line : turn_of (place_of p q n m) a 
   ByWeights X = (i j : ℤ) → pos 0 ≤ℤ i → pos 0 ≤ℤ j → pos 0 <ℤ (i +ℤ j)
       → ((i *ℤ a.u) +ℤ (j *ℤ b.u)) *ℤ m ≡ (place_of p q n m).u *ℤ (i +ℤ j) → ((i *ℤ a.v) +ℤ (j *ℤ b.v)) *ℤ m ≡ (place_of p q n m).v *ℤ (i +ℤ j) → X
 
-  pub no_climb : ByWeights (climb_of p q a b ≡ pos 0)
-      → ((Sa ≤ℤ pos 0) × (pos 0 ≤ℤ Sb)) ⊎ ((Sb ≤ℤ pos 0) × (pos 0 ≤ℤ Sa)) → climb_of p q a b ≡ pos 0
-  no_climb by (inl s) =
+  pub no_denominator : ByWeights (denominator_of p q a b ≡ pos 0)
+      → ((Sa ≤ℤ pos 0) × (pos 0 ≤ℤ Sb)) ⊎ ((Sb ≤ℤ pos 0) × (pos 0 ≤ℤ Sa)) → denominator_of p q a b ≡ pos 0
+  no_denominator by (inl s) =
       by_lt_z (pos 0) (Sb +ℤ (pos 0 -ℤ Sa))
       (λ more. by Sb (pos 0 -ℤ Sa) s.1 (up_weak _ s.0) more same_u same_v)
-      (λ less. none_up _ _ _ (climb-areas p q a b) s.0 s.1 less)
+      (λ less. none_up _ _ _ (denominator-areas p q a b) s.0 s.1 less)
     where
       none_up : (k x y : ℤ) → k ≡ y -ℤ x → x ≤ℤ pos 0 → pos 0 ≤ℤ y → (y +ℤ (pos 0 -ℤ x)) ≤ℤ pos 0 → k ≡ pos 0
       none_up k x y e h l n = omega (arith, ints)
-  no_climb by (inr s) =
+  no_denominator by (inr s) =
       by_lt_z (pos 0) ((pos 0 -ℤ Sb) +ℤ Sa)
       (λ more. by (pos 0 -ℤ Sb) Sa (up_weak _ s.0) s.1 more (negated Sb Sa _ _ m _ same_u) (negated Sb Sa _ _ m _ same_v))
-      (λ less. none_down _ _ _ (climb-areas p q a b) s.1 s.0 less)
+      (λ less. none_down _ _ _ (denominator-areas p q a b) s.1 s.0 less)
     where
       none_down : (k x y : ℤ) → k ≡ y -ℤ x → pos 0 ≤ℤ x → y ≤ℤ pos 0 → ((pos 0 -ℤ y) +ℤ x) ≤ℤ pos 0 → k ≡ pos 0
       none_down k x y e h l n = omega (arith, ints)
@@ -96,12 +96,12 @@ module _ (d : Triple) {s : Part} (closed : IsClosed s) (in_range : All (IsBelow 
 
   module _ (f : Face s) (k l : Corner) (side : IsSideOf f k l) where
     abbrev Zeros : Type 0
-    Zeros = climb_of (on d e.a) (on d e.b) (on d k) (on d l) ≡ pos 0
+    Zeros = denominator_of (on d e.a) (on d e.b) (on d k) (on d l) ≡ pos 0
 
     along : (i j : ℕ) → 0 < i + j → OnOneSight d (edge_sum k l i j) (share_point e.a e.b n m) → Zeros
     along i j some same =
         elim (same_or (det d (difference e.a e.b) (difference k l)) (pos 0)) [
-          | inl z ↦ climb_seen d e.a e.b k l ∙ ap (λ v. scale d *ℤ v) z ∙ times_zero (scale d)
+          | inl z ↦ denominator_seen d e.a e.b k l ∙ ap (λ v. scale d *ℤ v) z ∙ times_zero (scale d)
           | inr crosses ↦ absurd (not-at-crossing d s (share_point e.a e.b n m) closed in_range e over_itself f k l side (edge_sum k l i j) (i, j, some, refl) same crosses ordinary)
         ]
       where
@@ -123,7 +123,7 @@ module _ (d : Triple) {s : Part} (closed : IsClosed s) (in_range : All (IsBelow 
     by_weights (pos i) (negsuc j) hi hj some eu ev = absurd (omega (arith, ints))
 
     clear_side : IsClearOf (on d e.a) (on d e.b) (on d k) (on d l) n m
-    clear_side on_line sides = no_climb (on d e.a) (on d e.b) (on d k) (on d l) n m on_line by_weights sides
+    clear_side on_line sides = no_denominator (on d e.a) (on d e.b) (on d k) (on d l) n m on_line by_weights sides
 
   pub clear_ordinary : (f : Face s) → IsClear (on d e.a) (on d e.b) (on d f.a) (on d f.b) (on d f.c) n m
   clear_ordinary f = record {

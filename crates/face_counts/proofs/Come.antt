@@ -3,10 +3,11 @@ use Rattle.std.proofs.Common.{◌≡◌, ◌⊎◌, inl, inr, [], ◌∷◌, ref
 use Rattle.std.specs.Prelude.{ℤ, pos, ◌+ℤ◌, ◌-ℤ◌, ◌*ℤ◌, ◌≤ℤ◌, ◌<ℤ◌}
 use Rattle.std.proofs.lemmas.Int.{ints, by_lt_z}
 use Rattle.hiding.proofs.ScreenSides.{pos_at, nonneg_at}
-use Rattle.hiding.specs.Values.{value_at}
+use Rattle.hiding.specs.inner.Values.{value_at}
 use Rattle.integers.proofs.Ring.{Expr, var, con, ◌⊕◌, ◌⊖◌, ◌⊗◌, ring, less_by}
 use Rattle.integers.proofs.Signs.{mul_nonneg, mul_pos}
-use Rattle.face_counts.specs.Shares.{IsTally, yes, no}
+use Rattle.face_counts.specs.inner.Tallies.{IsTally}
+use Rattle.face_counts.specs.inner.Tallies.{yes, no}
 use Rattle.face_counts.proofs.Signs.{weak, up, up_weak, sum_pos, sum_nonneg, gap, nonneg_of_zero, clash_zero, clash_both}
 
 pub record IsInner (n m : ℤ) : Type 0 where

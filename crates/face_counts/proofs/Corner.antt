@@ -5,12 +5,12 @@ use Rattle.std.proofs.lemmas.Int.{ints, by_lt_z}
 use Rattle.face_counts.proofs.OfSides.{of_ab}
 use Rattle.hiding.proofs.ScreenFaces.{covers_to}
 use Rattle.hiding.proofs.ScreenSides.{pos_at, side_to}
-use Rattle.hiding.specs.Screens.{lead_of, Screen, area_of, turn_of, SideCovers}
+use Rattle.hiding.proofs.Screens.{lead_of, Screen, area_of, turn_of, SideCovers}
 use Rattle.integers.proofs.Ring.{Expr, var, con, ◌⊕◌, ◌⊖◌, ◌⊗◌, ring, by_one}
 use Rattle.integers.proofs.Signs.{mul_pos, pos_of_mul, zero_of_mul}
-use Rattle.face_counts.specs.Shares.{IsTally}
+use Rattle.face_counts.specs.inner.Tallies.{IsTally}
 use Rattle.counting.specs.Turns.{Way, turn_from, Passes}
-use Rattle.face_counts.specs.Corners.{way, IsWithin, IsOverWay, Ends, FrontCornerLaw}
+use Rattle.face_counts.proofs.CornerLaws.{way, IsWithin, IsOverWay, Ends, FrontCornerLaw}
 use Rattle.face_counts.proofs.Names.{EScreen, P, A, B, C, Zero, flat_values, area, turn}
 use Rattle.face_counts.proofs.Signs.{weak, clash, clash_neg, clash_zero}
 use Rattle.face_counts.proofs.Sides.{tally_of, same_tally}

@@ -8,15 +8,15 @@ use Rattle.lattice.specs.declared.points.Corner.{Corner}
 use Rattle.lattice.specs.Triple.{Triple}
 use Rattle.lattice.specs.Points.{point_of, OnOneSight}
 use Rattle.geometry.specs.Parts.{Part, Edge}
-use Rattle.hiding.specs.Values.{SideHides}
-use Rattle.hiding.specs.Screens.{Screen, turn_of, along_of, rest_of, side_lead_of, SideCovers}
+use Rattle.hiding.specs.inner.Values.{SideHides}
+use Rattle.hiding.proofs.Screens.{Screen, turn_of, along_of, rest_of, side_lead_of, SideCovers}
 use Rattle.hiding.proofs.Decisions.{same_or, less_or, at_most_or, four_or, either_or, alike_or}
 use Rattle.hiding.proofs.OnScreens.{side_covers_of_hides, side_hides_of_covers}
 use Rattle.hiding.proofs.ScreenSides.{pos_at, side_from, side_to, length_least, length_zero, pos_of_least}
 use Rattle.counting.specs.Counts.{Side}
-use Rattle.counting.specs.Turns.{Way, turn_from, Passes, lean, way_to, PassesOver, PassesEnd}
-use Rattle.face_counts.specs.Corners.{way, EndPasses, IsFineTurn}
-use Rattle.face_counts.proofs.FineHairs.{turn_at_hair}
+use Rattle.counting.specs.Turns.{Way, turn_from, Passes, perturbed, way_to, IsNearerOver, PassesEnd}
+use Rattle.face_counts.proofs.CornerLaws.{way, EndPasses, IsFineTurn}
+use Rattle.face_counts.proofs.FinePerturbations.{turn_at_perturbation}
 use Rattle.face_counts.proofs.MeshCounts.{three_or}
 use Rattle.face_counts.proofs.Seen.{on}
 use Rattle.face_counts.proofs.Signs.{gap}
@@ -197,10 +197,10 @@ module _ (o a b e : Screen) (x y : Way) (ow : o.w ≡ pos 1) where
 
 -- ---- an edge that is strictly nearer on the corner's line of sight, and what the turn passes of it
 module _ (d : Triple) {s : Part} (o : Edge s) (number : ℕ) (c : Corner) where
-  pub covers_of_over : PassesOver d number c o → SideCovers (on d o.a) (on d o.b) (on d c)
+  pub covers_of_over : IsNearerOver d number c o → SideCovers (on d o.a) (on d o.b) (on d c)
   covers_of_over p = side_covers_of_hides d o.a o.b (point_of c) record { point = p.point; on_side = p.on_outline; same_sight = p.same_sight; nearer = p.nearer }
 
-  pub over_of_covers : ¬ (o.m ≡ number) → ¬ (o.n ≡ number) → SideCovers (on d o.a) (on d o.b) (on d c) → PassesOver d number c o
+  pub over_of_covers : ¬ (o.m ≡ number) → ¬ (o.n ≡ number) → SideCovers (on d o.a) (on d o.b) (on d c) → IsNearerOver d number c o
   over_of_covers first second x =
       let h : SideHides d o.a o.b (point_of c) = side_hides_of_covers d o.a o.b (point_of c) x in
       record { not_first = first; not_second = second; point = h.point; on_outline = h.on_side; same_sight = h.same_sight; nearer = h.nearer }
@@ -219,9 +219,9 @@ module _ (d : Triple) (c p : Corner) where
   pub places_apart : ¬ OnOneSight d (point_of c) (point_of p) → ¬ AtOnePlace (on d c) (on d p)
   places_apart n h = n (one_sight h)
 
-  -- the turn passes an end, as it is seen with a fine hair
+  -- the turn passes an end, as it is seen with a fine perturbation
   pub end_seen : (k l : Side) (x y : Way) (a b : Screen) (h : ℤ) → IsFineTurn h x (way_to d c p) y → SideCovers a b (on d c)
-      → PassesEnd d c k x l y p ↔ EndPasses (on d c) a b (on d p) (lean k h x) (lean l h y)
+      → PassesEnd d c k x l y p ↔ EndPasses (on d c) a b (on d p) (perturbed k h x) (perturbed l h y)
   end_seen k l x y a b h fine covers =
-      let t = turn_at_hair k l x y (way_to d c p) h fine in
+      let t = turn_at_perturbation k l x y (way_to d c p) h fine in
       (λ v. (covers, places_apart v.0, t.0 v.1), λ v. (λ g. v.1 (one_place g), t.1 v.2))

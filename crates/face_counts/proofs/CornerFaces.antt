@@ -11,13 +11,15 @@ use Rattle.lattice.specs.Triangles.{IsBelow as IsTriBelow}
 use Rattle.lattice.specs.Triple.{Triple, IsZero}
 use Rattle.geometry.specs.Parts.{Part, Face, Edge, IsCornerOf}
 use Rattle.geometry.specs.Sound.{IsSound}
-use Rattle.hiding.specs.Screens.{Screen}
+use Rattle.hiding.proofs.Screens.{Screen}
 use Rattle.counting.specs.Counts.{Side}
 use Rattle.counting.specs.Covers.{IsCountedNext, IsOneWhere}
-use Rattle.face_counts.specs.Corners.{IsNear, HasCorner}
-use Rattle.face_counts.specs.Meshes.{Mesh}
-use Rattle.face_counts.specs.Shares.{IsTally, no, Adds, Touches}
-use Rattle.face_counts.specs.Sums.{sum_below}
+use Rattle.face_counts.proofs.CornerLaws.{IsNear, HasCorner}
+use Rattle.face_counts.proofs.Meshes.{Mesh}
+use Rattle.face_counts.specs.inner.Tallies.{IsTally}
+use Rattle.face_counts.specs.inner.Tallies.{no}
+use Rattle.face_counts.proofs.Shares.{Adds, Touches}
+use Rattle.face_counts.proofs.SumsBelow.{sum_below}
 use Rattle.face_counts.proofs.AtCorner.{corner_or, seen_corner, not_touched, not_seen_corner}
 use Rattle.face_counts.proofs.ListSums.{IsIn, listed_sum, sum_at, in_place, place_in, different, zip_in, total_sum}
 use Rattle.face_counts.proofs.MeshCounts.{face_of, one_tally, at_mesh, at_face}

@@ -10,20 +10,22 @@ use Rattle.lattice.specs.Points.{point_of, scaled, difference}
 use Rattle.lattice.proofs.Vectors.{letters, dots}
 use Rattle.geometry.specs.Parts.{Part, Edge}
 use Rattle.geometry.specs.Views.{face_sign}
-use Rattle.hiding.specs.Screens.{Screen, length_of, along_of, rest_of, side_lead_of, SideCovers}
+use Rattle.hiding.proofs.Screens.{Screen, length_of, along_of, rest_of, side_lead_of, SideCovers}
 use Rattle.hiding.proofs.Names.{ways}
 use Rattle.hiding.proofs.ScreenSides.{pos_at, nonneg_at, side_from, side_to, length_least, length_zero, pos_of_least}
 use Rattle.counting.specs.Counts.{Side}
 use Rattle.counting.specs.Covers.{IsOneWhere}
-use Rattle.counting.specs.Turns.{Way, product_of, way_to, PassesOver, PassesEnd, HasTurned}
+use Rattle.counting.specs.Turns.{Way, product_of, way_to, IsNearerOver, PassesEnd, HasTurned}
 use Rattle.counting.specs.Turns.HasTurned.{over, not_over}
-use Rattle.face_counts.specs.Corners.{way, IsLeft, TwoAreLeft}
-use Rattle.face_counts.specs.Shares.{IsTally, yes, no}
-use Rattle.face_counts.specs.CornerTests.{PassesBetween, rise_to, IsOver}
+use Rattle.face_counts.specs.inner.Perturbations.{IsLeft, TwoAreLeft}
+use Rattle.face_counts.proofs.CornerLaws.{way}
+use Rattle.face_counts.specs.inner.Tallies.{IsTally}
+use Rattle.face_counts.specs.inner.Tallies.{yes, no}
+use Rattle.face_counts.specs.inner.CornerTests.{PassesBetween, rise_to, IsOver}
 use Rattle.face_counts.proofs.Corner.{to_both}
 use Rattle.face_counts.proofs.CornerEnds.{AtOnePlace, covers_or, end_on_place, one_place, one_sight, covers_of_over, over_of_covers}
 use Rattle.face_counts.proofs.EdgePasses.{same_or_not}
-use Rattle.face_counts.proofs.FineHairs.{of_two_left, two_left}
+use Rattle.face_counts.proofs.FinePerturbations.{of_two_left, two_left}
 use Rattle.face_counts.proofs.Seen.{on}
 use Rattle.face_counts.proofs.Signs.{clash_zero, sum_nonneg}
 
@@ -145,7 +147,7 @@ module _ (d : Triple) (number : ℕ) (c : Corner) (k : Side) (x : Way) (l : Side
   abbrev IsPassed : Corner → Type 0
   IsPassed p = IsOver d number c o × TwoAreLeft k x l y (way_to d c p)
 
-  passes_over : IsOver d number c o → PassesOver d number c o
+  passes_over : IsOver d number c o → IsNearerOver d number c o
   passes_over v = over_of_covers d o number c v.not_first v.not_second (covers_of_between C A B refl v.between)
 
   -- no turn passes the way of no length
@@ -165,7 +167,7 @@ module _ (d : Triple) (number : ℕ) (c : Corner) (k : Side) (x : Way) (l : Side
       by (inr (inl h)) = zero_back _ y h.0
       by (inr (inr h)) = zero_turn _ x h.1
 
-  module _ (p : Corner) (is : (p ≡ o.a) ⊎ (p ≡ o.b)) (q : PassesOver d number c o) where
+  module _ (p : Corner) (is : (p ≡ o.a) ⊎ (p ≡ o.b)) (q : IsNearerOver d number c o) where
     passed_of_end : PassesEnd d c k x l y p → IsPassed p
     passed_of_end h = (
       record { not_first = q.not_first; not_second = q.not_second; between = between_of_covers C A B refl apart (covers_of_over d o number c q) },
@@ -193,14 +195,14 @@ module _ (d : Triple) (number : ℕ) (c : Corner) (k : Side) (x : Way) (l : Side
     one_end n (inl (e, h)) = inl (e, end_of_passed h)
     one_end n (inr (e, h)) = inr (e, λ g. h (passed_of_end g))
 
-  none_end : (p : Corner) → ¬ PassesOver d number c o → (n : ℕ) → IsOneWhere (IsPassed p) n → n ≡ 0
+  none_end : (p : Corner) → ¬ IsNearerOver d number c o → (n : ℕ) → IsOneWhere (IsPassed p) n → n ≡ 0
   none_end p off n (inl (e, h)) = absurd (off (passes_over h.0))
   none_end p off n (inr (e, h)) = e
 
-  over_or : PassesOver d number c o ⊎ ¬ PassesOver d number c o
+  over_or : IsNearerOver d number c o ⊎ ¬ IsNearerOver d number c o
   over_or = by (same_or_not o.m number) (same_or_not o.n number) (covers_or C A B refl)
     where
-      by : (o.m ≡ number) ⊎ ¬ (o.m ≡ number) → (o.n ≡ number) ⊎ ¬ (o.n ≡ number) → SideCovers A B C ⊎ ¬ SideCovers A B C → PassesOver d number c o ⊎ ¬ PassesOver d number c o
+      by : (o.m ≡ number) ⊎ ¬ (o.m ≡ number) → (o.n ≡ number) ⊎ ¬ (o.n ≡ number) → SideCovers A B C ⊎ ¬ SideCovers A B C → IsNearerOver d number c o ⊎ ¬ IsNearerOver d number c o
       by (inl e) f g = inr (λ q. q.not_first e)
       by (inr e) (inl f) g = inr (λ q. q.not_second f)
       by (inr e) (inr f) (inl g) = inl (over_of_covers d o number c e f g)
@@ -214,7 +216,7 @@ module _ (d : Triple) (number : ℕ) (c : Corner) (k : Side) (x : Way) (l : Side
       none : (s : ℤ) (m n : ℕ) → m ≡ 0 → n ≡ 0 → s *ℤ (pos n -ℤ pos m) ≡ pos 0
       none s m n e h = (λ t. s *ℤ (pos (h t) -ℤ pos (e t))) ∙ ring (s ∷ []) (var 0 ⊗ (con (pos 0) ⊖ con (pos 0))) (con (pos 0)) refl
 
-      by : PassesOver d number c o ⊎ ¬ PassesOver d number c o → HasTurned d number c k x l y o ((face_sign d o.left -ℤ face_sign d o.right) *ℤ (pos second -ℤ pos first))
+      by : IsNearerOver d number c o ⊎ ¬ IsNearerOver d number c o → HasTurned d number c k x l y o ((face_sign d o.left -ℤ face_sign d o.right) *ℤ (pos second -ℤ pos first))
       by (inl q) = over q first second (one_end o.a (inl refl) q first f) (one_end o.b (inr refl) q second g)
       by (inr n) =
           subst (λ (z : ℤ). HasTurned d number c k x l y o z)

@@ -11,14 +11,18 @@ use Rattle.geometry.specs.Faces.{share_point}
 use Rattle.geometry.specs.Parts.{Part, Face, Edge, AreEdges, IsNumbered}
 use Rattle.geometry.specs.Views.{face_sign, IsOutline, IsOrdinary, AreOutlines}
 use Rattle.geometry.specs.Sound.{IsSound}
-use Rattle.hiding.specs.Screens.{turn_of}
+use Rattle.hiding.proofs.Screens.{turn_of}
 use Rattle.hiding.proofs.Decisions.{same_or}
-use Rattle.counting.specs.Counts.{Side, to_left, to_right, turn_to, AreCounted}
+use Rattle.counting.specs.Counts.{Side, to_left, to_right, orientation_of, AreCounted}
 use Rattle.counting.specs.Covers.{IsCountedNext, IsOneWhere}
-use Rattle.counting.specs.Shares.{mark, change_of as change_between, Changes, HasChanged}
-use Rattle.face_counts.specs.Corners.{IsBelow, IsNear}
-use Rattle.face_counts.specs.Shares.{IsTally, yes, no, Crosses, change_of}
-use Rattle.face_counts.specs.Sums.{sum_below, keep, total}
+use Rattle.face_counts.proofs.Changed.{HasChanged}
+use Rattle.counting.specs.Shares.{mark, change_of as change_between, Changes}
+use Rattle.face_counts.proofs.CornerLaws.{IsBelow, IsNear}
+use Rattle.face_counts.specs.inner.Tallies.{IsTally}
+use Rattle.face_counts.specs.inner.Tallies.{yes, no}
+use Rattle.face_counts.proofs.Shares.{Crosses, change_of}
+use Rattle.face_counts.specs.inner.Sums.{total}
+use Rattle.face_counts.proofs.SumsBelow.{sum_below, keep}
 use Rattle.face_counts.proofs.MeshOfPart.{count, is_mesh, twin_of, face_sign_seen}
 use Rattle.face_counts.proofs.Seen.{on}
 use Rattle.face_counts.proofs.SeenCrossings.{change_is, changed_is, passes_of_crossed}
@@ -35,8 +39,8 @@ outline_of d e o x same = by x.some
     none p q y e = ap (λ v. (v -ℤ q) *ℤ y) e ∙ ring (q ∷ y ∷ []) ((var 0 ⊖ var 0) ⊗ var 1) (con (pos 0)) refl
 
     by : (change_between to_left d e o ≢ pos 0) ⊎ (change_between to_right d e o ≢ pos 0) → ⊥
-    by (inl f) = f (none (face_sign d o.left) (face_sign d o.right) (mark to_left (turn_to d e.a e.b o.a) -ℤ mark to_left (turn_to d e.a e.b o.b)) same)
-    by (inr f) = f (none (face_sign d o.left) (face_sign d o.right) (mark to_right (turn_to d e.a e.b o.a) -ℤ mark to_right (turn_to d e.a e.b o.b)) same)
+    by (inl f) = f (none (face_sign d o.left) (face_sign d o.right) (mark to_left (orientation_of d e.a e.b o.a) -ℤ mark to_left (orientation_of d e.a e.b o.b)) same)
+    by (inr f) = f (none (face_sign d o.left) (face_sign d o.right) (mark to_right (orientation_of d e.a e.b o.a) -ℤ mark to_right (orientation_of d e.a e.b o.b)) same)
 
 -- a count that is changed is one of the two
 pub some_change : (d : Triple) {s : Part} (e o : Edge s) (c : Side) → change_between c d e o ≢ pos 0 → (change_between to_left d e o ≢ pos 0) ⊎ (change_between to_right d e o ≢ pos 0)

@@ -13,14 +13,16 @@ use Rattle.geometry.specs.Parts.{Part, Face, Edge, AreEdges, IsNumbered, IsCorne
 use Rattle.geometry.specs.Sound.{IsSound}
 use Rattle.geometry.specs.Views.{IsOutline, IsEndOn}
 use Rattle.geometry.proofs.Listed.{same_element}
-use Rattle.hiding.specs.Screens.{Screen}
+use Rattle.hiding.proofs.Screens.{Screen}
 use Rattle.counting.specs.Counts.{Side}
-use Rattle.counting.specs.Covers.{IsCountedNext, IsOneWhere, AreCovers, AreCoversOf}
-use Rattle.counting.specs.Turns.{other_side, side_from, number_at, corner_at, way_to, PassesOver, HasTurned, HasTurnedAt}
-use Rattle.face_counts.specs.Corners.{HasCorner, Suits}
-use Rattle.face_counts.specs.Meshes.{Mesh}
-use Rattle.face_counts.specs.Shares.{Touches}
-use Rattle.face_counts.specs.Sums.{sum_below, total}
+use Rattle.counting.specs.inner.CountsNext.{AreCovers, AreCoversOf}
+use Rattle.counting.specs.Covers.{IsCountedNext, IsOneWhere}
+use Rattle.counting.specs.Turns.{other_side, side_from, number_at, corner_at, way_to, IsNearerOver, HasTurned, HasTurnedAt}
+use Rattle.face_counts.proofs.CornerLaws.{HasCorner, Suits}
+use Rattle.face_counts.proofs.Meshes.{Mesh}
+use Rattle.face_counts.proofs.Shares.{Touches}
+use Rattle.face_counts.specs.inner.Sums.{total}
+use Rattle.face_counts.proofs.SumsBelow.{sum_below}
 use Rattle.face_counts.proofs.AllCorner.{all_corner}
 use Rattle.face_counts.proofs.CornerEnds.{places_apart}
 use Rattle.face_counts.proofs.CornerFaces.{divisor, near, has_or, seen_has, seen_has_not, untouched, apart, apart_tally, apart_sum}
@@ -122,7 +124,7 @@ module _ (d : Triple) (directed : ¬ IsZero d) (s : Part) (sound : IsSound s) (i
           (λ t l. apart_tally d directed s sound in_range e c' e' start k low' covers' h'.long h'.each t l)
           (λ i l. starts_is d directed s sound in_range e c c' Q R k i) (λ i l. ends_is d directed s sound in_range e c c' Q R k i)
 
-    first_turned : ((i : ℕ) (o : Edge s) → IsNumbered halves i o → IsOutline d o → PassesOver d e.m e.a o → Contains numbers i)
+    first_turned : ((i : ℕ) (o : Edge s) → IsNumbered halves i o → IsOutline d o → IsNearerOver d e.m e.a o → Contains numbers i)
         → AllZip (λ i x. (o : Edge s) → IsNumbered halves i o → HasTurned d e.m e.a c (way_to d e.a e.b) c' (way_to d e'.a e'.b) o (value x)) numbers changes
         → (covers covers' own own' : List ℕ) → AreCovers c d e false covers → AreCovers c' d e' false covers' → AreCoversOf c d e false star own → AreCoversOf c' d e' false star own'
         → Carried value changes covers own covers' own'
@@ -142,7 +144,7 @@ module _ (d : Triple) (directed : ¬ IsZero d) (s : Part) (sound : IsSound s) (i
   -- ---- the law
   -- the changes are those of the edges of a list that has each outline which passes over the corner; the faces with the corner are found anew
   pub count_turned : (k : Side) (e : Edge s) (at_b : Bool) (e' : Edge s) (at_b' : Bool) → number_at e at_b ≡ number_at e' at_b' → ¬ IsEndOn d e → ¬ IsEndOn d e' → AreAt (number_at e at_b)
-      → ((i : ℕ) (o : Edge s) → IsNumbered halves i o → IsOutline d o → PassesOver d (number_at e at_b) (corner_at e at_b) o → Contains numbers i)
+      → ((i : ℕ) (o : Edge s) → IsNumbered halves i o → IsOutline d o → IsNearerOver d (number_at e at_b) (corner_at e at_b) o → Contains numbers i)
       → AllZip (λ i x. (o : Edge s) → IsNumbered halves i o → HasTurnedAt k d e at_b e' at_b' o (value x)) numbers changes
       → (covers covers' own own' : List ℕ) → AreCovers k d e at_b covers → AreCovers k d e' at_b' covers' → AreCoversOf k d e at_b star own → AreCoversOf k d e' at_b' star own'
       → ((pos (sum covers) -ℤ pos (sum own)) +ℤ total value changes) +ℤ pos (sum own') ≡ pos (sum covers')

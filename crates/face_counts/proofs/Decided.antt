@@ -14,16 +14,16 @@ use Rattle.geometry.specs.Faces.{facing_of, share_point, FaceHides}
 use Rattle.geometry.specs.Parts.{Part, Face, Edge}
 use Rattle.geometry.proofs.Counts.{count_of}
 use Rattle.geometry.proofs.Listed.{face_at, same_element}
-use Rattle.hiding.specs.Screens.{turn_of, lead_of}
-use Rattle.hiding.specs.Values.{side_of, depth_of}
+use Rattle.hiding.proofs.Screens.{turn_of, lead_of}
+use Rattle.hiding.specs.inner.Values.{side_of, depth_of}
 use Rattle.hiding.proofs.Decisions.{same_or, less_or, at_most_or, four_or, either_or, alike_or, element_or, below_next}
 use Rattle.hiding.proofs.Hiding.{hides-front, hides-turned}
 use Rattle.hiding.proofs.Names.{ways}
 use Rattle.hiding.proofs.Values.{facing-turned}
-use Rattle.counting.specs.Counts.{Side, to_left, to_right, turn_to, StandsOn, ReachesTo, IsCounted, HasCounted, AreCounted}
+use Rattle.counting.specs.Counts.{Side, to_left, to_right, orientation_of, StandsOn, ReachesTo, IsCounted, HasCounted, AreCounted}
 use Rattle.counting.specs.Covers.{HidesNext, IsCountedNext}
 use Rattle.counting.specs.Turns.{other_side}
-use Rattle.face_counts.specs.Corners as corners
+use Rattle.face_counts.proofs.CornerLaws as corners
 use Rattle.face_counts.proofs.EdgePasses.{same_or_not}
 use Rattle.face_counts.proofs.NearFaces.{next_of_adds, adds_of_next}
 use Rattle.face_counts.proofs.NearPlace.{IsAbove}
@@ -145,7 +145,7 @@ turned_edge e = record {
 }
 
 module _ (d : Triple) where
-  turn_back : (a b c : Corner) → turn_to d b a c ≡ pos 0 -ℤ turn_to d a b c
+  turn_back : (a b c : Corner) → orientation_of d b a c ≡ pos 0 -ℤ orientation_of d a b c
   turn_back a b c =
       ring (d.x ∷ d.y ∷ d.z ∷ a.x ∷ a.y ∷ a.z ∷ b.x ∷ b.y ∷ b.z ∷ c.x ∷ c.y ∷ c.z ∷ [])
       (dots (letters 0) (crosses (ways (letters 6) (letters 3)) (ways (letters 6) (letters 9))))

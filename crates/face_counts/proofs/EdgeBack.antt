@@ -3,15 +3,15 @@ use Rattle.std.proofs.Common.{◌≡◌, ◌⊎◌, inl, inr, [], ◌∷◌, ref
 use Rattle.std.specs.Prelude.{ℤ, pos, ◌-ℤ◌, ◌*ℤ◌, ◌≤ℤ◌, ◌<ℤ◌, ◌↔◌}
 use Rattle.std.proofs.lemmas.Int.{ints}
 use Rattle.integers.proofs.Ring.{var, ◌⊕◌, ◌⊖◌, ◌⊗◌, ring, less_by}
-use Rattle.hiding.specs.Screens.{Screen, area_of, turn_of, Covers}
-use Rattle.hiding.specs.Values.{value_at}
+use Rattle.hiding.proofs.Screens.{Screen, area_of, turn_of, Covers}
+use Rattle.hiding.specs.inner.Values.{value_at}
 use Rattle.hiding.proofs.ScreenSides.{pos_at}
 use Rattle.counting.specs.Counts.{Side, to_left, to_right}
 use Rattle.counting.specs.Turns.{other_side}
-use Rattle.face_counts.specs.Corners.{IsBelow, IsNear}
-use Rattle.face_counts.specs.Places.{place_of}
-use Rattle.face_counts.specs.Shares.{reach_of, climb_of, IsOnSide, Adds, IsClearOf, IsClear}
-use Rattle.face_counts.proofs.Names.{P, Q, A, B, Zero, flat_values, area, reach, climb}
+use Rattle.face_counts.proofs.CornerLaws.{IsBelow, IsNear}
+use Rattle.face_counts.proofs.Places.{place_of}
+use Rattle.face_counts.proofs.Shares.{numerator_of, denominator_of, IsOnSide, Adds, IsClearOf, IsClear}
+use Rattle.face_counts.proofs.Names.{P, Q, A, B, Zero, flat_values, area, numerator, denominator}
 use Rattle.face_counts.proofs.NearPlace.{after_near}
 use Rattle.face_counts.proofs.Signs.{gap}
 
@@ -26,11 +26,11 @@ module _ (p q : Screen) where
   area_back : (a : Screen) → area_of q p a ≡ pos 0 -ℤ area_of p q a
   area_back a = ring (flat_values p q a a a (pos 0) (pos 0)) (area Q P A) (Zero ⊖ area P Q A) refl
 
-  climb_back : (a b : Screen) → climb_of q p a b ≡ pos 0 -ℤ climb_of p q a b
-  climb_back a b = ring (flat_values p q a b a (pos 0) (pos 0)) (climb Q P A B) (Zero ⊖ climb P Q A B) refl
+  denominator_back : (a b : Screen) → denominator_of q p a b ≡ pos 0 -ℤ denominator_of p q a b
+  denominator_back a b = ring (flat_values p q a b a (pos 0) (pos 0)) (denominator Q P A B) (Zero ⊖ denominator P Q A B) refl
 
-  reach_back : (a b : Screen) → reach_of q a b ≡ reach_of p a b -ℤ climb_of p q a b
-  reach_back a b = ring (flat_values p q a b a (pos 0) (pos 0)) (reach Q A B) (reach P A B ⊖ climb P Q A B) refl
+  numerator_back : (a b : Screen) → numerator_of q a b ≡ numerator_of p a b -ℤ denominator_of p q a b
+  numerator_back a b = ring (flat_values p q a b a (pos 0) (pos 0)) (numerator Q A B) (numerator P A B ⊖ denominator P Q A B) refl
 
   -- ---- a face that is counted
   side_there : (c : Side) (a : Screen) → IsOnSide (other_side c) q p a → IsOnSide c p q a
@@ -66,7 +66,7 @@ module _ (p q : Screen) where
 
   -- ---- a clear place
   clear_side_back : (a b : Screen) (n m : ℤ) → IsClearOf q p a b n m → IsClearOf p q a b (m -ℤ n) m
-  clear_side_back a b n m clear e sides = none _ _ (climb_back a b) (clear (subst (λ x. turn_of x a b ≡ pos 0) (sym (place_back n m)) e) (by sides))
+  clear_side_back a b n m clear e sides = none _ _ (denominator_back a b) (clear (subst (λ x. turn_of x a b ≡ pos 0) (sym (place_back n m)) e) (by sides))
     where
       none : (x y : ℤ) → x ≡ pos 0 -ℤ y → x ≡ pos 0 → y ≡ pos 0
       none x y e z = omega (arith, ints)
@@ -100,10 +100,10 @@ module _ (p q : Screen) where
   -- ---- a crossing
   module _ (a b : Screen) (k n m : ℤ) (pw : p.w ≡ pos 1) (qw : q.w ≡ pos 1) (near : IsNear k n m) (small : IsBelow k (turn_of p a b)) where
     abbrev R : ℤ
-    R = reach_of p a b
+    R = numerator_of p a b
 
     abbrev K : ℤ
-    K = climb_of p q a b
+    K = denominator_of p q a b
 
     -- what is crossed before the second end is crossed before a place near to it
     pub before_far : (R *ℤ K) <ℤ (K *ℤ K) → ((R *ℤ K) *ℤ m) <ℤ ((m -ℤ n) *ℤ (K *ℤ K))
@@ -111,6 +111,6 @@ module _ (p q : Screen) where
         less_by _ _ _
         (ring (R ∷ K ∷ n ∷ m ∷ []) (((var 3 ⊖ var 2) ⊗ (var 1 ⊗ var 1)) ⊖ ((var 0 ⊗ var 1) ⊗ var 3))
         ((((var 0 ⊖ var 1) ⊗ (Zero ⊖ var 1)) ⊗ var 3) ⊖ (var 2 ⊗ ((Zero ⊖ var 1) ⊗ (Zero ⊖ var 1)))) refl
-        ∙ sym (λ t. ((reach_back a b t *ℤ climb_back a b t) *ℤ m) -ℤ (n *ℤ (climb_back a b t *ℤ climb_back a b t))))
+        ∙ sym (λ t. ((numerator_back a b t *ℤ denominator_back a b t) *ℤ m) -ℤ (n *ℤ (denominator_back a b t *ℤ denominator_back a b t))))
         (gap _ _ (after_near q p a b k n m qw pw near small (pos_at _ _
-        ((λ t. reach_back a b t *ℤ climb_back a b t) ∙ ring (R ∷ K ∷ []) ((var 0 ⊖ var 1) ⊗ (Zero ⊖ var 1)) ((var 1 ⊗ var 1) ⊖ (var 0 ⊗ var 1)) refl) (gap _ _ h))))
+        ((λ t. numerator_back a b t *ℤ denominator_back a b t) ∙ ring (R ∷ K ∷ []) ((var 0 ⊖ var 1) ⊗ (Zero ⊖ var 1)) ((var 1 ⊗ var 1) ⊖ (var 0 ⊗ var 1)) refl) (gap _ _ h))))

@@ -3,9 +3,9 @@ use Rattle.std.proofs.Common.{◌≡◌, ◌⊎◌, ℕ, ◌*◌, ◌<◌, inl, 
 use Rattle.std.specs.Prelude.{ℤ, pos, ◌-ℤ◌, ◌≤ℤ◌, ◌<ℤ◌}
 use Rattle.std.proofs.lemmas.Int.{ints, by_lt_z}
 use Rattle.face_counts.proofs.OfSides.{of_ab}
-use Rattle.hiding.specs.Screens.{Screen, area_of, Covers, SideCovers}
+use Rattle.hiding.proofs.Screens.{Screen, area_of, Covers, SideCovers}
 use Rattle.integers.proofs.Ring.{var, con, ◌⊖◌, ◌⊗◌, ring}
-use Rattle.face_counts.specs.Uprights.{weighed, EdgeOnLaw}
+use Rattle.face_counts.proofs.Uprights.{weighed, EdgeOnLaw}
 use Rattle.face_counts.proofs.Upright.{side_back}
 use Rattle.face_counts.proofs.Upper.{upper}
 use Rattle.face_counts.proofs.Highest.{highest}

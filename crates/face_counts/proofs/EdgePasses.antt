@@ -7,7 +7,7 @@ use Rattle.lattice.specs.Triple.{Triple, IsZero}
 use Rattle.geometry.specs.Parts.{Part, Face, Edge, IsHalf, start_of, end_of}
 use Rattle.geometry.specs.Sound.{IsSound}
 use Rattle.geometry.proofs.Listed.{same_element}
-use Rattle.face_counts.specs.Shares.{IsSideOf, Passes}
+use Rattle.face_counts.proofs.Shares.{IsSideOf, Passes}
 use Rattle.face_counts.proofs.Seen.{on}
 use Rattle.face_counts.proofs.Unpierced.{unpierced}
 

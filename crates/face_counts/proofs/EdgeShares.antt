@@ -8,7 +8,8 @@ use Rattle.lattice.specs.Triangles.{IsBelow as IsTriBelow}
 use Rattle.lattice.specs.Triple.{Triple, IsZero}
 use Rattle.geometry.specs.Parts.{Part, Edge, AreEdges, IsNumbered}
 use Rattle.geometry.specs.Sound.{IsSound}
-use Rattle.face_counts.specs.Sums.{sum_below, total}
+use Rattle.face_counts.specs.inner.Sums.{total}
+use Rattle.face_counts.proofs.SumsBelow.{sum_below}
 use Rattle.face_counts.proofs.EdgeNumbers.{half_of, half_at_number, half_of_within, half_of_lower, number_of, half_of_one}
 use Rattle.face_counts.proofs.HalfFaces.{edge_of}
 use Rattle.face_counts.proofs.ListSums.{IsIn, listed_sum, map_in, different_map, zip_map}

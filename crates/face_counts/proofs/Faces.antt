@@ -2,13 +2,13 @@
 use Rattle.std.proofs.Common.{◌≡◌, refl, sym, ◌∙◌}
 use Rattle.std.specs.Prelude.{ℤ, pos, ◌+ℤ◌, ◌*ℤ◌, ◌≤ℤ◌, ◌<ℤ◌}
 use Rattle.face_counts.proofs.Linear.{turn-place, lead-place}
-use Rattle.face_counts.specs.Places.{place_of}
+use Rattle.face_counts.proofs.Places.{place_of}
 use Rattle.hiding.proofs.ScreenFaces.{covers_from, covers_to}
 use Rattle.hiding.proofs.ScreenSides.{pos_at, nonneg_at}
-use Rattle.hiding.specs.Screens.{lead_of, Screen, area_of, turn_of, Covers}
-use Rattle.hiding.specs.Values.{value_at}
+use Rattle.hiding.proofs.Screens.{lead_of, Screen, area_of, turn_of, Covers}
+use Rattle.hiding.specs.inner.Values.{value_at}
 use Rattle.integers.proofs.Ring.{◌⊕◌, ◌⊗◌, ring}
-use Rattle.face_counts.specs.Shares.{Touches}
+use Rattle.face_counts.proofs.Shares.{Touches}
 use Rattle.face_counts.proofs.Names.{P, Q, A, B, C, M, Zero, flat_values, area, turn, at}
 use Rattle.face_counts.proofs.Touch.{touches}
 

@@ -1,12 +1,12 @@
--- For a turn about a corner there is a number above all that its hairs and its near places ask of a mesh.
+-- For a turn about a corner there is a number above all that its perturbations and its near places ask of a mesh.
 use Rattle.std.proofs.Common.{ℕ, ◌+◌, ◌*◌, ◌<◌, ◌≤◌, subst, arith, unsigned_abs}
 use Rattle.std.specs.Prelude.{ℤ, pos, negsuc, ◌<ℤ◌}
 use Rattle.std.proofs.lemmas.Int.{ints}
-use Rattle.hiding.specs.Screens.{Screen, turn_of, lead_of}
+use Rattle.hiding.proofs.Screens.{Screen, turn_of, lead_of}
 use Rattle.counting.specs.Turns.{product_of}
-use Rattle.face_counts.specs.Corners.{way, IsBelow, IsFine, IsNear, IsFineTurn, Suits}
-use Rattle.face_counts.specs.Meshes.{Mesh, IsMesh}
-use Rattle.face_counts.proofs.FineHairs.{fine_size, fine_above}
+use Rattle.face_counts.proofs.CornerLaws.{way, IsBelow, IsFine, IsNear, IsFineTurn, Suits}
+use Rattle.face_counts.proofs.Meshes.{Mesh, IsMesh}
+use Rattle.face_counts.proofs.FinePerturbations.{fine_size, fine_above}
 use Rattle.face_counts.proofs.NearFaces.{above_all}
 use Rattle.face_counts.proofs.NearPlace.{IsAbove}
 

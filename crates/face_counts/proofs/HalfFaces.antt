@@ -12,12 +12,12 @@ use Rattle.geometry.specs.Faces.{normal, IsFlat, facing_of, FaceHides}
 use Rattle.geometry.specs.Parts.{Part, Face, Edge, IsCornerOf, AreDouble, start_of, end_of}
 use Rattle.geometry.specs.Sound.{IsSound}
 use Rattle.geometry.proofs.EachEdge.{flat_face}
-use Rattle.hiding.specs.Screens.{Screen}
+use Rattle.hiding.proofs.Screens.{Screen}
 use Rattle.hiding.proofs.Hiding.{face-around}
 use Rattle.hiding.proofs.OnScreens.{seen}
 use Rattle.hiding.proofs.Names.{normals}
 use Rattle.hiding.proofs.Weights.{facing-round}
-use Rattle.face_counts.specs.Shares.{IsUnpierced}
+use Rattle.face_counts.proofs.Shares.{IsUnpierced}
 use Rattle.face_counts.proofs.MeshOfPart.{count, triangle_at, starts_at, ends_at, apex_at, apex_of, half_at, twin_of, twin_within, twin_half, twin_starts, twin_ends, twin_back, face_of_half, goes_on, corner_seen, corner-seen, after_half, before_half, after_within, before_within, after_starts, after_ends, before_starts, before_ends}
 use Rattle.face_counts.proofs.OneFace.{touches_rotate, touches_swap}
 use Rattle.face_counts.proofs.Unpierced.{unpierced}

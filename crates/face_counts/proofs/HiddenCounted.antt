@@ -15,12 +15,12 @@ use Rattle.geometry.specs.Faces.{facing_of, share_point, FaceHides}
 use Rattle.geometry.specs.Parts.{Part, Face, Edge}
 use Rattle.geometry.specs.Sound.{IsSound}
 use Rattle.geometry.specs.Views.{IsEndOn, IsHidden, IsOrdinary}
-use Rattle.hiding.specs.Screens.{Screen, area_of, SideCovers}
-use Rattle.hiding.specs.Values.{WideSideHides}
+use Rattle.hiding.proofs.Screens.{Screen, area_of, SideCovers}
+use Rattle.hiding.specs.inner.Values.{WideSideHides}
 use Rattle.hiding.proofs.Decisions.{same_or}
 use Rattle.hiding.proofs.Hiding.{wide-side-hides}
 use Rattle.hiding.proofs.OnScreens.{seen, side_covers_of_hides}
-use Rattle.counting.specs.Counts.{Side, to_left, to_right, turn_to, ReachesTo, HasCounted, AreCounted}
+use Rattle.counting.specs.Counts.{Side, to_left, to_right, orientation_of, ReachesTo, HasCounted, AreCounted}
 use Rattle.face_counts.proofs.InLine.{in_line}
 use Rattle.face_counts.proofs.MeshOfPart.{count, starts_at, ends_at, corner_seen, is_mesh, first_seen, second_seen, third_seen}
 use Rattle.face_counts.proofs.NearPlace.{sign_three}
@@ -44,17 +44,17 @@ module _ {A : Type 0} {P : A → Type 0} where
 -- ---- a face that is not edge-on reaches to one side at least of an edge that is not seen end-on
 module _ (d : Triple) {s : Part} (e : Edge s) (apart : ¬ IsEndOn d e) (f : Face s) (turned : ¬ (facing_of d f.a f.b f.c ≡ pos 0)) where
   pub reaches_some : ReachesTo to_left d e f ⊎ ReachesTo to_right d e f
-  reaches_some = by (sign_three (turn_to d e.a e.b f.a)) (sign_three (turn_to d e.a e.b f.b)) (sign_three (turn_to d e.a e.b f.c))
+  reaches_some = by (sign_three (orientation_of d e.a e.b f.a)) (sign_three (orientation_of d e.a e.b f.b)) (sign_three (orientation_of d e.a e.b f.c))
     where
-      level : (c : Corner) → turn_to d e.a e.b c ≡ pos 0 → area_of (on d e.a) (on d e.b) (on d c) ≡ pos 0
+      level : (c : Corner) → orientation_of d e.a e.b c ≡ pos 0 → area_of (on d e.a) (on d e.b) (on d c) ≡ pos 0
       level c z = area_seen d e.a e.b c ∙ ap (λ v. scale d *ℤ v) z ∙ times_zero (scale d)
         where
           times_zero : (k : ℤ) → k *ℤ pos 0 ≡ pos 0
           times_zero k = omega (arith, ints)
 
-      by : (pos 0 <ℤ turn_to d e.a e.b f.a) ⊎ (turn_to d e.a e.b f.a <ℤ pos 0) ⊎ (turn_to d e.a e.b f.a ≡ pos 0)
-          → (pos 0 <ℤ turn_to d e.a e.b f.b) ⊎ (turn_to d e.a e.b f.b <ℤ pos 0) ⊎ (turn_to d e.a e.b f.b ≡ pos 0)
-          → (pos 0 <ℤ turn_to d e.a e.b f.c) ⊎ (turn_to d e.a e.b f.c <ℤ pos 0) ⊎ (turn_to d e.a e.b f.c ≡ pos 0) → ReachesTo to_left d e f ⊎ ReachesTo to_right d e f
+      by : (pos 0 <ℤ orientation_of d e.a e.b f.a) ⊎ (orientation_of d e.a e.b f.a <ℤ pos 0) ⊎ (orientation_of d e.a e.b f.a ≡ pos 0)
+          → (pos 0 <ℤ orientation_of d e.a e.b f.b) ⊎ (orientation_of d e.a e.b f.b <ℤ pos 0) ⊎ (orientation_of d e.a e.b f.b ≡ pos 0)
+          → (pos 0 <ℤ orientation_of d e.a e.b f.c) ⊎ (orientation_of d e.a e.b f.c <ℤ pos 0) ⊎ (orientation_of d e.a e.b f.c ≡ pos 0) → ReachesTo to_left d e f ⊎ ReachesTo to_right d e f
       by (inl l) b c = inl (inl l)
       by (inr (inl r)) b c = inr (inl r)
       by (inr (inr za)) (inl l) c = inl (inr (inl l))

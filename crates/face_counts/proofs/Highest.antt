@@ -3,10 +3,10 @@ use Rattle.std.proofs.Common.{◌≡◌, ◌⊎◌, ℕ, zero, suc, ◌<◌, ◌
 use Rattle.std.specs.Prelude.{ℤ, pos, ◌+ℤ◌, ◌-ℤ◌, ◌*ℤ◌, ◌≤ℤ◌, ◌<ℤ◌}
 use Rattle.std.proofs.lemmas.Int.{ints, by_lt_z}
 use Rattle.hiding.proofs.ScreenSides.{pos_at, side_from, side_to}
-use Rattle.hiding.specs.Screens.{rest_of, side_lead_of, Screen, turn_of, along_of, length_of, SideCovers}
+use Rattle.hiding.proofs.Screens.{rest_of, side_lead_of, Screen, turn_of, along_of, length_of, SideCovers}
 use Rattle.integers.proofs.Ring.{var, con, ◌⊕◌, ◌⊖◌, ◌⊗◌, ring, by_two, less_by}
 use Rattle.integers.proofs.Signs.{mul_pos, mul_nonneg, pos_of_mul, zero_of_mul}
-use Rattle.face_counts.specs.Uprights.{weighed, HighestLaw}
+use Rattle.face_counts.proofs.Uprights.{weighed, HighestLaw}
 use Rattle.face_counts.proofs.Signs.{weak, gap, sum_pos, clash_zero}
 
 -- ---- fractions

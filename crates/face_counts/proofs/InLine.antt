@@ -2,7 +2,7 @@
 use Rattle.std.proofs.Common.{◌≡◌, [], ◌∷◌, ◌<◌, refl, ◌∙◌, arith, zero, suc, unsigned_abs}
 use Rattle.std.specs.Prelude.{ℤ, pos, negsuc, ◌-ℤ◌, ◌*ℤ◌}
 use Rattle.std.proofs.lemmas.Int.{ints}
-use Rattle.hiding.specs.Screens.{Screen, area_of}
+use Rattle.hiding.proofs.Screens.{Screen, area_of}
 use Rattle.integers.proofs.Ring.{var, ◌⊖◌, ◌⊗◌, ring}
 use Rattle.integers.proofs.Signs.{zero_of_times}
 use Rattle.face_counts.proofs.Names.{P, Q, A, B, C, Zero, flat_values, area}

@@ -19,7 +19,7 @@ pub mod InLine
 pub mod Near
 pub mod SideOver
 pub mod Corner
-pub mod Hairs
+pub mod PerturbedTurns
 pub mod AllCorner
 pub mod Upper
 pub mod Highest
@@ -43,7 +43,7 @@ pub mod CountAlong
 pub mod HiddenCounted
 pub mod CrossingPlaces
 pub mod Decided
-pub mod FineHairs
+pub mod FinePerturbations
 pub mod AtCorner
 pub mod CornerEnds
 pub mod FineMesh
@@ -54,3 +54,12 @@ pub mod EdgeBack
 pub mod NextAlong
 pub mod CornerTest
 pub mod NextCounts
+pub mod Changed
+pub mod CornerLaws
+pub mod Laws
+pub mod Meshes
+pub mod Places
+pub mod Shares
+pub mod SumsBelow
+pub mod TurnLaw
+pub mod Uprights

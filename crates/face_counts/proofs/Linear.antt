@@ -2,9 +2,9 @@
 use Rattle.std.proofs.Common.{◌≡◌, [], ◌∷◌, refl, sym, ◌∙◌}
 use Rattle.std.specs.Prelude.{ℤ, pos}
 use Rattle.integers.proofs.Ring.{Expr, var, con, ◌⊕◌, ◌⊖◌, ◌⊗◌, ring}
-use Rattle.hiding.specs.Screens.{Screen, turn_of, lead_of}
-use Rattle.hiding.specs.Values.{value_at}
-use Rattle.face_counts.specs.Places.{place_of}
+use Rattle.hiding.proofs.Screens.{Screen, turn_of, lead_of}
+use Rattle.hiding.specs.inner.Values.{value_at}
+use Rattle.face_counts.proofs.Places.{place_of}
 
 -- what is linear in a spot goes evenly along an edge
 pub turn-place : (e f b c : Screen) (n m : ℤ) → e.w ≡ pos 1 → f.w ≡ pos 1 → turn_of (place_of e f n m) b c ≡ value_at (turn_of e b c) (turn_of f b c) n m

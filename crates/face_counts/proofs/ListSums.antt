@@ -8,8 +8,10 @@ use Rattle.std.proofs.lemmas.List.Sums.{sum_by-cons}
 use Rattle.std.proofs.lemmas.Option.{none-some, same_Some}
 use Rattle.geometry.specs.Cuts.{IsCount}
 use Rattle.geometry.specs.Cuts.IsCount.{nothing, counted, skipped}
-use Rattle.face_counts.specs.Shares.{IsTally, yes, no}
-use Rattle.face_counts.specs.Sums.{sum_below, keep, total}
+use Rattle.face_counts.specs.inner.Tallies.{IsTally}
+use Rattle.face_counts.specs.inner.Tallies.{yes, no}
+use Rattle.face_counts.specs.inner.Sums.{total}
+use Rattle.face_counts.proofs.SumsBelow.{sum_below, keep}
 use Rattle.face_counts.proofs.Sums.{sum_same, sum_add, sum_zero, one_of}
 
 -- a sum by its first item

@@ -2,18 +2,19 @@
 use Rattle.std.proofs.Common.{◌≡◌, [], ◌∷◌, refl, sym, ap, ◌∙◌, arith}
 use Rattle.std.specs.Prelude.{ℤ, pos, ◌+ℤ◌, ◌-ℤ◌, ◌*ℤ◌, ◌≤ℤ◌, ◌<ℤ◌}
 use Rattle.std.proofs.lemmas.Int.{ints}
-use Rattle.face_counts.specs.Places.{place_of}
+use Rattle.face_counts.proofs.Places.{place_of}
 use Rattle.hiding.proofs.ScreenSides.{pos_at, pos_of_least}
-use Rattle.hiding.specs.Screens.{lead_of, Screen, area_of, turn_of, Covers}
-use Rattle.hiding.specs.Values.{value_at}
+use Rattle.hiding.proofs.Screens.{lead_of, Screen, area_of, turn_of, Covers}
+use Rattle.hiding.specs.inner.Values.{value_at}
 use Rattle.integers.proofs.Ring.{var, con, ◌⊕◌, ◌⊖◌, ◌⊗◌, ring, by_one}
 use Rattle.integers.proofs.Signs.{mul_pos}
-use Rattle.face_counts.specs.Shares.{IsTally, reach_of, climb_of, Crosses, IsUnpierced}
+use Rattle.face_counts.specs.inner.Tallies.{IsTally}
+use Rattle.face_counts.proofs.Shares.{numerator_of, denominator_of, Crosses, IsUnpierced}
 use Rattle.face_counts.proofs.Names.{A, B, C, Zero, flat_values, area}
 use Rattle.face_counts.proofs.Signs.{weak, gap, sign_cases, sum_pos, up_weak, up, pos_of_mul_pos}
 use Rattle.face_counts.proofs.Wedge.{third_least, right_of_left, left_of_right}
 use Rattle.face_counts.proofs.Come.{IsInner, IsFree, Over, come_and_go}
-use Rattle.face_counts.proofs.Sides.{tally_of, climb-areas, turn-reach, comes_of_crosses, crosses_of_comes, goes_of_crosses, crosses_of_goes}
+use Rattle.face_counts.proofs.Sides.{tally_of, denominator-areas, turn-numerator, comes_of_crosses, crosses_of_comes, goes_of_crosses, crosses_of_goes}
 use Rattle.face_counts.proofs.Faces.{weight_a, weight_b, weight_c, height, whole, on_line, covers_at, at_covers, touches_at}
 
 -- ---- what is linear and above 0 stays so on its way up
@@ -70,10 +71,10 @@ module _ (p q a b c : Screen) (n m n' m' : ℤ) (pw : p.w ≡ pos 1) (qw : q.w �
 
   -- the sides at the lone corner
   abbrev Kab : ℤ
-  Kab = climb_of p q a b
+  Kab = denominator_of p q a b
 
   abbrev Kca : ℤ
-  Kca = climb_of p q c a
+  Kca = denominator_of p q c a
 
   some : (n m : ℤ) → IsInner n m → pos 0 <ℤ (m *ℤ area_of a b c)
   some n m i = mul_pos m _ (inner_pos n m i) area_up
@@ -148,19 +149,19 @@ module _ (p q a b c : Screen) (n m n' m' : ℤ) (pw : p.w ≡ pos 1) (qw : q.w �
         (λ x. covers_at p q a b c n m pw qw (inner_pos n m i) area_up (high_third n m i (weak _ x.0) (weak _ x.1)) (weak _ x.1) (weak _ x.0) x.2)
 
     falls_ab : Kab <ℤ pos 0
-    falls_ab = below_of _ _ _ (climb-areas p q a b) b_less
+    falls_ab = below_of _ _ _ (denominator-areas p q a b) b_less
 
     rises_ca : pos 0 <ℤ Kca
-    rises_ca = above_of _ _ _ (climb-areas p q c a) c_less
+    rises_ca = above_of _ _ _ (denominator-areas p q c a) c_less
 
     pub high_change : {before after ab ca : ℤ} → IsTally (Covers a b c (place_of p q n m)) before → IsTally (Covers a b c (place_of p q n' m')) after
         → IsTally (Crosses p q a b n m n' m') ab → IsTally (Crosses p q c a n m n' m') ca → after -ℤ before ≡ ab -ℤ ca
     high_change t t' x y =
         come_and_go high_free n m n' m' i i' (sign_cases _ c_off) (sign_cases _ b_off')
-        (λ h. pos_at _ _ (turn-reach p q a b n' m' pw qw)
-        (rising (reach_of p a b) Kab n m n' m' (inner_pos n m i) (inner_pos n' m' i') order falls_ab (pos_at _ _ (sym (turn-reach p q a b n m pw qw)) h)))
-        (λ h. pos_at _ _ (turn-reach p q c a n m pw qw)
-        (falling (reach_of p c a) Kca n m n' m' (inner_pos n m i) (inner_pos n' m' i') order rises_ca (pos_at _ _ (sym (turn-reach p q c a n' m' pw qw)) h)))
+        (λ h. pos_at _ _ (turn-numerator p q a b n' m' pw qw)
+        (rising (numerator_of p a b) Kab n m n' m' (inner_pos n m i) (inner_pos n' m' i') order falls_ab (pos_at _ _ (sym (turn-numerator p q a b n m pw qw)) h)))
+        (λ h. pos_at _ _ (turn-numerator p q c a n m pw qw)
+        (falling (numerator_of p c a) Kca n m n' m' (inner_pos n m i) (inner_pos n' m' i') order rises_ca (pos_at _ _ (sym (turn-numerator p q c a n' m' pw qw)) h)))
         (high_over n m i b_off c_off t) (high_over n' m' i' b_off' c_off' t')
         (tally_of (comes_of_crosses p q a b c n m n' m' pw qw order area_up falls_ab) (crosses_of_comes p q a b c n m n' m' pw qw order area_up falls_ab) x)
         (goes_ca rises_ca y)
@@ -199,19 +200,19 @@ module _ (p q a b c : Screen) (n m n' m' : ℤ) (pw : p.w ≡ pos 1) (qw : q.w �
         (λ x. covers_at p q a b c n m pw qw (inner_pos n m i) area_up (low_third n m i (weak _ x.0) (weak _ x.1)) (weak _ x.0) (weak _ x.1) x.2)
 
     falls_ca : Kca <ℤ pos 0
-    falls_ca = below_of _ _ _ (climb-areas p q c a) c_more
+    falls_ca = below_of _ _ _ (denominator-areas p q c a) c_more
 
     rises_ab : pos 0 <ℤ Kab
-    rises_ab = above_of _ _ _ (climb-areas p q a b) b_more
+    rises_ab = above_of _ _ _ (denominator-areas p q a b) b_more
 
     pub low_change : {before after ab ca : ℤ} → IsTally (Covers a b c (place_of p q n m)) before → IsTally (Covers a b c (place_of p q n' m')) after
         → IsTally (Crosses p q a b n m n' m') ab → IsTally (Crosses p q c a n m n' m') ca → after -ℤ before ≡ ca -ℤ ab
     low_change t t' x y =
         come_and_go low_free n m n' m' i i' (sign_cases _ b_off) (sign_cases _ c_off')
-        (λ h. pos_at _ _ (turn-reach p q c a n' m' pw qw)
-        (rising (reach_of p c a) Kca n m n' m' (inner_pos n m i) (inner_pos n' m' i') order falls_ca (pos_at _ _ (sym (turn-reach p q c a n m pw qw)) h)))
-        (λ h. pos_at _ _ (turn-reach p q a b n m pw qw)
-        (falling (reach_of p a b) Kab n m n' m' (inner_pos n m i) (inner_pos n' m' i') order rises_ab (pos_at _ _ (sym (turn-reach p q a b n' m' pw qw)) h)))
+        (λ h. pos_at _ _ (turn-numerator p q c a n' m' pw qw)
+        (rising (numerator_of p c a) Kca n m n' m' (inner_pos n m i) (inner_pos n' m' i') order falls_ca (pos_at _ _ (sym (turn-numerator p q c a n m pw qw)) h)))
+        (λ h. pos_at _ _ (turn-numerator p q a b n m pw qw)
+        (falling (numerator_of p a b) Kab n m n' m' (inner_pos n m i) (inner_pos n' m' i') order rises_ab (pos_at _ _ (sym (turn-numerator p q a b n' m' pw qw)) h)))
         (low_over n m i b_off c_off t) (low_over n' m' i' b_off' c_off' t')
         (comes_ca falls_ca y)
         (tally_of (goes_of_crosses p q a b c n m n' m' pw qw order area_up rises_ab) (crosses_of_goes p q a b c n m n' m' pw qw order area_up rises_ab) x)

@@ -14,14 +14,16 @@ use Rattle.geometry.specs.Parts.{Part, Face, Edge}
 use Rattle.geometry.specs.Views.{IsOrdinary}
 use Rattle.geometry.specs.Sound.{IsSound}
 use Rattle.geometry.proofs.Listed.{same_element, found, face_at}
-use Rattle.hiding.specs.Screens.{Screen}
+use Rattle.hiding.proofs.Screens.{Screen}
 use Rattle.hiding.proofs.Decisions.{less_or}
 use Rattle.counting.specs.Counts.{Side, HasCounted, AreCounted}
 use Rattle.counting.specs.Covers.{IsCountedNext, IsOneWhere}
-use Rattle.face_counts.specs.Shares.{IsTally, yes, no, Crosses, change_of, Adds, IsClear, Passes}
-use Rattle.face_counts.specs.Sums.{sum_below, keep}
-use Rattle.face_counts.specs.Meshes.{Mesh}
-use Rattle.face_counts.specs.Corners.{IsNear}
+use Rattle.face_counts.specs.inner.Tallies.{IsTally}
+use Rattle.face_counts.specs.inner.Tallies.{yes, no}
+use Rattle.face_counts.proofs.Shares.{Crosses, change_of, Adds, IsClear, Passes}
+use Rattle.face_counts.proofs.SumsBelow.{sum_below, keep}
+use Rattle.face_counts.proofs.Meshes.{Mesh}
+use Rattle.face_counts.proofs.CornerLaws.{IsNear}
 use Rattle.face_counts.proofs.Signs.{sum_pos_left}
 use Rattle.face_counts.proofs.Sides.{tally_of}
 use Rattle.face_counts.proofs.Twins.{all_faces}

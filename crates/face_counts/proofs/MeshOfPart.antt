@@ -16,13 +16,13 @@ use Rattle.geometry.specs.Views.{sign_of, face_sign}
 use Rattle.geometry.proofs.EachEdge.{flat_face}
 use Rattle.geometry.proofs.Listed.{face_at}
 use Rattle.integers.proofs.Signs.{mul_pos, mul_neg}
-use Rattle.hiding.specs.Screens.{Screen, area_of}
+use Rattle.hiding.proofs.Screens.{Screen, area_of}
 use Rattle.hiding.proofs.OnScreens.{seen}
 use Rattle.hiding.proofs.ScreenScale.{area_scale}
-use Rattle.face_counts.specs.Meshes.{Mesh, IsMesh}
-use Rattle.face_counts.specs.Shares.{IsSign}
-use Rattle.face_counts.specs.Shares.IsSign.{edge_on, front, back}
-use Rattle.face_counts.specs.Uprights.{IsFan}
+use Rattle.face_counts.proofs.Meshes.{Mesh, IsMesh}
+use Rattle.face_counts.proofs.Shares.{IsSign}
+use Rattle.face_counts.proofs.Shares.IsSign.{edge_on, front, back}
+use Rattle.face_counts.proofs.Uprights.{IsFan}
 
 -- ---- the numbers of a side's corners
 -- the third corner of a triangle, across from its side 0, 1 or 2

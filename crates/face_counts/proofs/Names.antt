@@ -1,7 +1,7 @@
 -- Names for `ring`: the ends of an edge, three corners and a place.
 use Rattle.std.proofs.Common.{List, [], ◌∷◌}
 use Rattle.std.specs.Prelude.{ℤ, pos}
-use Rattle.hiding.specs.Screens.{Screen}
+use Rattle.hiding.proofs.Screens.{Screen}
 use Rattle.integers.proofs.Ring.{Expr, var, con, ◌⊕◌, ◌⊖◌, ◌⊗◌}
 
 pub record EScreen : Type 0 where
@@ -53,11 +53,11 @@ turn p b c = ((p.u ⊗ (b.v ⊖ c.v)) ⊖ (p.v ⊗ (b.u ⊖ c.u))) ⊕ (p.w ⊗ 
 abbrev pub lead : EScreen → EScreen → EScreen → EScreen → Expr
 lead a b c p = (((turn p b c ⊗ a.h) ⊕ (turn p c a ⊗ b.h)) ⊕ (turn p a b ⊗ c.h)) ⊖ (p.h ⊗ area a b c)
 
-abbrev pub reach : EScreen → EScreen → EScreen → Expr
-reach p a b = ((a.u ⊖ p.u) ⊗ (b.v ⊖ a.v)) ⊖ ((a.v ⊖ p.v) ⊗ (b.u ⊖ a.u))
+abbrev pub numerator : EScreen → EScreen → EScreen → Expr
+numerator p a b = ((a.u ⊖ p.u) ⊗ (b.v ⊖ a.v)) ⊖ ((a.v ⊖ p.v) ⊗ (b.u ⊖ a.u))
 
-abbrev pub climb : EScreen → EScreen → EScreen → EScreen → Expr
-climb p q a b = ((q.u ⊖ p.u) ⊗ (b.v ⊖ a.v)) ⊖ ((q.v ⊖ p.v) ⊗ (b.u ⊖ a.u))
+abbrev pub denominator : EScreen → EScreen → EScreen → EScreen → Expr
+denominator p q a b = ((q.u ⊖ p.u) ⊗ (b.v ⊖ a.v)) ⊖ ((q.v ⊖ p.v) ⊗ (b.u ⊖ a.u))
 
 abbrev pub depth : EScreen → EScreen → EScreen → EScreen → Expr
 depth p q a b =

@@ -3,14 +3,14 @@ use Rattle.std.proofs.Common.{◌≡◌, ◌⊎◌, inl, inr, [], ◌∷◌, ref
 use Rattle.std.specs.Prelude.{ℤ, pos, ◌+ℤ◌, ◌-ℤ◌, ◌*ℤ◌, ◌≤ℤ◌, ◌<ℤ◌}
 use Rattle.std.proofs.lemmas.Int.{ints, by_lt_z}
 use Rattle.hiding.proofs.ScreenSides.{pos_at, nonneg_at, pos_of_least, length_least, length_zero}
-use Rattle.hiding.specs.Screens.{lead_of, Screen, area_of, turn_of, length_of}
-use Rattle.hiding.specs.Values.{value_at}
+use Rattle.hiding.proofs.Screens.{lead_of, Screen, area_of, turn_of, length_of}
+use Rattle.hiding.specs.inner.Values.{value_at}
 use Rattle.integers.proofs.Ring.{Expr, var, con, ◌⊕◌, ◌⊖◌, ◌⊗◌, ring, by_two}
 use Rattle.integers.proofs.Signs.{mul_pos, mul_nonneg, mul_nonpos, pos_of_mul, nonneg_of_mul, zero_of_mul}
 use Rattle.counting.specs.Counts.{Side, to_left, to_right}
-use Rattle.face_counts.specs.Shares.{IsOnSide, CountsAt, Touches}
-use Rattle.counting.specs.Turns.{turn_from, product_of, lean}
-use Rattle.face_counts.specs.Corners.{way, IsBelow, IsFine, IsNear, IsWithin, IsOverWay, NearLaw}
+use Rattle.face_counts.proofs.Shares.{IsOnSide, CountsAt, Touches}
+use Rattle.counting.specs.Turns.{turn_from, product_of, perturbed}
+use Rattle.face_counts.proofs.CornerLaws.{way, IsBelow, IsFine, IsNear, IsWithin, IsOverWay, NearLaw}
 use Rattle.face_counts.proofs.Names.{EScreen, P, Q, A, B, C, Zero, flat_values, area, turn}
 use Rattle.face_counts.proofs.Signs.{weak, up, gap, sum_pos, sum_nonneg, clash, clash_neg, clash_zero, clash_both, pos_of_mul_pos}
 use Rattle.face_counts.proofs.Faces.{on_line, covers_at, at_covers}
@@ -88,7 +88,7 @@ module _ (c : Side) (o q a b : Screen) (k : ℤ) (ow : o.w ≡ pos 1) (qw : q.w 
   G = turn_of q a b
 
   abbrev T : ℤ
-  T = turn_from (way a b) (lean c k (way o q))
+  T = turn_from (way a b) (perturbed c k (way o q))
 
   abbrev pub E : ℤ
   E = tilt c (product_of (way a b) (way o q))
@@ -98,11 +98,11 @@ module _ (c : Side) (o q a b : Screen) (k : ℤ) (ow : o.w ≡ pos 1) (qw : q.w 
       (λ t. turn_of record { u = q.u; v = q.v; h = q.h; w = qw t } a b -ℤ turn_of record { u = o.u; v = o.v; h = o.h; w = ow t } a b)
       ∙ ring (flat_values o q a b a (pos 0) (pos 0)) (turn Q A B ⊖ turn P A B) (((B.u ⊖ A.u) ⊗ (Q.v ⊖ P.v)) ⊖ ((B.v ⊖ A.v) ⊗ (Q.u ⊖ P.u))) refl
 
-  -- how the leaning way turns from the side
+  -- how the perturbed way turns from the side
   turn_is : T ≡ (k *ℤ (G -ℤ F)) +ℤ E
   turn_is = leans c ∙ sym (ap (λ v. (k *ℤ v) +ℤ E) climbs)
     where
-      leans : (c : Side) → turn_from (way a b) (lean c k (way o q)) ≡ (k *ℤ turn_from (way a b) (way o q)) +ℤ tilt c (product_of (way a b) (way o q))
+      leans : (c : Side) → turn_from (way a b) (perturbed c k (way o q)) ≡ (k *ℤ turn_from (way a b) (way o q)) +ℤ tilt c (product_of (way a b) (way o q))
       leans to_left =
           ring (k ∷ (way a b).u ∷ (way a b).v ∷ (way o q).u ∷ (way o q).v ∷ [])
           ((var 1 ⊗ ((var 0 ⊗ var 4) ⊕ var 3)) ⊖ (var 2 ⊗ ((var 0 ⊗ var 3) ⊖ var 4)))
@@ -250,7 +250,7 @@ module _ (c : Side) (o q a b d : Screen) (k n m : ℤ) (ow : o.w ≡ pos 1) (qw 
   third_side e f (inr (inl s)) = absurd (clash_zero _ (of_side c o q b s) (tilt_zero c _ (zero_of_mul (area_of a b d) _ area_up (on_edge_b o q a b d ow qw e f))))
   third_side e f (inr (inr s)) = of_side c o q d s
 
-  pub within_side : pos 0 ≤ℤ W → IsOnSide c o q a ⊎ IsOnSide c o q b ⊎ IsOnSide c o q d → IsWithin o a b (lean c k (way o q))
+  pub within_side : pos 0 ≤ℤ W → IsOnSide c o q a ⊎ IsOnSide c o q b ⊎ IsOnSide c o q d → IsWithin o a b (perturbed c k (way o q))
   within_side h side =
       by_lt_z (pos 0) (turn_of o a b) (λ r. inl r)
       (λ low.
@@ -265,12 +265,12 @@ module _ (c : Side) (o q a b d : Screen) (k n m : ℤ) (ow : o.w ≡ pos 1) (qw 
             (pos_of_mul_pos _ _ area_up (pos_at _ _ (tilt_along o q a b d ow qw e f c) (mul_pos _ _ (long_of a b d area_up) (third_side e f side)))),
       )))
 
-  pub weight_least : IsWithin o a b (lean c k (way o q)) → pos 0 ≤ℤ W
+  pub weight_least : IsWithin o a b (perturbed c k (way o q)) → pos 0 ≤ℤ W
   weight_least (inl r) = weak _ (near_pos _ _ k n m near r (let f = fine.turn in f.least))
   weight_least (inr r) = nonneg_at _ _ (near_zero _ _ k n m near r.0) (mul_nonneg n _ (weak n near.after) (not_out c o q a b k ow qw fine r.0 r.1))
 
   -- with no third corner on the side, the weight is above 0
-  pub weight_some : IsWithin o a b (lean c k (way o q)) → tilt c (area_of o q d) ≤ℤ pos 0 → pos 0 <ℤ W
+  pub weight_some : IsWithin o a b (perturbed c k (way o q)) → tilt c (area_of o q d) ≤ℤ pos 0 → pos 0 <ℤ W
   weight_some (inl r) low = near_pos _ _ k n m near r (let f = fine.turn in f.least)
   weight_some (inr r) low =
       by_lt_z (pos 0) (turn_of q a b)
@@ -317,7 +317,7 @@ module _ (c : Side) (o q a b d : Screen) (k n m : ℤ) (ow : o.w ≡ pos 1) (qw 
   one_pos : pos 0 <ℤ o.w
   one_pos = pos_at _ _ ow (omega (arith, ints))
 
-  to_over : CountsAt c o q a b d n m → IsOverWay o a b d (lean c k (way o q))
+  to_over : CountsAt c o q a b d n m → IsOverWay o a b d (perturbed c k (way o q))
   to_over (v, s) =
       let r = at_covers o q a b d n m ow qw m_pos area_up v in
       let fa = start_least c o q b d a k n m ow qw up_bd fine_bd near r.0 in
@@ -344,7 +344,7 @@ module _ (c : Side) (o q a b d : Screen) (k n m : ℤ) (ow : o.w ≡ pos 1) (qw 
   flat : area_of o q a ≡ pos 0 → area_of o q b ≡ pos 0 → area_of o q d ≡ pos 0 → ⊥
   flat ea eb ed = apart (in_line o q a b d ea eb ed (clash_zero _ area_up))
 
-  of_over : IsOverWay o a b d (lean c k (way o q)) → CountsAt c o q a b d n m
+  of_over : IsOverWay o a b d (perturbed c k (way o q)) → CountsAt c o q a b d n m
   of_over (l, wa, wb, wd) = (
     covers_at o q a b d n m ow qw m_pos area_up
         (weight_least c o q b d a k n m ow qw up_bd fine_bd near wa) (weight_least c o q d a b k n m ow qw up_da fine_da near wb) (weight_least c o q a b d k n m ow qw area_up fine_ab near wd)
@@ -363,7 +363,7 @@ pub near_law : NearLaw
 near_law c o q a b d k n m ow qw apart area_up free fine_ab fine_bd fine_da fine_lead near =
     (to_over c o q a b d k n m ow qw apart area_up free fine_ab fine_bd fine_da fine_lead near, of_over c o q a b d k n m ow qw apart area_up free fine_ab fine_bd fine_da fine_lead near)
 
--- ---- a way that leans is along no side
+-- ---- a way that is perturbed is along no side
 module _ (c : Side) (o q a b d : Screen) (k : ℤ) (ow : o.w ≡ pos 1) (qw : q.w ≡ pos 1) (apart : ¬ ((o.u ≡ q.u) × (o.v ≡ q.v))) (area_up : pos 0 <ℤ area_of a b d) (fine : IsFine o q a b k) where
   squares : length_of a b *ℤ length_of o q ≡ (product_of (way a b) (way o q) *ℤ product_of (way a b) (way o q)) +ℤ (turn_from (way a b) (way o q) *ℤ turn_from (way a b) (way o q))
   squares =
@@ -376,7 +376,7 @@ module _ (c : Side) (o q a b d : Screen) (k : ℤ) (ow : o.w ≡ pos 1) (qw : q.
       apart (length_zero o q (zero_of_mul (length_of a b) (length_of o q) (long_of a b d area_up)
       (squares ∙ (λ t. (e t *ℤ e t) +ℤ (f t *ℤ f t)))))
 
-  pub leans_off : turn_of o a b ≡ pos 0 → ¬ (turn_from (way a b) (lean c k (way o q)) ≡ pos 0)
+  pub leans_off : turn_of o a b ≡ pos 0 → ¬ (turn_from (way a b) (perturbed c k (way o q)) ≡ pos 0)
   leans_off e z =
       by_lt_z (pos 0) (turn_of q a b) (λ h. clash_zero _ (inward c o q a b k ow qw fine e h) z)
       (λ low. by_lt_z (turn_of q a b) (pos 0)

@@ -6,13 +6,13 @@ use Rattle.integers.proofs.Ring.{var, con, ◌⊕◌, ◌⊖◌, ◌⊗◌, ring
 use Rattle.integers.proofs.Signs.{mul_pos, mul_nonneg}
 use Rattle.lattice.specs.Triple.{Triple}
 use Rattle.geometry.specs.Parts.{Part, Face, Edge}
-use Rattle.hiding.specs.Screens.{Screen, turn_of, lead_of}
+use Rattle.hiding.proofs.Screens.{Screen, turn_of, lead_of}
 use Rattle.hiding.proofs.Decisions.{below_next}
 use Rattle.counting.specs.Counts.{Side}
 use Rattle.counting.specs.Covers.{HidesNext, IsCountedNext}
-use Rattle.face_counts.specs.Shares.{Adds}
-use Rattle.face_counts.specs.Corners.{IsBelow, IsNear}
-use Rattle.face_counts.specs.Meshes.{Mesh, IsMesh}
+use Rattle.face_counts.proofs.Shares.{Adds}
+use Rattle.face_counts.proofs.CornerLaws.{IsBelow, IsNear}
+use Rattle.face_counts.proofs.Meshes.{Mesh, IsMesh}
 use Rattle.face_counts.proofs.Signs.{sum_pos_left}
 use Rattle.face_counts.proofs.Seen.{on, covers_place, hides_place, facing_some, area_some, reach_seen_of, reach_of_seen}
 use Rattle.face_counts.proofs.NearPlace.{IsAbove, covers_near}

@@ -4,16 +4,16 @@ use Rattle.std.specs.Prelude.{ℤ, pos, ◌-ℤ◌, ◌*ℤ◌, ◌≤ℤ◌, �
 use Rattle.std.proofs.lemmas.Int.{ints, by_lt_z}
 use Rattle.integers.proofs.Ring.{var, con, ◌⊖◌, ◌⊗◌, ring, less_by, mul_comm}
 use Rattle.integers.proofs.Signs.{mul_pos, mul_nonneg, pos_of_mul, nonneg_of_mul, zero_of_mul, square_nonneg}
-use Rattle.hiding.specs.Screens.{Screen, area_of, turn_of, lead_of, Covers}
-use Rattle.hiding.specs.Values.{value_at}
+use Rattle.hiding.proofs.Screens.{Screen, area_of, turn_of, lead_of, Covers}
+use Rattle.hiding.specs.inner.Values.{value_at}
 use Rattle.hiding.proofs.ScreenSides.{pos_at, nonneg_at}
-use Rattle.face_counts.specs.Places.{place_of}
-use Rattle.face_counts.specs.Shares.{reach_of, climb_of, IsClearOf, IsClear}
-use Rattle.face_counts.specs.Corners.{IsBelow, IsNear}
-use Rattle.face_counts.proofs.Names.{P, Q, A, B, flat_values, turn, climb, reach}
+use Rattle.face_counts.proofs.Places.{place_of}
+use Rattle.face_counts.proofs.Shares.{numerator_of, denominator_of, IsClearOf, IsClear}
+use Rattle.face_counts.proofs.CornerLaws.{IsBelow, IsNear}
+use Rattle.face_counts.proofs.Names.{P, Q, A, B, flat_values, turn, denominator, numerator}
 use Rattle.face_counts.proofs.Linear.{turn-place}
 use Rattle.face_counts.proofs.Signs.{weak, up, gap, clash_neg, clash_zero, clash_both, sign_cases, mul_two_neg, neg_of_mul_neg}
-use Rattle.face_counts.proofs.Sides.{turn-reach}
+use Rattle.face_counts.proofs.Sides.{turn-numerator}
 use Rattle.face_counts.proofs.Faces.{covers_at, at_covers}
 use Rattle.face_counts.proofs.OneFace.{covers_swap, turn-reverse, area-swap}
 use Rattle.face_counts.proofs.AllCorner.{below_back, lead-swap}
@@ -113,28 +113,28 @@ module _ (p q a b : Screen) (k n m : ℤ) (pw : p.w ≡ pos 1) (qw : q.w ≡ pos
   abbrev Finish : ℤ
   Finish = turn_of q a b
 
-  start_is : Start ≡ reach_of p a b
+  start_is : Start ≡ numerator_of p a b
   start_is =
       (λ t. turn_of record { u = p.u; v = p.v; h = p.h; w = pw t } a b)
-      ∙ ring (flat_values p q a b a (pos 0) (pos 0)) (turn P A B) (reach P A B) refl
+      ∙ ring (flat_values p q a b a (pos 0) (pos 0)) (turn P A B) (numerator P A B) refl
 
-  falls : Start -ℤ Finish ≡ climb_of p q a b
+  falls : Start -ℤ Finish ≡ denominator_of p q a b
   falls =
       (λ t. turn_of record { u = p.u; v = p.v; h = p.h; w = pw t } a b -ℤ turn_of record { u = q.u; v = q.v; h = q.h; w = qw t } a b)
-      ∙ ring (flat_values p q a b a (pos 0) (pos 0)) (turn P A B ⊖ turn Q A B) (climb P Q A B) refl
+      ∙ ring (flat_values p q a b a (pos 0) (pos 0)) (turn P A B ⊖ turn Q A B) (denominator P Q A B) refl
 
   abbrev R : ℤ
-  R = reach_of p a b
+  R = numerator_of p a b
 
   abbrev K : ℤ
-  K = climb_of p q a b
+  K = denominator_of p q a b
 
   start_product : Start *ℤ (Start -ℤ Finish) ≡ R *ℤ K
   start_product = λ t. start_is t *ℤ falls t
 
   near_product : value_at Start Finish n m *ℤ (Start -ℤ Finish) ≡ ((R *ℤ K) *ℤ m) -ℤ (n *ℤ (K *ℤ K))
   near_product =
-      (λ t. turn-reach p q a b n m pw qw t *ℤ falls t)
+      (λ t. turn-numerator p q a b n m pw qw t *ℤ falls t)
       ∙ ring (R ∷ K ∷ n ∷ m ∷ []) (((var 0 ⊗ var 3) ⊖ (var 2 ⊗ var 1)) ⊗ var 1) (((var 0 ⊗ var 1) ⊗ var 3) ⊖ (var 2 ⊗ (var 1 ⊗ var 1))) refl
 
   -- a crossing behind a near place is one behind the edge's end, and the other way round

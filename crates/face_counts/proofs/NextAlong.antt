@@ -13,18 +13,22 @@ use Rattle.geometry.specs.Faces.{share_point}
 use Rattle.geometry.specs.Parts.{Part, Face, Edge, AreEdges, IsNumbered}
 use Rattle.geometry.specs.Sound.{IsSound}
 use Rattle.geometry.specs.Views.{face_sign, IsOrdinary}
-use Rattle.hiding.specs.Screens.{Screen, turn_of}
+use Rattle.hiding.proofs.Screens.{Screen, turn_of}
 use Rattle.hiding.proofs.Decisions.{same_or, less_or}
 use Rattle.counting.specs.Counts.{Side, AreCounted}
-use Rattle.counting.specs.Covers.{IsCountedNext, IsOneWhere, AreCovers}
-use Rattle.counting.specs.Shares.{climb_of as climb_between, reach_of as reach_between, rise_of as rise_between, change_of as change_between, PassesNearer, Changes, IsCrossedBefore, HasChanged, HasChangedAlong}
-use Rattle.counting.specs.Shares.HasChanged.{passed, not_passed}
-use Rattle.counting.specs.Shares.HasChangedAlong.{along, not_along}
+use Rattle.counting.specs.inner.CountsNext.{AreCovers}
+use Rattle.counting.specs.Covers.{IsCountedNext, IsOneWhere}
+use Rattle.face_counts.proofs.Changed.{IsCrossedBefore, HasChanged, HasChangedAlong}
+use Rattle.counting.specs.Shares.{denominator_of as denominator_between, numerator_of as numerator_between, height_numerator_of as height_numerator_between, change_of as change_between, PassesNearer, Changes}
+use Rattle.face_counts.proofs.Changed.HasChanged.{passed, not_passed}
+use Rattle.face_counts.proofs.Changed.HasChangedAlong.{along, not_along}
 use Rattle.counting.specs.Turns.{other_side}
-use Rattle.face_counts.specs.Corners.{IsBelow}
-use Rattle.face_counts.specs.Meshes.{Mesh}
-use Rattle.face_counts.specs.Shares.{IsTally, Crosses, change_of, Adds, IsClear, Passes}
-use Rattle.face_counts.specs.Sums.{sum_below, keep, total}
+use Rattle.face_counts.proofs.CornerLaws.{IsBelow}
+use Rattle.face_counts.proofs.Meshes.{Mesh}
+use Rattle.face_counts.specs.inner.Tallies.{IsTally}
+use Rattle.face_counts.proofs.Shares.{Crosses, change_of, Adds, IsClear, Passes}
+use Rattle.face_counts.specs.inner.Sums.{total}
+use Rattle.face_counts.proofs.SumsBelow.{sum_below, keep}
 use Rattle.face_counts.proofs.CornerFaces.{divisor, near}
 use Rattle.face_counts.proofs.CountAlong.{some_change, count_listed, no_changes}
 use Rattle.face_counts.proofs.Decided.{turned_edge, next_turned}
@@ -58,9 +62,9 @@ module _ (d : Triple) (somewhere : ¬ IsZero d) {s : Part} (e o : Edge s) (k : �
   crossed_far : PassesNearer d e o → IsCrossedBefore d e o (far k) (divisor k)
   crossed_far p =
       let long = square_of_direction d somewhere in
-      let R = reach_between d e o in
-      let K = climb_between d e o in
-      let D = rise_between e o in
+      let R = numerator_between d e o in
+      let K = denominator_between d e o in
+      let D = height_numerator_between e o in
       let before = scaled_of_before (scale d) (dot d d) R K D (scale_pos d) long (pos 1) (pos 1) (once (R *ℤ K) (K *ℤ K) p.before) in
       before_of_scaled (scale d) (dot d d) R K D (scale_pos d) long (far k) (divisor k)
       (less_at _ _ _ _ (ap (λ v. v *ℤ divisor k) (product_is d e o)) (ap (λ v. far k *ℤ v) (square_is d e o))

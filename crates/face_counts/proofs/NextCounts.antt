@@ -15,10 +15,13 @@ use Rattle.geometry.specs.Sound.{IsSound}
 use Rattle.geometry.specs.Views.{IsOutline, IsEndOn, IsOrdinary}
 use Rattle.geometry.proofs.Listed.{same_element}
 use Rattle.counting.specs.Counts.{Side, StandsOn, AreCounted}
-use Rattle.counting.specs.Covers.{share_from, HidesNext, IsCountedNext, IsOneWhere, AreCovers, AreCoversOf, AreCountedNext}
-use Rattle.counting.specs.Shares.{Changes, HasChanged, HasChangedAlong}
-use Rattle.counting.specs.Turns.{number_at, corner_at, PassesOver, HasTurnedAt}
-use Rattle.face_counts.specs.Sums.{sum_below, total}
+use Rattle.counting.specs.inner.CountsNext.{AreCovers, AreCoversOf, AreCountedNext}
+use Rattle.counting.specs.Covers.{share_from, HidesNext, IsCountedNext, IsOneWhere}
+use Rattle.face_counts.proofs.Changed.{HasChanged, HasChangedAlong}
+use Rattle.counting.specs.Shares.{Changes}
+use Rattle.counting.specs.Turns.{number_at, corner_at, IsNearerOver, HasTurnedAt}
+use Rattle.face_counts.specs.inner.Sums.{total}
+use Rattle.face_counts.proofs.SumsBelow.{sum_below}
 use Rattle.face_counts.proofs.CornerFaces.{one_same}
 use Rattle.face_counts.proofs.CountTurned.{count_turned}
 use Rattle.face_counts.proofs.Decided.{counted_next_or}
@@ -141,7 +144,7 @@ module _ (d : Triple) (directed : ¬ IsZero d) (s : Part) (sound : IsSound s) (i
 
   -- ---- around a corner, by a list that has each outline which passes over it, and the faces that have the corner
   pub counted_turned : (at_b : Bool) (e' : Edge s) (at_b' : Bool) → number_at e at_b ≡ number_at e' at_b' → ¬ IsEndOn d e → ¬ IsEndOn d e'
-      → ((i : ℕ) (o : Edge s) → IsNumbered halves i o → IsOutline d o → PassesOver d (number_at e at_b) (corner_at e at_b) o → Contains numbers i)
+      → ((i : ℕ) (o : Edge s) → IsNumbered halves i o → IsOutline d o → IsNearerOver d (number_at e at_b) (corner_at e at_b) o → Contains numbers i)
       → AllZip (λ i x. (o : Edge s) → IsNumbered halves i o → HasTurnedAt k d e at_b e' at_b' o (value x)) numbers changes
       → (star : List ℕ) → IsStrictlyIncreasing star → ((i : ℕ) → Contains star i ↔ ((t : Tri) × (slice_get s.triangles i ≡ Some t) × IsCornerOf t (number_at e at_b)))
       → (own own' : List ℕ) → AreCoversOf k d e at_b star own → AreCoversOf k d e' at_b' star own'

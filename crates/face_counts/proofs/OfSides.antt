@@ -5,7 +5,7 @@ use Rattle.std.proofs.lemmas.Int.{ints}
 use Rattle.integers.proofs.Ring.{con, ◌⊕◌, ◌⊖◌, ◌⊗◌, ring, less_by, gap_of_less}
 use Rattle.hiding.proofs.ScreenLetters.{A, B, C, P, I, J, weighed, values}
 use Rattle.hiding.proofs.ScreenSides.{pos_at}
-use Rattle.hiding.specs.Screens.{Screen, Covers, SideCovers}
+use Rattle.hiding.proofs.Screens.{Screen, Covers, SideCovers}
 
 pub of_ab : (a b c p : Screen) → SideCovers a b p → Covers a b c p
 of_ab a b c p q =

@@ -3,20 +3,22 @@ use Rattle.std.proofs.Common.{◌≡◌, ◌⊎◌, zero, suc, inl, inr, [], ◌
 use Rattle.std.specs.Prelude.{ℤ, pos, negsuc, ◌+ℤ◌, ◌-ℤ◌, ◌*ℤ◌, ◌≤ℤ◌, ◌<ℤ◌}
 use Rattle.std.proofs.lemmas.Int.{ints, by_lt_z}
 use Rattle.face_counts.proofs.Linear.{turn-place}
-use Rattle.face_counts.specs.Places.{place_of}
+use Rattle.face_counts.proofs.Places.{place_of}
 use Rattle.hiding.proofs.ScreenSides.{pos_at}
-use Rattle.hiding.specs.Screens.{Screen, area_of, turn_of, Covers}
-use Rattle.hiding.specs.Values.{value_at}
+use Rattle.hiding.proofs.Screens.{Screen, area_of, turn_of, Covers}
+use Rattle.hiding.specs.inner.Values.{value_at}
 use Rattle.integers.proofs.Ring.{var, con, ◌⊕◌, ◌⊖◌, ◌⊗◌, ring}
 use Rattle.integers.proofs.Signs.{mul_nonneg, mul_pos}
 use Rattle.counting.specs.Counts.{Side, to_left, to_right}
 use Rattle.counting.specs.Shares.{mark}
-use Rattle.face_counts.specs.Shares.{IsTally, yes, no, Crosses, IsOnSide, CountsAt, IsClearOf, IsClear, Touches, IsUnpierced, edge_on, front, back}
-use Rattle.face_counts.specs.Laws.{OneFaceLaw}
+use Rattle.face_counts.specs.inner.Tallies.{IsTally}
+use Rattle.face_counts.specs.inner.Tallies.{yes, no}
+use Rattle.face_counts.proofs.Shares.{Crosses, IsOnSide, CountsAt, IsClearOf, IsClear, Touches, IsUnpierced, edge_on, front, back}
+use Rattle.face_counts.proofs.Laws.{OneFaceLaw}
 use Rattle.face_counts.proofs.Names.{A, B, C, Zero, flat_values, area}
 use Rattle.face_counts.proofs.Signs.{weak, weak_neg, up, clash, clash_neg}
 use Rattle.face_counts.proofs.Come.{IsInner}
-use Rattle.face_counts.proofs.Sides.{tally_of, climb-areas, climb-reverse, crosses_reverse}
+use Rattle.face_counts.proofs.Sides.{tally_of, denominator-areas, denominator-reverse, crosses_reverse}
 use Rattle.face_counts.proofs.Faces.{weight_a, weight_b, weight_c, whole, on_line, at_covers}
 use Rattle.face_counts.proofs.Lone.{inner_pos, area-rotate, high_change, low_change}
 
@@ -132,12 +134,12 @@ off : (k : Side) (p q a b : Screen) (n m : ℤ) → p.w ≡ pos 1 → q.w ≡ po
     → (IsHigh k (area_of p q a) × IsLow k (area_of p q b)) ⊎ (IsHigh k (area_of p q b) × IsLow k (area_of p q a))
     → ¬ (value_at (turn_of p a b) (turn_of q a b) n m ≡ pos 0)
 off k p q a b n m pw qw clear (inl h) e =
-    apart_clash _ _ _ (climb-areas p q a b) (clear (turn-place p q a b n m pw qw ∙ e) (inr (low_most k _ h.1, high_least k _ h.0))) (apart k _ _ h.0 h.1)
+    apart_clash _ _ _ (denominator-areas p q a b) (clear (turn-place p q a b n m pw qw ∙ e) (inr (low_most k _ h.1, high_least k _ h.0))) (apart k _ _ h.0 h.1)
   where
     apart_clash : (k x y : ℤ) → k ≡ y -ℤ x → k ≡ pos 0 → y <ℤ x → ⊥
     apart_clash k x y e z h = omega (arith, ints)
 off k p q a b n m pw qw clear (inr h) e =
-    apart_clash _ _ _ (climb-areas p q a b) (clear (turn-place p q a b n m pw qw ∙ e) (inl (low_most k _ h.1, high_least k _ h.0))) (apart k _ _ h.0 h.1)
+    apart_clash _ _ _ (denominator-areas p q a b) (clear (turn-place p q a b n m pw qw ∙ e) (inl (low_most k _ h.1, high_least k _ h.0))) (apart k _ _ h.0 h.1)
   where
     apart_clash : (k x y : ℤ) → k ≡ y -ℤ x → k ≡ pos 0 → x <ℤ y → ⊥
     apart_clash k x y e z h = omega (arith, ints)
@@ -345,14 +347,14 @@ turn-reverse x a b =
     (Zero ⊖ (((var 0 ⊗ (var 4 ⊖ var 6)) ⊖ (var 1 ⊗ (var 3 ⊖ var 5))) ⊕ (var 2 ⊗ ((var 3 ⊗ var 6) ⊖ (var 5 ⊗ var 4))))) refl
 
 clear_of_reverse : (p q a b : Screen) (n m : ℤ) → IsClearOf p q a b n m → IsClearOf p q b a n m
-clear_of_reverse p q a b n m f e (inl h) = climb-reverse p q a b ∙ zero_of _ (f (zero_at _ _ (turn-reverse (place_of p q n m) a b) e) (inr h))
+clear_of_reverse p q a b n m f e (inl h) = denominator-reverse p q a b ∙ zero_of _ (f (zero_at _ _ (turn-reverse (place_of p q n m) a b) e) (inr h))
   where
     zero_at : (x y : ℤ) → x ≡ pos 0 -ℤ y → x ≡ pos 0 → y ≡ pos 0
     zero_at x y e h = omega (arith, ints)
 
     zero_of : (y : ℤ) → y ≡ pos 0 → pos 0 -ℤ y ≡ pos 0
     zero_of y h = omega (arith, ints)
-clear_of_reverse p q a b n m f e (inr h) = climb-reverse p q a b ∙ zero_of _ (f (zero_at _ _ (turn-reverse (place_of p q n m) a b) e) (inl h))
+clear_of_reverse p q a b n m f e (inr h) = denominator-reverse p q a b ∙ zero_of _ (f (zero_at _ _ (turn-reverse (place_of p q n m) a b) e) (inl h))
   where
     zero_at : (x y : ℤ) → x ≡ pos 0 -ℤ y → x ≡ pos 0 → y ≡ pos 0
     zero_at x y e h = omega (arith, ints)

@@ -13,10 +13,10 @@ use Rattle.geometry.specs.Faces.{facing_of, FaceHides}
 use Rattle.geometry.specs.Parts.{Part, Face}
 use Rattle.geometry.specs.Sound.{IsSound}
 use Rattle.geometry.specs.Views.{IsOrdinary}
-use Rattle.hiding.specs.Screens.{Screen, area_of, length_of, Covers, SideCovers}
+use Rattle.hiding.proofs.Screens.{Screen, area_of, length_of, Covers, SideCovers}
 use Rattle.hiding.proofs.OnScreens.{seen, hides_of_covers}
 use Rattle.hiding.proofs.ScreenSides.{length_least, length_zero, pos_of_least}
-use Rattle.face_counts.specs.Uprights.{rise_of}
+use Rattle.face_counts.proofs.Uprights.{rise_of}
 use Rattle.face_counts.proofs.EdgeOnFaces.{edge_on_faces}
 use Rattle.face_counts.proofs.HalfFaces.{start_corner, end_corner, apex_corner, at_start, at_end, facing_turned, flat_turned, flat_swap, hides_turned, starts_seen, ends_seen, apex_seen, first_free, second_free}
 use Rattle.face_counts.proofs.MeshOfPart.{count, triangle_at, starts_at, ends_at, apex_at, twin_of, twin_within, twin_starts, twin_ends, face_of_half, corner_seen, after_half, before_half, mesh_of, is_mesh, is_fan, first_seen, second_seen, third_seen}

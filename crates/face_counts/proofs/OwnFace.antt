@@ -2,14 +2,14 @@
 use Rattle.std.proofs.Common.{◌≡◌, inl, inr, [], ◌∷◌, refl, sym, ap, ◌∙◌, subst, arith}
 use Rattle.std.specs.Prelude.{ℤ, pos, negsuc, ◌-ℤ◌, ◌*ℤ◌, ◌≤ℤ◌, ◌<ℤ◌}
 use Rattle.std.proofs.lemmas.Int.{ints}
-use Rattle.face_counts.specs.Places.{place_of}
+use Rattle.face_counts.proofs.Places.{place_of}
 use Rattle.hiding.proofs.ScreenSides.{pos_at}
-use Rattle.hiding.specs.Screens.{lead_of, Screen, area_of, Covers}
-use Rattle.hiding.specs.Values.{value_at}
+use Rattle.hiding.proofs.Screens.{lead_of, Screen, area_of, Covers}
+use Rattle.hiding.specs.inner.Values.{value_at}
 use Rattle.integers.proofs.Ring.{var, ◌⊕◌, ◌⊖◌, ◌⊗◌, ring}
 use Rattle.integers.proofs.Signs.{mul_nonneg}
-use Rattle.face_counts.specs.Shares.{climb_of, depth_of, Crosses, IsSideOf}
-use Rattle.face_counts.proofs.Names.{P, Q, A, Zero, flat_values, values, lead, reach, climb}
+use Rattle.face_counts.proofs.Shares.{denominator_of, depth_of, Crosses, IsSideOf}
+use Rattle.face_counts.proofs.Names.{P, Q, A, Zero, flat_values, values, lead, numerator, denominator}
 use Rattle.face_counts.proofs.Signs.{weak, up, gap, clash_zero, sign_cases}
 use Rattle.face_counts.proofs.Come.{IsInner}
 use Rattle.face_counts.proofs.Sides.{crosses_reverse}
@@ -23,20 +23,20 @@ square_least (negsuc n) = omega (arith, ints)
 
 -- ---- no side at an end of the edge crosses an inner place
 pub uncrossed_along : (p q : Screen) (n m n' m' : ℤ) → ¬ Crosses p q p q n m n' m'
-uncrossed_along p q n m n' m' x = clash_zero _ x.nearer (ap (λ v. depth_of p q p q *ℤ v) (ring (flat_values p q p q p (pos 0) (pos 0)) (climb P Q P Q) Zero refl) ∙ ring (depth_of p q p q ∷ []) (var 0 ⊗ Zero) Zero refl)
+uncrossed_along p q n m n' m' x = clash_zero _ x.nearer (ap (λ v. depth_of p q p q *ℤ v) (ring (flat_values p q p q p (pos 0) (pos 0)) (denominator P Q P Q) Zero refl) ∙ ring (depth_of p q p q ∷ []) (var 0 ⊗ Zero) Zero refl)
 
 pub uncrossed_from : (p q c : Screen) (n m n' m' : ℤ) → IsInner n m → ¬ Crosses p q p c n m n' m'
 uncrossed_from p q c n m n' m' i x =
-    under _ _ (mul_nonneg n _ (weak n i.after) (square_least (climb_of p q p c)))
-    (ap (λ v. (v *ℤ climb_of p q p c) *ℤ m) (ring (flat_values p q c c c (pos 0) (pos 0)) (reach P P A) Zero refl) ∙ ring (climb_of p q p c ∷ m ∷ []) ((Zero ⊗ var 0) ⊗ var 1) Zero refl) x.after
+    under _ _ (mul_nonneg n _ (weak n i.after) (square_least (denominator_of p q p c)))
+    (ap (λ v. (v *ℤ denominator_of p q p c) *ℤ m) (ring (flat_values p q c c c (pos 0) (pos 0)) (numerator P P A) Zero refl) ∙ ring (denominator_of p q p c ∷ m ∷ []) ((Zero ⊗ var 0) ⊗ var 1) Zero refl) x.after
   where
     under : (x y : ℤ) → pos 0 ≤ℤ x → y ≡ pos 0 → x <ℤ y → ⊥
     under x y h e l = omega (arith, ints)
 
 pub uncrossed_to : (p q c : Screen) (n m n' m' : ℤ) → IsInner n' m' → ¬ Crosses p q q c n m n' m'
 uncrossed_to p q c n m n' m' i x =
-    let k = climb_of p q q c in
-    over _ _ (ap (λ v. (v *ℤ climb_of p q q c) *ℤ m') (ring (flat_values p q c c c (pos 0) (pos 0)) (reach P Q A) (climb P Q Q A) refl))
+    let k = denominator_of p q q c in
+    over _ _ (ap (λ v. (v *ℤ denominator_of p q q c) *ℤ m') (ring (flat_values p q c c c (pos 0) (pos 0)) (numerator P Q A) (denominator P Q Q A) refl))
     (ring (k ∷ n' ∷ m' ∷ []) (((var 0 ⊗ var 0) ⊗ var 2) ⊖ (var 1 ⊗ (var 0 ⊗ var 0))) ((var 2 ⊖ var 1) ⊗ (var 0 ⊗ var 0)) refl)
     (mul_nonneg _ _ (weak _ (gap n' m' i.before)) (square_least k)) x.before
   where

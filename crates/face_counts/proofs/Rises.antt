@@ -10,10 +10,10 @@ use Rattle.lattice.proofs.Vectors.{letters, dots}
 use Rattle.lattice.proofs.SightLines.{alike, right_axis-is, multiple_x, multiple_y, multiple_z}
 use Rattle.lattice.proofs.SightAxes.{square_of_direction}
 use Rattle.geometry.specs.Faces.{IsFlat}
-use Rattle.hiding.specs.Screens.{Screen, area_of, length_of}
+use Rattle.hiding.proofs.Screens.{Screen, area_of, length_of}
 use Rattle.hiding.proofs.OnScreens.{seen}
 use Rattle.hiding.proofs.Readings.{dot-difference}
-use Rattle.face_counts.specs.Uprights.{foot_of, rise_of}
+use Rattle.face_counts.proofs.Uprights.{foot_of, rise_of}
 
 module _ (d : Triple) (directed : ¬ IsZero d) (a b c : Corner) (long : pos 0 <ℤ length_of (seen d (point_of a)) (seen d (point_of b)))
     (level : area_of (seen d (point_of a)) (seen d (point_of b)) (seen d (point_of c)) ≡ pos 0) (low : rise_of (seen d (point_of a)) (seen d (point_of b)) (seen d (point_of c)) ≡ pos 0) where

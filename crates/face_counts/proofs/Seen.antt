@@ -11,19 +11,19 @@ use Rattle.lattice.proofs.Vectors.{Letters, letters, dots, crosses}
 use Rattle.lattice.proofs.SightLines.{right_axis-is}
 use Rattle.geometry.specs.Faces.{share_point, facing_of, FaceHides}
 use Rattle.geometry.specs.Parts.{Part, Face, Edge}
-use Rattle.hiding.specs.Screens.{Screen, area_of, lead_of, Covers}
+use Rattle.hiding.proofs.Screens.{Screen, area_of, lead_of, Covers}
 use Rattle.hiding.proofs.Names.{ways}
 use Rattle.hiding.proofs.OnScreens.{seen, covers_of_hides, hides_of_covers}
 use Rattle.hiding.proofs.Readings.{dot-share}
 use Rattle.hiding.proofs.ScreenScale.{area_scale, lead_scale}
 use Rattle.hiding.proofs.ScreenSides.{pos_at}
-use Rattle.counting.specs.Counts.{Side, to_left, to_right, turn_to, StandsOn, ReachesTo, IsCounted}
+use Rattle.counting.specs.Counts.{Side, to_left, to_right, orientation_of, StandsOn, ReachesTo, IsCounted}
 use Rattle.counting.specs.Shares.{mark}
-use Rattle.face_counts.specs.Places.{place_of}
-use Rattle.face_counts.specs.Shares.{reach_of, climb_of, depth_of, change_of, IsOnSide, Adds}
-use Rattle.face_counts.proofs.Names.{P, Q, A, B, flat_values, values, area, lead, reach, depth}
+use Rattle.face_counts.proofs.Places.{place_of}
+use Rattle.face_counts.proofs.Shares.{numerator_of, denominator_of, depth_of, change_of, IsOnSide, Adds}
+use Rattle.face_counts.proofs.Names.{P, Q, A, B, flat_values, values, area, lead, numerator, depth}
 use Rattle.face_counts.proofs.Signs.{neg_at}
-use Rattle.face_counts.proofs.Sides.{climb-areas}
+use Rattle.face_counts.proofs.Sides.{denominator-areas}
 
 -- the square of the right axis
 abbrev pub scale : Triple → ℤ
@@ -37,11 +37,11 @@ pub scale_pos : (d : Triple) → pos 0 <ℤ scale d
 scale_pos d = (right_axis-is d).square
 
 -- ---- determinants
-pub area_seen : (d : Triple) (a b c : Corner) → area_of (on d a) (on d b) (on d c) ≡ scale d *ℤ turn_to d a b c
+pub area_seen : (d : Triple) (a b c : Corner) → area_of (on d a) (on d b) (on d c) ≡ scale d *ℤ orientation_of d a b c
 area_seen d a b c = area_scale d (right_axis d) (right_axis-is d).level a b c
 
-reach-area : (p a b : Screen) → reach_of p a b ≡ area_of p a b
-reach-area p a b = ring (flat_values p a a b a (pos 0) (pos 0)) (reach P A B) (area P A B) refl
+numerator-area : (p a b : Screen) → numerator_of p a b ≡ area_of p a b
+numerator-area p a b = ring (flat_values p a a b a (pos 0) (pos 0)) (numerator P A B) (area P A B) refl
 
 depth-lead : (p q a b : Screen) → b.w ≡ pos 1 → depth_of p q a b ≡ lead_of p q a b
 depth-lead p q a b bw =
@@ -63,20 +63,20 @@ G = letters 9
 abbrev H : Letters
 H = letters 12
 
-pub climb_seen : (d : Triple) (p q a b : Corner) → climb_of (on d p) (on d q) (on d a) (on d b) ≡ scale d *ℤ det d (difference p q) (difference a b)
-climb_seen d p q a b =
-    climb-areas (on d p) (on d q) (on d a) (on d b)
+pub denominator_seen : (d : Triple) (p q a b : Corner) → denominator_of (on d p) (on d q) (on d a) (on d b) ≡ scale d *ℤ det d (difference p q) (difference a b)
+denominator_seen d p q a b =
+    denominator-areas (on d p) (on d q) (on d a) (on d b)
     ∙ (λ t. area_seen d p q b t -ℤ area_seen d p q a t)
-    ∙ less (scale d) (turn_to d p q b) (turn_to d p q a)
+    ∙ less (scale d) (orientation_of d p q b) (orientation_of d p q a)
     ∙ ap (λ v. scale d *ℤ v) (ring (d.x ∷ d.y ∷ d.z ∷ p.x ∷ p.y ∷ p.z ∷ q.x ∷ q.y ∷ q.z ∷ a.x ∷ a.y ∷ a.z ∷ b.x ∷ b.y ∷ b.z ∷ [])
     (dots D (crosses (ways E F) (ways E H)) ⊖ dots D (crosses (ways E F) (ways E G))) (dots D (crosses (ways E F) (ways G H))) refl)
   where
     less : (s x y : ℤ) → (s *ℤ x) -ℤ (s *ℤ y) ≡ s *ℤ (x -ℤ y)
     less s x y = ring (s ∷ x ∷ y ∷ []) ((var 0 ⊗ var 1) ⊖ (var 0 ⊗ var 2)) (var 0 ⊗ (var 1 ⊖ var 2)) refl
 
-pub reach_seen : (d : Triple) (p a b : Corner) → reach_of (on d p) (on d a) (on d b) ≡ scale d *ℤ det d (difference p a) (difference a b)
-reach_seen d p a b =
-    reach-area (on d p) (on d a) (on d b)
+pub numerator_seen : (d : Triple) (p a b : Corner) → numerator_of (on d p) (on d a) (on d b) ≡ scale d *ℤ det d (difference p a) (difference a b)
+numerator_seen d p a b =
+    numerator-area (on d p) (on d a) (on d b)
     ∙ area_seen d p a b
     ∙ ap (λ v. scale d *ℤ v) (ring (d.x ∷ d.y ∷ d.z ∷ p.x ∷ p.y ∷ p.z ∷ a.x ∷ a.y ∷ a.z ∷ b.x ∷ b.y ∷ b.z ∷ [])
     (dots D (crosses (ways E F) (ways E G))) (dots D (crosses (ways E F) (ways F G))) refl)
@@ -137,7 +137,7 @@ neg_of_scaled s z h n = turned z (pos_of_mul s (pos 0 -ℤ z) h (pos_at _ _ (rin
     turned x h = omega (arith, ints)
 
 pub change_seen : (d : Triple) (k : Side) (sign : ℤ) (p q a b : Corner)
-    → change_of k sign (on d p) (on d q) (on d a) (on d b) ≡ sign *ℤ (mark k (turn_to d p q a) -ℤ mark k (turn_to d p q b))
+    → change_of k sign (on d p) (on d q) (on d a) (on d b) ≡ sign *ℤ (mark k (orientation_of d p q a) -ℤ mark k (orientation_of d p q b))
 change_seen d k sign p q a b = λ t.
     sign *ℤ ((ap (mark k) (area_seen d p q a) ∙ mark_scaled k (scale d) _ (scale_pos d)) t -ℤ (ap (mark k) (area_seen d p q b) ∙ mark_scaled k (scale d) _ (scale_pos d)) t)
 

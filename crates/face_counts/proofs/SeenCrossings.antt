@@ -8,15 +8,18 @@ use Rattle.lattice.specs.Triple.{Triple, dot, IsZero}
 use Rattle.lattice.proofs.SightAxes.{square_of_direction}
 use Rattle.geometry.specs.Parts.{Part, Edge}
 use Rattle.geometry.specs.Views.{face_sign}
-use Rattle.hiding.specs.Screens.{turn_of}
+use Rattle.hiding.proofs.Screens.{turn_of}
 use Rattle.hiding.proofs.ScreenSides.{pos_at}
 use Rattle.counting.specs.Counts.{Side}
-use Rattle.counting.specs.Shares.{climb_of as climb_between, reach_of as reach_between, rise_of as rise_between, change_of as change_between, PassesNearer, IsCrossedBefore, HasChanged}
-use Rattle.counting.specs.Shares.HasChanged.{passed, not_passed}
-use Rattle.face_counts.specs.Shares.{IsTally, yes, no, reach_of, climb_of, depth_of, change_of, Crosses}
-use Rattle.face_counts.specs.Corners.{IsBelow, IsNear}
+use Rattle.face_counts.proofs.Changed.{IsCrossedBefore, HasChanged}
+use Rattle.counting.specs.Shares.{denominator_of as denominator_between, numerator_of as numerator_between, height_numerator_of as height_numerator_between, change_of as change_between, PassesNearer}
+use Rattle.face_counts.proofs.Changed.HasChanged.{passed, not_passed}
+use Rattle.face_counts.specs.inner.Tallies.{IsTally}
+use Rattle.face_counts.specs.inner.Tallies.{yes, no}
+use Rattle.face_counts.proofs.Shares.{numerator_of, denominator_of, depth_of, change_of, Crosses}
+use Rattle.face_counts.proofs.CornerLaws.{IsBelow, IsNear}
 use Rattle.face_counts.proofs.Signs.{gap, sum_pos_left}
-use Rattle.face_counts.proofs.Seen.{on, scale, scale_pos, climb_seen, reach_seen, depth_seen, change_seen}
+use Rattle.face_counts.proofs.Seen.{on, scale, scale_pos, denominator_seen, numerator_seen, depth_seen, change_seen}
 use Rattle.face_counts.proofs.NearPlace.{after_near, after_start}
 
 -- ---- numbers that are all times a factor
@@ -70,17 +73,17 @@ less_at x y x' y' e h l = omega (arith, ints)
 
 -- ---- the numbers of an edge and another as they are seen
 module _ (d : Triple) {s : Part} (e o : Edge s) where
-  climb_is : climb_of (on d e.a) (on d e.b) (on d o.a) (on d o.b) ≡ scale d *ℤ climb_between d e o
-  climb_is = climb_seen d e.a e.b o.a o.b
+  denominator_is : denominator_of (on d e.a) (on d e.b) (on d o.a) (on d o.b) ≡ scale d *ℤ denominator_between d e o
+  denominator_is = denominator_seen d e.a e.b o.a o.b
 
-  reach_is : reach_of (on d e.a) (on d o.a) (on d o.b) ≡ scale d *ℤ reach_between d e o
-  reach_is = reach_seen d e.a o.a o.b
+  numerator_is : numerator_of (on d e.a) (on d o.a) (on d o.b) ≡ scale d *ℤ numerator_between d e o
+  numerator_is = numerator_seen d e.a o.a o.b
 
-  pub product_is : reach_of (on d e.a) (on d o.a) (on d o.b) *ℤ climb_of (on d e.a) (on d e.b) (on d o.a) (on d o.b) ≡ (scale d *ℤ reach_between d e o) *ℤ (scale d *ℤ climb_between d e o)
-  product_is t = reach_is t *ℤ climb_is t
+  pub product_is : numerator_of (on d e.a) (on d o.a) (on d o.b) *ℤ denominator_of (on d e.a) (on d e.b) (on d o.a) (on d o.b) ≡ (scale d *ℤ numerator_between d e o) *ℤ (scale d *ℤ denominator_between d e o)
+  product_is t = numerator_is t *ℤ denominator_is t
 
-  pub square_is : climb_of (on d e.a) (on d e.b) (on d o.a) (on d o.b) *ℤ climb_of (on d e.a) (on d e.b) (on d o.a) (on d o.b) ≡ (scale d *ℤ climb_between d e o) *ℤ (scale d *ℤ climb_between d e o)
-  square_is t = climb_is t *ℤ climb_is t
+  pub square_is : denominator_of (on d e.a) (on d e.b) (on d o.a) (on d o.b) *ℤ denominator_of (on d e.a) (on d e.b) (on d o.a) (on d o.b) ≡ (scale d *ℤ denominator_between d e o) *ℤ (scale d *ℤ denominator_between d e o)
+  square_is t = denominator_is t *ℤ denominator_is t
 
 module _ (d : Triple) (somewhere : ¬ IsZero d) {s : Part} (e o : Edge s) (k i j n m : ℤ) (near : IsNear k i j) (small : IsBelow k (turn_of (on d e.b) (on d o.a) (on d o.b)))
     (after : pos 0 <ℤ n) (before : n <ℤ m) where
@@ -91,13 +94,13 @@ module _ (d : Triple) (somewhere : ¬ IsZero d) {s : Part} (e o : Edge s) (k i j
   IsPassed = PassesNearer d e o × IsCrossedBefore d e o n m
 
   abbrev K : ℤ
-  K = climb_between d e o
+  K = denominator_between d e o
 
   abbrev R : ℤ
-  R = reach_between d e o
+  R = numerator_between d e o
 
   abbrev D : ℤ
-  D = rise_between e o
+  D = height_numerator_between e o
 
   height_is : depth_of (on d e.a) (on d e.b) (on d o.a) (on d o.b) ≡ (scale d *ℤ dot d d) *ℤ D
   height_is = depth_seen d e.a e.b o.a o.b
@@ -112,7 +115,7 @@ module _ (d : Triple) (somewhere : ¬ IsZero d) {s : Part} (e o : Edge s) (k i j
           after = start_of_scaled (scale d) (dot d d) R K D (scale_pos d) long
               (pos_at _ _ (sym (product_is d e o)) (after_start (on d e.a) (on d e.b) (on d o.a) (on d o.b) k i j refl refl near small x.after));
           before = inner_before R K n m after before crossed;
-          nearer = height_of_scaled (scale d) (dot d d) R K D (scale_pos d) long (pos_at _ _ (sym (λ t. height_is t *ℤ climb_is d e o t)) x.nearer);
+          nearer = height_of_scaled (scale d) (dot d d) R K D (scale_pos d) long (pos_at _ _ (sym (λ t. height_is t *ℤ denominator_is d e o t)) x.nearer);
         },
         crossed,
       )
@@ -122,7 +125,7 @@ module _ (d : Triple) (somewhere : ¬ IsZero d) {s : Part} (e o : Edge s) (k i j
     after = after_near (on d e.a) (on d e.b) (on d o.a) (on d o.b) k i j refl refl near small
         (pos_at _ _ (product_is d e o) (scaled_of_start (scale d) (dot d d) R K D (scale_pos d) long x.after));
     before = less_at _ _ _ _ (sym (ap (λ v. v *ℤ m) (product_is d e o))) (sym (ap (λ v. n *ℤ v) (square_is d e o))) (scaled_of_before (scale d) (dot d d) R K D (scale_pos d) long n m crossed);
-    nearer = pos_at _ _ (λ t. height_is t *ℤ climb_is d e o t) (scaled_of_height (scale d) (dot d d) R K D (scale_pos d) long x.nearer);
+    nearer = pos_at _ _ (λ t. height_is t *ℤ denominator_is d e o t) (scaled_of_height (scale d) (dot d d) R K D (scale_pos d) long x.nearer);
   }
 
   -- what an edge changes as it is seen

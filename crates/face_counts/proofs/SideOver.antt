@@ -3,7 +3,7 @@ use Rattle.std.proofs.Common.{◌≡◌, refl}
 use Rattle.std.specs.Prelude.{pos, ◌+ℤ◌, ◌-ℤ◌, ◌*ℤ◌, ◌≤ℤ◌, ◌<ℤ◌}
 use Rattle.hiding.proofs.ScreenLetters.{A, B, C, P, area, turn, weighed, values}
 use Rattle.hiding.proofs.ScreenSides.{pos_at}
-use Rattle.hiding.specs.Screens.{lead_of, Screen, area_of, turn_of, SideCovers}
+use Rattle.hiding.proofs.Screens.{lead_of, Screen, area_of, turn_of, SideCovers}
 use Rattle.integers.proofs.Ring.{◌⊕◌, ◌⊖◌, ◌⊗◌, con, ring, by_one, less_by}
 use Rattle.integers.proofs.Signs.{mul_pos}
 

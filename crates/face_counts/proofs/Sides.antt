@@ -3,12 +3,14 @@ use Rattle.std.proofs.Common.{◌≡◌, [], ◌∷◌, refl, sym, ap, ◌∙◌
 use Rattle.std.specs.Prelude.{ℤ, pos, ◌+ℤ◌, ◌-ℤ◌, ◌*ℤ◌, ◌<ℤ◌}
 use Rattle.std.proofs.lemmas.Int.{ints}
 use Rattle.hiding.proofs.ScreenSides.{pos_at}
-use Rattle.hiding.specs.Screens.{lead_of, Screen, area_of, turn_of}
-use Rattle.hiding.specs.Values.{value_at}
+use Rattle.hiding.proofs.Screens.{lead_of, Screen, area_of, turn_of}
+use Rattle.hiding.specs.inner.Values.{value_at}
 use Rattle.integers.proofs.Ring.{Expr, var, con, ◌⊕◌, ◌⊖◌, ◌⊗◌, ring, less_by}
 use Rattle.integers.proofs.Signs.{mul_pos, pos_of_mul}
-use Rattle.face_counts.specs.Shares.{IsTally, yes, no, reach_of, climb_of, depth_of, Crosses}
-use Rattle.face_counts.proofs.Names.{P, Q, A, B, C, N, M, Zero, flat_values, values, area, turn, lead, reach, climb, depth, at}
+use Rattle.face_counts.specs.inner.Tallies.{IsTally}
+use Rattle.face_counts.specs.inner.Tallies.{yes, no}
+use Rattle.face_counts.proofs.Shares.{numerator_of, denominator_of, depth_of, Crosses}
+use Rattle.face_counts.proofs.Names.{P, Q, A, B, C, N, M, Zero, flat_values, values, area, turn, lead, numerator, denominator, depth, at}
 use Rattle.face_counts.proofs.Signs.{gap, up, neg_of_mul_neg, pos_of_mul_pos, mul_two_neg}
 
 -- ---- tallies
@@ -24,14 +26,14 @@ same_tally (no p) (no q) = refl
 
 -- ---- the numbers of a side
 -- the side from a to b climbs from one distance to the other
-pub climb-areas : (p q a b : Screen) → climb_of p q a b ≡ area_of p q b -ℤ area_of p q a
-climb-areas p q a b = ring (flat_values p q a b a (pos 0) (pos 0)) (climb P Q A B) (area P Q B ⊖ area P Q A) refl
+pub denominator-areas : (p q a b : Screen) → denominator_of p q a b ≡ area_of p q b -ℤ area_of p q a
+denominator-areas p q a b = ring (flat_values p q a b a (pos 0) (pos 0)) (denominator P Q A B) (area P Q B ⊖ area P Q A) refl
 
-pub turn-reach : (p q a b : Screen) (n m : ℤ) → p.w ≡ pos 1 → q.w ≡ pos 1
-    → value_at (turn_of p a b) (turn_of q a b) n m ≡ (reach_of p a b *ℤ m) -ℤ (n *ℤ climb_of p q a b)
-turn-reach p q a b n m pw qw =
+pub turn-numerator : (p q a b : Screen) (n m : ℤ) → p.w ≡ pos 1 → q.w ≡ pos 1
+    → value_at (turn_of p a b) (turn_of q a b) n m ≡ (numerator_of p a b *ℤ m) -ℤ (n *ℤ denominator_of p q a b)
+turn-numerator p q a b n m pw qw =
     (λ t. value_at (turn_of record { u = p.u; v = p.v; h = p.h; w = pw t } a b) (turn_of record { u = q.u; v = q.v; h = q.h; w = qw t } a b) n m)
-    ∙ ring (flat_values p q a b a n m) (at (turn P A B) (turn Q A B)) ((reach P A B ⊗ M) ⊖ (N ⊗ climb P Q A B)) refl
+    ∙ ring (flat_values p q a b a n m) (at (turn P A B) (turn Q A B)) ((numerator P A B ⊗ M) ⊖ (N ⊗ denominator P Q A B)) refl
 
 -- the height of the face where the line crosses the side, against that of the edge
 pub lead-depth : (p q a b c : Screen) → p.w ≡ pos 1 → q.w ≡ pos 1
@@ -67,20 +69,20 @@ module _ (p q a b c : Screen) (n m n' m' : ℤ) (pw : p.w ≡ pos 1) (qw : q.w �
   L1 = value_at (lead_of a b c p) (lead_of a b c q) n' m'
 
   abbrev K : ℤ
-  K = climb_of p q a b
+  K = denominator_of p q a b
 
   abbrev R : ℤ
-  R = reach_of p a b
+  R = numerator_of p a b
 
   abbrev D : ℤ
   D = depth_of p q a b
 
   before_is : E0 *ℤ K ≡ ((R *ℤ K) *ℤ m) -ℤ (n *ℤ (K *ℤ K))
-  before_is = ap (λ v. v *ℤ K) (turn-reach p q a b n m pw qw)
+  before_is = ap (λ v. v *ℤ K) (turn-numerator p q a b n m pw qw)
       ∙ ring (R ∷ K ∷ n ∷ m ∷ []) (((var 0 ⊗ var 3) ⊖ (var 2 ⊗ var 1)) ⊗ var 1) (((var 0 ⊗ var 1) ⊗ var 3) ⊖ (var 2 ⊗ (var 1 ⊗ var 1))) refl
 
   after_is : (pos 0 -ℤ E1) *ℤ K ≡ (n' *ℤ (K *ℤ K)) -ℤ ((R *ℤ K) *ℤ m')
-  after_is = ap (λ v. (pos 0 -ℤ v) *ℤ K) (turn-reach p q a b n' m' pw qw)
+  after_is = ap (λ v. (pos 0 -ℤ v) *ℤ K) (turn-numerator p q a b n' m' pw qw)
       ∙ ring (R ∷ K ∷ n' ∷ m' ∷ []) ((Zero ⊖ ((var 0 ⊗ var 3) ⊖ (var 2 ⊗ var 1))) ⊗ var 1) ((var 2 ⊗ (var 1 ⊗ var 1)) ⊖ ((var 0 ⊗ var 1) ⊗ var 3)) refl
 
   wide : pos 0 <ℤ ((n' *ℤ m) -ℤ (n *ℤ m'))
@@ -138,25 +140,25 @@ module _ (p q a b c : Screen) (n m n' m' : ℤ) (pw : p.w ≡ pos 1) (qw : q.w �
     }
 
 -- ---- the reverse of a side crosses where it does
-pub climb-reverse : (p q a b : Screen) → climb_of p q b a ≡ pos 0 -ℤ climb_of p q a b
-climb-reverse p q a b = ring (flat_values p q a b a (pos 0) (pos 0)) (climb P Q B A) (Zero ⊖ climb P Q A B) refl
+pub denominator-reverse : (p q a b : Screen) → denominator_of p q b a ≡ pos 0 -ℤ denominator_of p q a b
+denominator-reverse p q a b = ring (flat_values p q a b a (pos 0) (pos 0)) (denominator P Q B A) (Zero ⊖ denominator P Q A B) refl
 
 pub crosses_reverse : (p q a b : Screen) (n m n' m' : ℤ) → Crosses p q a b n m n' m' → Crosses p q b a n m n' m'
 crosses_reverse p q a b n m n' m' x = record {
   after = same_less _ _ _ _ (ap (λ v. n *ℤ v) squares) (ap (λ v. v *ℤ m) reaches) x.after;
   before = same_less _ _ _ _ (ap (λ v. v *ℤ m') reaches) (ap (λ v. n' *ℤ v) squares) x.before;
-  nearer = pos_at _ _ (ap (λ v. v *ℤ climb_of p q b a) depths ∙ ap (λ v. (pos 0 -ℤ depth_of p q a b) *ℤ v) (climb-reverse p q a b)
-      ∙ ring (depth_of p q a b ∷ climb_of p q a b ∷ []) ((Zero ⊖ var 0) ⊗ (Zero ⊖ var 1)) (var 0 ⊗ var 1) refl) x.nearer;
+  nearer = pos_at _ _ (ap (λ v. v *ℤ denominator_of p q b a) depths ∙ ap (λ v. (pos 0 -ℤ depth_of p q a b) *ℤ v) (denominator-reverse p q a b)
+      ∙ ring (depth_of p q a b ∷ denominator_of p q a b ∷ []) ((Zero ⊖ var 0) ⊗ (Zero ⊖ var 1)) (var 0 ⊗ var 1) refl) x.nearer;
 }
   where
     same_less : (x y x' y' : ℤ) → x ≡ x' → y ≡ y' → x <ℤ y → x' <ℤ y'
     same_less x y x' y' e h l = omega (arith, ints)
 
-    squares : climb_of p q a b *ℤ climb_of p q a b ≡ climb_of p q b a *ℤ climb_of p q b a
-    squares = ring (flat_values p q a b a (pos 0) (pos 0)) (climb P Q A B ⊗ climb P Q A B) (climb P Q B A ⊗ climb P Q B A) refl
+    squares : denominator_of p q a b *ℤ denominator_of p q a b ≡ denominator_of p q b a *ℤ denominator_of p q b a
+    squares = ring (flat_values p q a b a (pos 0) (pos 0)) (denominator P Q A B ⊗ denominator P Q A B) (denominator P Q B A ⊗ denominator P Q B A) refl
 
-    reaches : reach_of p a b *ℤ climb_of p q a b ≡ reach_of p b a *ℤ climb_of p q b a
-    reaches = ring (flat_values p q a b a (pos 0) (pos 0)) (reach P A B ⊗ climb P Q A B) (reach P B A ⊗ climb P Q B A) refl
+    reaches : numerator_of p a b *ℤ denominator_of p q a b ≡ numerator_of p b a *ℤ denominator_of p q b a
+    reaches = ring (flat_values p q a b a (pos 0) (pos 0)) (numerator P A B ⊗ denominator P Q A B) (numerator P B A ⊗ denominator P Q B A) refl
 
     depths : depth_of p q b a ≡ pos 0 -ℤ depth_of p q a b
     depths = ring (values p q a b a) (depth P Q B A) (Zero ⊖ depth P Q A B) refl

@@ -3,10 +3,10 @@ use Rattle.std.proofs.Common.{◌≡◌, refl}
 use Rattle.std.specs.Prelude.{pos, ◌≤ℤ◌, ◌<ℤ◌}
 use Rattle.hiding.proofs.ScreenLetters.{A, B, C, P, area, turn, weighed, values}
 use Rattle.hiding.proofs.ScreenSides.{pos_at}
-use Rattle.hiding.specs.Screens.{lead_of, Screen, area_of, turn_of}
+use Rattle.hiding.proofs.Screens.{lead_of, Screen, area_of, turn_of}
 use Rattle.integers.proofs.Ring.{◌⊕◌, ◌⊖◌, ◌⊗◌, con, ring, by_one}
 use Rattle.integers.proofs.Signs.{mul_pos}
-use Rattle.face_counts.specs.Shares.{Touches}
+use Rattle.face_counts.proofs.Shares.{Touches}
 
 pub touches : (a b c p : Screen) → pos 0 <ℤ p.w → pos 0 <ℤ area_of a b c
     → pos 0 ≤ℤ turn_of p b c → pos 0 ≤ℤ turn_of p c a → pos 0 ≤ℤ turn_of p a b → lead_of a b c p ≡ pos 0 → Touches a b c p

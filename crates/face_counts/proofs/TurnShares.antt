@@ -8,16 +8,17 @@ use Rattle.lattice.specs.Triple.{Triple, IsZero}
 use Rattle.geometry.specs.Parts.{Part, Edge, AreEdges, IsNumbered}
 use Rattle.geometry.specs.Sound.{IsSound}
 use Rattle.geometry.specs.Views.{face_sign, IsOutline}
-use Rattle.hiding.specs.Screens.{Screen, SideCovers}
+use Rattle.hiding.proofs.Screens.{Screen, SideCovers}
 use Rattle.hiding.proofs.Decisions.{same_or}
 use Rattle.counting.specs.Counts.{Side}
 use Rattle.counting.specs.Covers.{IsOneWhere}
-use Rattle.counting.specs.Turns.{Way, lean, PassesOver, PassesEnd, HasTurned}
+use Rattle.counting.specs.Turns.{Way, perturbed, IsNearerOver, PassesEnd, HasTurned}
 use Rattle.counting.specs.Turns.HasTurned.{over, not_over}
-use Rattle.face_counts.specs.Corners.{way, EndPasses, IsFineTurn}
-use Rattle.face_counts.specs.Meshes.{Mesh}
-use Rattle.face_counts.specs.Shares.{IsTally}
-use Rattle.face_counts.specs.Sums.{sum_below, keep, total}
+use Rattle.face_counts.proofs.CornerLaws.{way, EndPasses, IsFineTurn}
+use Rattle.face_counts.proofs.Meshes.{Mesh}
+use Rattle.face_counts.specs.inner.Tallies.{IsTally}
+use Rattle.face_counts.specs.inner.Sums.{total}
+use Rattle.face_counts.proofs.SumsBelow.{sum_below, keep}
 use Rattle.face_counts.proofs.CornerEnds.{own_first, own_second, end_or, end_seen, covers_of_over, over_of_covers}
 use Rattle.face_counts.proofs.EdgePasses.{same_or_not}
 use Rattle.face_counts.proofs.EdgeShares.{lower_true, edges_total}
@@ -38,10 +39,10 @@ module _ (d : Triple) (directed : ¬ IsZero d) (s : Part) (sound : IsSound s) (i
   mesh = mesh_of d s sound.closed
 
   abbrev X : Way
-  X = lean c (pos k) (way O q)
+  X = perturbed c (pos k) (way O q)
 
   abbrev Y : Way
-  Y = lean c' (pos k) (way O r)
+  Y = perturbed c' (pos k) (way O r)
 
   -- 1 for an end of a side that the turn passes, else 0
   abbrev pub starts : ℕ → ℤ
@@ -79,7 +80,7 @@ module _ (d : Triple) (directed : ¬ IsZero d) (s : Part) (sound : IsSound s) (i
       shared_is low = λ t. keep (lower_true h (twin_of s sound.closed h) low t) ((face_sign_seen d s o.left t -ℤ face_sign_seen d s o.right t) *ℤ (ends h -ℤ starts h))
 
       -- where the edge passes over the corner
-      module _ (p : PassesOver d e.m e.a o) where
+      module _ (p : IsNearerOver d e.m e.a o) where
         covers : SideCovers (mesh.from h) (mesh.to h) O
         covers = subst (λ w. SideCovers w (mesh.to h) O) (sym from_is) (subst (λ w. SideCovers (on d o.a) w O) (sym to_is) (covers_of_over d o e.m e.a p))
 
@@ -100,7 +101,7 @@ module _ (d : Triple) (directed : ¬ IsZero d) (s : Part) (sound : IsSound s) (i
             same_tally (subst (λ w. IsTally (EndPasses O (mesh.from h) (mesh.to h) w X Y) (pos second)) (sym to_is) (tally_of x.0 x.1 (one_tally second t))) (ends_is h)
 
       -- where it does not, no end is passed
-      quiet : ¬ PassesOver d e.m e.a o → (¬ EndPasses O (mesh.from h) (mesh.to h) (mesh.from h) X Y) × (¬ EndPasses O (mesh.from h) (mesh.to h) (mesh.to h) X Y)
+      quiet : ¬ IsNearerOver d e.m e.a o → (¬ EndPasses O (mesh.from h) (mesh.to h) (mesh.from h) X Y) × (¬ EndPasses O (mesh.from h) (mesh.to h) (mesh.to h) X Y)
       quiet n = by (same_or_not o.m e.m) (same_or_not o.n e.m)
         where
           at_corner : (m : ℕ) → m ≡ e.m → corner_seen d s m ≡ O
@@ -113,7 +114,7 @@ module _ (d : Triple) (directed : ¬ IsZero d) (s : Part) (sound : IsSound s) (i
               let none = λ (v : SideCovers (mesh.from h) (mesh.to h) O). n (over_of_covers d o e.m e.a f g (subst (λ w. SideCovers (on d o.a) w O) to_is (subst (λ w. SideCovers w (mesh.to h) O) from_is v))) in
               (λ v. none v.0, λ v. none v.0)
 
-      none_passed : h < twin_of s sound.closed h → ¬ PassesOver d e.m e.a o → share h ≡ pos 0
+      none_passed : h < twin_of s sound.closed h → ¬ IsNearerOver d e.m e.a o → share h ≡ pos 0
       none_passed low n =
           let x = quiet n in
           shared_is low ∙ (λ t. (face_sign d o.left -ℤ face_sign d o.right) *ℤ (none_tally x.1 (ends_is h) t -ℤ none_tally x.0 (starts_is h) t)) ∙ nothing (face_sign d o.left -ℤ face_sign d o.right)
@@ -133,7 +134,7 @@ module _ (d : Triple) (directed : ¬ IsZero d) (s : Part) (sound : IsSound s) (i
           none p q y e = ap (λ v. (v -ℤ q) *ℤ y) e ∙ ring (q ∷ y ∷ []) ((var 0 ⊖ var 0) ⊗ var 1) (con (pos 0)) refl
 
       -- nor does one that is no outline or does not pass over the corner
-      none_turned : h < twin_of s sound.closed h → ¬ (IsOutline d o × PassesOver d e.m e.a o) → share h ≡ pos 0
+      none_turned : h < twin_of s sound.closed h → ¬ (IsOutline d o × IsNearerOver d e.m e.a o) → share h ≡ pos 0
       none_turned low n = elim (same_or (face_sign d o.left) (face_sign d o.right)) [ inl same ↦ no_outline low same | inr outline ↦ none_passed low (λ p. n (outline, p)) ]
 
     not_lower : (h : ℕ) → nat_lt h (twin_of s sound.closed h) ≡ false → share h ≡ pos 0
@@ -141,10 +142,10 @@ module _ (d : Triple) (directed : ¬ IsZero d) (s : Part) (sound : IsSound s) (i
 
     -- a list of edges that has each outline which passes over the corner
     pub shared_total : (halves : List ℕ) → AreEdges s halves → (numbers : List ℕ) → All (λ i. i < length halves) numbers → AllPairs ◌≢◌ numbers
-        → ((i : ℕ) (o : Edge s) → IsNumbered halves i o → IsOutline d o → PassesOver d e.m e.a o → Contains numbers i)
+        → ((i : ℕ) (o : Edge s) → IsNumbered halves i o → IsOutline d o → IsNearerOver d e.m e.a o → Contains numbers i)
         → {A : Type 0} (value : A → ℤ) (changes : List A)
         → AllZip (λ i x. (o : Edge s) → IsNumbered halves i o → HasTurned d e.m e.a c (way O q) c' (way O r) o (value x)) numbers changes → sum_below share (count s) ≡ total value changes
     shared_total halves edges numbers listed once whole value changes all =
-        edges_total d directed s sound in_range share not_lower (λ o. IsOutline d o × PassesOver d e.m e.a o) none_turned
+        edges_total d directed s sound in_range share not_lower (λ o. IsOutline d o × IsNearerOver d e.m e.a o) none_turned
         (λ o z. HasTurned d e.m e.a c (way O q) c' (way O r) o z) (λ h l z low x. has_turned h l low x) halves edges numbers listed once
         (λ i o at x. whole i o at x.0 x.1) value changes all

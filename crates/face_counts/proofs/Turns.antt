@@ -2,9 +2,10 @@
 use Rattle.std.proofs.Common.{◌≡◌, ◌⊎◌, true, inl, inr, [], ◌∷◌, refl, sym, ap, ◌∙◌}
 use Rattle.std.specs.Prelude.{ℤ, pos, ◌+ℤ◌, ◌-ℤ◌, ◌*ℤ◌}
 use Rattle.integers.proofs.Ring.{Expr, var, con, ◌⊕◌, ◌⊖◌, ◌⊗◌, ring}
-use Rattle.face_counts.specs.Shares.{IsTally, yes, no}
+use Rattle.face_counts.specs.inner.Tallies.{IsTally}
+use Rattle.face_counts.specs.inner.Tallies.{yes, no}
 use Rattle.counting.specs.Turns.{Way, turn_from, Passes}
-use Rattle.face_counts.specs.Turns.{TurnLaw}
+use Rattle.face_counts.proofs.TurnLaw.{TurnLaw}
 use Rattle.face_counts.proofs.SignTable.{Sign, minus, none, plus, sign_of, negated, times, balanced, two, count, table, sign_neg, sign_mul, sign_sum, sign_some, plus_of, of_plus}
 
 no_two : (x y w : Sign) → ¬ ((x ≡ plus) × (y ≡ plus)) → ¬ ((y ≡ plus) × (w ≡ plus)) → ¬ ((w ≡ plus) × (x ≡ plus)) → pos 0 ≡ count (two x y w)

@@ -2,13 +2,14 @@
 use Rattle.std.proofs.Common.{◌≡◌, ℕ, ◌+◌, ◌*◌, ◌<◌, nat_lt, inl, inr, [], ◌∷◌, refl, sym, ap, ◌∙◌, subst, arith}
 use Rattle.std.specs.Prelude.{ℤ, pos, ◌+ℤ◌, ◌-ℤ◌, ◌*ℤ◌, ◌<ℤ◌}
 use Rattle.std.proofs.lemmas.Int.{ints}
-use Rattle.hiding.specs.Screens.{Screen, area_of}
+use Rattle.hiding.proofs.Screens.{Screen, area_of}
 use Rattle.integers.proofs.Ring.{var, con, ◌⊕◌, ◌⊖◌, ◌⊗◌, ring}
 use Rattle.counting.specs.Counts.{Side}
 use Rattle.counting.specs.Shares.{mark}
-use Rattle.face_counts.specs.Shares.{IsTally, Crosses, change_of, IsClear, IsSign, edge_on, front, back, Adds, Passes}
-use Rattle.face_counts.specs.Sums.{keep}
-use Rattle.face_counts.specs.Laws.{TwinsLaw, AllFacesLaw}
+use Rattle.face_counts.specs.inner.Tallies.{IsTally}
+use Rattle.face_counts.proofs.Shares.{Crosses, change_of, IsClear, IsSign, edge_on, front, back, Adds, Passes}
+use Rattle.face_counts.proofs.SumsBelow.{keep}
+use Rattle.face_counts.proofs.Laws.{TwinsLaw, AllFacesLaw}
 use Rattle.face_counts.proofs.Come.{IsInner}
 use Rattle.face_counts.proofs.Sides.{tally_of, same_tally}
 use Rattle.face_counts.proofs.OneFace.{one_face, none_tally, reverse_tally}

@@ -13,11 +13,11 @@ use Rattle.geometry.specs.Faces.{IsFlat, face_sum, edge_sum, share_point}
 use Rattle.geometry.specs.Parts.{Part, Face, Edge, IsClosed, start_of, end_of}
 use Rattle.geometry.specs.Sound.{MeetsFace, IsSound}
 use Rattle.geometry.proofs.Listed.{same_element}
-use Rattle.hiding.specs.Values.{value_at}
-use Rattle.hiding.specs.Screens.{Screen}
+use Rattle.hiding.specs.inner.Values.{value_at}
+use Rattle.hiding.proofs.Screens.{Screen}
 use Rattle.hiding.proofs.OnScreens.{seen, dot_sum}
 use Rattle.hiding.proofs.Readings.{dot-share}
-use Rattle.face_counts.specs.Shares.{IsUnpierced}
+use Rattle.face_counts.proofs.Shares.{IsUnpierced}
 
 -- ---- a triangle with two corners at one place is flat
 pub record IsAt (a b : Corner) : Type 0 where

@@ -1,9 +1,9 @@
 -- Where both faces of an edge are edge-on, one of them reaches higher over each of its inner spots.
 use Rattle.std.proofs.Common.{◌≡◌, inl, inr, List, [], ◌∷◌, refl}
 use Rattle.std.specs.Prelude.{ℤ, pos, negsuc, ◌+ℤ◌, ◌-ℤ◌, ◌*ℤ◌, ◌<ℤ◌}
-use Rattle.hiding.specs.Screens.{Screen, area_of, length_of}
+use Rattle.hiding.proofs.Screens.{Screen, area_of, length_of}
 use Rattle.integers.proofs.Ring.{Expr, var, con, ◌⊕◌, ◌⊖◌, ◌⊗◌, ring, by_one}
-use Rattle.face_counts.specs.Uprights.{Stands, foot_of, rise_of, UpperLaw}
+use Rattle.face_counts.proofs.Uprights.{Stands, foot_of, rise_of, UpperLaw}
 use Rattle.face_counts.proofs.Signs.{up, sign_cases}
 use Rattle.face_counts.proofs.Upright.{no_fold, higher_side}
 

@@ -2,14 +2,14 @@
 use Rattle.std.proofs.Common.{◌≡◌, inl, inr, [], ◌∷◌, refl, sym, ap, subst, ◌∙◌, arith}
 use Rattle.std.specs.Prelude.{ℤ, pos, ◌+ℤ◌, ◌-ℤ◌, ◌*ℤ◌, ◌≤ℤ◌, ◌<ℤ◌}
 use Rattle.std.proofs.lemmas.Int.{ints, by_lt_z}
-use Rattle.face_counts.specs.Places.{place_of}
+use Rattle.face_counts.proofs.Places.{place_of}
 use Rattle.hiding.proofs.ScreenSides.{pos_at, nonneg_at}
-use Rattle.hiding.specs.Screens.{Screen, SideCovers}
-use Rattle.hiding.specs.Values.{value_at}
+use Rattle.hiding.proofs.Screens.{Screen, SideCovers}
+use Rattle.hiding.specs.inner.Values.{value_at}
 use Rattle.integers.proofs.Ring.{Expr, var, con, ◌⊕◌, ◌⊖◌, ◌⊗◌, ring, by_one, less_by, mul_comm}
 use Rattle.integers.proofs.Signs.{mul_pos}
-use Rattle.face_counts.specs.Shares.{Touches}
-use Rattle.face_counts.specs.Uprights.{Stands, weighed, NoFoldLaw, HigherSideLaw}
+use Rattle.face_counts.proofs.Shares.{Touches}
+use Rattle.face_counts.proofs.Uprights.{Stands, weighed, NoFoldLaw, HigherSideLaw}
 use Rattle.face_counts.proofs.Signs.{weak, sum_pos, sum_nonneg}
 
 -- ---- no fold

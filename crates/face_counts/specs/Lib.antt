@@ -1,9 +1,1 @@
-pub mod Places
-pub mod Shares
-pub mod Sums
-pub mod Meshes
-pub mod Turns
-pub mod Uprights
-pub mod Corners
-pub mod Laws
-pub mod CornerTests
+pub mod inner

@@ -11,9 +11,9 @@ use Rattle.lattice.specs.Cuts.{Plane, toward_of, plane_height, IsBeyond}
 use Rattle.lattice.proofs.Vectors.{letters, dots, dot_somewhere}
 use Rattle.lattice.proofs.SightLines.{right_axis-is}
 use Rattle.geometry.specs.Faces.{face_sum, edge_sum, facing_of, IsFlat, IsPointOfFace, IsPointOfEdge}
-use Rattle.hiding.specs.Values.{WideSideHides}
-use Rattle.hiding.specs.CutValues.{below_of, HidesInCut, SideReaches, WideSideReaches}
-use Rattle.hiding.specs.Screens.{Screen, Covers, SideCovers}
+use Rattle.hiding.specs.inner.Values.{WideSideHides}
+use Rattle.hiding.specs.inner.CutValues.{below_of, HidesInCut, SideReaches, WideSideReaches}
+use Rattle.hiding.proofs.Screens.{Screen, Covers, SideCovers}
 use Rattle.hiding.proofs.ScreenScale.{area_scale}
 use Rattle.hiding.proofs.EdgeOn.{edge_on}
 use Rattle.hiding.proofs.OnScreens.{seen, unpack, dot_sum, dot_edge_sum}

@@ -14,8 +14,8 @@ use Rattle.geometry.specs.Faces.{normal, facing_of, face_sum, share_point, FaceH
 use Rattle.geometry.specs.Parts.{Part, Face, Edge}
 use Rattle.geometry.specs.Cuts.{edge, border, IsSeenOverInCut, IsOrdinaryInCut}
 use Rattle.geometry.proofs.BorderSteps.{along_normal}
-use Rattle.hiding.specs.Values.{value_at, side_of, depth_of, IsBehind, AreCornersOf}
-use Rattle.hiding.specs.CutValues.{below_of, under_of, HidesInCut}
+use Rattle.hiding.specs.inner.Values.{value_at, side_of, depth_of, IsBehind, AreCornersOf}
+use Rattle.hiding.specs.inner.CutValues.{below_of, under_of, HidesInCut}
 use Rattle.hiding.proofs.Names.{corner_letters, ways, offsets, normals}
 use Rattle.hiding.proofs.Values.{depth-share}
 use Rattle.hiding.proofs.Weights.{natural, sides-sum, weigh_x, weigh_y, weigh_z}

@@ -16,8 +16,8 @@ use Rattle.geometry.specs.Parts.{Part}
 use Rattle.geometry.specs.Views.{IsOrdinary}
 use Rattle.geometry.specs.Cuts.{edge, IsOrdinaryInCut}
 use Rattle.geometry.proofs.Borders.{edge_rise}
-use Rattle.hiding.specs.Values.{value_at}
-use Rattle.hiding.specs.CutValues.{below_of}
+use Rattle.hiding.specs.inner.Values.{value_at}
+use Rattle.hiding.specs.inner.CutValues.{below_of}
 
 -- ---- the direction is one unit long
 unit_square : (axis : Axis) (from_high : Bool) → dot (side_of axis from_high) (side_of axis from_high) ≡ pos 1

@@ -12,8 +12,8 @@ use Rattle.lattice.specs.Cuts.{Plane, toward_of, IsBeyond}
 use Rattle.geometry.specs.Faces.{share_point, edge_sum, IsPointOfEdge}
 use Rattle.geometry.specs.Parts.{Part, Face, Edge, IsClosed}
 use Rattle.geometry.specs.Cuts.{IsOrdinaryInCut}
-use Rattle.hiding.specs.Values.{IsSideOf, IsAhead, IsInLine, value_at, past_of, short_of}
-use Rattle.hiding.specs.CutValues.{below_of, reach_of, SideReaches, IsOverReach}
+use Rattle.hiding.specs.inner.Values.{IsSideOf, IsAhead, IsInLine, value_at, past_of, short_of}
+use Rattle.hiding.specs.inner.CutValues.{below_of, reach_of, SideReaches, IsOverReach}
 use Rattle.hiding.proofs.Values.{past-share, short-share}
 use Rattle.hiding.proofs.Ordinary.{side-edge}
 use Rattle.hiding.proofs.Readings.{dot-offset, dot-difference, short-is}

@@ -7,7 +7,7 @@ use Rattle.integers.proofs.Signs.{mul_nonneg, mul_pos}
 use Rattle.hiding.proofs.Decisions.{same_or}
 use Rattle.hiding.proofs.ScreenLetters.{A, B, C, P, I, J, K, area, weighed, values, X, Y, Z, values_falling}
 use Rattle.hiding.proofs.ScreenSides.{pos_at, nonneg_at}
-use Rattle.hiding.specs.Screens.{Screen, area_of, Covers, SideCovers, AreApart, SomeSideCovers}
+use Rattle.hiding.proofs.Screens.{Screen, area_of, Covers, SideCovers, AreApart, SomeSideCovers}
 
 -- ---- which weight to use up: one that falls, and that is used up before the others
 abbrev CanDrop : (x y z i j k : ℤ) → Type 0

@@ -9,7 +9,7 @@ use Rattle.lattice.specs.Points.{difference, point_of, scaled}
 use Rattle.lattice.proofs.Vectors.{Letters, letters, dots, crosses}
 use Rattle.lattice.proofs.SightLines.{alike, right_axis-is}
 use Rattle.geometry.specs.Faces.{IsFlat, facing_of}
-use Rattle.hiding.specs.Screens.{Screen}
+use Rattle.hiding.proofs.Screens.{Screen}
 use Rattle.hiding.proofs.OnScreens.{seen}
 
 -- two vectors along d are along each other

@@ -16,7 +16,7 @@ use Rattle.geometry.specs.Parts.{Part, Face, Edge, IsHalf, start_of, end_of}
 use Rattle.geometry.specs.Views.{IsOrdinary}
 use Rattle.geometry.specs.Sound.{IsSound}
 use Rattle.geometry.proofs.Listed.{same_element}
-use Rattle.hiding.specs.Values.{side_of, depth_of, AreCornersOf, IsSideOf}
+use Rattle.hiding.specs.inner.Values.{side_of, depth_of, AreCornersOf, IsSideOf}
 use Rattle.hiding.proofs.Ordinary.{not-at-corner, not-at-crossing, not-at-meeting}
 use Rattle.hiding.proofs.Weights.{natural, facing-round, depth-at_a, depth-at_b, depth-at_c, parallel-side, side-total, side-sight, meeting-point, scaled-sight}
 

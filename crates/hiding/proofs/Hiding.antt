@@ -14,8 +14,8 @@ use Rattle.lattice.proofs.SightLines.{right_axis-is}
 use Rattle.geometry.specs.Faces.{normal, face_sum, edge_sum, IsPointOfEdge, IsPointOfFace, FaceHides, IsFlat, facing_of}
 use Rattle.geometry.specs.Parts.{Part, Face, HasNoFlatTriangle}
 use Rattle.geometry.specs.Views.{IsHidden}
-use Rattle.hiding.specs.Values.{side_of, depth_of, IsBehind, SideHides, WideSideHides}
-use Rattle.hiding.specs.Screens.{Screen, area_of, turn_of, AreApart, length_of, along_of, rest_of, side_lead_of}
+use Rattle.hiding.specs.inner.Values.{side_of, depth_of, IsBehind, SideHides, WideSideHides}
+use Rattle.hiding.proofs.Screens.{Screen, area_of, turn_of, AreApart, length_of, along_of, rest_of, side_lead_of}
 use Rattle.geometry.proofs.Listed.{same_element}
 use Rattle.hiding.proofs.Decisions.{same_or, less_or, at_most_or, four_or, either_or, alike_or, element_or, below_next}
 use Rattle.hiding.proofs.Values.{facing-turned}

@@ -19,3 +19,4 @@ pub mod CutPlanes
 pub mod CutFronts
 pub mod CutEdgeOn
 pub mod CutSides
+pub mod Screens

@@ -8,8 +8,8 @@ use Rattle.lattice.specs.Triple.{Triple, dot, right_axis, up_axis}
 use Rattle.lattice.specs.Points.{Point, point_of, scaled, across_of, upward_of, height_of, OnOneSight, IsNearer}
 use Rattle.lattice.proofs.Vectors.{letters, dots}
 use Rattle.geometry.specs.Faces.{face_sum, edge_sum, FaceHides}
-use Rattle.hiding.specs.Values.{SideHides}
-use Rattle.hiding.specs.Screens.{Screen, screen_of, Covers, SideCovers}
+use Rattle.hiding.specs.inner.Values.{SideHides}
+use Rattle.hiding.proofs.Screens.{Screen, screen_of, Covers, SideCovers}
 
 -- the point as it is seen along d
 abbrev pub seen : Triple → Point → Screen

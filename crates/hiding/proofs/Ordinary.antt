@@ -14,7 +14,7 @@ use Rattle.geometry.specs.Views.{IsOrdinary, IsSeenOver}
 use Rattle.geometry.specs.Sound.{MeetsFace, MeetInSharedCorners}
 use Rattle.geometry.proofs.Listed.{face_at}
 use Rattle.geometry.proofs.Sights.{sight_on}
-use Rattle.hiding.specs.Values.{IsSideOf}
+use Rattle.hiding.specs.inner.Values.{IsSideOf}
 
 -- two corners of a face are the ends of an edge of a closed part, in either order
 pub record SideEdge (s : Part) (k l : Corner) : Type 0 where

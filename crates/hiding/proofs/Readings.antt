@@ -9,7 +9,7 @@ use Rattle.lattice.specs.Triple.{Triple, dot, cross, det}
 use Rattle.lattice.specs.Points.{Point, point_of, of_corner, scaled, difference}
 use Rattle.lattice.proofs.Vectors.{Letters, letters, dots, crosses}
 use Rattle.geometry.specs.Faces.{edge_sum, share_point}
-use Rattle.hiding.specs.Values.{offset, value_at, short_of, behind_of}
+use Rattle.hiding.specs.inner.Values.{offset, value_at, short_of, behind_of}
 
 -- ---- along any vector
 abbrev T : Letters

@@ -5,7 +5,7 @@ use Rattle.std.proofs.lemmas.Int.{ints}
 use Rattle.integers.proofs.Ring.{Expr, ◌⊕◌, ◌⊖◌, ◌⊗◌, ring, by_two, by_three, less_by, gap_of_less}
 use Rattle.integers.proofs.Signs.{mul_nonneg, mul_pos, nonneg_of_mul, pos_of_mul}
 use Rattle.hiding.proofs.ScreenLetters.{A, B, C, P, I, J, K, area, turn, weighed, values}
-use Rattle.hiding.specs.Screens.{Screen, area_of, turn_of, lead_of, Covers}
+use Rattle.hiding.proofs.Screens.{Screen, area_of, turn_of, lead_of, Covers}
 
 module _ (a b c p : Screen) where
   abbrev none : List ℤ

@@ -2,7 +2,7 @@
 use Rattle.std.proofs.Common.{List, [], ◌∷◌}
 use Rattle.std.specs.Prelude.{ℤ, pos}
 use Rattle.integers.proofs.Ring.{Expr, var, con, ◌⊕◌, ◌⊖◌, ◌⊗◌}
-use Rattle.hiding.specs.Screens.{Screen}
+use Rattle.hiding.proofs.Screens.{Screen}
 
 pub record ScreenPoint : Type 0 where
   pub u : Expr

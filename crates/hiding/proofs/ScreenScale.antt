@@ -7,8 +7,8 @@ use Rattle.lattice.specs.Triple.{Triple, dot, cross}
 use Rattle.lattice.specs.Points.{Point, difference, point_of, height_of}
 use Rattle.lattice.proofs.Vectors.{Letters, letters, dots, crosses}
 use Rattle.geometry.specs.Faces.{normal, facing_of}
-use Rattle.hiding.specs.Values.{offset, side_of, depth_of}
-use Rattle.hiding.specs.Screens.{Screen, screen_of, area_of, turn_of, lead_of}
+use Rattle.hiding.specs.inner.Values.{offset, side_of, depth_of}
+use Rattle.hiding.proofs.Screens.{Screen, screen_of, area_of, turn_of, lead_of}
 use Rattle.hiding.proofs.Names.{PointLetters, point_letters, corner_letters, ways, offsets, normals}
 use Rattle.hiding.proofs.ScreenLetters.{ScreenPoint, area, turn}
 

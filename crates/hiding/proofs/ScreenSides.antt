@@ -5,7 +5,7 @@ use Rattle.std.proofs.lemmas.Int.{ints}
 use Rattle.integers.proofs.Ring.{Expr, var, con, ◌⊕◌, ◌⊖◌, ◌⊗◌, ring, by_one, by_two, less_by, gap_of_less}
 use Rattle.integers.proofs.Signs.{mul_nonneg, mul_pos, nonneg_of_mul, pos_of_mul, zero_of_mul, square_nonneg, square_zero}
 use Rattle.hiding.proofs.ScreenLetters.{A, B, P, I, J, turn, values}
-use Rattle.hiding.specs.Screens.{Screen, turn_of, along_of, length_of, rest_of, side_lead_of, SideCovers}
+use Rattle.hiding.proofs.Screens.{Screen, turn_of, along_of, length_of, rest_of, side_lead_of, SideCovers}
 
 abbrev E : Expr
 E = B.u ⊖ A.u

@@ -14,7 +14,7 @@ use Rattle.geometry.specs.Faces.{share_point, edge_sum, IsPointOfEdge}
 use Rattle.geometry.specs.Parts.{Part, Face, Edge}
 use Rattle.geometry.specs.Views.{IsOrdinary, IsSeenOver}
 use Rattle.geometry.specs.Sound.{IsSound}
-use Rattle.hiding.specs.Values.{SideHides, IsSideOf, IsAhead, IsInLine, IsBehindSide, offset, side_of, value_at, past_of, short_of, behind_of}
+use Rattle.hiding.specs.inner.Values.{SideHides, IsSideOf, IsAhead, IsInLine, IsBehindSide, offset, side_of, value_at, past_of, short_of, behind_of}
 use Rattle.hiding.proofs.Values.{behind-share}
 use Rattle.hiding.proofs.Ordinary.{not-at-corner, not-at-crossing, not-at-meeting}
 use Rattle.hiding.proofs.FrontEnds.{not-at-start, not-at-finish}

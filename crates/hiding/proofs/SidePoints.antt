@@ -12,7 +12,7 @@ use Rattle.lattice.specs.Points.{Point, AreOnePoint}
 use Rattle.geometry.specs.Faces.{edge_sum, face_sum, share_point, IsPointOfEdge, IsPointOfFace}
 use Rattle.geometry.specs.Parts.{Part, Face, Edge, IsHalf, start_of, end_of}
 use Rattle.geometry.proofs.Shares.{edge_turned}
-use Rattle.hiding.specs.Values.{IsSideOf}
+use Rattle.hiding.specs.inner.Values.{IsSideOf}
 
 -- ---- weights
 pub natural : (z : ℤ) → pos 0 ≤ℤ z → (n : ℕ) × (pos n ≡ z)

@@ -7,7 +7,7 @@ use Rattle.lattice.specs.Triple.{Triple}
 use Rattle.lattice.specs.Points.{point_of, difference}
 use Rattle.lattice.proofs.Vectors.{Letters, letters, dots, crosses}
 use Rattle.geometry.specs.Faces.{share_point, facing_of}
-use Rattle.hiding.specs.Values.{offset, value_at, side_of, depth_of, past_of, short_of, behind_of}
+use Rattle.hiding.specs.inner.Values.{offset, value_at, side_of, depth_of, past_of, short_of, behind_of}
 use Rattle.hiding.proofs.Names.{PointLetters, corner_letters, ways, offsets, normals}
 
 pub offset-corner : (a p : Corner) → offset a (point_of p) ≡ difference a p

@@ -9,7 +9,7 @@ use Rattle.lattice.specs.Points.{Point, point_of, difference, OnOneSight}
 use Rattle.lattice.proofs.Vectors.{Letters, letters, dots, crosses}
 use Rattle.lattice.proofs.SightLines.{sight_of_along}
 use Rattle.geometry.specs.Faces.{facing_of, face_sum, edge_sum}
-use Rattle.hiding.specs.Values.{side_of, depth_of}
+use Rattle.hiding.specs.inner.Values.{side_of, depth_of}
 use Rattle.hiding.proofs.Names.{PointLetters, point_letters, corner_letters, ways, offsets, normals}
 
 -- a whole number of at least 0

@@ -1,3 +1,1 @@
-pub mod Values
-pub mod CutValues
-pub mod Screens
+pub mod inner

@@ -7,18 +7,19 @@ use Rattle.std.proofs.lemmas.List.Elements.{length_all_zip, AllZip-get_or}
 use Rattle.std.proofs.lemmas.Option.{slice_get-get_or}
 use Rattle.geometry.specs.Parts.{Face, Edge, IsNumbered}
 use Rattle.counting.specs.Counts.{Side, to_left, to_right}
-use Rattle.counting.specs.Covers.{IsCountedNext, IsOneWhere, AreCoversOf, AreCountedNext}
+use Rattle.counting.specs.inner.CountsNext.{AreCoversOf, AreCountedNext}
+use Rattle.counting.specs.Covers.{IsCountedNext, IsOneWhere}
 use Rattle.counting.specs.Turns.{number_at, corner_at}
 use Rattle.solid_mesh.specs.Solids.{AreTrianglesAt}
-use Rattle.face_counts.specs.Sums.{total}
+use Rattle.face_counts.specs.inner.Sums.{total}
 use Rattle.face_counts.proofs.MeshCounts.{face_of}
 use Rattle.face_counts.proofs.CountTurned.{count_turned}
 use Rattle.face_counts.proofs.NextCounts.{counted_next}
 use Rattle.cross_find.specs.declared.meter.End.{End}
 use Rattle.cross_find.specs.Sights.{SightState, IsSeen}
 use Rattle.span_count.specs.declared.step.Sides.{Sides}
-use Rattle.span_count.specs.Rests.{IsSmall, AreSmall, IsCountNext, AreCountsNext, AreOwn, IsOwnCount, AreOwnCounts, IsRest, AreRests, IsTurnOver, AreTurnsOver}
-use Rattle.span_count.specs.Steps.{IsSeenEdge, AreListedOver}
+use Rattle.span_count.specs.inner.Rests.{IsSmall, AreSmall, IsCountNext, AreCountsNext, AreOwn, IsOwnCount, AreOwnCounts, IsRest, AreRests, IsTurnOver, AreTurnsOver}
+use Rattle.span_count.specs.inner.Steps.{IsSeenEdge, AreListedOver}
 use Rattle.span_count.proofs.Stars.{one_star, star_within, star_few, edge_at}
 
 -- ---- sizes

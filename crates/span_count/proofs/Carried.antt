@@ -19,9 +19,9 @@ use Rattle.geometry.proofs.SamePlaces.{same, same_back, same_trans, same_between
 use Rattle.cross_find.specs.declared.meter.Crossing.{Crossing}
 use Rattle.span_count.specs.declared.span.CountSpan.{CountSpan}
 use Rattle.span_count.specs.CountSpans.{Follow}
-use Rattle.face_counts.specs.Sums.{total}
-use Rattle.span_count.specs.Rests.{IsSmall}
-use Rattle.span_count.specs.Steps.{change_before, IsCountOf, IsCarried, IsCrossingEnd, AreCarried, IsSpanAdded}
+use Rattle.face_counts.specs.inner.Sums.{total}
+use Rattle.span_count.specs.inner.Rests.{IsSmall}
+use Rattle.span_count.specs.inner.Steps.{change_before, IsCountOf, IsCarried, IsCrossingEnd, AreCarried, IsSpanAdded}
 use Rattle.std.specs.Ordering.{int_cmp, MatchOrdering}
 use Rattle.std.specs.declared.cmp.Ordering.{Ordering}
 use Rattle.std.specs.declared.cmp.Ordering.TheVariants.{Less, Equal, Greater}

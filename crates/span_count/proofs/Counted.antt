@@ -15,11 +15,12 @@ use Rattle.geometry.proofs.PlaceOrder.{clash, between_inner, between_last}
 use Rattle.hiding.proofs.Decisions.{same_or, less_or}
 use Rattle.hiding.proofs.FrontEnds.{not-at-start, not-at-finish}
 use Rattle.counting.specs.Counts.{Side, to_left, to_right, AreCounted}
-use Rattle.counting.specs.Shares.{change_of, climb_of, reach_of, rise_of, PassesNearer, IsCrossedBefore, HasChanged, HasChangedAlong}
-use Rattle.counting.specs.Shares.HasChanged.{passed, not_passed}
-use Rattle.counting.specs.Shares.HasChangedAlong.{along}
-use Rattle.counting.specs.Covers.{AreCovers, AreCountedNext}
-use Rattle.face_counts.specs.Sums.{total}
+use Rattle.face_counts.proofs.Changed.{IsCrossedBefore, HasChanged, HasChangedAlong}
+use Rattle.counting.specs.Shares.{change_of, denominator_of, numerator_of, height_numerator_of, PassesNearer}
+use Rattle.face_counts.proofs.Changed.HasChanged.{passed, not_passed}
+use Rattle.face_counts.proofs.Changed.HasChangedAlong.{along}
+use Rattle.counting.specs.inner.CountsNext.{AreCovers, AreCountedNext}
+use Rattle.face_counts.specs.inner.Sums.{total}
 use Rattle.face_counts.proofs.CountAlong.{count_listed}
 use Rattle.face_counts.proofs.Decided.{counts}
 use Rattle.face_counts.proofs.HiddenCounted.{hidden_counted}
@@ -29,8 +30,8 @@ use Rattle.face_counts.proofs.CrossingPlaces.{crossing_not_ordinary}
 use Rattle.cross_find.specs.declared.meter.Crossing.{Crossing}
 use Rattle.cross_find.specs.Sights.{SightState, IsSeen}
 use Rattle.cross_find.specs.Crossings.{IsCrossing, IsAcross}
-use Rattle.span_count.specs.Rests.{IsCountNext, AreCountsNext}
-use Rattle.span_count.specs.Steps.{IsSeenEdge, AreListed, IsOutlineAt, IsAnswer, AreCrossings, change_before, IsCarried, IsCrossingEnd, AreCarried}
+use Rattle.span_count.specs.inner.Rests.{IsCountNext, AreCountsNext}
+use Rattle.span_count.specs.inner.Steps.{IsSeenEdge, AreListed, IsOutlineAt, IsAnswer, AreCrossings, change_before, IsCarried, IsCrossingEnd, AreCarried}
 use Rattle.span_count.specs.declared.step.Sides.{Sides}
 use Rattle.span_count.specs.declared.span.CountSpan.{CountSpan}
 use Rattle.span_count.specs.CountSpans.{IsRight, AreCountSpans}
@@ -40,35 +41,35 @@ use Rattle.span_count.proofs.Sums.{of_option, total_permuted, total_of_options}
 use Rattle.span_count.proofs.Carried.{changed, unchanged}
 
 -- ---- a crossing is before n / m exactly where its place, as it is kept, is
-module _ (reach climb num den n m : ℤ) (up : pos 0 <ℤ den) (some : pos 0 <ℤ (climb *ℤ climb)) (same : num *ℤ climb ≡ reach *ℤ den) where
+module _ (numerator denominator num den n m : ℤ) (up : pos 0 <ℤ den) (some : pos 0 <ℤ (denominator *ℤ denominator)) (same : num *ℤ denominator ≡ numerator *ℤ den) where
   gap : (x y : ℤ) → x <ℤ y → pos 0 <ℤ (y -ℤ x)
   gap x y h = omega (arith, ints)
 
   by_gap : (x y : ℤ) → pos 0 <ℤ (y -ℤ x) → x <ℤ y
   by_gap x y h = omega (arith, ints)
 
-  products : den *ℤ ((n *ℤ (climb *ℤ climb)) -ℤ ((reach *ℤ climb) *ℤ m)) ≡ (climb *ℤ climb) *ℤ ((n *ℤ den) -ℤ (num *ℤ m))
+  products : den *ℤ ((n *ℤ (denominator *ℤ denominator)) -ℤ ((numerator *ℤ denominator) *ℤ m)) ≡ (denominator *ℤ denominator) *ℤ ((n *ℤ den) -ℤ (num *ℤ m))
   products =
-      ring (reach ∷ climb ∷ den ∷ n ∷ m ∷ [])
+      ring (numerator ∷ denominator ∷ den ∷ n ∷ m ∷ [])
       (var 2 ⊗ ((var 3 ⊗ (var 1 ⊗ var 1)) ⊖ ((var 0 ⊗ var 1) ⊗ var 4)))
       (((var 1 ⊗ var 1) ⊗ (var 3 ⊗ var 2)) ⊖ ((var 0 ⊗ var 2) ⊗ (var 1 ⊗ var 4))) refl
-      ∙ ap (λ z. ((climb *ℤ climb) *ℤ (n *ℤ den)) -ℤ (z *ℤ (climb *ℤ m))) (sym same)
-      ∙ ring (num ∷ climb ∷ den ∷ n ∷ m ∷ [])
+      ∙ ap (λ z. ((denominator *ℤ denominator) *ℤ (n *ℤ den)) -ℤ (z *ℤ (denominator *ℤ m))) (sym same)
+      ∙ ring (num ∷ denominator ∷ den ∷ n ∷ m ∷ [])
       (((var 1 ⊗ var 1) ⊗ (var 3 ⊗ var 2)) ⊖ ((var 0 ⊗ var 1) ⊗ (var 1 ⊗ var 4)))
       ((var 1 ⊗ var 1) ⊗ ((var 3 ⊗ var 2) ⊖ (var 0 ⊗ var 4))) refl
 
-  before_place : (num *ℤ m) <ℤ (n *ℤ den) → ((reach *ℤ climb) *ℤ m) <ℤ (n *ℤ (climb *ℤ climb))
-  before_place h = by_gap ((reach *ℤ climb) *ℤ m) (n *ℤ (climb *ℤ climb)) (pos_of_mul den _ up
-      (subst (λ z. pos 0 <ℤ z) (sym products) (mul_pos (climb *ℤ climb) ((n *ℤ den) -ℤ (num *ℤ m)) some (gap (num *ℤ m) (n *ℤ den) h))))
+  before_place : (num *ℤ m) <ℤ (n *ℤ den) → ((numerator *ℤ denominator) *ℤ m) <ℤ (n *ℤ (denominator *ℤ denominator))
+  before_place h = by_gap ((numerator *ℤ denominator) *ℤ m) (n *ℤ (denominator *ℤ denominator)) (pos_of_mul den _ up
+      (subst (λ z. pos 0 <ℤ z) (sym products) (mul_pos (denominator *ℤ denominator) ((n *ℤ den) -ℤ (num *ℤ m)) some (gap (num *ℤ m) (n *ℤ den) h))))
 
-  place_before : ((reach *ℤ climb) *ℤ m) <ℤ (n *ℤ (climb *ℤ climb)) → (num *ℤ m) <ℤ (n *ℤ den)
-  place_before h = by_gap (num *ℤ m) (n *ℤ den) (pos_of_mul (climb *ℤ climb) _ some
-      (subst (λ z. pos 0 <ℤ z) products (mul_pos den ((n *ℤ (climb *ℤ climb)) -ℤ ((reach *ℤ climb) *ℤ m)) up (gap ((reach *ℤ climb) *ℤ m) (n *ℤ (climb *ℤ climb)) h))))
+  place_before : ((numerator *ℤ denominator) *ℤ m) <ℤ (n *ℤ (denominator *ℤ denominator)) → (num *ℤ m) <ℤ (n *ℤ den)
+  place_before h = by_gap (num *ℤ m) (n *ℤ den) (pos_of_mul (denominator *ℤ denominator) _ some
+      (subst (λ z. pos 0 <ℤ z) products (mul_pos den ((n *ℤ (denominator *ℤ denominator)) -ℤ ((numerator *ℤ denominator) *ℤ m)) up (gap ((numerator *ℤ denominator) *ℤ m) (n *ℤ (denominator *ℤ denominator)) h))))
 
 module _ (x : SightState) (seen : IsSeen x) (edge : ℕ) (on : IsSeenEdge x edge) (e : Edge x.part) (at : IsNumbered x.halves edge e) (outlines : List ℕ) (listed : AreListed x edge outlines)
     (crossings sorted : List Crossing) (found : AreCrossings x e outlines crossings) (moved : IsPermutation crossings sorted) where
   -- ---- what each outline has changed
-  square : (o : Edge x.part) → PassesNearer x.direction e o → pos 0 <ℤ (climb_of x.direction e o *ℤ climb_of x.direction e o)
+  square : (o : Edge x.part) → PassesNearer x.direction e o → pos 0 <ℤ (denominator_of x.direction e o *ℤ denominator_of x.direction e o)
   square o p = more _ _ p.after p.before
     where
       more : (a b : ℤ) → pos 0 <ℤ a → a <ℤ b → pos 0 <ℤ b
@@ -76,16 +77,16 @@ module _ (x : SightState) (seen : IsSeen x) (edge : ℕ) (on : IsSeenEdge x edge
 
   passed_or : (o : Edge x.part) (n m : ℤ) → (PassesNearer x.direction e o × IsCrossedBefore x.direction e o n m) ⊎ ¬ (PassesNearer x.direction e o × IsCrossedBefore x.direction e o n m)
   passed_or o n m =
-      elim (less_or (pos 0) (reach_of x.direction e o *ℤ climb_of x.direction e o)) [
+      elim (less_or (pos 0) (numerator_of x.direction e o *ℤ denominator_of x.direction e o)) [
         | inr f ↦ inr (λ h. f h.0.after)
         | inl after ↦
-            elim (less_or (reach_of x.direction e o *ℤ climb_of x.direction e o) (climb_of x.direction e o *ℤ climb_of x.direction e o)) [
+            elim (less_or (numerator_of x.direction e o *ℤ denominator_of x.direction e o) (denominator_of x.direction e o *ℤ denominator_of x.direction e o)) [
               | inr f ↦ inr (λ h. f h.0.before)
               | inl before ↦
-                  elim (less_or (pos 0) (rise_of e o *ℤ climb_of x.direction e o)) [
+                  elim (less_or (pos 0) (height_numerator_of e o *ℤ denominator_of x.direction e o)) [
                     | inr f ↦ inr (λ h. f h.0.nearer)
                     | inl nearer ↦
-                        elim (less_or ((reach_of x.direction e o *ℤ climb_of x.direction e o) *ℤ m) (n *ℤ (climb_of x.direction e o *ℤ climb_of x.direction e o))) [
+                        elim (less_or ((numerator_of x.direction e o *ℤ denominator_of x.direction e o) *ℤ m) (n *ℤ (denominator_of x.direction e o *ℤ denominator_of x.direction e o))) [
                           | inr f ↦ inr (λ h. f h.1)
                           | inl crossed ↦ inl (record { after = after; before = before; nearer = nearer }, crossed)
                         ]
@@ -111,9 +112,9 @@ module _ (x : SightState) (seen : IsSeen x) (edge : ℕ) (on : IsSeenEdge x edge
         let up = square o p in
         by_lt_z (y.at.num *ℤ m) (n *ℤ y.at.den)
         (λ h. subst (HasChanged k x.direction e o n m) (sym (changed change n m y h ∙ is o y across))
-        (passed p (before_place (reach_of x.direction e o) (climb_of x.direction e o) y.at.num y.at.den n m y.at.positive up across.at h)))
+        (passed p (before_place (numerator_of x.direction e o) (denominator_of x.direction e o) y.at.num y.at.den n m y.at.positive up across.at h)))
         (λ h. subst (HasChanged k x.direction e o n m) (sym (unchanged change n m y h))
-        (not_passed (λ q. clash (y.at.num *ℤ m) (n *ℤ y.at.den) (place_before (reach_of x.direction e o) (climb_of x.direction e o) y.at.num y.at.den n m y.at.positive up across.at q.1) h)))
+        (not_passed (λ q. clash (y.at.num *ℤ m) (n *ℤ y.at.den) (place_before (numerator_of x.direction e o) (denominator_of x.direction e o) y.at.num y.at.den n m y.at.positive up across.at q.1) h)))
 
     -- what each outline changes along the whole edge
     has_changed_along : (o : Edge x.part) (answer : Option Crossing) → IsAcross x.direction e o answer → HasChangedAlong k x.direction e o (of_option change answer)

@@ -8,7 +8,7 @@ use Rattle.face_counts.proofs.CountAlong.{outline_of}
 use Rattle.edge_pick.specs.declared.Picked.{Picked}
 use Rattle.cross_find.specs.Sights.{SightState, IsSeen}
 use Rattle.span_count.specs.Finders.{IsPickedIn, IsFinder}
-use Rattle.span_count.specs.Steps.{IsSeenEdge, AreListed, AreListedOver, IsOutlineAt}
+use Rattle.span_count.specs.inner.Steps.{IsSeenEdge, AreListed, AreListedOver, IsOutlineAt}
 use Rattle.edge_pick.proofs.Lists.{few_rising, few_of}
 
 pub there_at : (xs : List ℕ) (k : ℕ) (x : ℕ) → slice_get xs k ≡ Some x → Contains xs x

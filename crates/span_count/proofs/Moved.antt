@@ -3,7 +3,7 @@ use Rattle.std.proofs.Common.{◌≡◌, ℕ, ◌+◌, ◌<◌, ◌≤◌, ◌^�
 use Rattle.cross_find.specs.Sights.{SightState, IsSeen}
 use Rattle.span_count.specs.declared.step.Sides.{Sides}
 use Rattle.span_count.specs.Bounds.{IsEndCount}
-use Rattle.span_count.specs.Rests.{AreCountsNext, AreOwnCounts, AreRests, IsCornerCount}
+use Rattle.span_count.specs.inner.Rests.{AreCountsNext, AreOwnCounts, AreRests, IsCornerCount}
 use Rattle.span_count.specs.Tests.{with_tests, IsTested}
 use Rattle.span_count.proofs.Walks.{tests_after_tests, tested_both}
 use Rattle.span_count.proofs.Stars.{corner_count, end_count, corner_counts}

@@ -23,7 +23,7 @@ use Rattle.span_count.specs.Finders.{IsPickedIn}
 use Rattle.edge_pick.specs.declared.order.EdgeCorners.{EdgeCorners}
 use Rattle.edge_pick.specs.declared.order.DrawnEnd.{DrawnEnd}
 use Rattle.edge_pick.specs.declared.order.Step.{Step}
-use Rattle.span_count.specs.Orders.{AreAtOneCorner, ComesFrom, start_of, starts_of, AreSteps}
+use Rattle.span_count.specs.inner.Orders.{AreAtOneCorner, ComesFrom, start_of, starts_of, AreSteps}
 use Rattle.edge_pick.specs.Orders.{no_corners, corner_at, corner_of, Meet, Reaches, begin, further, places_of, starts_in, IsFrom, AreWalked}
 use Rattle.edge_pick.specs.inner.Numberings.{AreCornersOf}
 use Rattle.edge_pick.proofs.EdgePlaces.{number_is, reaches_of}

@@ -7,14 +7,15 @@ use Rattle.std.proofs.lemmas.List.Sums.{sum_by_push}
 use Rattle.std.proofs.lemmas.Option.{slice_get_within}
 use Rattle.geometry.specs.Parts.{Face, Edge, IsNumbered}
 use Rattle.counting.specs.Counts.{Side, to_left, to_right}
-use Rattle.counting.specs.Covers.{IsCountedNext, IsOneWhere, AreCoversOf}
+use Rattle.counting.specs.inner.CountsNext.{AreCoversOf}
+use Rattle.counting.specs.Covers.{IsCountedNext, IsOneWhere}
 use Rattle.counting.specs.Turns.{number_at, HasTurnedAt}
 use Rattle.solid_mesh.specs.Solids.{AreTrianglesAt}
-use Rattle.face_counts.specs.Sums.{total}
+use Rattle.face_counts.specs.inner.Sums.{total}
 use Rattle.cross_find.specs.declared.meter.End.{End}
 use Rattle.cross_find.specs.Sights.{SightState, with_test}
 use Rattle.span_count.specs.declared.step.Sides.{Sides}
-use Rattle.span_count.specs.Rests.{IsSmall, IsOwnCount, AreOwnCounts, IsTurnOver, AreTurnsOver}
+use Rattle.span_count.specs.inner.Rests.{IsSmall, IsOwnCount, AreOwnCounts, IsTurnOver, AreTurnsOver}
 use Rattle.span_count.specs.Tests.{with_tests}
 use Rattle.span_count.proofs.Lists.{front_get, all_zip_push}
 use Rattle.span_count.proofs.Stars.{one_star}

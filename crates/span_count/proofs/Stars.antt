@@ -14,7 +14,7 @@ use Rattle.face_counts.proofs.EdgeNumbers.{half_of, half_at_number, half_of_with
 use Rattle.face_counts.proofs.HalfFaces.{edge_of}
 use Rattle.cross_find.specs.Sights.{SightState, IsSeen}
 use Rattle.span_count.specs.Bounds.{IsEndCount}
-use Rattle.span_count.specs.Rests.{IsCornerCount}
+use Rattle.span_count.specs.inner.Rests.{IsCornerCount}
 use Rattle.edge_pick.proofs.Lists.{few_rising}
 
 -- ---- one list

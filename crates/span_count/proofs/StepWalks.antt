@@ -7,9 +7,9 @@ use Rattle.geometry.specs.Parts.{Edge, IsNumbered}
 use Rattle.edge_pick.specs.declared.Picked.{Picked}
 use Rattle.cross_find.specs.Sights.{SightState}
 use Rattle.span_count.specs.CountSpans.{AreCountSpans}
-use Rattle.span_count.specs.Rests.{AreRests}
+use Rattle.span_count.specs.inner.Rests.{AreRests}
 use Rattle.span_count.specs.Tests.{IsTested}
-use Rattle.span_count.specs.Tours.{kept_at, IsKept, IsWalked}
+use Rattle.span_count.specs.inner.Tours.{kept_at, IsKept, IsWalked}
 use Rattle.edge_pick.specs.declared.order.DrawnEnd.{DrawnEnd}
 use Rattle.span_count.specs.declared.step.Sides.{Sides}
 use Rattle.span_count.specs.declared.step.Walked.{Walked}

@@ -11,10 +11,10 @@ use Rattle.span_count.specs.Bounds.{IsEndCount, IsBound}
 use Rattle.span_count.specs.CountSpans.{AreCountSpans}
 use Rattle.span_count.specs.Entries.{IsEntry}
 use Rattle.span_count.specs.Finders.{IsPickedIn, IsFinder}
-use Rattle.span_count.specs.Orders.{AreAtOneCorner, ComesFrom, AreSteps}
-use Rattle.span_count.specs.Rests.{AreRests}
+use Rattle.span_count.specs.inner.Orders.{AreAtOneCorner, ComesFrom, AreSteps}
+use Rattle.span_count.specs.inner.Rests.{AreRests}
 use Rattle.span_count.specs.Tests.{with_tests, IsTested}
-use Rattle.span_count.specs.Tours.{kept_at, IsKept, IsReady, IsWalked, cost_of}
+use Rattle.span_count.specs.inner.Tours.{kept_at, IsKept, IsReady, IsWalked, cost_of}
 use Rattle.edge_pick.specs.declared.order.DrawnEnd.{DrawnEnd}
 use Rattle.edge_pick.specs.declared.order.Step.{Step}
 use Rattle.span_count.specs.declared.span.EdgeSpans.{EdgeSpans}

@@ -12,8 +12,8 @@ use Rattle.std.specs.Prelude.{ℤ, pos, false, sum}
 use Rattle.cross_find.specs.declared.meter.Crossing.{Crossing}
 use Rattle.cross_find.specs.Sights.{SightState, with_test}
 use Rattle.cross_find.specs.Crossings.{IsAcross}
-use Rattle.span_count.specs.Rests.{IsCountNext, AreCountsNext}
-use Rattle.span_count.specs.Steps.{IsSeenEdge, AreListed, IsAnswer, AreCrossings}
+use Rattle.span_count.specs.inner.Rests.{IsCountNext, AreCountsNext}
+use Rattle.span_count.specs.inner.Steps.{IsSeenEdge, AreListed, IsAnswer, AreCrossings}
 use Rattle.span_count.specs.declared.step.Sides.{Sides}
 use Rattle.span_count.specs.Tests.{with_tests, IsTested}
 use Rattle.edge_pick.proofs.Lists.{slice_get_push}

@@ -3,7 +3,7 @@ use Rattle.std.specs.Prelude.{◌≡◌, ◌≢◌, ℕ, ◌<◌, List, All, All
 use Rattle.lattice.specs.declared.points.Corner.{Corner}
 use Rattle.geometry.specs.Parts.{Edge, IsNumbered}
 use Rattle.counting.specs.Shares.{Changes}
-use Rattle.counting.specs.Turns.{PassesOver}
+use Rattle.counting.specs.Turns.{IsNearerOver}
 use Rattle.cross_find.specs.Sights.{SightState}
 use Rattle.edge_pick.specs.declared.Picked.{Picked}
 use Rattle.edge_pick.specs.Picked.{IsPicked}
@@ -24,4 +24,4 @@ pub record IsFinder (x : SightState) (p : Picked) (along over : ℕ → List ℕ
       Changes x.direction e o → Contains (along i) k
   -- that of a corner has every outline that is strictly nearer over it and does not have it
   pub passing : (number k : ℕ) (c : Corner) (o : Edge x.part) → slice_get x.part.corners number ≡ Some c → Contains p.outlines.items k → IsNumbered x.halves k o →
-      PassesOver x.direction number c o → Contains (over number) k
+      IsNearerOver x.direction number c o → Contains (over number) k

@@ -2,8 +2,5 @@ pub mod Bounds
 pub mod CountSpans
 pub mod Entries
 pub mod Finders
-pub mod Orders
-pub mod Rests
-pub mod Steps
 pub mod Tests
-pub mod Tours
+pub mod inner

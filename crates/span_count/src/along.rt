@@ -1,19 +1,19 @@
 // Along an edge, from one of its ends to the other.
 ghost use Rattle.std.specs.Prelude.{◌≡◌, ◌+◌, ◌<◌, ◌^◌, ℕ, false, true, not, cond, ◌+ℤ◌, ◌-ℤ◌, length, IfOk};
 ghost use Rattle.geometry.specs.Parts.{Edge, IsNumbered};
-ghost use Rattle.face_counts.specs.Sums.{total};
+ghost use Rattle.face_counts.specs.inner.Sums.{total};
 ghost use Rattle.cross_find.specs.Sights.{IsSeen};
 ghost use Rattle.span_count.specs.CountSpans.{AreCountSpans};
-ghost use Rattle.span_count.specs.Rests.{IsCornerCount, AreCountsNext, AreRests, AreSmall};
-ghost use Rattle.span_count.specs.Steps.{IsSeenEdge, AreListed};
+ghost use Rattle.span_count.specs.inner.Rests.{IsCornerCount, AreCountsNext, AreRests, AreSmall};
+ghost use Rattle.span_count.specs.inner.Steps.{IsSeenEdge, AreListed};
 ghost use Rattle.span_count.specs.Tests.{IsTested};
 
 use crate::carry::{ascending, carried};
 use crate::corner::own_counts;
+use crate::edge_tests::crossings_along;
 use crate::finder::Finder;
 use crate::span::CountSpan;
 use crate::step::{Sides, Start, Walked};
-use crate::walk::crossings_along;
 use cross_find::{Crossing, End, Sight};
 use exact_frac::OutOfMemory;
 use std::alloc::Global;
@@ -53,7 +53,7 @@ pub(crate) fn walk_edge<S: Sight, F: Finder>(
         edge: end.edge,
         at_b: !end.at_b,
     };
-    let far_rest = along.far.less(own_counts(sight, far_end));
+    let far_rest = along.far.minus(own_counts(sight, far_end));
     Ok(walked(end.at_b, along.spans, start.rest, far_rest))
 }
 
@@ -107,7 +107,7 @@ fn first_counts_by(at_b: bool, counts: Sides, change: Sides) -> Sides
     ensures left { result.left ≡ cond at_b (counts.left -ℤ change.left) counts.left }
     ensures right { result.right ≡ cond at_b (counts.right -ℤ change.right) counts.right }
 {
-    if at_b { counts.less(change) } else { counts }
+    if at_b { counts.minus(change) } else { counts }
 }
 
 /// The counts next to the other end, by those next to one end and what changes along the edge.
@@ -118,7 +118,7 @@ fn far_counts_by(at_b: bool, counts: Sides, change: Sides) -> Sides
     ensures right { result.right ≡ cond at_b (counts.right -ℤ change.right) (counts.right +ℤ change.right) }
 {
     if at_b {
-        counts.less(change)
+        counts.minus(change)
     } else {
         counts.plus(change)
     }

@@ -9,7 +9,7 @@ ghost use Rattle.span_count.specs.Bounds.{IsRunCount, IsEndCount, IsBound};
 use edge_pick::Picked;
 use solid_mesh::Solid;
 
-/// The number of runs with these numbers: one more than the greatest.
+/// The number of runs with these numbers: one more than the greatest, and 0 where there is none.
 pub fn count_runs(runs: &[u32]) -> u64
     ensures count { IsRunCount runs.now result }
     ensures size { result ≤ 2 ^ 32 }

@@ -3,8 +3,8 @@ ghost use Rattle.std.specs.Prelude.{◌≡◌, ℕ, ◌≤◌, ◌<◌, ◌^◌,
 ghost use Rattle.std.specs.List.Sorted.{IsSortedByKey};
 ghost use Rattle.exact_frac.specs.Frac.{order_of};
 ghost use Rattle.geometry.specs.Places.{IsPlace, IsEarlier};
-ghost use Rattle.span_count.specs.Rests.{AreSmall};
-ghost use Rattle.span_count.specs.Steps.{AreCarried, IsSpanAdded};
+ghost use Rattle.span_count.specs.inner.Rests.{AreSmall};
+ghost use Rattle.span_count.specs.inner.Steps.{AreCarried, IsSpanAdded};
 
 use crate::span::CountSpan;
 use crate::step::Sides;

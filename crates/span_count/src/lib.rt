@@ -28,12 +28,12 @@ mod along;
 mod bounds;
 mod carry;
 mod corner;
+mod edge_tests;
 mod finder;
 mod order;
 mod span;
 mod step;
 mod tour;
-mod walk;
 
 use crate::order::steps_of;
 use crate::tour::{nothing_found, put, walk_step};

@@ -5,15 +5,15 @@ ghost use Rattle.counting.specs.Turns.{number_at};
 ghost use Rattle.cross_find.specs.Sights.{IsSeen};
 ghost use Rattle.span_count.specs.Bounds.{IsEndCount};
 ghost use Rattle.span_count.specs.CountSpans.{AreCountSpans};
-ghost use Rattle.span_count.specs.Rests.{IsCornerCount, AreCountsNext, AreRests};
-ghost use Rattle.span_count.specs.Steps.{IsSeenEdge, AreListed, AreListedOver};
+ghost use Rattle.span_count.specs.inner.Rests.{IsCornerCount, AreCountsNext, AreRests};
+ghost use Rattle.span_count.specs.inner.Steps.{IsSeenEdge, AreListed, AreListedOver};
 ghost use Rattle.span_count.specs.Tests.{with_tests, IsTested};
 
 use crate::along::walk_edge;
 use crate::corner::{corner_of, own_counts, turned};
+use crate::edge_tests::first_counts;
 use crate::finder::Finder;
 use crate::span::CountSpan;
-use crate::walk::first_counts;
 use cross_find::{End, Sight};
 use exact_frac::OutOfMemory;
 use std::alloc::Global;
@@ -26,7 +26,7 @@ pub(crate) struct Sides {
 }
 
 impl Sides {
-    ghost use Rattle.span_count.specs.Rests.{AreSmall};
+    ghost use Rattle.span_count.specs.inner.Rests.{AreSmall};
 
     /// Two counts.
     pub(crate) fn counts(left: u64, right: u64) -> Sides
@@ -55,7 +55,7 @@ impl Sides {
     }
 
     /// The differences, side by side.
-    pub(crate) fn less(self, part: Sides) -> Sides
+    pub(crate) fn minus(self, part: Sides) -> Sides
         requires small { AreSmall self }
         requires part_small { AreSmall part }
         ensures left { result.left ≡ self.left -ℤ part.left }
@@ -159,7 +159,7 @@ fn begin<S: Sight>(sight: &mut S, edge: u32, triangles: u32) -> Start
     let own = own_counts(sight, End { edge, at_b: false });
     Start {
         counts,
-        rest: counts.less(own),
+        rest: counts.minus(own),
     }
 }
 

@@ -4,7 +4,7 @@ ghost use Rattle.cross_find.specs.Sights.{IsSeen};
 ghost use Rattle.span_count.specs.Bounds.{IsEndCount};
 ghost use Rattle.span_count.specs.Finders.{IsFinder, IsPickedIn};
 ghost use Rattle.span_count.specs.Tests.{IsTested};
-ghost use Rattle.span_count.specs.Tours.{kept_at, IsReady, IsWalked, cost_of};
+ghost use Rattle.span_count.specs.inner.Tours.{kept_at, IsReady, IsWalked, cost_of};
 
 use crate::finder::Finder;
 use crate::span::EdgeSpans;

@@ -6,7 +6,7 @@ use Rattle.std.specs.Int.Signed.{lt_z}
 use Rattle.integers.proofs.Ring.{var, con, ◌⊕◌, ◌⊖◌, ◌⊗◌, ring}
 use Rattle.integers.proofs.Signs.{mul_nonneg, mul_pos}
 use Rattle.exact_frac.specs.declared.Frac.{Frac}
-use Rattle.hiding.specs.Values.{value_at}
+use Rattle.hiding.specs.inner.Values.{value_at}
 use Rattle.intervals.specs.declared.interval.Interval.{Interval}
 use Rattle.span_slow.specs.declared.linear.Linear.{Linear}
 use Rattle.geometry.specs.Places.{IsPlace, IsSame, IsEarlier}

@@ -8,7 +8,7 @@ use Rattle.lattice.specs.Triple.{Triple, dot, det}
 use Rattle.lattice.specs.Points.{point_of, difference}
 use Rattle.lattice.proofs.Vectors.{Letters, letters, dots}
 use Rattle.geometry.specs.Faces.{normal}
-use Rattle.hiding.specs.Values.{side_of, depth_of, past_of, short_of, behind_of}
+use Rattle.hiding.specs.inner.Values.{side_of, depth_of, past_of, short_of, behind_of}
 use Rattle.hiding.proofs.Values.{offset-corner}
 
 -- the way from p to q is the way back, times -1

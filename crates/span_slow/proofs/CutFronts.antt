@@ -11,8 +11,8 @@ use Rattle.geometry.specs.Faces.{FaceHides, facing_of, share_point}
 use Rattle.geometry.specs.Parts.{Part, Face, Edge}
 use Rattle.geometry.specs.Cuts.{FaceHidesInCut}
 use Rattle.geometry.specs.Sound.{IsSound}
-use Rattle.hiding.specs.Values.{value_at, side_of, depth_of, AreCornersOf}
-use Rattle.hiding.specs.CutValues.{under_of}
+use Rattle.hiding.specs.inner.Values.{value_at, side_of, depth_of, AreCornersOf}
+use Rattle.hiding.specs.inner.CutValues.{under_of}
 use Rattle.hiding.proofs.Values.{side-share}
 use Rattle.hiding.proofs.CutFronts.{hides-in-cut, under-share, not-at-border}
 use Rattle.hiding.proofs.CutPlanes.{ordinary-in-plain}

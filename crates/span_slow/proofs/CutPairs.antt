@@ -12,8 +12,8 @@ use Rattle.geometry.specs.Parts.{Part, Face, Edge, IsClosed}
 use Rattle.geometry.specs.Cuts.{FaceHidesInCut}
 use Rattle.geometry.specs.Sound.{IsSound}
 use Rattle.geometry.specs.Views.{IsOrdinary}
-use Rattle.hiding.specs.Values.{value_at, past_of, short_of, behind_of, IsAhead, IsInLine, IsSideOf, WideSideHides}
-use Rattle.hiding.specs.CutValues.{reach_of, WideSideReaches}
+use Rattle.hiding.specs.inner.Values.{value_at, past_of, short_of, behind_of, IsAhead, IsInLine, IsSideOf, WideSideHides}
+use Rattle.hiding.specs.inner.CutValues.{reach_of, WideSideReaches}
 use Rattle.hiding.proofs.Values.{past-share, short-share}
 use Rattle.hiding.proofs.CutEdgeOn.{edge-on-in-cut}
 use Rattle.hiding.proofs.CutPlanes.{square-one, cut-somewhere, ordinary-in-plain}

@@ -9,8 +9,8 @@ use Rattle.lattice.specs.Cuts.{Plane, toward_of, IsBeyond}
 use Rattle.geometry.specs.Faces.{share_point}
 use Rattle.geometry.specs.Parts.{Part, Edge}
 use Rattle.geometry.specs.Cuts.{IsOrdinaryInCut}
-use Rattle.hiding.specs.Values.{value_at}
-use Rattle.hiding.specs.CutValues.{below_of}
+use Rattle.hiding.specs.inner.Values.{value_at}
+use Rattle.hiding.specs.inner.CutValues.{below_of}
 use Rattle.hiding.proofs.CutPlanes.{below-beyond, below-on, corner-not-level, below-share, ordinary-in-plain}
 use Rattle.hiding.proofs.FrontEnds.{not-at-start, not-at-finish}
 use Rattle.hiding.proofs.SidePoints.{share-of-edge}

@@ -10,8 +10,8 @@ use Rattle.lattice.specs.Cuts.{Plane, unit_of, side_of, toward_of, level_of}
 use Rattle.geometry.specs.Faces.{IsPointOfFace}
 use Rattle.geometry.specs.Parts.{Part, Face}
 use Rattle.geometry.specs.Cuts.{FaceHidesInCut}
-use Rattle.hiding.specs.Values.{AreCornersOf}
-use Rattle.hiding.specs.CutValues.{HidesInCut}
+use Rattle.hiding.specs.inner.Values.{AreCornersOf}
+use Rattle.hiding.specs.inner.CutValues.{HidesInCut}
 use Rattle.hiding.proofs.Hiding.{face-turned}
 use Rattle.span_slow.proofs.Axes.{dot_negated}
 

@@ -8,7 +8,7 @@ use Rattle.lattice.specs.Points.{Point, IsPoint, difference}
 use Rattle.geometry.specs.Faces.{FaceHides, IsFlat, facing_of}
 use Rattle.geometry.specs.Parts.{Part, Face, Edge, IsClosed}
 use Rattle.geometry.specs.Views.{IsOrdinary}
-use Rattle.hiding.specs.Values.{WideSideHides, SideHides}
+use Rattle.hiding.specs.inner.Values.{WideSideHides, SideHides}
 use Rattle.exact_frac.specs.declared.Frac.{Frac}
 use Rattle.intervals.specs.declared.interval.Interval.{Interval}
 use Rattle.span_slow.specs.inner.Hidden.{AreWhere}

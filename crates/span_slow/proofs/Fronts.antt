@@ -11,7 +11,7 @@ use Rattle.geometry.specs.Faces.{FaceHides, facing_of, share_point}
 use Rattle.geometry.specs.Parts.{Part, Face, Edge}
 use Rattle.geometry.specs.Views.{IsOrdinary}
 use Rattle.geometry.specs.Sound.{IsSound}
-use Rattle.hiding.specs.Values.{value_at, side_of, depth_of, IsBehind, AreCornersOf}
+use Rattle.hiding.specs.inner.Values.{value_at, side_of, depth_of, IsBehind, AreCornersOf}
 use Rattle.exact_frac.specs.declared.Frac.{Frac}
 use Rattle.intervals.specs.declared.interval.Interval.{Interval}
 use Rattle.span_slow.specs.declared.linear.Linear.{Linear}

@@ -8,7 +8,7 @@ use Rattle.lattice.specs.declared.points.Corner.{Corner}
 use Rattle.lattice.specs.Points.{Point, point_of}
 use Rattle.geometry.specs.Faces.{share_point}
 use Rattle.geometry.specs.Parts.{Part, Edge}
-use Rattle.hiding.specs.Values.{value_at}
+use Rattle.hiding.specs.inner.Values.{value_at}
 use Rattle.intervals.specs.declared.interval.Interval.{Interval}
 use Rattle.span_slow.specs.declared.linear.Linear.{Linear}
 use Rattle.geometry.specs.Places.{IsPlace, IsEarlier, IsValue, IsBetween, IsFromTo, HasNoEndAt}

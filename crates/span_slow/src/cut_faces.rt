@@ -9,7 +9,7 @@ ghost use Rattle.geometry.specs.Parts.{Part, Face, Edge};
 ghost use Rattle.geometry.specs.Cuts.{FaceHidesInCut};
 ghost use Rattle.geometry.specs.Sound.{IsSound};
 ghost use Rattle.solid_mesh.specs.Solids.{solid_part};
-ghost use Rattle.hiding.specs.Values.{AreCornersOf, IsSideOf, WideSideHides, IsInLine};
+ghost use Rattle.hiding.specs.inner.Values.{AreCornersOf, IsSideOf, WideSideHides, IsInLine};
 ghost use Rattle.span_slow.specs.inner.Hidden.{AreWhere};
 ghost use Rattle.span_slow.specs.Beyond.{IsPartBeyond};
 ghost use Rattle.span_slow.specs.inner.CutHidden.{AreWhereBeyond, AreAddedBeyond, IsHiddenByFaces, PairHides, SomeSideReaches, IsForward};

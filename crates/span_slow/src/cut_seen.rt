@@ -3,7 +3,7 @@ ghost use Rattle.std.specs.Prelude.{◌≡◌, ◌<◌, ◌≤◌, ◌^◌, pos,
 ghost use Rattle.lattice.specs.Triple.{dot};
 ghost use Rattle.lattice.specs.Points.{of_dir, of_corner, of_vector, of_normal, point_of, OnOneSight};
 ghost use Rattle.lattice.specs.Cuts.{plane_of, unit_of, toward_of, level_of};
-ghost use Rattle.hiding.specs.CutValues.{below_of, under_of, reach_of};
+ghost use Rattle.hiding.specs.inner.CutValues.{below_of, under_of, reach_of};
 
 use crate::linear::Linear;
 use crate::seen::SeenEdge;

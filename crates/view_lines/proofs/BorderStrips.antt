@@ -21,7 +21,7 @@ use Rattle.geometry.specs.Cuts.{crossing_of, start_corner, end_corner, IsOnBorde
 use Rattle.geometry.proofs.Borders.{crossing_on_side, crossing_on_plane}
 use Rattle.geometry.proofs.StepLines.{RunsAlong}
 use Rattle.geometry.proofs.Sights.{sight_on}
-use Rattle.hiding.specs.Values.{IsSideOf}
+use Rattle.hiding.specs.inner.Values.{IsSideOf}
 use Rattle.hiding.proofs.Ordinary.{side-edge}
 use Rattle.line_merge.specs.Merging.{LiesOnStrip}
 use Rattle.cut_plane.specs.declared.segments.Segment.{Segment}

@@ -6,7 +6,7 @@ use Rattle.lattice.specs.Points.{Point}
 use Rattle.geometry.specs.Faces.{share_point}
 use Rattle.geometry.specs.Parts.{Part, Edge}
 use Rattle.geometry.specs.Views.{IsOrdinary}
-use Rattle.hiding.specs.Values.{value_at}
+use Rattle.hiding.specs.inner.Values.{value_at}
 use Rattle.intervals.specs.declared.interval.Interval.{Interval}
 use Rattle.span_slow.specs.declared.linear.Linear.{Linear}
 use Rattle.span_slow.specs.declared.span.Span.{Span}

@@ -1,7 +1,7 @@
 -- What each step does on the way from linears to intervals, and from intervals to spans.
 use Rattle.std.specs.Prelude.{◌≡◌, ◌⊎◌, ◌↔◌, ℤ, pos, ◌<ℤ◌, ◌≤ℤ◌, Bool, List, [], ◌∷◌, ◌++◌, All, Contains}
 use Rattle.exact_frac.specs.declared.Frac.{Frac}
-use Rattle.hiding.specs.Values.{value_at}
+use Rattle.hiding.specs.inner.Values.{value_at}
 use Rattle.intervals.specs.declared.interval.Interval.{Interval}
 use Rattle.span_slow.specs.declared.linear.Linear.{Linear}
 use Rattle.span_slow.specs.declared.span.Span.{Span}

@@ -1,8 +1,8 @@
 use Rattle.std.proofs.Common.{subst}
 use Rattle.std.specs.Prelude.{◌↔◌, IsTrue}
-use Rattle.face_counts.specs.Corners.{IsLeft}
-use Rattle.cross_find.specs.Ways.{way_of, side_of}
-use Rattle.cross_find.proofs.CornerSigns.{less_hair, one_hair, two_hairs, two_alike}
+use Rattle.face_counts.specs.inner.Perturbations.{IsLeft}
+use Rattle.cross_find.specs.inner.Ways.{way_of, side_of}
+use Rattle.cross_find.proofs.CornerSigns.{less_perturbation, one_perturbation, two_perturbations, two_alike}
 use Rattle.cross_find.proofs.corner.passes.Goals as goal
 
 pub returns : goal.returns
@@ -13,7 +13,7 @@ returns c =
     let y = way_of c.args.y.now in
     let w = way_of c.args.w.now in
     two_alike
-    (subst (λ h. IsTrue c.is_left.result ↔ IsLeft h x w) (less_hair k c.hair-k.result c.hair-k.ensures.value) c.is_left.ensures)
-    (subst (λ h. IsTrue c.is_left-2.result ↔ IsLeft h w y) (one_hair l c.hair-l.result c.hair-l.ensures.value) c.is_left-2.ensures)
-    (subst (λ h. IsTrue c.is_left-3.result ↔ IsLeft h y x) (two_hairs k l c.hair-k.result c.hair-l.result c.hair-k.ensures.value c.hair-l.ensures.value) c.is_left-3.ensures)
+    (subst (λ h. IsTrue c.is_left.result ↔ IsLeft h x w) (less_perturbation k c.perturbation-k.result c.perturbation-k.ensures.value) c.is_left.ensures)
+    (subst (λ h. IsTrue c.is_left-2.result ↔ IsLeft h w y) (one_perturbation l c.perturbation-l.result c.perturbation-l.ensures.value) c.is_left-2.ensures)
+    (subst (λ h. IsTrue c.is_left-3.result ↔ IsLeft h y x) (two_perturbations k l c.perturbation-k.result c.perturbation-l.result c.perturbation-k.ensures.value c.perturbation-l.ensures.value) c.is_left-3.ensures)
     c.any_two.ensures

@@ -22,9 +22,9 @@ returns-clause-left c e f at_e at_f =
     let d = of_dir c.args.d.now in
     let (a, b) = c.ends.ensures e at_e in
     let (x, y, z) = c.corners_of-t.ensures f at_f in
-    let p = passed c.turn_to-x.result c.turn_to-x.ensures.size ∙ c.turn_to-x.ensures.value in
-    let q = passed c.turn_to-y.result c.turn_to-y.ensures.size ∙ c.turn_to-y.ensures.value in
-    let r = passed c.turn_to-z.result c.turn_to-z.ensures.size ∙ c.turn_to-z.ensures.value in
+    let p = passed c.orientation_of-x.result c.orientation_of-x.ensures.size ∙ c.orientation_of-x.ensures.value in
+    let q = passed c.orientation_of-y.result c.orientation_of-y.ensures.size ∙ c.orientation_of-y.ensures.value in
+    let r = passed c.orientation_of-z.result c.orientation_of-z.ensures.size ∙ c.orientation_of-z.ensures.value in
     counted d e f c.args.end.at_b _ _ _ _ _ a b x y z (c.hides_at.ensures.0 c.if-not-hides_at.false) to_left c.any_above.result
     (reaches_left d e f c.args.end.at_b _ _ _ _ _ a b x y z _ _ _ p q r c.any_above.result c.any_above.ensures)
 
@@ -33,8 +33,8 @@ returns-clause-right c e f at_e at_f =
     let d = of_dir c.args.d.now in
     let (a, b) = c.ends.ensures e at_e in
     let (x, y, z) = c.corners_of-t.ensures f at_f in
-    let p = passed c.turn_to-x.result c.turn_to-x.ensures.size ∙ c.turn_to-x.ensures.value in
-    let q = passed c.turn_to-y.result c.turn_to-y.ensures.size ∙ c.turn_to-y.ensures.value in
-    let r = passed c.turn_to-z.result c.turn_to-z.ensures.size ∙ c.turn_to-z.ensures.value in
+    let p = passed c.orientation_of-x.result c.orientation_of-x.ensures.size ∙ c.orientation_of-x.ensures.value in
+    let q = passed c.orientation_of-y.result c.orientation_of-y.ensures.size ∙ c.orientation_of-y.ensures.value in
+    let r = passed c.orientation_of-z.result c.orientation_of-z.ensures.size ∙ c.orientation_of-z.ensures.value in
     counted d e f c.args.end.at_b _ _ _ _ _ a b x y z (c.hides_at.ensures.0 c.if-not-hides_at.false) to_right c.any_below.result
     (reaches_right d e f c.args.end.at_b _ _ _ _ _ a b x y z _ _ _ p q r c.any_below.result c.any_below.ensures)

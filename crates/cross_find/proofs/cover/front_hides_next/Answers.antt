@@ -1,7 +1,7 @@
 use Rattle.std.proofs.Common.{true≢false, sym, subst, ◌∙◌}
 use Rattle.std.specs.Prelude.{◌↔◌, IsTrue}
 use Rattle.lattice.specs.Points.{of_dir}
-use Rattle.cross_find.specs.Ends.{IsAbove}
+use Rattle.cross_find.specs.inner.Ends.{IsAbove}
 use Rattle.cross_find.proofs.Fronts.{side_next, depth_next, hides_from}
 use Rattle.cross_find.proofs.cover.front_hides_next.Goals as goal
 use Rattle.cross_find.proofs.cover.front_hides_next.Goals.{then-not-is_inward-via-then-not-is_inward, then-not-is_inward-via-else-not-is_inward+then-not-is_inward-2, then-not-is_inward-via-else-not-is_inward+else-not-is_inward-2+then-not-is_inward-3}

@@ -18,8 +18,8 @@ pub front_hides_next-requires-then-facing-lt0 : goal.front_hides_next-requires-t
 front_hides_next-requires-then-facing-lt0 c =
     let d = of_dir c.args.d.now in
     let t = c.args.t.now in
-    let back : c.turn_to-facing.result <ℤ pos 0 = omega (arith, ints) in
-    turned (facing_of d t.a t.b t.c) (facing_of d t.a t.c t.b) (facing-turned d t.a t.b t.c) (subst (λ (x : ℤ). x <ℤ pos 0) c.turn_to-facing.ensures.value back)
+    let back : c.orientation_of-facing.result <ℤ pos 0 = omega (arith, ints) in
+    turned (facing_of d t.a t.b t.c) (facing_of d t.a t.c t.b) (facing-turned d t.a t.b t.c) (subst (λ (x : ℤ). x <ℤ pos 0) c.orientation_of-facing.ensures.value back)
 
 pub returns-then-facing-lt0 : goal.returns-then-facing-lt0
 returns-then-facing-lt0 c =
@@ -27,7 +27,7 @@ returns-then-facing-lt0 c =
     let t = c.args.t.now in
     let o = c.args.o.now in
     let q = c.args.q.now in
-    let back : c.turn_to-facing.result <ℤ pos 0 = omega (arith, ints) in (
-      (λ h. (none (facing_of d t.a t.b t.c) (subst (λ (x : ℤ). x <ℤ pos 0) c.turn_to-facing.ensures.value back), from_turned d t.a t.c t.b o q (c.front_hides_next-then-facing-lt0.ensures.0 h))),
+    let back : c.orientation_of-facing.result <ℤ pos 0 = omega (arith, ints) in (
+      (λ h. (none (facing_of d t.a t.b t.c) (subst (λ (x : ℤ). x <ℤ pos 0) c.orientation_of-facing.ensures.value back), from_turned d t.a t.c t.b o q (c.front_hides_next-then-facing-lt0.ensures.0 h))),
       (λ h. c.front_hides_next-then-facing-lt0.ensures.1 (from_turned d t.a t.b t.c o q h.1)),
     )

@@ -1,6 +1,6 @@
 use Rattle.std.proofs.Common.{subst}
 use Rattle.std.specs.Prelude.{◌↔◌, IsTrue}
-use Rattle.cross_find.specs.Ends.{IsNotBelow}
+use Rattle.cross_find.specs.inner.Ends.{IsNotBelow}
 use Rattle.cross_find.proofs.cover.is_inward.Goals as goal
 
 pub returns : goal.returns

@@ -5,7 +5,7 @@ use Rattle.cross_find.proofs.Values.{side_at}
 use Rattle.cross_find.proofs.cover.side.Goals as goal
 
 pub returns-clause-here : goal.returns-clause-here
-returns-clause-here c = passed c.turn_to.result c.turn_to.ensures.size ∙ c.turn_to.ensures.value ∙ side_at (of_dir c.args.d.now) c.args.k.now c.args.l.now c.args.o.now
+returns-clause-here c = passed c.orientation_of.result c.orientation_of.ensures.size ∙ c.orientation_of.ensures.value ∙ side_at (of_dir c.args.d.now) c.args.k.now c.args.l.now c.args.o.now
 
 pub returns-clause-there : goal.returns-clause-there
-returns-clause-there c = passed c.turn_to-2.result c.turn_to-2.ensures.size ∙ c.turn_to-2.ensures.value ∙ side_at (of_dir c.args.d.now) c.args.k.now c.args.l.now c.args.q.now
+returns-clause-there c = passed c.orientation_of-2.result c.orientation_of-2.ensures.size ∙ c.orientation_of-2.ensures.value ∙ side_at (of_dir c.args.d.now) c.args.k.now c.args.l.now c.args.q.now

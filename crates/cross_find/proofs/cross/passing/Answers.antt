@@ -14,9 +14,9 @@ returns-clause-answer c e o at_e at_o =
     let x = c.lines.result in
     let is = c.lines.ensures in
     match_map c.inner_place.result
-    (λ none passes. none (passes_by d e o _ _ _ _ at_a at_b at_p at_q x.climb x.reach x.rise is.climb is.reach is.rise passes))
+    (λ none passes. none (passes_by d e o _ _ _ _ at_a at_b at_p at_q x.denominator x.numerator x.height_numerator is.denominator is.numerator is.height_numerator passes))
     (λ r h. (
-      passes_nearer d e o _ _ _ _ at_a at_b at_p at_q x.climb x.reach x.rise is.climb is.reach is.rise h.0,
-      crossed_at d e o _ _ _ _ at_a at_b at_p at_q x.climb x.reach x.rise is.climb is.reach is.rise r h.1,
+      passes_nearer d e o _ _ _ _ at_a at_b at_p at_q x.denominator x.numerator x.height_numerator is.denominator is.numerator is.height_numerator h.0,
+      crossed_at d e o _ _ _ _ at_a at_b at_p at_q x.denominator x.numerator x.height_numerator is.denominator is.numerator is.height_numerator r h.1,
     ))
     c.inner_place.ensures

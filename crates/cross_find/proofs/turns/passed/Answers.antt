@@ -1,10 +1,10 @@
 use Rattle.std.proofs.Common.{sym, subst, ◌∙◌}
 use Rattle.lattice.specs.Points.{of_dir}
 use Rattle.counting.specs.Turns.{way_to, way_from, corner_at, side_from}
-use Rattle.face_counts.specs.Corners.{TwoAreLeft}
-use Rattle.face_counts.specs.Shares.{IsTally}
+use Rattle.face_counts.specs.inner.Perturbations.{TwoAreLeft}
+use Rattle.face_counts.specs.inner.Tallies.{IsTally}
 use Rattle.face_counts.proofs.Sides.{tally_of}
-use Rattle.cross_find.specs.Ways.{side_of}
+use Rattle.cross_find.specs.inner.Ways.{side_of}
 use Rattle.cross_find.proofs.Passed.{smaller}
 use Rattle.cross_find.proofs.turns.passed.Goals as goal
 

@@ -3,10 +3,10 @@ use Rattle.std.specs.Prelude.{ℤ, ◌-ℤ◌, ◌*ℤ◌}
 use Rattle.lattice.specs.declared.points.Corner.{Corner}
 use Rattle.lattice.specs.Points.{of_dir}
 use Rattle.counting.specs.Turns.{way_to, way_from, corner_at, number_at, side_from, HasTurnedAt}
-use Rattle.face_counts.specs.Corners.{TwoAreLeft}
-use Rattle.face_counts.specs.Shares.{IsTally}
+use Rattle.face_counts.specs.inner.Perturbations.{TwoAreLeft}
+use Rattle.face_counts.specs.inner.Tallies.{IsTally}
 use Rattle.face_counts.proofs.CornerTest.{turned_over}
-use Rattle.cross_find.specs.Ways.{side_of}
+use Rattle.cross_find.specs.inner.Ways.{side_of}
 use Rattle.cross_find.proofs.Passed.{small, smaller, product}
 use Rattle.cross_find.proofs.turns.share.Goals as goal
 

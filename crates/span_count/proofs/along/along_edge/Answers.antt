@@ -1,8 +1,8 @@
 use Rattle.std.proofs.Common.{◌≡◌, List, length, false, subst, ap, ◌∙◌, arith}
 use Rattle.std.proofs.lemmas.List.Sorted.{length_permutation}
-use Rattle.face_counts.specs.Sums.{total}
+use Rattle.face_counts.specs.inner.Sums.{total}
 use Rattle.cross_find.specs.declared.meter.Crossing.{Crossing}
-use Rattle.span_count.specs.Steps.{AreCarried}
+use Rattle.span_count.specs.inner.Steps.{AreCarried}
 use Rattle.span_count.proofs.Counted.{counts_over, counts_first, spans_carried}
 use Rattle.span_count.proofs.Around.{counts_small}
 use Rattle.span_count.proofs.along.along_edge.Goals as goal

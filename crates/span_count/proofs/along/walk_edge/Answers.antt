@@ -23,8 +23,8 @@ pub own_counts-requires-clause-room : goal.own_counts-requires-clause-room
 own_counts-requires-clause-room g c n h =
     still_far (g.S.Sight.sight c.args.sight.now) (g.S.Sight.sight c.along_edge.new.sight) c.args.end.edge c.args.end.at_b (length (g.F.Finder.list_along c.args.finder.now c.args.end.edge)) c.along_edge.ensures.tested c.requires.room n h
 
-pub less-far_rest-requires-clause-small : goal.less-far_rest-requires-clause-small
-less-far_rest-requires-clause-small g c =
+pub minus-far_rest-requires-clause-small : goal.minus-far_rest-requires-clause-small
+minus-far_rest-requires-clause-small g c =
     counts_small (g.S.Sight.sight c.args.sight.now) c.requires.seen c.args.end.edge c.requires.edge.in_range (not c.args.end.at_b) c.in_ok-along.along.far c.in_ok-along.ensures.far
 
 pub returns-in_err-along-clause-tested : goal.returns-in_err-along-clause-tested
@@ -38,9 +38,9 @@ returns-clause-first g c =
     let now = g.S.Sight.sight c.along_edge.new.sight in
     let tested = c.along_edge.ensures.tested in
     let far = not c.args.end.at_b in
-    rests_first x c.args.end.edge c.args.end.at_b c.args.start.rest c.less-far_rest.result c.walked.result.first c.requires.rest
-    (rests_of x c.args.end.edge far c.in_ok-along.along.far c.own_counts.result c.less-far_rest.result c.in_ok-along.ensures.far
-    (own_before x now tested.0 tested.2 c.args.end.edge far c.own_counts.result c.own_counts.ensures.own) c.less-far_rest.ensures.left c.less-far_rest.ensures.right) c.walked.ensures.first
+    rests_first x c.args.end.edge c.args.end.at_b c.args.start.rest c.minus-far_rest.result c.walked.result.first c.requires.rest
+    (rests_of x c.args.end.edge far c.in_ok-along.along.far c.own_counts.result c.minus-far_rest.result c.in_ok-along.ensures.far
+    (own_before x now tested.0 tested.2 c.args.end.edge far c.own_counts.result c.own_counts.ensures.own) c.minus-far_rest.ensures.left c.minus-far_rest.ensures.right) c.walked.ensures.first
 
 pub returns-clause-second : goal.returns-clause-second
 returns-clause-second g c =
@@ -48,9 +48,9 @@ returns-clause-second g c =
     let now = g.S.Sight.sight c.along_edge.new.sight in
     let tested = c.along_edge.ensures.tested in
     let far = not c.args.end.at_b in
-    rests_second x c.args.end.edge c.args.end.at_b c.args.start.rest c.less-far_rest.result c.walked.result.second c.requires.rest
-    (rests_of x c.args.end.edge far c.in_ok-along.along.far c.own_counts.result c.less-far_rest.result c.in_ok-along.ensures.far
-    (own_before x now tested.0 tested.2 c.args.end.edge far c.own_counts.result c.own_counts.ensures.own) c.less-far_rest.ensures.left c.less-far_rest.ensures.right) c.walked.ensures.second
+    rests_second x c.args.end.edge c.args.end.at_b c.args.start.rest c.minus-far_rest.result c.walked.result.second c.requires.rest
+    (rests_of x c.args.end.edge far c.in_ok-along.along.far c.own_counts.result c.minus-far_rest.result c.in_ok-along.ensures.far
+    (own_before x now tested.0 tested.2 c.args.end.edge far c.own_counts.result c.own_counts.ensures.own) c.minus-far_rest.ensures.left c.minus-far_rest.ensures.right) c.walked.ensures.second
 
 pub returns-clause-spans : goal.returns-clause-spans
 returns-clause-spans g c e at =

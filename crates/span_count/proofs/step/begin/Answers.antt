@@ -28,16 +28,16 @@ own_counts-own-requires-clause-room g c n h =
     let mid = g.S.Sight.sight c.first_counts-counts.new.sight in
     room_after x mid c.args.triangles c.first_counts-counts.ensures.tested n (c.requires.room n (corner_before x mid c.args.triangles c.first_counts-counts.ensures.tested c.args.edge false n h))
 
-pub less-requires-clause-small : goal.less-requires-clause-small
-less-requires-clause-small g c =
+pub minus-requires-clause-small : goal.minus-requires-clause-small
+minus-requires-clause-small g c =
     counts_small (g.S.Sight.sight c.args.sight.now) c.requires.seen c.args.edge c.requires.edge.in_range false c.first_counts-counts.result c.first_counts-counts.ensures.counts
 
 pub returns-clause-rest : goal.returns-clause-rest
 returns-clause-rest g c =
     let x = g.S.Sight.sight c.args.sight.now in
     let mid = g.S.Sight.sight c.first_counts-counts.new.sight in
-    rests_of x c.args.edge false c.first_counts-counts.result c.own_counts-own.result c.less.result c.first_counts-counts.ensures.counts
-    (own_before x mid c.args.triangles c.first_counts-counts.ensures.tested c.args.edge false c.own_counts-own.result c.own_counts-own.ensures.own) c.less.ensures.left c.less.ensures.right
+    rests_of x c.args.edge false c.first_counts-counts.result c.own_counts-own.result c.minus.result c.first_counts-counts.ensures.counts
+    (own_before x mid c.args.triangles c.first_counts-counts.ensures.tested c.args.edge false c.own_counts-own.result c.own_counts-own.ensures.own) c.minus.ensures.left c.minus.ensures.right
 
 pub returns-clause-tested : goal.returns-clause-tested
 returns-clause-tested g c =

@@ -3,10 +3,10 @@ use Rattle.std.specs.Prelude.{IfOk}
 use Rattle.std.proofs.lemmas.Result.{IfOk-weaker}
 use Rattle.geometry.specs.Parts.{Edge, IsNumbered}
 use Rattle.span_count.specs.CountSpans.{AreCountSpans}
-use Rattle.span_count.specs.Rests.{AreRests}
+use Rattle.span_count.specs.inner.Rests.{AreRests}
 use Rattle.span_count.proofs.Walks.{edge_after, listed_after}
 use Rattle.span_count.specs.Bounds.{IsEndCount}
-use Rattle.span_count.specs.Steps.{AreListedOver}
+use Rattle.span_count.specs.inner.Steps.{AreListedOver}
 use Rattle.span_count.specs.Tests.{IsTested}
 use Rattle.span_count.proofs.Stars.{edge_at, corner_count}
 use Rattle.span_count.proofs.Moved.{seen_after, counts_after, rests_after, rests_before, room_near, room_far, tested_far}

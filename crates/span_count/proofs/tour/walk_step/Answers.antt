@@ -4,7 +4,7 @@ use Rattle.std.proofs.lemmas.Option.{same_Some, slice_get_read, slice_get_within
 use Rattle.counting.specs.Turns.{number_at}
 use Rattle.span_count.specs.Bounds.{IsEndCount}
 use Rattle.span_count.specs.Tests.{IsTested}
-use Rattle.span_count.specs.Tours.{IsReady, cost_of}
+use Rattle.span_count.specs.inner.Tours.{IsReady, cost_of}
 use Rattle.edge_pick.specs.declared.order.DrawnEnd.{DrawnEnd}
 use Rattle.span_count.proofs.Listings.{there_at, seen_edge, few_along, listed, few_over, listed_over}
 use Rattle.span_count.proofs.StepWalks.{first_fits, next_fits, first_most, next_most, tested_within, kept_rests, all_walked}

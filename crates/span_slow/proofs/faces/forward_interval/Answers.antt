@@ -2,7 +2,7 @@ use Rattle.std.proofs.Common.{◌⊎◌, inl, inr, arith}
 use Rattle.std.specs.Prelude.{pos, ◌<ℤ◌, ◌≤ℤ◌}
 use Rattle.std.proofs.lemmas.Int.{ints}
 use Rattle.lattice.specs.Points.{of_dir, of_vector}
-use Rattle.hiding.specs.Values.{past_of, short_of, behind_of}
+use Rattle.hiding.specs.inner.Values.{past_of, short_of, behind_of}
 use Rattle.span_slow.proofs.Axes.{somewhere, square_positive}
 use Rattle.span_slow.proofs.Where.{tells}
 use Rattle.span_slow.proofs.Sides.{ahead_at, in_line_at, side_none, side_where}

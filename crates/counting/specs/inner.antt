@@ -1,0 +1,2 @@
+-- What only functions that aren't public cite.
+pub mod CountsNext

@@ -1,0 +1,5 @@
+-- What only functions that aren't public cite.
+pub mod CornerTests
+pub mod Perturbations
+pub mod Sums
+pub mod Tallies

@@ -1,0 +1,3 @@
+-- What only functions that aren't public cite.
+pub mod CutValues
+pub mod Values

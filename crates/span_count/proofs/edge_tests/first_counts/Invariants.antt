@@ -1,0 +1,6 @@
+use Rattle.span_count.proofs.Walks.{AreFirstSoFar}
+use Rattle.span_count.proofs.edge_tests.first_counts.Given as goal
+
+-- the sums of the tests so far
+abbrev pub invariant-loop-tri : goal.invariant-loop-tri
+invariant-loop-tri g l = AreFirstSoFar (g.S.Sight.sight l.fn.sight) l.edge l.tri (g.S.Sight.sight l.sight) l.left l.right

@@ -1,0 +1,5 @@
+-- What only this crate's own functions cite.
+pub mod Orders
+pub mod Rests
+pub mod Steps
+pub mod Tours

@@ -1,0 +1,57 @@
+// The tests that are made for an edge.
+ghost use Rattle.std.specs.Prelude.{◌≡◌, false, ◌+◌, ◌<◌, ◌≤◌, ◌*◌, ◌^◌, length, vec_len, IfOk};
+ghost use Rattle.geometry.specs.Parts.{Edge, IsNumbered};
+ghost use Rattle.span_count.specs.inner.Rests.{AreCountsNext};
+ghost use Rattle.span_count.specs.inner.Steps.{IsSeenEdge, AreListed, AreCrossings};
+ghost use Rattle.span_count.specs.Tests.{with_tests, IsTested};
+
+use crate::finder::Finder;
+use crate::step::Sides;
+use cross_find::{Crossing, End, Sight};
+use exact_frac::OutOfMemory;
+use std::alloc::Global;
+
+/// How many faces are counted to the left, and to the right, next to the edge's first end: a test of each triangle.
+pub(crate) fn first_counts<S: Sight>(sight: &mut S, edge: u32, triangles: u32) -> Sides
+    requires edge { IsSeenEdge (S.sight sight.old) edge }
+    requires triangles { triangles ≡ length (S.sight sight.old).part.triangles }
+    requires room { (S.sight sight.old).tests + triangles < 2 ^ 64 }
+    ensures counts { AreCountsNext (S.sight sight.old) edge false result }
+    ensures tested { S.sight sight.new ≡ with_tests triangles (S.sight sight.old) }
+{
+    let mut left = 0;
+    let mut right = 0;
+    for tri in 0..triangles {
+        let end = End { edge, at_b: false };
+        let (on_left, on_right) = sight.cover(end, tri);
+        left += u64::from(on_left);
+        right += u64::from(on_right);
+    }
+    Sides::counts(left, right)
+}
+
+/// Where the outlines that the finder lists pass nearer over the edge and change one of its counts: a test of each.
+pub(crate) fn crossings_along<S: Sight, F: Finder>(
+    alloc: Global,
+    sight: &mut S,
+    finder: &F,
+    edge: u32,
+) -> Result<Vec<Crossing>, OutOfMemory>
+    requires edge { IsSeenEdge (S.sight sight.old) edge }
+    requires listed { AreListed (S.sight sight.old) edge (F.list_along finder.now edge) }
+    requires room { (S.sight sight.old).tests + length (F.list_along finder.now edge) < 2 ^ 64 }
+    ensures crossings { (e : Edge (S.sight sight.old).part) → IsNumbered (S.sight sight.old).halves edge e →
+        IfOk result (λ crossings. AreCrossings (S.sight sight.old) e (F.list_along finder.now edge) crossings.items) }
+    ensures few { IfOk result (λ crossings. vec_len crossings ≤ length (F.list_along finder.now edge)) }
+    ensures tested { IsTested (length (F.list_along finder.now edge)) (S.sight sight.old) (S.sight sight.new) }
+{
+    let mut crossings = Vec::new(alloc);
+    let mut i = 0;
+    while let Some(outline) = finder.along(edge, i) {
+        if let Some(crossing) = sight.cross(edge, outline) {
+            crossings.push(crossing)?;
+        }
+        i += 1;
+    }
+    Ok(crossings)
+}
