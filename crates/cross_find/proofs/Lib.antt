@@ -4,6 +4,5 @@ pub mod Passes
 pub mod Changes
 pub mod Next
 pub mod Fronts
-pub mod Values
 pub mod Counted
 pub mod CornerSigns

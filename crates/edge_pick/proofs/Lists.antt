@@ -1,18 +1,8 @@
--- Lists of numbers: an element more, and how many different ones there are.
+-- Lists of numbers: how many different ones there are.
 use Rattle.std.proofs.Common.{◌≡◌, ◌≢◌, ℕ, zero, suc, ◌+◌, ◌<◌, ◌≤◌, ◌⊎◌, inl, inr, List, [], ◌∷◌, ◌++◌, All, AllPairs, Contains, Some, length, get_or, remove, slice_get, refl, sym, ap, arith}
 use Rattle.std.specs.List.Sorted.{IsStrictlyIncreasing}
 use Rattle.std.proofs.lemmas.List.Elements.{All-head, All-tail}
 use Rattle.std.proofs.lemmas.List.Sorted.{IsPermutation-remove, Contains-permutation, length_permutation}
-
-pub slice_get_push : {X : Type 0} (xs : List X) (y : X) (i : ℕ) (z : X) → slice_get (xs ++ y ∷ []) i ≡ Some z → (slice_get xs i ≡ Some z) ⊎ ((i ≡ length xs) × (y ≡ z))
-slice_get_push [] y zero z e = inr (refl, cc)
-slice_get_push [] y (suc i) z e = absurd (cc)
-slice_get_push (x ∷ xs) y zero z e = inl e
-slice_get_push (x ∷ xs) y (suc i) z e = more (slice_get_push xs y i z e)
-  where
-    more : (slice_get xs i ≡ Some z) ⊎ ((i ≡ length xs) × (y ≡ z)) → (slice_get xs i ≡ Some z) ⊎ ((suc i ≡ suc (length xs)) × (y ≡ z))
-    more (inl h) = inl h
-    more (inr h) = inr (ap suc h.0, h.1)
 
 -- numbers that rise are at least their places
 rising : (xs : List ℕ) → IsStrictlyIncreasing xs → (k : ℕ) → k < length xs → k ≤ get_or xs k 0

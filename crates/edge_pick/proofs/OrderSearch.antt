@@ -17,7 +17,8 @@ use Rattle.edge_pick.specs.declared.order.Step.{Step}
 use Rattle.edge_pick.specs.Orders.{IsWalkedBefore}
 use Rattle.edge_pick.specs.Orders.{corner_at, corner_of, Meet, Reaches, begin, further, places_of, begun_at, starts_in, IsFrom, AreWalked}
 use Rattle.edge_pick.specs.inner.Searches.{AreBelow, AreEndsAt, IsReached, AreEndsLeft, IsSearch, IsClosed, IsOnward, IsSpread, IsAround, IsRun}
-use Rattle.edge_pick.proofs.Lists.{slice_get_push, few_of}
+use Rattle.integers.proofs.Lists.{slice_get_push}
+use Rattle.edge_pick.proofs.Lists.{few_of}
 use Rattle.edge_pick.proofs.CornerEnds.{end_at, within_room}
 
 -- ---- lists

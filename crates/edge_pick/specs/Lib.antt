@@ -1,3 +1,4 @@
+pub mod Edges
 pub mod Orders
 pub mod Picked
 pub mod inner

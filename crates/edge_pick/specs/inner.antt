@@ -1,4 +1,3 @@
 -- What only this crate's own functions cite.
-pub mod Edges
 pub mod Numberings
 pub mod Searches

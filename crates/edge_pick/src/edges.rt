@@ -6,7 +6,7 @@ ghost use Rattle.geometry.specs.Faces.{normal};
 ghost use Rattle.geometry.specs.Parts.{Face};
 ghost use Rattle.geometry.specs.Views.{IsOutline, IsCrease, IsEndOn, IsDrawn, AreOutlines, AreDrawnEdges};
 ghost use Rattle.solid_mesh.specs.Solids.{solid_part, edge_halves};
-ghost use Rattle.edge_pick.specs.inner.Edges.{OfEdge};
+ghost use Rattle.edge_pick.specs.Edges.{OfEdge};
 
 use exact_frac::{Frac, OutOfMemory};
 use lattice::{Crease, Dir, Normal, Spot, Vector, cross, same_sight};

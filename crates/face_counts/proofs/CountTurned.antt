@@ -26,7 +26,8 @@ use Rattle.face_counts.proofs.SumsBelow.{sum_below}
 use Rattle.face_counts.proofs.AllCorner.{all_corner}
 use Rattle.face_counts.proofs.CornerEnds.{places_apart}
 use Rattle.face_counts.proofs.CornerFaces.{divisor, near, has_or, seen_has, seen_has_not, untouched, apart, apart_tally, apart_sum}
-use Rattle.face_counts.proofs.Decided.{turned_edge, next_turned}
+use Rattle.geometry.proofs.EachEdge.{turned_edge}
+use Rattle.face_counts.proofs.Decided.{next_turned}
 use Rattle.face_counts.proofs.FineMesh.{IsFineMesh, fine_mesh, suits_first, suits_second, above_of_suits}
 use Rattle.face_counts.proofs.ListSums.{zip_in}
 use Rattle.face_counts.proofs.MeshOfPart.{count, mesh_of, is_mesh, triangle_at}

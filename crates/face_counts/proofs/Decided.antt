@@ -17,7 +17,8 @@ use Rattle.geometry.proofs.Listed.{face_at, same_element}
 use Rattle.hiding.proofs.Screens.{turn_of, lead_of}
 use Rattle.hiding.specs.inner.Values.{side_of, depth_of}
 use Rattle.hiding.proofs.Decisions.{same_or, less_or, at_most_or, four_or, either_or, alike_or, element_or, below_next}
-use Rattle.hiding.proofs.Hiding.{hides-front, hides-turned}
+use Rattle.geometry.proofs.EachEdge.{turned_edge}
+use Rattle.hiding.proofs.Hiding.{front_or, hides-turned}
 use Rattle.hiding.proofs.Names.{ways}
 use Rattle.hiding.proofs.Values.{facing-turned}
 use Rattle.counting.specs.Counts.{Side, to_left, to_right, orientation_of, StandsOn, ReachesTo, IsCounted, HasCounted, AreCounted}
@@ -31,18 +32,10 @@ use Rattle.face_counts.proofs.Seen.{on, adds_of_counted, counted_of_adds}
 
 -- ---- a face at a point
 module _ (d : Triple) (p : Point) (point : IsPoint p) where
-  front_or : (a b c : Corner) → pos 0 <ℤ facing_of d a b c → FaceHides d a b c p ⊎ ¬ FaceHides d a b c p
-  front_or a b c front =
-      let exact = hides-front d a b c p point front in
-      alike_or ((pos 0 ≤ℤ side_of d a b p) × (pos 0 ≤ℤ side_of d b c p) × (pos 0 ≤ℤ side_of d c a p) × (pos 0 <ℤ depth_of a b c p)) (FaceHides d a b c p)
-      (λ f. exact.1 (record { ab = f.0; bc = f.1; ca = f.2; depth = f.3 }))
-      (λ h. let e = exact.0 h in (e.ab, e.bc, e.ca, e.depth))
-      (four_or (pos 0 ≤ℤ side_of d a b p) (pos 0 ≤ℤ side_of d b c p) (pos 0 ≤ℤ side_of d c a p) (pos 0 <ℤ depth_of a b c p) (at_most_or _ _) (at_most_or _ _) (at_most_or _ _) (less_or _ _))
-
   hides_or : (a b c : Corner) → ¬ (facing_of d a b c ≡ pos 0) → FaceHides d a b c p ⊎ ¬ FaceHides d a b c p
   hides_or a b c turned =
-      by_lt_z (pos 0) (facing_of d a b c) (front_or a b c)
-      (λ h. alike_or (FaceHides d a c b p) (FaceHides d a b c p) (hides-turned d a c b p) (hides-turned d a b c p) (front_or a c b (other _ _ (facing-turned d a b c) h turned)))
+      by_lt_z (pos 0) (facing_of d a b c) (front_or d p point a b c)
+      (λ h. alike_or (FaceHides d a c b p) (FaceHides d a b c p) (hides-turned d a c b p) (hides-turned d a b c p) (front_or d p point a c b (other _ _ (facing-turned d a b c) h turned)))
     where
       other : (x y : ℤ) → x ≡ pos 0 -ℤ y → y ≤ℤ pos 0 → ¬ (y ≡ pos 0) → pos 0 <ℤ x
       other x y e h n = omega (arith, ints)
@@ -125,25 +118,6 @@ module _ (k : Side) (d : Triple) (s : Part) (in_range : All (IsBelow (length s.c
   counts = count_of has_counted_or s.triangles
 
 -- ---- next to an end
--- an edge from its other end
-abbrev pub turned_edge : {s : Part} → Edge s → Edge s
-turned_edge e = record {
-  half = e.other;
-  other = e.half;
-  m = e.n;
-  n = e.m;
-  a = e.b;
-  b = e.a;
-  left = e.right;
-  right = e.left;
-  goes = e.returns;
-  returns = e.goes;
-  on_left = e.on_right;
-  on_right = e.on_left;
-  at_m = e.at_n;
-  at_n = e.at_m;
-}
-
 module _ (d : Triple) where
   turn_back : (a b c : Corner) → orientation_of d b a c ≡ pos 0 -ℤ orientation_of d a b c
   turn_back a b c =

@@ -13,7 +13,7 @@ use Rattle.geometry.specs.Parts.{Part, Face, Edge, IsCornerOf, AreDouble, start_
 use Rattle.geometry.specs.Sound.{IsSound}
 use Rattle.geometry.proofs.EachEdge.{flat_face}
 use Rattle.hiding.proofs.Screens.{Screen}
-use Rattle.hiding.proofs.Hiding.{face-around}
+use Rattle.hiding.proofs.Hiding.{hides_around}
 use Rattle.hiding.proofs.OnScreens.{seen}
 use Rattle.hiding.proofs.Names.{normals}
 use Rattle.hiding.proofs.Weights.{facing-round}
@@ -50,9 +50,6 @@ flat_swap a b c h = record {
   y = by_one _ _ _ _ (negsuc 0) (ring (a.x ∷ a.y ∷ a.z ∷ b.x ∷ b.y ∷ b.z ∷ c.x ∷ c.y ∷ c.z ∷ []) ((normals A B C).y ⊖ con (pos 0)) (((normals B A C).y ⊖ con (pos 0)) ⊗ con (negsuc 0)) refl) h.y;
   z = by_one _ _ _ _ (negsuc 0) (ring (a.x ∷ a.y ∷ a.z ∷ b.x ∷ b.y ∷ b.z ∷ c.x ∷ c.y ∷ c.z ∷ []) ((normals A B C).z ⊖ con (pos 0)) (((normals B A C).z ⊖ con (pos 0)) ⊗ con (negsuc 0)) refl) h.z;
 }
-
-hides_around : (d : Triple) (a b c : Corner) (p : Point) → FaceHides d a b c p → FaceHides d b c a p
-hides_around d a b c p h = record { point = h.point; on_face = face-around a b c h.point h.on_face; same_sight = h.same_sight; nearer = h.nearer }
 
 -- ---- the corners of a face, from one of its sides on
 module _ {s : Part} (f : Face s) where

@@ -31,7 +31,8 @@ use Rattle.face_counts.specs.inner.Sums.{total}
 use Rattle.face_counts.proofs.SumsBelow.{sum_below, keep}
 use Rattle.face_counts.proofs.CornerFaces.{divisor, near}
 use Rattle.face_counts.proofs.CountAlong.{some_change, count_listed, no_changes}
-use Rattle.face_counts.proofs.Decided.{turned_edge, next_turned}
+use Rattle.geometry.proofs.EachEdge.{turned_edge}
+use Rattle.face_counts.proofs.Decided.{next_turned}
 use Rattle.face_counts.proofs.EdgeBack.{adds_back, clear_back, before_far}
 use Rattle.face_counts.proofs.EdgePasses.{passes}
 use Rattle.face_counts.proofs.EdgeShares.{lower_true, edges_total}

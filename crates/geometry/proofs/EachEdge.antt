@@ -61,7 +61,7 @@ strict m n h apart = by (cases_lt m n)
     by (inr g) = absurd (apart (omega arith))
 
 -- ---- an edge from its other end
-abbrev turned_edge : {s : Part} → Edge s → Edge s
+abbrev pub turned_edge : {s : Part} → Edge s → Edge s
 turned_edge e = record {
   half = e.other;
   other = e.half;

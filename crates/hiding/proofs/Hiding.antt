@@ -160,7 +160,7 @@ face-around a b c q f = (f.1, f.2, f.0, some f.0 f.1 f.2 f.3, f.4 ∙ around f.0
     around : (i j k : ℕ) → face_sum a b c i j k ≡ face_sum b c a j k i
     around i j k = λ t. record { x = moved i j k a.x b.x c.x t; y = moved i j k a.y b.y c.y t; z = moved i j k a.z b.z c.z t; w = pos (sums i j k t) }
 
-hides_around : (d : Triple) (a b c : Corner) (p : Point) → FaceHides d a b c p → FaceHides d b c a p
+pub hides_around : (d : Triple) (a b c : Corner) (p : Point) → FaceHides d a b c p → FaceHides d b c a p
 hides_around d a b c p h = record {
   point = h.point;
   on_face = face-around a b c h.point h.on_face;
@@ -205,7 +205,7 @@ module _ (d : Triple) (p : Point) (point : IsPoint p) where
           (four_or (turn_of (seen d p) K L ≡ pos 0) (pos 0 ≤ℤ along_of K L (seen d p)) (pos 0 ≤ℤ rest_of K L (seen d p)) (pos 0 <ℤ side_lead_of K L (seen d p)) (same_or _ _) (at_most_or _ _) (at_most_or _ _) (less_or _ _))
 
   -- whether a face that is turned to the viewer hides it
-  front_or : (a b c : Corner) → pos 0 <ℤ facing_of d a b c → FaceHides d a b c p ⊎ ¬ FaceHides d a b c p
+  pub front_or : (a b c : Corner) → pos 0 <ℤ facing_of d a b c → FaceHides d a b c p ⊎ ¬ FaceHides d a b c p
   front_or a b c front =
       let exact = hides-front d a b c p point front in
       alike_or ((pos 0 ≤ℤ side_of d a b p) × (pos 0 ≤ℤ side_of d b c p) × (pos 0 ≤ℤ side_of d c a p) × (pos 0 <ℤ depth_of a b c p)) (FaceHides d a b c p)

@@ -20,3 +20,5 @@ pub mod CutFronts
 pub mod CutEdgeOn
 pub mod CutSides
 pub mod Screens
+pub mod CornerValues
+pub mod Directions

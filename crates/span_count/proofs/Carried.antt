@@ -25,7 +25,7 @@ use Rattle.span_count.specs.inner.Steps.{change_before, IsCountOf, IsCarried, Is
 use Rattle.std.specs.Ordering.{int_cmp, MatchOrdering}
 use Rattle.std.specs.declared.cmp.Ordering.{Ordering}
 use Rattle.std.specs.declared.cmp.Ordering.TheVariants.{Less, Equal, Greater}
-use Rattle.span_count.proofs.Lists.{front_more}
+use Rattle.integers.proofs.Lists.{front_more}
 use Rattle.span_count.proofs.Sums.{total_append, total_push, total_same, total_none}
 
 -- ---- what is before a place and what is not

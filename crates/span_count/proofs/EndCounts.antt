@@ -8,7 +8,8 @@ use Rattle.geometry.specs.Parts.{Part}
 use Rattle.solid_mesh.specs.declared.solid.Edge.{Edge}
 use Rattle.solid_mesh.specs.Solids.{AreTrianglesAt, IsEdgeAt}
 use Rattle.span_count.specs.Bounds.{IsEndCount}
-use Rattle.span_count.proofs.Lists.{front_more, all_zip_push}
+use Rattle.integers.proofs.Lists.{front_more}
+use Rattle.span_count.proofs.Lists.{all_zip_push}
 
 -- so many triangles are at a corner
 abbrev pub IsCountAt : Part → ℕ → ℕ → Type 0

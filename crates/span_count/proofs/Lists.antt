@@ -1,6 +1,7 @@
 -- Lists: their fronts, place by place, and how many elements they have.
 use Rattle.std.proofs.Common.{◌≡◌, ◌≢◌, ℕ, zero, suc, ◌+◌, ◌<◌, ◌≤◌, ◌⊎◌, inl, inr, List, [], ◌∷◌, ◌++◌, All, AllPairs, Contains, Option, Some, None, length, take, get_or, remove, set, slice_get, refl, sym, subst, ap, ◌∙◌, arith}
 use Rattle.std.specs.List.{AllZip, filter_map}
+use Rattle.integers.proofs.Lists.{front_more}
 use Rattle.std.specs.List.Sorted.{IsStrictlyIncreasing}
 use Rattle.std.proofs.lemmas.List.{take_more}
 use Rattle.std.proofs.lemmas.List.Elements.{All-head, All-tail, Contains-append_right}
@@ -10,9 +11,6 @@ use Rattle.geometry.specs.Cuts.{IsCount}
 use Rattle.geometry.specs.Cuts.IsCount.{nothing, counted, skipped}
 
 -- ---- the front of a list, and one element more
-pub front_more : {X : Type 0} (xs : List X) (k : ℕ) (x : X) → k < length xs → get_or xs k x ≡ x → take k xs ++ x ∷ [] ≡ take (k + 1) xs
-front_more xs k x within at = sym (take_more xs k x within ∙ ap (λ y. take k xs ++ y ∷ []) at)
-
 pub front_get : {X : Type 0} (xs : List X) (k : ℕ) (x : X) → slice_get xs k ≡ Some x → take k xs ++ x ∷ [] ≡ take (k + 1) xs
 front_get xs k x at = front_more xs k x (slice_get_within xs k x at) (get_or_from_slice_get xs k x x at)
 

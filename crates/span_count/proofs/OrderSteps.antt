@@ -29,18 +29,6 @@ use Rattle.edge_pick.specs.inner.Numberings.{AreCornersOf}
 use Rattle.edge_pick.proofs.EdgePlaces.{number_is, reaches_of}
 use Rattle.edge_pick.proofs.Lists.{few_rising, few_of}
 
-pub few_drawn : (x : SightState) → IsSeen x → (p : Picked) → IsPickedIn x p → length p.drawn.items < 2 ^ 32
-few_drawn x seen p picked =
-    let halves = few_rising x.halves (3 * length x.part.triangles) seen.edges.ascending (λ k d h.
-    let (other, twin, less) = (seen.edges.exactly (get_or x.halves k d)).0 (Contains-get_or x.halves k d h) in
-    let within = slice_get_within x.part.triangles (get_or x.halves k d / 3) twin.goes.tri twin.goes.at in
-    omega arith) in
-    let drawn = few_rising p.drawn.items (length x.halves) picked.1.drawn.ascending picked.1.drawn.within in
-    small (length p.drawn.items) (length x.halves) (length x.part.triangles) drawn halves seen.few_triangles
-  where
-    small : (d h t : ℕ) → d ≤ h → h ≤ 3 * t → t ≤ 20000 → d < 2 ^ 32
-    small d h t p q r = omega arith
-
 -- ---- how many begin
 pub starts_count : (steps : List Step) → starts_of steps ≡ length (starts_in steps)
 starts_count [] = refl

@@ -3,7 +3,7 @@ use Rattle.std.proofs.Common.{◌≡◌, ◌⊎◌, inl, inr, ℕ, ◌+◌, ◌<
 use Rattle.std.specs.Prelude.{Option, Some, None, slice_get}
 use Rattle.std.specs.List.{AllZip}
 use Rattle.std.proofs.lemmas.List.{length-set}
-use Rattle.std.proofs.lemmas.Option.{same_Some, slice_get_within}
+use Rattle.std.proofs.lemmas.Option.{same_Some, slice_get_within, slice_get-get_or}
 use Rattle.geometry.specs.Parts.{Part, Edge, IsNumbered}
 use Rattle.edge_pick.specs.declared.Picked.{Picked}
 use Rattle.cross_find.specs.Sights.{SightState, IsSeen}
@@ -128,16 +128,26 @@ module _ (x : SightState) (p : Picked) (entries : List EdgeSpans) (ends : List E
         }
       ]
 
+-- what is read past the end of a list of steps
+abbrev pub no_step : Step
+no_step = record { to = record { place = 0; at_b = false }; from = None }
+
+pub step_at : (steps : List Step) (k : ℕ) → k < length steps → slice_get steps k ≡ Some (get_or steps k no_step)
+step_at steps k before = slice_get-get_or steps k no_step before
+
+pub same_steps : {x : SightState} {p : Picked} {steps given : List Step} → steps ≡ given → AreSteps x p given → AreSteps x p steps
+same_steps {x} {p} e are = subst (AreSteps x p) (sym e) are
+
 -- ---- a step
-module _ (x : SightState) (p : Picked) (steps : List Step) (are : AreSteps x p steps) (k : ℕ) (now : SightState) (entries : List EdgeSpans) (ends : List Ends)
-    (known : AreStepsSoFar x p steps k now entries ends) (bound : ℕ) (b : IsBound x.part x.halves p bound) where
+module _ {x : SightState} {p : Picked} {steps : List Step} (are : AreSteps x p steps) {k : ℕ} {now : SightState} {entries : List EdgeSpans} {ends : List Ends}
+    (known : AreStepsSoFar x p steps k now entries ends) {bound : ℕ} (b : IsBound x.part x.halves p bound) where
   abbrev so_far : IsTested (costs_to x p steps are bound b k) x now
   so_far = known.tested b.ends b.are_ends
 
   pub tests_of : IsTested bound x now
   tests_of = (so_far.0, let all = within_bound x p steps are bound b k in let few = so_far.1 in omega arith, so_far.2)
 
-  module _ (step : Step) (at : slice_get steps k ≡ Some step) where
+  module _ {step : Step} (at : slice_get steps k ≡ Some step) where
     pub step_place : step.to.place < length p.drawn.items
     step_place = place_within x p steps are k step at
 

@@ -16,7 +16,7 @@ use Rattle.span_count.specs.inner.Rests.{IsCountNext, AreCountsNext}
 use Rattle.span_count.specs.inner.Steps.{IsSeenEdge, AreListed, IsAnswer, AreCrossings}
 use Rattle.span_count.specs.declared.step.Sides.{Sides}
 use Rattle.span_count.specs.Tests.{with_tests, IsTested}
-use Rattle.edge_pick.proofs.Lists.{slice_get_push}
+use Rattle.integers.proofs.Lists.{slice_get_push}
 use Rattle.span_count.proofs.Lists.{front_get, all_zip_push}
 
 -- ---- how many tests were made

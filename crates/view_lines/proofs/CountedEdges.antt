@@ -5,7 +5,7 @@ use Rattle.std.specs.List.{AllZip}
 use Rattle.std.proofs.lemmas.List.{map_more}
 use Rattle.std.proofs.lemmas.List.Elements.{All-contains, Contains-get_or}
 use Rattle.cross_find.specs.Sights.{SightState}
-use Rattle.edge_pick.specs.inner.Edges.{OfEdge}
+use Rattle.edge_pick.specs.Edges.{OfEdge}
 use Rattle.edge_pick.specs.Picked.{IsPicked}
 use Rattle.edge_pick.specs.declared.Picked.{Picked}
 use Rattle.geometry.specs.Parts.{IsNumbered}

@@ -1,6 +1,6 @@
 -- The counts of nearer faces along the drawn edges of a plain view.
 use Rattle.std.specs.Prelude.{ℕ, List, map, All}
-use Rattle.edge_pick.specs.inner.Edges.{OfEdge}
+use Rattle.edge_pick.specs.Edges.{OfEdge}
 use Rattle.geometry.specs.Views.{AreDrawnEdges}
 use Rattle.lattice.specs.Triple.{Triple}
 use Rattle.solid_mesh.specs.Solids.{solid_part, edge_halves}

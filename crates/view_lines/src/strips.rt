@@ -7,7 +7,7 @@ ghost use Rattle.geometry.specs.Views.{IsEndOn, AreDrawnEdges};
 ghost use Rattle.solid_mesh.specs.Solids.{solid_part, edge_halves};
 ghost use Rattle.geometry.specs.Places.{IsEarlier};
 ghost use Rattle.span_slow.specs.Views.{direction_in, IsViewOf, AreSpansIn};
-ghost use Rattle.edge_pick.specs.inner.Edges.{OfEdge};
+ghost use Rattle.edge_pick.specs.Edges.{OfEdge};
 ghost use Rattle.view_lines.specs.inner.Strips.{kind_of, IsEdgeLine, IsStripOf, AreEdgeStrips};
 
 use exact_frac::OutOfMemory;

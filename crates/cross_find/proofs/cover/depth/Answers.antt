@@ -2,7 +2,7 @@ use Rattle.std.proofs.Common.{◌≡◌, ◌∙◌, arith, to_z, of_z}
 use Rattle.std.specs.Int.{w128}
 use Rattle.std.proofs.lemmas.Int.{ints}
 use Rattle.lattice.specs.Triple.{det}
-use Rattle.cross_find.proofs.Values.{depth_at}
+use Rattle.hiding.proofs.CornerValues.{depth_at}
 use Rattle.cross_find.proofs.cover.depth.Goals as goal
 
 pub returns-clause-here : goal.returns-clause-here

@@ -1,7 +1,7 @@
 use Rattle.std.proofs.Common.{◌∙◌}
 use Rattle.lattice.specs.Points.{of_dir}
 use Rattle.cross_find.proofs.Passed.{passed}
-use Rattle.cross_find.proofs.Values.{side_at}
+use Rattle.hiding.proofs.CornerValues.{side_at}
 use Rattle.cross_find.proofs.cover.side.Goals as goal
 
 pub returns-clause-here : goal.returns-clause-here

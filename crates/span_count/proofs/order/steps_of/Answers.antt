@@ -2,7 +2,8 @@ use Rattle.std.proofs.Common.{◌≡◌, ℕ, ◌<◌, List, All, length, sym, a
 use Rattle.edge_pick.specs.declared.order.EdgeCorners.{EdgeCorners}
 use Rattle.edge_pick.specs.Orders.{AreWalked}
 use Rattle.edge_pick.specs.inner.Numberings.{AreCornersOf}
-use Rattle.span_count.proofs.OrderSteps.{few_drawn, steps_right}
+use Rattle.span_count.proofs.Listings.{few_drawn}
+use Rattle.span_count.proofs.OrderSteps.{steps_right}
 use Rattle.span_count.proofs.order.steps_of.Goals as goal
 
 pub corners_of-requires : goal.corners_of-requires

@@ -2,7 +2,7 @@ use Rattle.std.proofs.Common.{◌≡◌, List, ◌++◌, take}
 use Rattle.std.specs.List.{AllZip}
 use Rattle.lattice.specs.declared.pieces.Strip.{Strip}
 use Rattle.lattice.specs.Points.{of_dir}
-use Rattle.edge_pick.specs.inner.Edges.{OfEdge}
+use Rattle.edge_pick.specs.Edges.{OfEdge}
 use Rattle.view_lines.specs.inner.Strips.{IsStripOf}
 use Rattle.view_lines.proofs.strips.add_strips.Given as goal
 

@@ -9,9 +9,8 @@ use Rattle.lattice.proofs.Vectors.{Letters, letters, dots}
 use Rattle.geometry.specs.Faces.{normal}
 use Rattle.hiding.specs.inner.Values.{side_of, depth_of}
 use Rattle.hiding.proofs.Values.{offset-corner}
-use Rattle.counting.specs.Counts.{orientation_of}
 
-pub side_at : (d : Triple) (k l p : Corner) → orientation_of d k l p ≡ side_of d k l (point_of p)
+pub side_at : (d : Triple) (k l p : Corner) → det d (difference k l) (difference k p) ≡ side_of d k l (point_of p)
 side_at d k l p = ap (λ (t : Triple). det d (difference k l) t) (sym (offset-corner k p))
 
 -- from p to a, and from a to p
