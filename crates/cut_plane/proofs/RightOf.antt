@@ -21,6 +21,12 @@ use Rattle.cut_plane.specs.inner.Sides.{IsRightOf, IsNotAbove, IsLower, IsUpward
 use Rattle.cut_plane.proofs.BorderPoints.{IsMixOf, AreEnds, border_ends}
 
 -- ---- sums
+pub sum_turned : (i j : ℤ) (p q : Point) → weighted_sum i p j q ≡ weighted_sum j q i p
+sum_turned i j p q = λ t. record { x = swap (i *ℤ p.x) (j *ℤ q.x) t; y = swap (i *ℤ p.y) (j *ℤ q.y) t; z = swap (i *ℤ p.z) (j *ℤ q.z) t; w = swap (i *ℤ p.w) (j *ℤ q.w) t }
+  where
+    swap : (a b : ℤ) → a +ℤ b ≡ b +ℤ a
+    swap a b = omega (arith, ints)
+
 -- with one weight it is that point
 pub first_alone : (p q : Point) → weighted_sum (pos 1) p (pos 0) q ≡ p
 first_alone p q = λ t. record { x = alone p.x q.x t; y = alone p.y q.y t; z = alone p.z q.z t; w = alone p.w q.w t }
@@ -113,25 +119,14 @@ ends_turned c f p q h = record {
     k = m.k;
     some = omega (arith, m.some);
     positive = m.positive;
-    x = swap (pos m.j *ℤ q.x) (pos m.i *ℤ p.x) ∙ m.x;
-    y = swap (pos m.j *ℤ q.y) (pos m.i *ℤ p.y) ∙ m.y;
-    z = swap (pos m.j *ℤ q.z) (pos m.i *ℤ p.z) ∙ m.z;
-    w = swap (pos m.j *ℤ q.w) (pos m.i *ℤ p.w) ∙ m.w;
+    x = (λ t. (sum_turned (pos m.j) (pos m.i) q p t).x) ∙ m.x;
+    y = (λ t. (sum_turned (pos m.j) (pos m.i) q p t).y) ∙ m.y;
+    z = (λ t. (sum_turned (pos m.j) (pos m.i) q p t).z) ∙ m.z;
+    w = (λ t. (sum_turned (pos m.j) (pos m.i) q p t).w) ∙ m.w;
   };
-  on_face = λ i j some. subst (IsPointOfFace f.a f.b f.c) (turned i j) (h.on_face j i (omega arith));
-  on_plane = λ i j. subst (IsOnPlane c) (turned i j) (h.on_plane j i);
+  on_face = λ i j some. subst (IsPointOfFace f.a f.b f.c) (sum_turned (pos j) (pos i) p q) (h.on_face j i (omega arith));
+  on_plane = λ i j. subst (IsOnPlane c) (sum_turned (pos j) (pos i) p q) (h.on_plane j i);
 }
-  where
-    swap : (x y : ℤ) → x +ℤ y ≡ y +ℤ x
-    swap x y = omega (arith, ints)
-
-    turned : (i j : ℕ) → weighted_sum (pos j) p (pos i) q ≡ weighted_sum (pos i) q (pos j) p
-    turned i j t = record {
-      x = swap (pos j *ℤ p.x) (pos i *ℤ q.x) t;
-      y = swap (pos j *ℤ p.y) (pos i *ℤ q.y) t;
-      z = swap (pos j *ℤ p.z) (pos i *ℤ q.z) t;
-      w = swap (pos j *ℤ p.w) (pos i *ℤ q.w) t;
-    }
 
 module _ (c : Plane) {s : Part} (f : Face s) (l : Line) (p : Point) (positive : IsPoint p) where
   abbrev d : Triple

@@ -1,5 +1,5 @@
 -- The sums of the numbers of views, over lists that grow by one.
-use Rattle.std.proofs.Common.{◌≡◌, ℕ, ◌+◌, ◌*◌, ◌<◌, ◌≤◌, ◌^◌, List, [], ◌∷◌, ◌++◌, length, take, get_or, refl, ap, sym, ◌∙◌, arith}
+use Rattle.std.proofs.Common.{◌≡◌, ℕ, ◌+◌, ◌*◌, ◌<◌, ◌≤◌, ◌^◌, List, [], ◌∷◌, ◌++◌, length, take, get_or, refl, ap, ◌∙◌, arith}
 use Rattle.job_file.specs.declared.view.JobView.{JobView}
 use Rattle.lattice.specs.declared.pieces.Crease.{Crease}
 use Rattle.line_merge.proofs.Zips.{zip_more}

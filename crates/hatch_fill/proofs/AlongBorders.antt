@@ -24,6 +24,7 @@ use Rattle.cut_plane.specs.Loops.{AreBorders}
 use Rattle.cut_plane.proofs.Apart.{border_apart}
 use Rattle.cut_plane.proofs.BorderPoints.{IsMixOf}
 use Rattle.cut_plane.proofs.Lists.{contains_cases, contains_none}
+use Rattle.cut_plane.proofs.RightOf.{sum_turned}
 use Rattle.section_parity.proofs.Roots.{some_number}
 use Rattle.hatch_fill.specs.declared.places.Place.{Place}
 use Rattle.hatch_fill.specs.inner.Parts.{AreJoined}
@@ -36,7 +37,7 @@ use Rattle.hatch_fill.proofs.Ratios.{from_first, until_second, less_most, less_n
 use Rattle.hatch_fill.proofs.Runs.{less_on_line, one_diagonal}
 use Rattle.hatch_fill.proofs.Seen.{across_near, upward_near, crossing_short}
 use Rattle.hatch_fill.proofs.Turns.{IsAt}
-use Rattle.hatch_fill.proofs.Under.{turned, first_on_line, second_on_line, IsSegmentFor, segment_for, mix_sight, mix_there}
+use Rattle.hatch_fill.proofs.Under.{first_on_line, second_on_line, IsSegmentFor, segment_for, mix_sight, mix_there}
 
 -- the part of an element
 pub joined_has : {A B : Type 0} (R : A → List B → Type 0) (xs : List A) (all : List B) → AreJoined R xs all → (x : A) → Contains xs x → (part : List B) × R x part × ((t : B) → Contains part t → Contains all t)
@@ -187,8 +188,8 @@ module _ (c : Plane) (small : unsigned_abs c.at ≤ 2 ^ 20) (s : Part) (whole : 
         by : AreEndsAlong d spacing g.x i.from i.to ⊎ AreEndsAlong d spacing g.x i.to i.from → Crosses (is_not_after D (across_of d p) p.w) i
         by (inl e) = cross g.x.a g.x.b e.number e.first e.second at_a m.i m.j m.some sight_p m'.i m'.j m'.some sight_q
         by (inr e) =
-            cross g.x.b g.x.a e.number e.second e.first at_b m.j m.i (swap m.i m.j m.some) (subst (λ (r : Point). OnOneSight d r p) (turned (pos m.i) (pos m.j) a b) sight_p)
-            m'.j m'.i (swap m'.i m'.j m'.some) (subst (λ (r : Point). OnOneSight d r q) (turned (pos m'.i) (pos m'.j) a b) sight_q)
+            cross g.x.b g.x.a e.number e.second e.first at_b m.j m.i (swap m.i m.j m.some) (subst (λ (r : Point). OnOneSight d r p) (sum_turned (pos m.i) (pos m.j) a b) sight_p)
+            m'.j m'.i (swap m'.i m'.j m'.some) (subst (λ (r : Point). OnOneSight d r q) (sum_turned (pos m'.i) (pos m'.j) a b) sight_q)
 
     pub covered : CrossesAny (is_not_after D (across_of d p) p.w) stretches
     covered =

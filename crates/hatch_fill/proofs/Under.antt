@@ -24,7 +24,7 @@ use Rattle.cut_plane.proofs.BorderPoints.{IsMixOf, AreEnds, border_ends}
 use Rattle.cut_plane.proofs.FaceCorners.{have_same}
 use Rattle.cut_plane.proofs.Lists.{segment_at, contains_first, contains_rest, contains_none}
 use Rattle.cut_plane.proofs.Parities.{crossed_of_point}
-use Rattle.cut_plane.proofs.RightOf.{first_alone, second_alone, first_on, second_on}
+use Rattle.cut_plane.proofs.RightOf.{sum_turned, first_alone, second_alone, first_on, second_on}
 use Rattle.section_parity.specs.Diagonals.{IsUnderBorder}
 use Rattle.hatch_fill.specs.declared.places.Place.{Place}
 use Rattle.hatch_fill.specs.inner.Parts.{AreJoined}
@@ -48,12 +48,6 @@ joined_part {A} {B} R (x ∷ xs) all (part, rest, e, r, more) t there =
     by (inr k) later = let (y, listed, rest) = later k in (y, contains_rest x xs y listed, rest)
 
 -- ---- sums of two points
-pub turned : (i j : ℤ) (p q : Point) → weighted_sum i p j q ≡ weighted_sum j q i p
-turned i j p q = λ t. record { x = swap (i *ℤ p.x) (j *ℤ q.x) t; y = swap (i *ℤ p.y) (j *ℤ q.y) t; z = swap (i *ℤ p.z) (j *ℤ q.z) t; w = swap (i *ℤ p.w) (j *ℤ q.w) t }
-  where
-    swap : (a b : ℤ) → a +ℤ b ≡ b +ℤ a
-    swap a b = omega (arith, ints)
-
 -- a sum of two points of a hatch line is on it
 pub sum_at : (d : Triple) (i j diagonal : ℤ) (p q : Point) → IsAt d diagonal p → IsAt d diagonal q → IsAt d diagonal (weighted_sum i p j q)
 sum_at d i j diagonal p q at_p at_q =
@@ -144,7 +138,7 @@ module _ (c : Plane) (s : Part) (spacing : ℕ) (some : 1 ≤ spacing) where
             let i = weight d (of_spot x.b) (of_spot x.a) x.b.positive x.a.positive (j *ℤ pos spacing) across in
             let k = weight' d (of_spot x.b) (of_spot x.a) x.b.positive x.a.positive (j *ℤ pos spacing) across in
             sum_under c s x h k i (other i k (some_weight d (of_spot x.b) (of_spot x.a) x.b.positive x.a.positive (j *ℤ pos spacing) across)) p
-            (subst (λ (q : Point). OnOneSight d q p) (turned (pos i) (pos k) (of_spot x.b) (of_spot x.a))
+            (subst (λ (q : Point). OnOneSight d q p) (sum_turned (pos i) (pos k) (of_spot x.b) (of_spot x.a))
             (mid_seen d (of_spot x.b) (of_spot x.a) x.b.positive x.a.positive (j *ℤ pos spacing) across x.line (second_on_line c s x h) (first_on_line c s x h) t.across.num t.across.den t.across.positive is.on p
             (subst (λ (z : ℤ). IsAt d z p) is.at at) e));
       }
@@ -201,7 +195,7 @@ module _ (c : Plane) (s : Part) (spacing : ℕ) (some : 1 ≤ spacing) where
 
         by : AreEndsAlong d spacing x i.from i.to ⊎ AreEndsAlong d spacing x i.to i.from → HasWeights i.from.across.num i.from.across.den i.to.across.num i.to.across.den (across_of d p) p.w → IsUnderBorder c s p
         by (inl e) g = sum_under c s x h g.i g.j g.some p (sight x.a x.b e.number e.first e.second g)
-        by (inr e) g = sum_under c s x h g.j g.i (swap g.i g.j g.some) p (subst (λ (q : Point). OnOneSight d q p) (turned (pos g.i) (pos g.j) (of_spot x.b) (of_spot x.a)) (sight x.b x.a e.number e.second e.first g))
+        by (inr e) g = sum_under c s x h g.j g.i (swap g.i g.j g.some) p (subst (λ (q : Point). OnOneSight d q p) (sum_turned (pos g.i) (pos g.j) (of_spot x.b) (of_spot x.a)) (sight x.b x.a e.number e.second e.first g))
 
 -- ---- borders by segments
 -- the segment of a face: the points of its border are sums of the segment's ends

@@ -42,7 +42,7 @@ fn strip_of(solid: &Solid, d: &Dir, edge: u32, line: &Line, span: &Span) -> Stri
     }
 }
 
-/// What a strip of a hidden span is of, or of a visible one.
+/// The kind of the strip of a span that is hidden, or visible.
 fn kind_of(hidden: bool) -> StripKind
     ensures { result ≡ kind_of hidden }
 {

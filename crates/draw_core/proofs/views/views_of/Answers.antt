@@ -3,7 +3,7 @@ use Rattle.std.specs.List.{AllZip}
 use Rattle.line_merge.proofs.Zips.{zip_more}
 use Rattle.draw_core.specs.Drawing.{ShowsJobView}
 use Rattle.draw_core.specs.Numbers.{SumsViews}
-use Rattle.draw_core.proofs.ViewSums.{AreAtMost, below_of, wider, at_most_plus, sums_none, sums_more}
+use Rattle.draw_core.proofs.ViewSums.{AreAtMost, below_of, wider, at_most_plus, sums_more}
 use Rattle.view_lines.specs.declared.numbers.ViewNumbers.{ViewNumbers}
 use Rattle.view_lines.specs.declared.view.ViewDrawing.{ViewDrawing}
 use Rattle.draw_core.proofs.views.views_of.Goals as goal

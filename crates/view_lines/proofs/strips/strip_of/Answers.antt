@@ -1,4 +1,3 @@
-use Rattle.std.proofs.Common.{refl}
 use Rattle.std.proofs.lemmas.Grind.{merely}
 use Rattle.lattice.specs.Points.{of_dir}
 use Rattle.solid_mesh.proofs.Facts.{edge_there}
