@@ -1,11 +1,11 @@
 -- Axes of the view: reversed, and two corners along them.
-use Rattle.std.proofs.Common.{◌≡◌, ◌<◌, ◌+◌, [], ◌∷◌, refl, ap, ◌∙◌, arith, unsigned_abs}
+use Rattle.std.proofs.Common.{◌≡◌, [], ◌∷◌, refl, ap, ◌∙◌, arith}
 use Rattle.std.specs.Prelude.{ℤ, pos, negsuc, neg_ℤ, ◌+ℤ◌, ◌-ℤ◌, ◌*ℤ◌, ◌<ℤ◌}
 use Rattle.std.proofs.lemmas.Int.{ints}
 use Rattle.integers.proofs.Ring.{var, con, ◌⊖◌, ◌⊗◌, ring, by_one}
 use Rattle.lattice.specs.declared.points.Corner.{Corner}
 use Rattle.lattice.specs.declared.points.Dir.{Dir}
-use Rattle.lattice.specs.Triple.{Triple, dot, negated, right_axis, up_axis, IsZero}
+use Rattle.lattice.specs.Triple.{Triple, dot, negated, right_axis, up_axis}
 use Rattle.lattice.specs.Points.{of_dir, point_of, difference, scaled, OnOneSight, DifferAlong}
 use Rattle.lattice.proofs.Vectors.{Letters, letters, dots, dot_itself}
 use Rattle.lattice.proofs.SightLines.{no_part, along_by_sight}
@@ -72,11 +72,5 @@ level_by_sight d axis a b square level same =
     (no_part axis e d along.n along.m along.positive along.x along.y along.z level)
 
 -- ---- a direction is not zero
-pub somewhere : (d : Dir) → ¬ IsZero (of_dir d)
-somewhere d h = none d.x d.y d.z d.not_zero h.x h.y h.z
-  where
-    none : (x y z : ℤ) → 0 < unsigned_abs x + unsigned_abs y + unsigned_abs z → x ≡ pos 0 → y ≡ pos 0 → z ≡ pos 0 → ⊥
-    none x y z h hx hy hz = omega (arith, ints)
-
 pub square_positive : (d : Dir) → pos 0 <ℤ dot (of_dir d) (of_dir d)
 square_positive d = dot_itself (of_dir d) d.not_zero

@@ -4,11 +4,10 @@ use Rattle.std.specs.Prelude.{ℤ, pos, ◌-ℤ◌, ◌*ℤ◌, ◌<ℤ◌}
 use Rattle.std.proofs.lemmas.Int.{ints}
 use Rattle.integers.proofs.Ring.{var, con, ◌⊖◌, ring}
 use Rattle.lattice.specs.declared.points.Corner.{Corner}
-use Rattle.lattice.specs.Triple.{Triple, dot, det}
+use Rattle.lattice.specs.Triple.{Triple, dot}
 use Rattle.lattice.specs.Points.{point_of, difference}
 use Rattle.lattice.proofs.Vectors.{Letters, letters, dots}
-use Rattle.geometry.specs.Faces.{normal}
-use Rattle.hiding.specs.inner.Values.{side_of, depth_of, past_of, short_of, behind_of}
+use Rattle.hiding.specs.inner.Values.{past_of, short_of, behind_of}
 use Rattle.hiding.proofs.Values.{offset-corner}
 
 -- the way from p to q is the way back, times -1
@@ -21,21 +20,12 @@ backward = record { x = var 6 ⊖ var 3; y = var 7 ⊖ var 4; z = var 8 ⊖ var 
 returned : (t : Triple) (p q : Corner) → dot t (difference q p) ≡ pos 0 -ℤ dot t (difference p q)
 returned t p q = ring (t.x ∷ t.y ∷ t.z ∷ p.x ∷ p.y ∷ p.z ∷ q.x ∷ q.y ∷ q.z ∷ []) (dots (letters 0) onward) (con (pos 0) ⊖ dots (letters 0) backward) refl
 
-returned_too : (t : Triple) (p q : Corner) → dot (difference q p) t ≡ pos 0 -ℤ dot (difference p q) t
-returned_too t p q = ring (t.x ∷ t.y ∷ t.z ∷ p.x ∷ p.y ∷ p.z ∷ q.x ∷ q.y ∷ q.z ∷ []) (dots onward (letters 0)) (con (pos 0) ⊖ dots backward (letters 0)) refl
-
 -- what goes back one way goes forward the other
 pub forward_turned : (t : Triple) (p q : Corner) → dot t (difference p q) <ℤ pos 0 → pos 0 <ℤ dot t (difference q p)
 forward_turned t p q h = turn (dot t (difference p q)) (dot t (difference q p)) (returned t p q) h
   where
     turn : (a b : ℤ) → b ≡ pos 0 -ℤ a → a <ℤ pos 0 → pos 0 <ℤ b
     turn a b e h = omega (arith, ints)
-
-pub side_at : (d : Triple) (k l p : Corner) → det d (difference k l) (difference k p) ≡ side_of d k l (point_of p)
-side_at d k l p = ap (λ (t : Triple). det d (difference k l) t) (sym (offset-corner k p))
-
-pub depth_at : (a b c p : Corner) → det (difference p a) (difference a b) (difference a c) ≡ depth_of a b c (point_of p)
-depth_at a b c p = returned_too (normal a b c) a p ∙ ap (λ (t : Triple). pos 0 -ℤ dot t (normal a b c)) (sym (offset-corner a p))
 
 pub past_at : (axis : Triple) (k p : Corner) → dot axis (difference k p) ≡ past_of axis k (point_of p)
 past_at axis k p = ap (λ (t : Triple). dot axis t) (sym (offset-corner k p))

@@ -3,7 +3,8 @@ use Rattle.std.specs.Prelude.{pos, ◌<ℤ◌, ◌≤ℤ◌}
 use Rattle.std.proofs.lemmas.Int.{ints}
 use Rattle.lattice.specs.Points.{of_dir, of_vector}
 use Rattle.hiding.specs.inner.Values.{past_of, short_of, behind_of}
-use Rattle.span_slow.proofs.Axes.{somewhere, square_positive}
+use Rattle.hiding.proofs.Directions.{somewhere}
+use Rattle.span_slow.proofs.Axes.{square_positive}
 use Rattle.span_slow.proofs.Where.{tells}
 use Rattle.span_slow.proofs.Sides.{ahead_at, in_line_at, side_none, side_where}
 use Rattle.span_slow.proofs.faces.forward_interval.Goals as goal
