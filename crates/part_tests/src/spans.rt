@@ -44,11 +44,11 @@ fn told(span: &CountSpan) -> (Frac, Frac, u32, u32) {
 fn told_of(
     alloc: Global,
     entries: &[EdgeSpans],
-    edge: u32,
+    number: u32,
 ) -> Result<Vec<(Frac, Frac, u32, u32)>, AllocError> {
     let mut all = Vec::new(alloc);
     for entry in entries {
-        if entry.edge == edge {
+        if entry.edge == number {
             for span in &entry.spans {
                 all.push(told(span))?;
             }

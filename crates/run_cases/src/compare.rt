@@ -9,7 +9,7 @@ use std::io;
 
 // The desk of a case. Of one file it has so many bytes alone.
 fn desk_of(alloc: Global, case: &Case, cut: Option<(&str, usize)>) -> io::Result<MemoryDesk> {
-    let mut files = Vec::new(alloc);
+    let mut copies = Vec::new(alloc);
     for (name, bytes) in &case.files {
         let mut end = bytes.len();
         if let Some((of, most)) = cut {
@@ -20,9 +20,9 @@ fn desk_of(alloc: Global, case: &Case, cut: Option<(&str, usize)>) -> io::Result
         let Ok(name) = Name::new(alloc, name.as_str()) else {
             return Err(io::Error::from(io::ErrorKind::OutOfMemory));
         };
-        files.push((name, bytes[..end].to_vec(alloc)?))?;
+        copies.push((name, bytes[..end].to_vec(alloc)?))?;
     }
-    Ok(MemoryDesk::new(alloc, files, case.fail.clone()?))
+    Ok(MemoryDesk::new(alloc, copies, case.fail.clone()?))
 }
 
 // Runs the words over the desk, and answers the status.
@@ -61,9 +61,9 @@ fn add_found(told: &mut String, names: &[Name], desk: &MemoryDesk, wanted: bool)
 // What differs, each word behind a blank.
 fn differences(alloc: Global, case: &Case) -> io::Result<String> {
     let mut desk = desk_of(alloc, case, None)?;
-    let status = run(alloc, &case.words, &mut desk)?;
+    let found = run(alloc, &case.words, &mut desk)?;
     let mut told = String::new(alloc);
-    if status != case.status {
+    if found != case.status {
         add(&mut told, "status")?;
     }
     if desk.said_bytes() != case.said.as_slice() {

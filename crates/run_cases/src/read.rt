@@ -166,7 +166,7 @@ fn add_to_end(
         "differs" => case.differs = format!(in alloc; " {rest}")?,
         "beginnings" => return Ok(add_beginnings(alloc, case, rest)?),
         "status" => match rest.parse::<u8>() {
-            Ok(status) => case.status = status,
+            Ok(number) => case.status = number,
             Err(_) => return Ok(false),
         },
         _ => return add_to_files(alloc, case, mark, rest, text),

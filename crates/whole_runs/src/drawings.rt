@@ -24,16 +24,16 @@ fn drawn(alloc: Global, words: &str, part: &str, job: &str) -> Result<Drawing, F
 fn a_drawing_has_its_job(rt: HostRuntime) -> Result<(), Fail> {
     let alloc = rt.alloc();
     let job = "decimals = 0\n[[view]]\nname = \"left\"\n";
-    for (words, decimals, x, views, most) in [
+    for (words, digits, x, count, most) in [
         ("p", 3, 10_000, 3, 864),
         ("--job j p", 0, 10, 1, 288),
     ] {
         let drawing = drawn(alloc, words, CUBE_TEXT, job)?;
         let part = &drawing.solid;
         let greatest = (0..part.corners()).map(|i| part.corner(i).x).max();
-        assert_eq!(rt; (drawing.job.decimals, greatest), (decimals, Some(x)));
-        assert_eq!(rt; (drawing.views.len(), drawing.bound), (views, most));
-        assert_eq!(rt; drawing.sheet.places.len(), views);
+        assert_eq!(rt; (drawing.job.decimals, greatest), (digits, Some(x)));
+        assert_eq!(rt; (drawing.views.len(), drawing.bound), (count, most));
+        assert_eq!(rt; drawing.sheet.places.len(), count);
         for view in &drawing.views {
             let visible = view.pieces.iter().all(|piece| piece.style == Style::Solid);
             assert_eq!(rt; (view.pieces.len(), visible), (4, true));
