@@ -136,18 +136,30 @@ fn a_grid_is_swept(rt: HostRuntime) -> Result<(), Fail> {
     Ok(())
 }
 
+fn the_cube(alloc: Global) -> Result<Solid, Fail> {
+    let mut meter = PairMeter { boxes: 0, pairs: 0 };
+    match checked(alloc, 11, &CUBES[..12], &mut meter) {
+        Ok(solid) => Ok(solid),
+        Err(_) => Err("no solid".into()),
+    }
+}
+
 #[test]
 fn the_cube_is_read(rt: HostRuntime) -> Result<(), Fail> {
-    let mut meter = PairMeter { boxes: 0, pairs: 0 };
-    let Ok(s) = checked(rt.alloc(), 11, &CUBES[..12], &mut meter) else {
-        return Err("no solid".into());
-    };
+    let s = the_cube(rt.alloc())?;
     assert_eq!(rt; (s.corners(), s.triangles(), s.edges()), (13, 12, 18));
     assert_eq!(rt; (s.corner(6).x, s.corner(6).y, s.corner(6).z), (10, 10, 10));
     assert_eq!(rt; s.triangle(8), Tri { a: 2, b: 3, c: 7 });
     assert_eq!(rt; s.star(6), [2, 3, 6, 7, 9].as_slice());
     assert!(rt; s.star(8).is_empty());
     assert_eq!(rt; (s.twin(0), s.twin(30)), (30, 0));
+    Ok(())
+}
+
+#[test]
+fn edges_of_the_cube_are_read(rt: HostRuntime) -> Result<(), Fail> {
+    let s = the_cube(rt.alloc())?;
+    assert_eq!(rt; s.edges(), 18);
     assert_eq!(rt;
         s.edge(0),
         Edge {
@@ -168,6 +180,13 @@ fn the_cube_is_read(rt: HostRuntime) -> Result<(), Fail> {
     );
     let spot = s.spot(1, &Frac { num: 1, den: 4 });
     assert_eq!(rt; (spot.x, spot.y, spot.z, spot.w), (10, 40, 0, 4));
+    Ok(())
+}
+
+#[test]
+fn the_cube_is_seen_from_the_front(rt: HostRuntime) -> Result<(), Fail> {
+    let s = the_cube(rt.alloc())?;
+    assert_eq!(rt; s.triangles(), 12);
     let front = Dir::new(0, -1, 0)?;
     assert_eq!(rt;
         (s.sign(&front, 4), s.sign(&front, 0), s.sign(&front, 8)),
