@@ -6,6 +6,7 @@ ghost use Rattle.line_merge.specs.Merging.{AreStrips};
 
 use exact_frac::OutOfMemory;
 use lattice::{Corner, Dir, Line, Spot, Strip, StripKind, Style, same_sight};
+use line_merge::merge;
 use std::alloc::Global;
 use std::process::Abort;
 
