@@ -25,7 +25,7 @@ struct Linear {
 
 /// The corners of a triangle.
 #[derive(Clone, Copy)]
-struct Corners {
+struct TriangleCorners {
     a: Corner,
     b: Corner,
     c: Corner,
@@ -55,12 +55,12 @@ pub fn cover_test(solid: &Solid, d: &Dir, end: End, tri: u32, meter: &mut Meter)
 }
 
 /// The corners of the triangle with this number.
-fn corners_of(solid: &Solid, tri: u32) -> Corners
+fn corners_of(solid: &Solid, tri: u32) -> TriangleCorners
     requires { tri < length (solid_part solid.now).triangles }
     ensures { (f : Face (solid_part solid.now)) → f.number ≡ tri → (f.a ≡ result.a) × (f.b ≡ result.b) × (f.c ≡ result.c) }
 {
     let t = solid.triangle(tri);
-    Corners {
+    TriangleCorners {
         a: solid.corner(t.a),
         b: solid.corner(t.b),
         c: solid.corner(t.c),
@@ -68,7 +68,7 @@ fn corners_of(solid: &Solid, tri: u32) -> Corners
 }
 
 /// The triangle is not edge-on, and strictly nearer over some stretch of the edge from `a` to `b`, from `a` on or from `b` on.
-fn hides_at(d: &Dir, a: &Corner, b: &Corner, at_b: bool, t: &Corners) -> bool
+fn hides_at(d: &Dir, a: &Corner, b: &Corner, at_b: bool, t: &TriangleCorners) -> bool
     ensures { IsTrue result ↔ ((facing_of (of_dir d.now) t.now.a t.now.b t.now.c ≢ pos 0) × HidesAt at_b (of_dir d.now) t.now.a t.now.b t.now.c a.now b.now) }
 {
     if at_b {
@@ -79,7 +79,7 @@ fn hides_at(d: &Dir, a: &Corner, b: &Corner, at_b: bool, t: &Corners) -> bool
 }
 
 /// The same over the edge from `o` to `q`, from `o` on.
-fn hides_next(d: &Dir, o: &Corner, q: &Corner, t: &Corners) -> bool
+fn hides_next(d: &Dir, o: &Corner, q: &Corner, t: &TriangleCorners) -> bool
     ensures { IsTrue result ↔ ((facing_of (of_dir d.now) t.now.a t.now.b t.now.c ≢ pos 0) × HidesFrom (of_dir d.now) t.now.a t.now.b t.now.c o.now q.now) }
 {
     let facing = orientation_of(d, &t.a, &t.b, &t.c);
@@ -90,7 +90,7 @@ fn hides_next(d: &Dir, o: &Corner, q: &Corner, t: &Corners) -> bool
             d,
             o,
             q,
-            &Corners {
+            &TriangleCorners {
                 a: t.a,
                 b: t.c,
                 c: t.b,
@@ -103,7 +103,7 @@ fn hides_next(d: &Dir, o: &Corner, q: &Corner, t: &Corners) -> bool
 
 /// The same of a triangle whose corners are seen counterclockwise: next to `o` the edge is within its three sides and behind its
 /// plane.
-fn front_hides_next(d: &Dir, o: &Corner, q: &Corner, t: &Corners) -> bool
+fn front_hides_next(d: &Dir, o: &Corner, q: &Corner, t: &TriangleCorners) -> bool
     requires { pos 0 <ℤ facing_of (of_dir d.now) t.now.a t.now.b t.now.c }
     ensures { IsTrue result ↔ HidesFrom (of_dir d.now) t.now.a t.now.b t.now.c o.now q.now }
 {
@@ -135,7 +135,7 @@ fn side(d: &Dir, k: &Corner, l: &Corner, o: &Corner, q: &Corner) -> Linear
 }
 
 /// How far the edge is behind the plane of a triangle.
-fn depth(t: &Corners, o: &Corner, q: &Corner) -> Linear
+fn depth(t: &TriangleCorners, o: &Corner, q: &Corner) -> Linear
     ensures here { result.here ≡ depth_of t.now.a t.now.b t.now.c (point_of o.now) }
     ensures there { result.there ≡ depth_of t.now.a t.now.b t.now.c (point_of q.now) }
 {

@@ -1,33 +1,25 @@
 -- Steps that a search over the corners of drawn edges gives are steps over the drawn edges.
-use Rattle.std.proofs.Common.{◌≡◌, ◌≢◌, ℕ, ◌+◌, ◌*◌, ◌/◌, ◌<◌, ◌≤◌, ◌^◌, ◌⊎◌, inl, inr, Bool, true, false, List, [], ◌∷◌, ◌++◌, All, AllPairs, Contains, Option, Some, None, length, map, get_or, slice_get, refl, sym, subst, ap, ◌∙◌, arith, length-append}
+use Rattle.std.proofs.Common.{◌≡◌, ◌≢◌, ℕ, ◌+◌, ◌<◌, ◌≤◌, Bool, true, false, List, [], ◌∷◌, All, AllPairs, Contains, Option, Some, None, length, map, get_or, slice_get, refl, sym, subst, ◌∙◌, arith}
 use Rattle.std.specs.Prelude.{IsPermutation}
 use Rattle.std.specs.List.{range_with_len}
 use Rattle.std.specs.List.Sorted.{IsStrictlyIncreasing}
-use Rattle.std.proofs.Math.ListN.{get_or-append}
-use Rattle.std.proofs.Math.Seq.{get_or-append_seam}
-use Rattle.std.proofs.lemmas.Bool.{cases_lt}
 use Rattle.std.proofs.lemmas.List.{length-map, get_or-map}
-use Rattle.std.proofs.lemmas.List.Elements.{Contains-get_or}
 use Rattle.std.proofs.lemmas.List.FromFn.{length-range_with_len, get_or-range_with_len}
-use Rattle.std.proofs.lemmas.List.Kept.{AllPairs-from_increasing}
-use Rattle.std.proofs.lemmas.Option.{slice_get-get_or, slice_get_within, get_or_from_slice_get, same_Some}
+use Rattle.std.proofs.lemmas.Option.{slice_get-get_or}
 use Rattle.geometry.specs.Parts.{Edge, IsNumbered}
-use Rattle.geometry.specs.Runs.{ShareACorner, Leads, start, step, AreRuns}
+use Rattle.geometry.specs.Runs.{AreRuns}
 use Rattle.counting.specs.Turns.{number_at}
-use Rattle.solid_mesh.specs.declared.solid.Edge as given
-use Rattle.solid_mesh.specs.Solids.{HasNumbers}
-use Rattle.cross_find.specs.Sights.{SightState, IsSeen}
+use Rattle.cross_find.specs.Sights.{SightState}
 use Rattle.edge_pick.specs.declared.Picked.{Picked}
 use Rattle.span_count.specs.Bounds.{IsRunCount}
-use Rattle.span_count.specs.Finders.{IsPickedIn}
 use Rattle.edge_pick.specs.declared.order.EdgeCorners.{EdgeCorners}
 use Rattle.edge_pick.specs.declared.order.DrawnEnd.{DrawnEnd}
 use Rattle.edge_pick.specs.declared.order.Step.{Step}
 use Rattle.span_count.specs.inner.Orders.{AreAtOneCorner, ComesFrom, start_of, starts_of, AreSteps}
-use Rattle.edge_pick.specs.Orders.{no_corners, corner_at, corner_of, Meet, Reaches, begin, further, places_of, starts_in, IsFrom, AreWalked}
+use Rattle.edge_pick.specs.Orders.{corner_at, corner_of, Reaches, places_of, starts_in, IsFrom, AreWalked}
 use Rattle.edge_pick.specs.inner.Numberings.{AreCornersOf}
 use Rattle.edge_pick.proofs.EdgePlaces.{number_is, reaches_of}
-use Rattle.edge_pick.proofs.Lists.{few_rising, few_of}
+use Rattle.edge_pick.proofs.Lists.{few_of}
 
 -- ---- how many begin
 pub starts_count : (steps : List Step) → starts_of steps ≡ length (starts_in steps)

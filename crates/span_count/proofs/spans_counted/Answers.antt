@@ -1,9 +1,7 @@
-use Rattle.std.proofs.Common.{◌≡◌, ℕ, false, List, length, get_or, refl, sym, subst, ap, ◌∙◌, arith}
-use Rattle.std.specs.Prelude.{None, Some, slice_get}
+use Rattle.std.proofs.Common.{◌≡◌, ℕ, List, length, get_or, refl, sym, subst, ap, ◌∙◌, arith}
+use Rattle.std.specs.Prelude.{Some, slice_get}
 use Rattle.std.proofs.lemmas.Option.{slice_get-get_or, slice_get_read}
-use Rattle.span_count.specs.inner.Orders.{AreSteps}
 use Rattle.span_count.specs.inner.Tours.{IsReady}
-use Rattle.edge_pick.specs.declared.order.Step.{Step}
 use Rattle.span_count.specs.declared.tour.Ends.{Ends}
 use Rattle.span_count.proofs.Tours.{no_step, step_at, same_steps, steps_none, seen_after, picked_after, finder_after, same_part, tests_of, step_place, step_ready, step_room, walk_tested, steps_put, all_entries, for_each_bound}
 use Rattle.span_count.proofs.spans_counted.Goals as goal

@@ -1,5 +1,5 @@
 -- The order in which drawn edges are walked.
-use Rattle.std.specs.Prelude.{◌≡◌, ℕ, ◌+◌, ◌<◌, ◌≤◌, List, [], ◌∷◌, Option, Some, None, map, length, slice_get, IsPermutation}
+use Rattle.std.specs.Prelude.{◌≡◌, ℕ, ◌+◌, ◌≤◌, List, [], ◌∷◌, Option, Some, None, map, length, slice_get, IsPermutation}
 use Rattle.std.specs.List.{range_with_len}
 use Rattle.geometry.specs.Parts.{Edge, IsNumbered}
 use Rattle.counting.specs.Turns.{number_at}

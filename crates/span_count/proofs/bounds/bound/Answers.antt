@@ -1,4 +1,4 @@
-use Rattle.std.proofs.Common.{ℕ, ◌+◌, ◌*◌, ◌<◌, ◌≤◌, ◌^◌, List, length, ap, arith}
+use Rattle.std.proofs.Common.{ℕ, ◌+◌, ◌*◌, ◌<◌, ◌≤◌, ◌^◌, length, ap, arith}
 use Rattle.std.proofs.lemmas.Nat.{mul-le}
 use Rattle.solid_mesh.proofs.Facts.{few_triangles}
 use Rattle.edge_pick.proofs.PickedSizes.{few_drawn, few_outlines}
