@@ -1,4 +1,4 @@
--- Intervals of marks along one line, and the cuts at places of lines.
+-- Intervals of ends along one line, and the cuts at places of lines.
 use Rattle.std.proofs.Common.{◌≡◌, ℕ, ◌⊎◌, inl, inr, Bool, true, false, true≢false, List, Contains, refl, sym, ap, subst, ◌∙◌}
 use Rattle.std.specs.Prelude.{◌*ℤ◌, ◌+ℤ◌}
 use Rattle.std.specs.Cmp.{nat_cmp_is, nat_cmp_total}
@@ -18,43 +18,43 @@ use Rattle.lattice.specs.Points.{Point, IsPoint, of_spot, across_of, upward_of, 
 use Rattle.lattice.specs.Lines.{IsOnLine, IsSameLine, AreStripEnds}
 use Rattle.geometry.specs.Pieces.{LiesBetween, IsBefore}
 use Rattle.geometry.proofs.OnLines.{on_line_between}
-use Rattle.line_merge.specs.declared.marks.Mark.{Mark}
-use Rattle.line_merge.specs.inner.Marks.{seen_order, mark_order, IsMark}
+use Rattle.line_merge.specs.declared.ends.SeenEnd.{SeenEnd}
+use Rattle.line_merge.specs.inner.Ends.{seen_order, end_order, IsSeenEnd}
 use Rattle.line_merge.specs.Merging.{AreStrips}
 use Rattle.line_merge.specs.inner.Numbering.{IsNumbering}
 use Rattle.integers.proofs.Chains.{chained, chained_total, chained_ratios, before_less}
 use Rattle.line_merge.proofs.Sights.{view_order, before, order_of_before, order_back, sight}
-use Rattle.line_merge.proofs.MarkOrders.{order_on_line}
+use Rattle.line_merge.proofs.EndOrders.{order_on_line}
 use Rattle.line_merge.proofs.Between.{between, seen_between}
 
 -- ---- cuts
 module _ (d : Triple) (n : ℕ) (p : Point) where
-  -- the order of a mark and a point, as they are seen
-  abbrev pub point_order : Mark → Ordering
+  -- the order of an end and a point, as they are seen
+  abbrev pub point_order : SeenEnd → Ordering
   point_order t = ordering_then (int_cmp (t.across.num *ℤ p.w) (across_of d p *ℤ t.across.den)) (int_cmp (t.upward.num *ℤ p.w) (upward_of d p *ℤ t.upward.den))
 
-  -- the mark is before the point of the line with this number
-  abbrev pub cut_at : Mark → Bool
+  -- the end is before the point of the line with this number
+  abbrev pub cut_at : SeenEnd → Bool
   cut_at t = is_lt (ordering_then (nat_cmp t.line n) (point_order t))
 
-  pub is_cut : IsPoint p → IsCut mark_order cut_at
+  pub is_cut : IsPoint p → IsCut end_order cut_at
   is_cut positive x y h k =
-      before_less (mark_order x y) (ordering_then (nat_cmp y.line n) (point_order y)) (ordering_then (nat_cmp x.line n) (point_order x))
+      before_less (end_order x y) (ordering_then (nat_cmp y.line n) (point_order y)) (ordering_then (nat_cmp x.line n) (point_order x))
       (chained _ _ _ _ _ _ (chained_total nat_cmp_total x.line y.line n)
       (chained _ _ _ _ _ _
       (chained_ratios x.across.num x.across.den y.across.num y.across.den (across_of d p) p.w x.across.positive y.across.positive positive)
       (chained_ratios x.upward.num x.upward.den y.upward.num y.upward.den (upward_of d p) p.w x.upward.positive y.upward.positive positive)))
       h k
 
-  pub point_order_is : (t : Mark) → IsMark d t → point_order t ≡ view_order d (of_spot t.spot) p
+  pub point_order_is : (t : SeenEnd) → IsSeenEnd d t → point_order t ≡ view_order d (of_spot t.spot) p
   point_order_is t h =
       λ i. ordering_then (int_cmp (h.across.num i *ℤ p.w) (across_of d p *ℤ h.across.den i)) (int_cmp (h.upward.num i *ℤ p.w) (upward_of d p *ℤ h.upward.den i))
 
--- the number of the mark's line is before this one
-abbrev pub line_cut : ℕ → Mark → Bool
+-- the number of the line of the end is before this one
+abbrev pub line_cut : ℕ → SeenEnd → Bool
 line_cut n t = is_lt (nat_cmp t.line n)
 
-pub is_line_cut : (n : ℕ) → IsCut mark_order (line_cut n)
+pub is_line_cut : (n : ℕ) → IsCut end_order (line_cut n)
 is_line_cut n x y h k =
     before_less (nat_cmp x.line y.line) (nat_cmp y.line n) (nat_cmp x.line n) (chained_total nat_cmp_total x.line y.line n) h
     (λ e. k (ap (λ (o : Ordering). ordering_then o (seen_order x y)) e))
@@ -80,15 +80,15 @@ pub on_line_of : (d : Triple) (strips : List Strip) (number : Line → ℕ) (are
     → (x : Strip) → Contains strips x → n ≡ number x.line → IsOnLine d x.line p
 on_line_of d strips number are n p h x there e = on_same d x.line h.strip.line p ((are.numbering x h.strip there h.listed).0 (sym e ∙ h.line)) h.on
 
--- the mark of an end of one of the strips
-pub record IsEnd (d : Triple) (strips : List Strip) (number : Line → ℕ) (t : Mark) : Type 0 where
+-- an end of one of the strips, as it is seen
+pub record IsEnd (d : Triple) (strips : List Strip) (number : Line → ℕ) (t : SeenEnd) : Type 0 where
   pub strip : Strip
   pub listed : Contains strips strip
-  pub mark : IsMark d t
+  pub seen : IsSeenEnd d t
   pub line : t.line ≡ number strip.line
   pub spot : (t.spot ≡ strip.a) ⊎ (t.spot ≡ strip.b)
 
-module _ (d : Triple) (strips : List Strip) (number : Line → ℕ) (are : AreNumberedStrips d strips number) (t : Mark) (h : IsEnd d strips number t) where
+module _ (d : Triple) (strips : List Strip) (number : Line → ℕ) (are : AreNumberedStrips d strips number) (t : SeenEnd) (h : IsEnd d strips number t) where
   pub end_on_line : IsOnNumbered d strips number t.line (of_spot t.spot)
   end_on_line = record { strip = h.strip; listed = h.listed; line = h.line; on = by h.spot }
     where
@@ -103,7 +103,7 @@ module _ (d : Triple) (strips : List Strip) (number : Line → ℕ) (are : AreNu
 abbrev pub IsOffEnds : Triple → List Strip → Point → Type 0
 IsOffEnds d strips p = All (λ x. (¬ OnOneSight d (of_spot x.a) p) × (¬ OnOneSight d (of_spot x.b) p)) strips
 
-pub end_off : (d : Triple) (strips : List Strip) (number : Line → ℕ) (p : Point) → IsOffEnds d strips p → (t : Mark) → IsEnd d strips number t → ¬ OnOneSight d (of_spot t.spot) p
+pub end_off : (d : Triple) (strips : List Strip) (number : Line → ℕ) (p : Point) → IsOffEnds d strips p → (t : SeenEnd) → IsEnd d strips number t → ¬ OnOneSight d (of_spot t.spot) p
 end_off d strips number p off t h = by h.spot
   where
     none : (¬ OnOneSight d (of_spot h.strip.a) p) × (¬ OnOneSight d (of_spot h.strip.b) p)
@@ -115,7 +115,7 @@ end_off d strips number p off t h = by h.spot
 
 -- ---- courses
 -- an interval of one line, from an end of a strip to a later one
-pub record IsCourse (d : Triple) (strips : List Strip) (number : Line → ℕ) (u : Interval Mark) : Type 0 where
+pub record IsCourse (d : Triple) (strips : List Strip) (number : Line → ℕ) (u : Interval SeenEnd) : Type 0 where
   pub from : IsEnd d strips number u.from
   pub to : IsEnd d strips number u.to
   pub one_line : u.from.line ≡ u.to.line
@@ -131,7 +131,7 @@ back_less Less h k = cc
 back_less Equal h k = absurd (k refl)
 back_less Greater h k = refl
 
-module _ (d : Triple) (strips : List Strip) (number : Line → ℕ) (are : AreNumberedStrips d strips number) (u : Interval Mark) (h : IsCourse d strips number u) where
+module _ (d : Triple) (strips : List Strip) (number : Line → ℕ) (are : AreNumberedStrips d strips number) (u : Interval SeenEnd) (h : IsCourse d strips number u) where
   -- the line of its first end
   abbrev pub line_of : Line
   line_of = h.from.strip.line
@@ -159,13 +159,13 @@ module _ (d : Triple) (strips : List Strip) (number : Line → ℕ) (are : AreNu
     crossed n (is, not) = by (nat_cmp u.from.line n) refl is (ap (λ (o : Ordering). is_lt (ordering_then o (point_order d n p u.to))) (one_order n) ∙ not)
       where
         after : is_lt (point_order d n p u.from) ≡ true → IsBefore d (of_spot u.from.spot) p
-        after e = before d (of_spot u.from.spot) p (sym (point_order_is d n p u.from h.from.mark) ∙ less_of_test (point_order d n p u.from) e)
+        after e = before d (of_spot u.from.spot) p (sym (point_order_is d n p u.from h.from.seen) ∙ less_of_test (point_order d n p u.from) e)
 
         earlier : is_lt (point_order d n p u.to) ≡ false → IsBefore d p (of_spot u.to.spot)
         earlier e =
             before d p (of_spot u.to.spot)
             (order_back d p (of_spot u.to.spot)
-            ∙ back_less (view_order d (of_spot u.to.spot) p) (sym (ap is_lt (point_order_is d n p u.to h.to.mark)) ∙ e)
+            ∙ back_less (view_order d (of_spot u.to.spot) p) (sym (ap is_lt (point_order_is d n p u.to h.to.seen)) ∙ e)
             (λ k. end_off d strips number p off u.to h.to (sight d (of_spot u.to.spot) p k)))
 
         by : (r : Ordering) → nat_cmp u.from.line n ≡ r → is_lt (ordering_then r (point_order d n p u.from)) ≡ true → is_lt (ordering_then r (point_order d n p u.to)) ≡ false
@@ -177,9 +177,9 @@ module _ (d : Triple) (strips : List Strip) (number : Line → ℕ) (are : AreNu
     crosses : (n : ℕ) → u.from.line ≡ n → IsBefore d (of_spot u.from.spot) p → IsBefore d p (of_spot u.to.spot) → Crosses (cut_at d n p) u
     crosses n same after earlier = (
       ap (λ (o : Ordering). is_lt (ordering_then o (point_order d n p u.from))) (sym (nat_cmp_is u.from.line n Equal same))
-          ∙ ap is_lt (point_order_is d n p u.from h.from.mark ∙ order_of_before d (of_spot u.from.spot) p after),
+          ∙ ap is_lt (point_order_is d n p u.from h.from.seen ∙ order_of_before d (of_spot u.from.spot) p after),
       ap (λ (o : Ordering). is_lt (ordering_then o (point_order d n p u.to))) (sym (one_order n) ∙ sym (nat_cmp_is u.from.line n Equal same))
-          ∙ ap is_lt (point_order_is d n p u.to h.to.mark ∙ order_back d (of_spot u.to.spot) p ∙ ap ordering_reverse (order_of_before d p (of_spot u.to.spot) earlier)),
+          ∙ ap is_lt (point_order_is d n p u.to h.to.seen ∙ order_back d (of_spot u.to.spot) p ∙ ap ordering_reverse (order_of_before d p (of_spot u.to.spot) earlier)),
     )
 
     -- a point of the line whose cut goes through the course lies on it
@@ -197,7 +197,7 @@ module _ (d : Triple) (strips : List Strip) (number : Line → ℕ) (are : AreNu
     )
 
 -- an interval through which a cut between lines goes only if it goes through a course is on one line
-pub one_line_of : (d : Triple) (strips : List Strip) (number : Line → ℕ) (are : AreNumberedStrips d strips number) (xs : List (Interval Mark)) → All (IsCourse d strips number) xs → (u : Interval Mark) → mark_order u.from u.to ≡ Less
+pub one_line_of : (d : Triple) (strips : List Strip) (number : Line → ℕ) (are : AreNumberedStrips d strips number) (xs : List (Interval SeenEnd)) → All (IsCourse d strips number) xs → (u : Interval SeenEnd) → end_order u.from u.to ≡ Less
     → (Crosses (line_cut u.to.line) u → CrossesAny (line_cut u.to.line) xs) → u.from.line ≡ u.to.line
 one_line_of d strips number are xs courses u proper through = by (nat_cmp u.from.line u.to.line) refl proper
   where
@@ -209,11 +209,11 @@ one_line_of d strips number are xs courses u proper through = by (nat_cmp u.from
     by Equal e p = exact_unsigned u.from.line u.to.line e
     by Greater e p = cc
 
-pub course_of : (d : Triple) (strips : List Strip) (number : Line → ℕ) (u : Interval Mark) → IsEnd d strips number u.from → IsEnd d strips number u.to → mark_order u.from u.to ≡ Less → u.from.line ≡ u.to.line
+pub course_of : (d : Triple) (strips : List Strip) (number : Line → ℕ) (u : Interval SeenEnd) → IsEnd d strips number u.from → IsEnd d strips number u.to → end_order u.from u.to ≡ Less → u.from.line ≡ u.to.line
     → IsCourse d strips number u
 course_of d strips number u from to proper same = record {
   from = from;
   to = to;
   one_line = same;
-  before = before d (of_spot u.from.spot) (of_spot u.to.spot) (sym (order_on_line d u.from u.to from.mark to.mark same) ∙ proper);
+  before = before d (of_spot u.from.spot) (of_spot u.to.spot) (sym (order_on_line d u.from u.to from.seen to.seen same) ∙ proper);
 }

@@ -14,12 +14,12 @@ use Rattle.lattice.proofs.OnLines.{on_line_of_sight}
 use Rattle.lattice.proofs.SameLines.{same_line, same_of_parallel}
 use Rattle.geometry.specs.Pieces.{IsBefore, rank_of, StandsBefore, ArePiecesParallel, ShareAnEnd}
 use Rattle.geometry.proofs.Sights.{sight_back}
-use Rattle.line_merge.specs.declared.marks.Mark.{Mark}
+use Rattle.line_merge.specs.declared.ends.SeenEnd.{SeenEnd}
 use Rattle.line_merge.specs.declared.stretches.Stretch.{Stretch}
-use Rattle.line_merge.specs.inner.Marks.{seen_order, mark_order, IsMark}
+use Rattle.line_merge.specs.inner.Ends.{seen_order, end_order, IsSeenEnd}
 use Rattle.line_merge.specs.inner.Stretches.{stretch_order, piece_of}
 use Rattle.line_merge.proofs.Sights.{before, sight, not_seen, before_on}
-use Rattle.line_merge.proofs.MarkOrders.{seen_is, order_on_line}
+use Rattle.line_merge.proofs.EndOrders.{seen_is, order_on_line}
 use Rattle.line_merge.proofs.Courses.{AreNumberedStrips, IsCourse, first_on, second_on}
 
 -- ---- the order
@@ -55,7 +55,7 @@ rank_equal Chain Solid o h = cc
 rank_equal Chain Dashed o h = cc
 rank_equal Chain Chain o h = (refl, h)
 
-module _ (d : Triple) (x y : Stretch) (from_x : IsMark d x.from) (to_x : IsMark d x.to) (from_y : IsMark d y.from) (to_y : IsMark d y.to) where
+module _ (d : Triple) (x y : Stretch) (from_x : IsSeenEnd d x.from) (to_x : IsSeenEnd d x.to) (from_y : IsSeenEnd d y.from) (to_y : IsSeenEnd d y.to) where
   abbrev tails : Ordering
   tails = ordering_then (seen_order x.from y.from) (seen_order x.to y.to)
 
@@ -87,7 +87,7 @@ module _ (d : Triple) (x y : Stretch) (from_x : IsMark d x.from) (to_x : IsMark 
 -- ---- two stretches
 -- the one ends before the other begins
 abbrev pub AreClear : Stretch → Stretch → Type 0
-AreClear x y = (mark_order x.to y.from ≡ Less) ⊎ (mark_order y.to x.from ≡ Less)
+AreClear x y = (end_order x.to y.from ≡ Less) ⊎ (end_order y.to x.from ≡ Less)
 
 -- they do so if they are of one style
 abbrev pub AreSeparate : Stretch → Stretch → Type 0
@@ -106,18 +106,18 @@ IsAlong d strips number x = IsCourse d strips number (record { from = x.from; to
 
 module _ (d : Triple) (strips : List Strip) (number : Line → ℕ) (are : AreNumberedStrips d strips number) (x y : Stretch) (along_x : IsAlong d strips number x) (along_y : IsAlong d strips number y) where
   -- of one line, and the first ends before the second begins: so each end of the first is before each of the second
-  all_before : x.from.line ≡ y.from.line → mark_order x.to y.from ≡ Less → ShareAnEnd d (piece_of x) (piece_of y) → ⊥
+  all_before : x.from.line ≡ y.from.line → end_order x.to y.from ≡ Less → ShareAnEnd d (piece_of x) (piece_of y) → ⊥
   all_before same less = by
     where
       middle : IsBefore d (of_spot x.to.spot) (of_spot y.from.spot)
       middle =
           before d (of_spot x.to.spot) (of_spot y.from.spot)
-          (sym (order_on_line d x.to y.from along_x.to.mark along_y.from.mark (sym along_x.one_line ∙ same)) ∙ less)
+          (sym (order_on_line d x.to y.from along_x.to.seen along_y.from.seen (sym along_x.one_line ∙ same)) ∙ less)
 
       start : IsBefore d (of_spot x.from.spot) (of_spot y.from.spot)
       start = before_on d (of_spot x.from.spot) (of_spot x.to.spot) (of_spot y.from.spot) x.from.spot.positive x.to.spot.positive y.from.spot.positive along_x.before middle
 
-      onward : (s : Mark) → IsBefore d (of_spot s.spot) (of_spot y.from.spot) → IsBefore d (of_spot s.spot) (of_spot y.to.spot)
+      onward : (s : SeenEnd) → IsBefore d (of_spot s.spot) (of_spot y.from.spot) → IsBefore d (of_spot s.spot) (of_spot y.to.spot)
       onward s h = before_on d (of_spot s.spot) (of_spot y.from.spot) (of_spot y.to.spot) s.spot.positive y.from.spot.positive y.to.spot.positive h along_y.before
 
       by : ShareAnEnd d (piece_of x) (piece_of y) → ⊥
@@ -164,7 +164,7 @@ module _ (d : Triple) (strips : List Strip) (number : Line → ℕ) (are : AreNu
   apart_x = not_seen d (of_spot x.from.spot) (of_spot x.to.spot) along_x.before
 
   -- parallel stretches with a shared end are of one line
-  shared_line : ArePiecesParallel d (piece_of x) (piece_of y) → (s t : Mark) → IsOnLine d line_x (of_spot s.spot) → IsOnLine d line_y (of_spot t.spot)
+  shared_line : ArePiecesParallel d (piece_of x) (piece_of y) → (s t : SeenEnd) → IsOnLine d line_x (of_spot s.spot) → IsOnLine d line_y (of_spot t.spot)
       → OnOneSight d (of_spot s.spot) (of_spot t.spot) → x.from.line ≡ y.from.line
   shared_line parallel s t on_s on_t k =
       one_number
@@ -198,8 +198,8 @@ module _ (d : Triple) (strips : List Strip) (number : Line → ℕ) (are : AreNu
   stands_first separate h = by (stretch_order x y) refl
     where
       by : (r : Ordering) → stretch_order x y ≡ r → StandsBefore d (piece_of x) (piece_of y)
-      by Less e = stands d x y along_x.from.mark along_x.to.mark along_y.from.mark along_y.to.mark e
+      by Less e = stands d x y along_x.from.seen along_x.to.seen along_y.from.seen along_y.to.seen e
       by Equal e =
-          let (same, k, l) = stands_level d x y along_x.from.mark along_x.to.mark along_y.from.mark along_y.to.mark e in
+          let (same, k, l) = stands_level d x y along_x.from.seen along_x.to.seen along_y.from.seen along_y.to.seen e in
           absurd (not_level (separate same) k l)
       by Greater e = absurd (h e)

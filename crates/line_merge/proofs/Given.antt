@@ -12,9 +12,9 @@ use Rattle.lattice.specs.Points.{Point, IsPoint, OnOneSight}
 use Rattle.lattice.specs.Lines.{AreStripEnds}
 use Rattle.geometry.specs.Pieces.{LiesBetween}
 use Rattle.geometry.proofs.Shares.{sum_turned}
-use Rattle.line_merge.specs.declared.marks.Mark.{Mark}
+use Rattle.line_merge.specs.declared.ends.SeenEnd.{SeenEnd}
 use Rattle.line_merge.specs.declared.numbering.Numbered.{Numbered}
-use Rattle.line_merge.specs.inner.Marks.{mark_order, IsMarkOf, IsIntervalOf}
+use Rattle.line_merge.specs.inner.Ends.{end_order, IsSeenEndOf, IsIntervalOf}
 use Rattle.line_merge.specs.Merging.{AreStrips, LiesOnStrip}
 use Rattle.line_merge.specs.inner.Numbering.{numbered_by}
 use Rattle.line_merge.proofs.Courses.{cut_at, line_cut, is_line_cut, AreNumberedStrips, IsOnNumbered, IsEnd, IsOffEnds, IsCourse, crossed, lies, meets, one_line_of, course_of}
@@ -25,22 +25,22 @@ use Rattle.line_merge.proofs.Zips.{zip_left, zip_right, zip_map}
 between_turned : (d : Triple) (a b : Spot) (p : Point) → LiesBetween d a b p → LiesBetween d b a p
 between_turned d a b p (i, j, some, seen) = (j, i, omega arith, subst (λ (q : Point). OnOneSight d q p) (sum_turned a b i j) seen)
 
-module _ (d : Triple) (strips : List Strip) (number : Line → ℕ) (x : Strip) (there : Contains strips x) (i : Interval Mark) (h : IsIntervalOf d (numbered_by number x) i) where
+module _ (d : Triple) (strips : List Strip) (number : Line → ℕ) (x : Strip) (there : Contains strips x) (i : Interval SeenEnd) (h : IsIntervalOf d (numbered_by number x) i) where
   pub strip_course : IsCourse d strips number i
   strip_course = by h.ends
     where
-      by : (IsMarkOf d (number x.line) x.a i.from × IsMarkOf d (number x.line) x.b i.to) ⊎ (IsMarkOf d (number x.line) x.b i.from × IsMarkOf d (number x.line) x.a i.to) → IsCourse d strips number i
+      by : (IsSeenEndOf d (number x.line) x.a i.from × IsSeenEndOf d (number x.line) x.b i.to) ⊎ (IsSeenEndOf d (number x.line) x.b i.from × IsSeenEndOf d (number x.line) x.a i.to) → IsCourse d strips number i
       by (inl (k, l)) =
-          course_of d strips number i (record { strip = x; listed = there; mark = k.mark; line = k.line; spot = inl k.spot }) (record { strip = x; listed = there; mark = l.mark; line = l.line; spot = inr l.spot })
+          course_of d strips number i (record { strip = x; listed = there; seen = k.seen; line = k.line; spot = inl k.spot }) (record { strip = x; listed = there; seen = l.seen; line = l.line; spot = inr l.spot })
           h.proper (k.line ∙ sym l.line)
       by (inr (k, l)) =
-          course_of d strips number i (record { strip = x; listed = there; mark = k.mark; line = k.line; spot = inr k.spot }) (record { strip = x; listed = there; mark = l.mark; line = l.line; spot = inl l.spot })
+          course_of d strips number i (record { strip = x; listed = there; seen = k.seen; line = k.line; spot = inr k.spot }) (record { strip = x; listed = there; seen = l.seen; line = l.line; spot = inl l.spot })
           h.proper (k.line ∙ sym l.line)
 
   strip_line : i.from.line ≡ number x.line
   strip_line = by h.ends
     where
-      by : (IsMarkOf d (number x.line) x.a i.from × IsMarkOf d (number x.line) x.b i.to) ⊎ (IsMarkOf d (number x.line) x.b i.from × IsMarkOf d (number x.line) x.a i.to) → i.from.line ≡ number x.line
+      by : (IsSeenEndOf d (number x.line) x.a i.from × IsSeenEndOf d (number x.line) x.b i.to) ⊎ (IsSeenEndOf d (number x.line) x.b i.from × IsSeenEndOf d (number x.line) x.a i.to) → i.from.line ≡ number x.line
       by (inl (k, l)) = k.line
       by (inr (k, l)) = k.line
 
@@ -51,21 +51,21 @@ module _ (d : Triple) (strips : List Strip) (number : Line → ℕ) (x : Strip) 
     interval_of_strip : LiesOnStrip d x p → LiesBetween d i.from.spot i.to.spot p
     interval_of_strip on = by h.ends
       where
-        by : (IsMarkOf d (number x.line) x.a i.from × IsMarkOf d (number x.line) x.b i.to) ⊎ (IsMarkOf d (number x.line) x.b i.from × IsMarkOf d (number x.line) x.a i.to) → LiesBetween d i.from.spot i.to.spot p
+        by : (IsSeenEndOf d (number x.line) x.a i.from × IsSeenEndOf d (number x.line) x.b i.to) ⊎ (IsSeenEndOf d (number x.line) x.b i.from × IsSeenEndOf d (number x.line) x.a i.to) → LiesBetween d i.from.spot i.to.spot p
         by (inl (k, l)) = moved x.a x.b i.from.spot i.to.spot (sym k.spot) (sym l.spot) on
         by (inr (k, l)) = moved x.b x.a i.from.spot i.to.spot (sym k.spot) (sym l.spot) (between_turned d x.a x.b p on)
 
     strip_of_interval : LiesBetween d i.from.spot i.to.spot p → LiesOnStrip d x p
     strip_of_interval on = by h.ends
       where
-        by : (IsMarkOf d (number x.line) x.a i.from × IsMarkOf d (number x.line) x.b i.to) ⊎ (IsMarkOf d (number x.line) x.b i.from × IsMarkOf d (number x.line) x.a i.to) → LiesOnStrip d x p
+        by : (IsSeenEndOf d (number x.line) x.a i.from × IsSeenEndOf d (number x.line) x.b i.to) ⊎ (IsSeenEndOf d (number x.line) x.b i.from × IsSeenEndOf d (number x.line) x.a i.to) → LiesOnStrip d x p
         by (inl (k, l)) = moved i.from.spot i.to.spot x.a x.b k.spot l.spot on
         by (inr (k, l)) = between_turned d x.b x.a p (moved i.from.spot i.to.spot x.b x.a k.spot l.spot on)
 
 -- ---- the strips of a list, which are among all strips
 module _ (d : Triple) (strips : List Strip) (number : Line → ℕ) (are : AreNumberedStrips d strips number) (given : List Strip) (among : (x : Strip) → Contains given x → Contains strips x)
-    (xs : List (Interval Mark)) (each : AllZip (λ (x : Strip) (i : Interval Mark). IsIntervalOf d (numbered_by number x) i) given xs) where
-  abbrev Belongs : Strip → Interval Mark → Type 0
+    (xs : List (Interval SeenEnd)) (each : AllZip (λ (x : Strip) (i : Interval SeenEnd). IsIntervalOf d (numbered_by number x) i) given xs) where
+  abbrev Belongs : Strip → Interval SeenEnd → Type 0
   Belongs x i = IsIntervalOf d (numbered_by number x) i
 
   pub given_courses : All (IsCourse d strips number) xs
@@ -96,7 +96,7 @@ module _ (d : Triple) (strips : List Strip) (number : Line → ℕ) (are : AreNu
         )
 
 -- ---- united, and what is left
-end_of : (d : Triple) (strips : List Strip) (number : Line → ℕ) (xs : List (Interval Mark)) → All (IsCourse d strips number) xs → (t : Mark) → IsEndOf xs t → IsEnd d strips number t
+end_of : (d : Triple) (strips : List Strip) (number : Line → ℕ) (xs : List (Interval SeenEnd)) → All (IsCourse d strips number) xs → (t : SeenEnd) → IsEndOf xs t → IsEnd d strips number t
 end_of d strips number xs courses t (k, x, within, at, is) = by is
   where
     course : IsCourse d strips number x
@@ -106,11 +106,11 @@ end_of d strips number xs courses t (k, x, within, at, is) = by is
     by (inl e) = subst (IsEnd d strips number) e course.from
     by (inr e) = subst (IsEnd d strips number) e course.to
 
-any_at : (us : List (Interval Mark)) (P : Interval Mark → Type 0) (k : ℕ) (e : Interval Mark) → k < length us → P (get_or us k e) → Any P us
+any_at : (us : List (Interval SeenEnd)) (P : Interval SeenEnd → Type 0) (k : ℕ) (e : Interval SeenEnd) → k < length us → P (get_or us k e) → Any P us
 any_at us P k e less h = let there = Contains-get_or us k e less in (there.0, get_or us k e, there.1, there.2, h)
 
 module _ (d : Triple) (strips : List Strip) (number : Line → ℕ) (are : AreNumberedStrips d strips number) where
-  pub united_courses : (xs us : List (Interval Mark)) → AreUnited mark_order xs us → All (IsCourse d strips number) xs → All (IsCourse d strips number) us
+  pub united_courses : (xs us : List (Interval SeenEnd)) → AreUnited end_order xs us → All (IsCourse d strips number) xs → All (IsCourse d strips number) us
   united_courses xs us united courses k e less =
       let u = get_or us k e in
       let ends = united.ends k e less in
@@ -119,7 +119,7 @@ module _ (d : Triple) (strips : List Strip) (number : Line → ℕ) (are : AreNu
       (one_line_of d strips number are xs courses u proper
       (λ c. (united.within (line_cut u.to.line) (is_line_cut u.to.line)).0 (any_at us (Crosses (line_cut u.to.line)) k e less c)))
 
-  pub rest_courses : (whole parts rs : List (Interval Mark)) → AreRest mark_order whole parts rs → All (IsCourse d strips number) whole → All (IsCourse d strips number) parts → All (IsCourse d strips number) rs
+  pub rest_courses : (whole parts rs : List (Interval SeenEnd)) → AreRest end_order whole parts rs → All (IsCourse d strips number) whole → All (IsCourse d strips number) parts → All (IsCourse d strips number) rs
   rest_courses whole parts rs left courses others k e less =
       let u = get_or rs k e in
       let ends = left.ends k e less in
@@ -128,23 +128,23 @@ module _ (d : Triple) (strips : List Strip) (number : Line → ℕ) (are : AreNu
       (one_line_of d strips number are whole courses u proper
       (λ c. ((left.within (line_cut u.to.line) (is_line_cut u.to.line)).0 (any_at rs (Crosses (line_cut u.to.line)) k e less c)).0))
     where
-      either : (t : Mark) → IsEndOf whole t ⊎ IsEndOf parts t → IsEnd d strips number t
+      either : (t : SeenEnd) → IsEndOf whole t ⊎ IsEndOf parts t → IsEnd d strips number t
       either t (inl h) = end_of d strips number whole courses t h
       either t (inr h) = end_of d strips number parts others t h
 
-  module _ (us : List (Interval Mark)) (courses : All (IsCourse d strips number) us) (p : Point) (positive : IsPoint p) (off : IsOffEnds d strips p) where
+  module _ (us : List (Interval SeenEnd)) (courses : All (IsCourse d strips number) us) (p : Point) (positive : IsPoint p) (off : IsOffEnds d strips p) where
     -- where the cut at a point of a line goes through one of them, the point lies on it
-    pub lies_of_any : (n : ℕ) → IsOnNumbered d strips number n p → CrossesAny (cut_at d n p) us → (u : Interval Mark) × Contains us u × LiesBetween d u.from.spot u.to.spot p
+    pub lies_of_any : (n : ℕ) → IsOnNumbered d strips number n p → CrossesAny (cut_at d n p) us → (u : Interval SeenEnd) × Contains us u × LiesBetween d u.from.spot u.to.spot p
     lies_of_any n on (k, u, within, at, c) =
         (u, (k, within, at), lies d strips number are u (All-contains (IsCourse d strips number) us u courses (k, within, at)) p positive off n on c)
 
-    pub any_of_lies : (u : Interval Mark) → Contains us u → LiesBetween d u.from.spot u.to.spot p → IsOnNumbered d strips number u.from.line p × CrossesAny (cut_at d u.from.line p) us
+    pub any_of_lies : (u : Interval SeenEnd) → Contains us u → LiesBetween d u.from.spot u.to.spot p → IsOnNumbered d strips number u.from.line p × CrossesAny (cut_at d u.from.line p) us
     any_of_lies u (k, within, at) on =
         let h = meets d strips number are u (All-contains (IsCourse d strips number) us u courses (k, within, at)) p positive off on in
         (h.0, (k, u, within, at, h.1))
 
 -- each interval of a strip has an inside
-pub given_proper : (d : Triple) (given : List Numbered) (xs : List (Interval Mark)) → AllZip (IsIntervalOf d) given xs → All (IsProper mark_order) xs
+pub given_proper : (d : Triple) (given : List Numbered) (xs : List (Interval SeenEnd)) → AllZip (IsIntervalOf d) given xs → All (IsProper end_order) xs
 given_proper d given xs each k e less = let (x, there, is) = zip_right (IsIntervalOf d) given xs each (get_or xs k e) (Contains-get_or xs k e less) in is.proper
 
 -- ---- strips with their numbers
@@ -158,5 +158,5 @@ module _ (d : Triple) (number : Line → ℕ) (strips : List Strip) (numbered : 
       subst (All (λ (x : Numbered). AreStripEnds d x.strip.line x.strip.a x.strip.b)) (sym same)
       (All-map (λ (x : Numbered). AreStripEnds d x.strip.line x.strip.a x.strip.b) (numbered_by number) strips are)
 
-  pub each_of : (xs : List (Interval Mark)) → AllZip (IsIntervalOf d) numbered xs → AllZip (λ (x : Strip) (i : Interval Mark). IsIntervalOf d (numbered_by number x) i) strips xs
+  pub each_of : (xs : List (Interval SeenEnd)) → AllZip (IsIntervalOf d) numbered xs → AllZip (λ (x : Strip) (i : Interval SeenEnd). IsIntervalOf d (numbered_by number x) i) strips xs
   each_of xs each = zip_map (IsIntervalOf d) (numbered_by number) strips xs (subst (λ (ys : List Numbered). AllZip (IsIntervalOf d) ys xs) same each)

@@ -10,9 +10,9 @@ use Rattle.lattice.specs.Triple.{Triple}
 use Rattle.lattice.specs.Points.{Point, IsPoint}
 use Rattle.lattice.specs.Lines.{AreStripEnds}
 use Rattle.geometry.proofs.OnLines.{on_line_between}
-use Rattle.line_merge.specs.declared.marks.Mark.{Mark}
+use Rattle.line_merge.specs.declared.ends.SeenEnd.{SeenEnd}
 use Rattle.line_merge.specs.declared.numbering.Numbered.{Numbered}
-use Rattle.line_merge.specs.inner.Marks.{mark_order, IsIntervalOf, AreUnitedOf}
+use Rattle.line_merge.specs.inner.Ends.{end_order, IsIntervalOf, AreUnitedOf}
 use Rattle.line_merge.specs.inner.Numbering.{numbered_by}
 use Rattle.line_merge.specs.Merging.{LiesOnStrip, IsClear}
 use Rattle.line_merge.proofs.Courses.{cut_at, is_cut, AreNumberedStrips, IsOnNumbered, IsCourse}
@@ -20,13 +20,13 @@ use Rattle.line_merge.proofs.Given.{kept_of, each_of, given_courses, hit, strip_
 use Rattle.line_merge.proofs.Lists.{filter_contains, contains_filter}
 
 -- these strips are put together
-pub record IsCover (d : Triple) (strips : List Strip) (number : Line → ℕ) (test : Strip → Bool) (joined : List (Interval Mark)) : Type 0 where
-  pub intervals : List (Interval Mark)
+pub record IsCover (d : Triple) (strips : List Strip) (number : Line → ℕ) (test : Strip → Bool) (joined : List (Interval SeenEnd)) : Type 0 where
+  pub intervals : List (Interval SeenEnd)
   pub each : AllZip (λ x i. IsIntervalOf d (numbered_by number x) i) (filter test strips) intervals
-  pub united : AreUnited mark_order intervals joined
+  pub united : AreUnited end_order intervals joined
 
 -- with their numbers they are so
-pub cover_of : (d : Triple) (strips : List Strip) (number : Line → ℕ) (numbered : List Numbered) → numbered ≡ map (numbered_by number) strips → (test : Strip → Bool) (joined : List (Interval Mark))
+pub cover_of : (d : Triple) (strips : List Strip) (number : Line → ℕ) (numbered : List Numbered) → numbered ≡ map (numbered_by number) strips → (test : Strip → Bool) (joined : List (Interval SeenEnd))
     → AreUnitedOf d (filter (λ x. test x.strip) numbered) joined → IsCover d strips number test joined
 cover_of d strips number numbered same test joined h = record {
   intervals = h.intervals;
@@ -45,9 +45,9 @@ pub record IsShownOn (d : Triple) (strips : List Strip) (number : Line → ℕ) 
   pub line : number strip.line ≡ n
   pub bare : (y : Strip) → Contains strips y → before y ≡ true → ¬ LiesOnStrip d y p
 
-pub record IsLayer (d : Triple) (strips : List Strip) (number : Line → ℕ) (shown before : Strip → Bool) (layer : List (Interval Mark)) : Type 0 where
+pub record IsLayer (d : Triple) (strips : List Strip) (number : Line → ℕ) (shown before : Strip → Bool) (layer : List (Interval SeenEnd)) : Type 0 where
   pub courses : All (IsCourse d strips number) layer
-  pub apart : AreApart mark_order layer
+  pub apart : AreApart end_order layer
   pub within : (p : Point) → IsPoint p → IsClear d strips p → (n : ℕ) → IsOnNumbered d strips number n p → CrossesAny (cut_at d n p) layer ↔ IsShownOn d strips number shown before n p
 
 module _ (d : Triple) (strips : List Strip) (number : Line → ℕ) (are : AreNumberedStrips d strips number) where
@@ -60,7 +60,7 @@ module _ (d : Triple) (strips : List Strip) (number : Line → ℕ) (are : AreNu
   pub one_number : (p : Point) → IsClear d strips p → (x y : Strip) → Contains strips x → Contains strips y → LiesOnStrip d x p → LiesOnStrip d y p → number x.line ≡ number y.line
   one_number p clear x y there_x there_y on_x on_y = (are.numbering x y there_x there_y).1 (clear.one_line x y there_x there_y on_x on_y)
 
-  module _ (test : Strip → Bool) (joined : List (Interval Mark)) (cover : IsCover d strips number test joined) where
+  module _ (test : Strip → Bool) (joined : List (Interval SeenEnd)) (cover : IsCover d strips number test joined) where
     among : (x : Strip) → Contains (filter test strips) x → Contains strips x
     among x there = (contains_filter test strips x there).0
 
@@ -94,7 +94,7 @@ module _ (d : Triple) (strips : List Strip) (number : Line → ℕ) (are : AreNu
       );
     }
 
-  pub rest_layer : (shown before : Strip → Bool) (whole parts layer : List (Interval Mark)) → IsCover d strips number shown whole → IsCover d strips number before parts → AreRest mark_order whole parts layer
+  pub rest_layer : (shown before : Strip → Bool) (whole parts layer : List (Interval SeenEnd)) → IsCover d strips number shown whole → IsCover d strips number before parts → AreRest end_order whole parts layer
       → IsLayer d strips number shown before layer
   rest_layer shown before whole parts layer all early left = record {
     courses = rest_courses d strips number are whole parts layer left (cover_courses shown whole all) (cover_courses before parts early);

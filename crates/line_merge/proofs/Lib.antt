@@ -1,7 +1,7 @@
 pub mod Lists
 pub mod Zips
 pub mod Numbers
-pub mod MarkOrders
+pub mod EndOrders
 pub mod Sights
 pub mod Between
 pub mod Courses

@@ -19,11 +19,11 @@ use Rattle.lattice.specs.declared.pieces.Style.TheVariants.{Solid, Dashed, Chain
 use Rattle.lattice.specs.Triple.{Triple}
 use Rattle.lattice.specs.Points.{Point, IsPoint, of_spot, OnOneSight}
 use Rattle.geometry.specs.Pieces.{LiesBetween, LiesOn, LiesOnStyle, StandsBefore, ArePiecesParallel, ShareAnEnd, IsBefore}
-use Rattle.line_merge.specs.declared.marks.Mark.{Mark}
+use Rattle.line_merge.specs.declared.ends.SeenEnd.{SeenEnd}
 use Rattle.line_merge.specs.declared.stretches.Stretch.{Stretch}
 use Rattle.line_merge.specs.inner.Kinds.{is_up_to}
 use Rattle.line_merge.specs.inner.Laws.{stretch_order_total}
-use Rattle.line_merge.specs.inner.Marks.{mark_order}
+use Rattle.line_merge.specs.inner.Ends.{end_order}
 use Rattle.line_merge.specs.inner.Stretches.{stretch_order, stretch_of, piece_of}
 use Rattle.line_merge.specs.Merging.{LiesOnStrip, IsClear, LiesOnKind, LiesOnTracesOnly, AreMerged}
 use Rattle.line_merge.proofs.Sights.{not_seen}
@@ -87,12 +87,12 @@ order_of_styles Chain Dashed = inr (inr (λ s h. h))
 order_of_styles Chain Chain = inl refl
 
 -- each style's layer
-abbrev pub layer_of : List (Interval Mark) → List (Interval Mark) → List (Interval Mark) → Style → List (Interval Mark)
+abbrev pub layer_of : List (Interval SeenEnd) → List (Interval SeenEnd) → List (Interval SeenEnd) → Style → List (Interval SeenEnd)
 layer_of visible hidden traces Solid = visible
 layer_of visible hidden traces Dashed = hidden
 layer_of visible hidden traces Chain = traces
 
-module _ (d : Triple) (strips : List Strip) (number : Line → ℕ) (are : AreNumberedStrips d strips number) (layers : Style → List (Interval Mark))
+module _ (d : Triple) (strips : List Strip) (number : Line → ℕ) (are : AreNumberedStrips d strips number) (layers : Style → List (Interval SeenEnd))
     (right : (style : Style) → IsLayer d strips number (shown_in style) (before_in style) (layers style)) where
   -- ---- the stretches, before they are sorted
   abbrev in_style : Style → List Stretch
@@ -103,7 +103,7 @@ module _ (d : Triple) (strips : List Strip) (number : Line → ℕ) (are : AreNu
 
   -- it comes from its style's layer
   abbrev IsDrawn : Stretch → Type 0
-  IsDrawn s = (u : Interval Mark) × Contains (layers s.style) u × (stretch_of s.style u ≡ s)
+  IsDrawn s = (u : Interval SeenEnd) × Contains (layers s.style) u × (stretch_of s.style u ≡ s)
 
   drawn_in : (style : Style) (s : Stretch) → Contains (in_style style) s → IsDrawn s
   drawn_in style s there = let (u, there_u, e) = contains_map (stretch_of style) (layers style) s there in subst IsDrawn e (u, there_u, refl)
@@ -161,7 +161,7 @@ module _ (d : Triple) (strips : List Strip) (number : Line → ℕ) (are : AreNu
         sym x.line ∙ one_number d strips number are p clear x.strip y.strip x.listed y.listed x.on y.on ∙ y.line
 
     -- no cut goes through two that are clear of each other
-    not_both : (n : ℕ) (s t : Stretch) → Crosses (cut_at d n p) (record { from = s.from; to = s.to }) → Crosses (cut_at d n p) (record { from = t.from; to = t.to }) → mark_order s.to t.from ≡ Less → ⊥
+    not_both : (n : ℕ) (s t : Stretch) → Crosses (cut_at d n p) (record { from = s.from; to = s.to }) → Crosses (cut_at d n p) (record { from = t.from; to = t.to }) → end_order s.to t.from ≡ Less → ⊥
     not_both n s t (in_s, out_s) (in_t, out_t) less = true≢false (sym (is_cut d n p positive s.to t.from in_t (λ k. cc)) ∙ out_s)
 
     through : (s : Stretch) → IsDrawn s → LiesOn d (piece_of s) p → Crosses (cut_at d s.from.line p) (record { from = s.from; to = s.to })
@@ -175,7 +175,7 @@ module _ (d : Triple) (strips : List Strip) (number : Line → ℕ) (are : AreNu
             subst (λ n. Crosses (cut_at d n p) (record { from = t.from; to = t.to }))
             (one_line_at t s drawn_t drawn_s on_t on_s) (through t drawn_t on_t)
 
-        clear_of : mark_order s.to t.from ≡ Less ⊎ mark_order t.to s.from ≡ Less → ⊥
+        clear_of : end_order s.to t.from ≡ Less ⊎ end_order t.to s.from ≡ Less → ⊥
         clear_of (inl less) = not_both s.from.line s t (through s drawn_s on_s) in_t less
         clear_of (inr less) = not_both s.from.line t s in_t (through s drawn_s on_s) less
 
@@ -290,16 +290,16 @@ module _ (d : Triple) (strips : List Strip) (number : Line → ℕ) (are : AreNu
     }
 
 -- ---- the steps of the merging
-pub record AreSteps (d : Triple) (strips : List Strip) (number : Line → ℕ) (visible drawn all hidden traces : List (Interval Mark)) : Type 0 where
+pub record AreSteps (d : Triple) (strips : List Strip) (number : Line → ℕ) (visible drawn all hidden traces : List (Interval SeenEnd)) : Type 0 where
   pub are : AreNumberedStrips d strips number
   pub of_visible : IsCover d strips number (shown_in Solid) visible
   pub of_drawn : IsCover d strips number (shown_in Dashed) drawn
   pub of_all : IsCover d strips number (shown_in Chain) all
-  pub left_hidden : AreRest mark_order drawn visible hidden
-  pub left_traces : AreRest mark_order all drawn traces
+  pub left_hidden : AreRest end_order drawn visible hidden
+  pub left_traces : AreRest end_order all drawn traces
 
-module _ (d : Triple) (strips : List Strip) (number : Line → ℕ) (visible drawn all hidden traces : List (Interval Mark)) (steps : AreSteps d strips number visible drawn all hidden traces) where
-  abbrev layers : Style → List (Interval Mark)
+module _ (d : Triple) (strips : List Strip) (number : Line → ℕ) (visible drawn all hidden traces : List (Interval SeenEnd)) (steps : AreSteps d strips number visible drawn all hidden traces) where
+  abbrev layers : Style → List (Interval SeenEnd)
   layers = layer_of visible hidden traces
 
   right : (style : Style) → IsLayer d strips number (shown_in style) (before_in style) (layers style)

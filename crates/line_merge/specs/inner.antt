@@ -1,6 +1,6 @@
 -- What only this crate's own functions cite.
+pub mod Ends
 pub mod Kinds
 pub mod Laws
-pub mod Marks
 pub mod Numbering
 pub mod Stretches

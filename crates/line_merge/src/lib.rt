@@ -5,7 +5,7 @@
 //! that strips of different lines neither overlap nor touch, and no line needs a list of its own.
 #![tactic(auto)]
 
-mod marks;
+mod ends;
 mod merging;
 mod numbering;
 mod stretches;

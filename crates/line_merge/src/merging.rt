@@ -5,10 +5,10 @@ ghost use Rattle.lattice.specs.Points.{of_dir};
 ghost use Rattle.lattice.specs.Lines.{AreStripEnds};
 ghost use Rattle.line_merge.specs.Merging.{AreStrips, AreMerged};
 ghost use Rattle.line_merge.specs.inner.Kinds.{is_up_to};
-ghost use Rattle.line_merge.specs.inner.Marks.{IsIntervalOf, AreUnitedOf};
+ghost use Rattle.line_merge.specs.inner.Ends.{IsIntervalOf, AreUnitedOf};
 ghost use Rattle.line_merge.specs.inner.Stretches.{stretch_of, piece_of};
 
-use crate::marks::{Mark, interval_of};
+use crate::ends::{SeenEnd, interval_of};
 use crate::numbering::{Numbered, number_lines};
 use crate::stretches::Stretch;
 use exact_frac::OutOfMemory;
@@ -45,7 +45,7 @@ fn united_up_to(
     d: &Dir,
     numbered: &[Numbered],
     last: StripKind,
-) -> Result<Vec<Interval<Mark>>, OutOfMemory>
+) -> Result<Vec<Interval<SeenEnd>>, OutOfMemory>
     requires { All (λ x. AreStripEnds (of_dir d.now) x.strip.line x.strip.a x.strip.b) numbered.now }
     ensures { IfOk result (λ united. AreUnitedOf (of_dir d.now) (filter (λ x. is_up_to last x.strip.kind) numbered.now) united.items) }
 {
@@ -85,7 +85,7 @@ fn intervals_of(
     alloc: Global,
     d: &Dir,
     numbered: &[Numbered],
-) -> Result<Vec<Interval<Mark>>, OutOfMemory>
+) -> Result<Vec<Interval<SeenEnd>>, OutOfMemory>
     requires { All (λ x. AreStripEnds (of_dir d.now) x.strip.line x.strip.a x.strip.b) numbered.now }
     ensures { IfOk result (λ intervals. AllZip (IsIntervalOf (of_dir d.now)) numbered.now intervals.items) }
 {
@@ -99,7 +99,7 @@ fn intervals_of(
 /// Adds the intervals, drawn in this style.
 fn add(
     stretches: &mut Vec<Stretch>,
-    intervals: &[Interval<Mark>],
+    intervals: &[Interval<SeenEnd>],
     style: Style,
 ) -> Result<(), OutOfMemory>
     ensures { OnOk result (stretches.new.items ≡ stretches.old.items ++ map (stretch_of style) intervals.now) }

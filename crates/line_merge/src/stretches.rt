@@ -5,25 +5,25 @@ ghost use Rattle.std.specs.Cmp.{partial_order_from_total, partial_equiv_from_equ
 ghost use Rattle.std.proofs.Common.{refl};
 ghost use Rattle.geometry.specs.Pieces.{rank_of};
 
-use crate::marks::{Mark, compare_seen};
+use crate::ends::{SeenEnd, compare_seen};
 use intervals::Interval;
 use lattice::{Piece, Style};
 use std::cmp::Ordering;
 
-/// What is drawn of a line in one style, from the lesser mark to the greater. Stretches are in the order of their pieces:
+/// What is drawn of a line in one style, from the lesser end to the greater. Stretches are in the order of their pieces:
 /// solid ones first, then dashed ones, then chain ones, and then by where they begin, then by where they end.
 #[derive(Clone, Copy)]
 pub(crate) struct Stretch {
     pub style: Style,
-    pub from: Mark,
-    pub to: Mark,
+    pub from: SeenEnd,
+    pub to: SeenEnd,
 }
 
 impl Stretch {
     ghost use Rattle.line_merge.specs.inner.Stretches.{stretch_of, piece_of};
 
     /// The interval, drawn in this style.
-    pub(crate) fn new(style: Style, interval: &Interval<Mark>) -> Stretch
+    pub(crate) fn new(style: Style, interval: &Interval<SeenEnd>) -> Stretch
         ensures { result ≡ stretch_of style interval.now }
     {
         Stretch {

@@ -6,7 +6,8 @@ use Rattle.std.specs.Str.{bytes_eq}
 use Rattle.std.proofs.lemmas.List.{map_more, map-append}
 use Rattle.std.proofs.lemmas.Option.{get_or_from_slice_get, slice_get_within}
 use Rattle.std.proofs.lemmas.Slice.Eq.{bytes_eq-Decides}
-use Rattle.plot_rack.specs.Choices.{first_with, IsFirstPlace, AreChosen, IsFirstMissing}
+use Rattle.plot_rack.specs.Choices.{first_with, AreChosen, IsFirstMissing}
+use Rattle.plot_rack.specs.inner.Places.{IsFirstPlace}
 
 -- ---- the first that passes a test
 module _ {B : Type 0} (p : B → Bool) where

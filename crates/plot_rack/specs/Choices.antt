@@ -9,11 +9,6 @@ use Rattle.plot_rack.specs.declared.rack.RackError.TheVariants.{NoPlotter, Memor
 abbrev pub first_with : {B : Type 0} → (B → List ℕ) → List B → List ℕ → Option B
 first_with suffix_of boxes name = find (λ b. bytes_eq (suffix_of b) name) boxes
 
--- the first box with that suffix stands there
-pub record IsFirstPlace {B : Type 0} (suffix_of : B → List ℕ) (boxes : List B) (name : List ℕ) (i : ℕ) : Type 0 where
-  pub before : first_with suffix_of (take i boxes) name ≡ None
-  pub here : option_map (λ b. bytes_eq (suffix_of b) name) (slice_get boxes i) ≡ Some true
-
 -- for each name, in order, the first box with that suffix
 abbrev pub AreChosen : {B : Type 0} → (B → List ℕ) → List B → List (List ℕ) → List B → Type 0
 AreChosen suffix_of boxes names chosen = map (first_with suffix_of boxes) names ≡ map Some chosen

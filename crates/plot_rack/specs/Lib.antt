@@ -3,3 +3,4 @@ pub mod ListPlotter
 pub mod Lists
 pub mod Plotters
 pub mod Racks
+pub mod inner

@@ -27,7 +27,7 @@ text_of p = option_map (λ page. p.paper page p.strokes) p.page
 abbrev pub drawn : ℤ × ℤ → List Stroke → Plot → Plot
 drawn page strokes p = record p { page = Some page; strokes = strokes }
 
--- it hasn't begun this page, or has taken only the first of these strokes on it
+-- it is as it was, or it has begun this page and taken some first ones of these strokes there, perhaps none, but not all
 abbrev pub IsPartlyDrawn : ℤ × ℤ → List Stroke → Plot → Plot → Type 0
 IsPartlyDrawn page strokes old new = (new ≡ old) ⊎ ((n : ℕ) × (n < length strokes) × (new ≡ drawn page (take n strokes) old))
 

@@ -12,8 +12,8 @@ use sheet_plan::{Mark, Stroke};
 use std::alloc::Global;
 
 /// A list of the strokes, with the suffix `pieces`: a line `page {width} {height}`, and then for each stroke a line
-/// `{view} {mark} {u1} {v1} {u2} {v2} {x1} {y1} {x2} {y2}`. A mark is `solid`, `dashed` or `hatch`. U and V are fractions in lowest
-/// terms, `n` where they are whole and else `n/d`.
+/// `{view} {mark} {u1} {v1} {u2} {v2} {x1} {y1} {x2} {y2}`. A mark is `solid`, `dashed`, `chain` or `hatch`. U and V are fractions
+/// in lowest terms, `n` where they are whole and else `n/d`.
 #[derive(Drop)]
 pub struct ListPlotter {
     alloc: Global,

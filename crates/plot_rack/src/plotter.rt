@@ -27,7 +27,7 @@ pub trait Plotter: Drop {
         ensures ok { OnOk result (plot self.new ≡ with_stroke stroke (plot self.old)) }
         ensures err { OnErr result (plot self.new ≡ plot self.old) };
 
-    /// The bytes that it makes of its page and of the strokes there. Takes no memory.
+    /// The bytes that it makes of its page and of the strokes there. It has begun a page.
     fn text(&self) -> &[u8]
         requires { IsSome (plot self.now).page }
         ensures { text_of (plot self.now) ≡ Some result.now };

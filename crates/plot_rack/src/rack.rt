@@ -2,7 +2,8 @@
 ghost use Rattle.std.specs.Prelude.{◌≡◌, ◌≢◌, ◌<◌, ◌^◌, ℕ, List, Some, None, IsSome, IfOk, IfErr, IfSome, IfNone, OnOk, OnErr, length, slice_get, option_map};
 ghost use Rattle.std.specs.List.{AllPairs};
 ghost use Rattle.std.specs.Str.{bytes_eq};
-ghost use Rattle.plot_rack.specs.Choices.{first_with, IsFirstPlace, AreChosen, IsRefused};
+ghost use Rattle.plot_rack.specs.Choices.{first_with, AreChosen, IsRefused};
+ghost use Rattle.plot_rack.specs.inner.Places.{IsFirstPlace};
 ghost use Rattle.plot_rack.specs.Plotters.{begun, with_stroke, text_of, drawn, IsPartlyDrawn, AreDrawn, AreDrawnInPart};
 ghost use Rattle.plot_rack.specs.declared.rack.RackError.TheVariants.{Memory};
 
@@ -92,7 +93,7 @@ impl Rack {
         suffix_of(&self.boxes[i as usize])
     }
 
-    /// The text of the plotter at this place, which has begun a page.
+    /// The bytes that the plotter at this place makes of its page and of the strokes there. It has begun a page.
     pub fn text(&self, i: u32) -> &[u8]
         requires within { i < length (boxes_of self.now) }
         requires begun { (b : _) → slice_get (boxes_of self.now) i ≡ Some b → IsSome (plot b).page }

@@ -12,7 +12,8 @@ use Rattle.lattice.specs.Points.{of_corner}
 use Rattle.lattice.specs.Triple.{Triple}
 use Rattle.lattice.specs.Triangles.{IsBelow}
 use Rattle.lattice.specs.declared.soup.Tri.{Tri}
-use Rattle.sample_part.specs.Boxes.{below, cubes, cube_at, cube_corners, cube_triangles, corners_of, triangles_of}
+use Rattle.sample_part.specs.Boxes.{below, cubes, cube_corners, cube_triangles, corners_of, triangles_of}
+use Rattle.sample_part.specs.inner.Cubes.{cube_at}
 
 pub cubes_by_number : (n : ℕ) → 0 < n → n ≤ 8 → cubes n ≡ map (cube_at n) (below (n * n * n))
 cubes_by_number zero h k = absurd (omega (arith, h))

@@ -1,9 +1,8 @@
 -- The cubes of a sample, and their corners and triangles in order.
-use Rattle.std.specs.Prelude.{ℕ, ◌+◌, ◌*◌, ◌/◌, ◌%◌, ◌<◌, ◌⊎◌, pos, List, [], ◌∷◌, ◌++◌, map, flat_map}
+use Rattle.std.specs.Prelude.{ℕ, ◌+◌, ◌*◌, ◌<◌, ◌⊎◌, pos, List, [], ◌∷◌, ◌++◌, map, flat_map}
 use Rattle.std.specs.List.{range_with_len}
 use Rattle.lattice.specs.declared.soup.Tri.{Tri}
 use Rattle.lattice.specs.Triple.{Triple}
-use Rattle.sample_part.specs.declared.cubes.Cube.{Cube}
 
 -- a number of cubes along each axis for which there is no sample
 abbrev pub IsOutOfRange : ℕ → Type 0
@@ -14,9 +13,6 @@ pub record Place : Type 0 where
   pub i : ℕ
   pub j : ℕ
   pub h : ℕ
-
-abbrev pub place_of : Cube → Place
-place_of c = record { i = c.i; j = c.j; h = c.h }
 
 -- 0, 1, .., n - 1
 abbrev pub below : ℕ → List ℕ
@@ -64,7 +60,3 @@ corners_of n = flat_map cube_corners (cubes n)
 
 abbrev pub triangles_of : ℕ → List Tri
 triangles_of n = flat_map cube_triangles (below (n * n * n))
-
--- the cube of this number in `cubes n`, the first of which has the number 0
-abbrev pub cube_at : ℕ → ℕ → Place
-cube_at n number = record { i = number / (n * n); j = number / n % n; h = number % n }

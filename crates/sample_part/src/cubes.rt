@@ -16,7 +16,8 @@ pub(crate) struct Cube {
 }
 
 impl Cube {
-    ghost use Rattle.sample_part.specs.Boxes.{place_of, cube_at, corner_of, cube_corners};
+    ghost use Rattle.sample_part.specs.Boxes.{corner_of, cube_corners};
+    ghost use Rattle.sample_part.specs.inner.Cubes.{place_of, cube_at};
 
     /// The cube of this number, where there are `n` along each axis: `h` grows first, then `j`, then `i`.
     pub(crate) fn numbered(n: u32, number: u32) -> Cube

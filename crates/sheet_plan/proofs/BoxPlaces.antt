@@ -16,7 +16,7 @@ use Rattle.sheet_plan.specs.Layout.{cell_of, across_at, upward_at, shape_of, sha
 use Rattle.sheet_plan.specs.Numbers.{Measure, measure_of, square_of, sheet_length}
 use Rattle.sheet_plan.specs.Plans.{job_shapes, IsSheetAt}
 use Rattle.sheet_plan.specs.Sheets.{IsPlaceOf}
-use Rattle.sheet_plan.specs.Sizes.{IsInGrid}
+use Rattle.sheet_plan.specs.inner.Sizes.{IsInGrid}
 use Rattle.sheet_plan.proofs.Bands.{NoneIsNegative}
 use Rattle.sheet_plan.proofs.CellNames.{in_grid, lower_part_least}
 use Rattle.sheet_plan.proofs.Ordered.{gap_of, length_ordered}

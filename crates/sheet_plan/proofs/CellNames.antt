@@ -11,7 +11,7 @@ use Rattle.sheet_plan.specs.declared.cells.Cell.{Cell}
 use Rattle.sheet_plan.specs.declared.cells.Cell.TheVariants.{Grid, Lower}
 use Rattle.sheet_plan.specs.declared.cells.Shape.{Shape}
 use Rattle.sheet_plan.specs.Layout.{gap, margin, cell_of, is_in_row, is_in_column, is_lower, part_of, lower_part_of, sum_below, row_stride, cell_y}
-use Rattle.sheet_plan.specs.Sizes.{IsInGrid}
+use Rattle.sheet_plan.specs.inner.Sizes.{IsInGrid}
 
 -- ---- a cell tells the name of its view
 name_at : Bool → ℕ → ℕ → Principal

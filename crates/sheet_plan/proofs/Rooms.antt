@@ -10,7 +10,8 @@ use Rattle.sheet_plan.specs.declared.errors.PlanError.{PlanError}
 use Rattle.sheet_plan.specs.declared.errors.PlanError.TheVariants.{DoesNotFit, Memory}
 use Rattle.sheet_plan.specs.Layout.{shapes_of, need_w, need_h, have_w, have_h, HaveRoom}
 use Rattle.sheet_plan.specs.Numbers.{Measure}
-use Rattle.sheet_plan.specs.Plans.{paper_width, paper_height, job_shapes, FitsAt, fit_dens, NoneFits, HasNoRoom, HasNoScale, IsRefusedAt, IsRefused}
+use Rattle.sheet_plan.specs.Plans.{paper_width, paper_height, job_shapes, FitsAt, fit_dens, NoneFits, HasNoRoom, HasNoScale, IsRefused}
+use Rattle.sheet_plan.specs.inner.Refusals.{IsRefusedAt}
 
 pub length_shapes_of : (third : Bool) (m : Measure) (vs : List JobView) (es : List Extent) → length vs ≡ length es → length (shapes_of third m vs es) ≡ length vs
 length_shapes_of third m [] es h = omega arith

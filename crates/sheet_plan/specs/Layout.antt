@@ -12,7 +12,6 @@ use Rattle.sheet_plan.specs.declared.cells.Band.TheVariants.{Row, Column}
 use Rattle.sheet_plan.specs.declared.cells.Cell.{Cell}
 use Rattle.sheet_plan.specs.declared.cells.Cell.TheVariants.{Grid, Lower}
 use Rattle.sheet_plan.specs.declared.cells.Shape.{Shape}
-use Rattle.sheet_plan.specs.declared.layout.Starts.{Starts}
 use Rattle.sheet_plan.specs.declared.sheet.Spread.{Spread}
 use Rattle.sheet_plan.specs.Numbers.{Measure, square_of, sheet_length}
 
@@ -113,12 +112,6 @@ lower_strides shapes = total lower_part_of shapes
 abbrev pub sum_below : (ℕ → ℤ) → ℕ → ℤ
 sum_below f zero = pos 0
 sum_below f (suc n) = sum_below f n +ℤ f n
-
--- rows or columns that take so much begin there
-pub record AreStarts (stride : ℕ → ℤ) (starts : Starts) : Type 0 where
-  pub second : starts.second ≡ sum_below stride 1
-  pub third : starts.third ≡ sum_below stride 2
-  pub fourth : starts.fourth ≡ sum_below stride 3
 
 -- strides without the last gap, if there are any
 abbrev pub without_gap : ℤ → ℤ

@@ -4,4 +4,4 @@ pub mod Layout
 pub mod Numbers
 pub mod Plans
 pub mod Sheets
-pub mod Sizes
+pub mod inner

@@ -78,10 +78,6 @@ pub record HasNoRoom (job : Job) (extents : List Extent) (num den : ℕ) (w h ro
   pub have_w_is : room_w ≡ have_w (paper_width job.paper)
   pub have_h_is : room_h ≡ have_h (paper_height job.paper)
 
-abbrev pub IsRefusedAt : Job → List Extent → ℕ → ℕ → PlanError → Type 0
-IsRefusedAt job extents num den (DoesNotFit w h room_w room_h) = HasNoRoom job extents num den w h room_w room_h
-IsRefusedAt job extents num den (Memory e) = Unit {0}
-
 -- the views don't fit at the scale that the job asks for, or else at none that is tried, with the numbers of 1 : 100
 abbrev pub HasNoScale : Option Scale → Job → List Extent → ℤ → ℤ → ℤ → ℤ → Type 0
 HasNoScale (Some scale) job extents w h room_w room_h = HasNoRoom job extents scale.num scale.den w h room_w room_h

@@ -14,6 +14,13 @@ pub(crate) enum Band {
     Column(u32),
 }
 
+/// All rows, or all columns.
+#[derive(Clone, Copy)]
+pub(crate) enum Bands {
+    Rows,
+    Columns,
+}
+
 /// A view's cell, and its box on the sheet: how far it reaches to the left and to the top from the view's origin, and its size.
 #[derive(Clone, Copy)]
 pub(crate) struct Shape {

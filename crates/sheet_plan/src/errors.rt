@@ -1,10 +1,10 @@
-// Why a job has no sheet: its views do not fit, or memory is wanting.
+// Why no sheet is planned for a job: its views need more room than it has, or memory ran out.
 ghost use Rattle.std.specs.Prelude.{◌≡◌};
 ghost use Rattle.sheet_plan.specs.declared.errors.PlanError.TheVariants.{Memory};
 
 use exact_frac::OutOfMemory;
 
-/// Why a job has no sheet.
+/// Why no sheet is planned for a job.
 #[derive(Clone, Copy, PartialEq, Eq, Debug)]
 pub enum PlanError {
     /// The views need more room than the sheet has, in hundredths of a millimetre.

@@ -2,12 +2,13 @@
 ghost use Rattle.std.specs.Prelude.{◌≡◌, ◌<◌, ◌≤◌, ◌^◌, ℕ, ℤ, List, unsigned_abs, length, take, IfOk, slice_get, Some};
 ghost use Rattle.std.specs.List.{All};
 ghost use Rattle.lattice.specs.Points.{of_dir};
-ghost use Rattle.sheet_plan.specs.Layout.{row_stride, column_stride, stride, lower_strides, sum_below, without_gap, need_w, need_h, AreStarts, cell_x, cell_y, StandsInCell, AreInPlace};
-ghost use Rattle.sheet_plan.specs.Sizes.{IsInGrid, IsSmall, IsStride, IsLength, AreLengths};
+ghost use Rattle.sheet_plan.specs.Layout.{row_stride, column_stride, stride, lower_strides, sum_below, without_gap, need_w, need_h, cell_x, cell_y, StandsInCell, AreInPlace};
+ghost use Rattle.sheet_plan.specs.inner.Sizes.{IsInGrid, IsSmall, IsStride, IsLength, AreLengths};
+ghost use Rattle.sheet_plan.specs.inner.Strides.{band_at, stride_in, AreStarts};
 ghost use Rattle.sheet_plan.specs.declared.cells.Shape.{Shape};
 
 use crate::bounds::Extent;
-use crate::cells::{Band, Cell, Shape};
+use crate::cells::{Band, Bands, Cell, Shape};
 use crate::shapes::GAP;
 use crate::sheet::Spread;
 use exact_frac::OutOfMemory;
@@ -50,30 +51,28 @@ fn lower_strides(shapes: &[Shape]) -> i64
     sum
 }
 
-/// What the first rows take.
-fn rows_before(shapes: &[Shape], row: u32) -> i64
-    requires small { All IsSmall shapes.now }
-    requires few { row ≤ 4 }
-    ensures value { result ≡ sum_below (row_stride shapes.now) row }
-    ensures size { IsLength result }
-{
-    let mut sum = 0;
-    for r in 0..row {
-        sum += stride(shapes, Band::Row(r));
+impl Bands {
+    /// The row or column with this number.
+    fn at(self, number: u32) -> Band
+        ensures { result ≡ band_at self number }
+    {
+        match self {
+            Bands::Rows => Band::Row(number),
+            Bands::Columns => Band::Column(number),
+        }
     }
-    sum
 }
 
-/// What the first columns take.
-fn columns_before(shapes: &[Shape], column: u32) -> i64
+/// What the first rows or columns take.
+fn strides_before(shapes: &[Shape], bands: Bands, count: u32) -> i64
     requires small { All IsSmall shapes.now }
-    requires few { column ≤ 4 }
-    ensures value { result ≡ sum_below (column_stride shapes.now) column }
+    requires few { count ≤ 4 }
+    ensures value { result ≡ sum_below (stride_in bands shapes.now) count }
     ensures size { IsLength result }
 {
     let mut sum = 0;
-    for c in 0..column {
-        sum += stride(shapes, Band::Column(c));
+    for number in 0..count {
+        sum += stride(shapes, bands.at(number));
     }
     sum
 }
@@ -94,11 +93,11 @@ pub(crate) fn need_of(shapes: &[Shape]) -> Need
     ensures width { result.width ≡ need_w shapes.now }
     ensures height { result.height ≡ need_h shapes.now }
 {
-    let grid = without_gap(columns_before(shapes, 4));
+    let grid = without_gap(strides_before(shapes, Bands::Columns, 4));
     let lower = without_gap(lower_strides(shapes));
     Need {
         width: grid.max(lower),
-        height: without_gap(rows_before(shapes, 4)),
+        height: without_gap(strides_before(shapes, Bands::Rows, 4)),
     }
 }
 
@@ -111,6 +110,19 @@ pub(crate) struct Starts {
 }
 
 impl Starts {
+    /// Where the rows or the columns begin. The row beneath the grid is row 3.
+    fn of(shapes: &[Shape], bands: Bands) -> Starts
+        requires { All IsSmall shapes.now }
+        ensures value { AreStarts (stride_in bands shapes.now) result }
+        ensures sizes { AreLengths result }
+    {
+        Starts {
+            second: strides_before(shapes, bands, 1),
+            third: strides_before(shapes, bands, 2),
+            fourth: strides_before(shapes, bands, 3),
+        }
+    }
+
     /// Where the row or column with this number begins, from 0 on.
     fn at(&self, number: u32) -> i64
         requires few { number ≤ 3 }
@@ -124,32 +136,6 @@ impl Starts {
             2 => self.third,
             _ => self.fourth,
         }
-    }
-}
-
-/// Where the rows begin. The one beneath the grid is row 3.
-fn row_starts(shapes: &[Shape]) -> Starts
-    requires { All IsSmall shapes.now }
-    ensures value { AreStarts (row_stride shapes.now) result }
-    ensures sizes { AreLengths result }
-{
-    Starts {
-        second: rows_before(shapes, 1),
-        third: rows_before(shapes, 2),
-        fourth: rows_before(shapes, 3),
-    }
-}
-
-/// Where the columns begin.
-fn column_starts(shapes: &[Shape]) -> Starts
-    requires { All IsSmall shapes.now }
-    ensures value { AreStarts (column_stride shapes.now) result }
-    ensures sizes { AreLengths result }
-{
-    Starts {
-        second: columns_before(shapes, 1),
-        third: columns_before(shapes, 2),
-        fourth: columns_before(shapes, 3),
     }
 }
 
@@ -208,8 +194,8 @@ pub(crate) fn places(
     requires count { length shapes.now ≡ length extents.now }
     ensures { IfOk result (λ places. AreInPlace shapes.now extents.now places.items) }
 {
-    let rows = row_starts(shapes);
-    let columns = column_starts(shapes);
+    let rows = Starts::of(shapes, Bands::Rows);
+    let columns = Starts::of(shapes, Bands::Columns);
     let mut taken = 0;
     let mut places = Vec::new(alloc);
     for i in 0..shapes.len() {

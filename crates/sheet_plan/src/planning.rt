@@ -3,8 +3,9 @@ ghost use Rattle.std.specs.Prelude.{◌≡◌, ◌↔◌, ◌<◌, IsTrue, lengt
 ghost use Rattle.sheet_plan.specs.Boxes.{ViewsAreApart, ViewsAreWithinMargins, StandInColumn, StandInRow};
 ghost use Rattle.sheet_plan.specs.Layout.{HaveRoom};
 ghost use Rattle.sheet_plan.specs.Numbers.{measure_of};
-ghost use Rattle.sheet_plan.specs.Sizes.{AreShapes};
-ghost use Rattle.sheet_plan.specs.Plans.{paper_width, paper_height, fit_dens, IsSheetAt, IsPlanned, IsRefusedAt, IsRefused};
+ghost use Rattle.sheet_plan.specs.inner.Sizes.{AreShapes};
+ghost use Rattle.sheet_plan.specs.Plans.{paper_width, paper_height, fit_dens, IsSheetAt, IsPlanned, IsRefused};
+ghost use Rattle.sheet_plan.specs.inner.Refusals.{IsRefusedAt};
 
 use crate::bounds::Extent;
 use crate::cells::Shape;
@@ -97,11 +98,11 @@ fn plan_at(alloc: Global, job: &Job, extents: &[Extent], scale: Scale) -> Result
         Ok(shapes) => shapes,
         Err(error) => return Err(PlanError::Memory(error)),
     };
-    sheet_of(alloc, job, extents, scale, &shapes)
+    sheet_with(alloc, job, extents, scale, &shapes)
 }
 
 /// The sheet with the views of these shapes.
-fn sheet_of(
+fn sheet_with(
     alloc: Global,
     job: &Job,
     extents: &[Extent],

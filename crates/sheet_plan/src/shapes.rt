@@ -3,7 +3,7 @@ ghost use Rattle.std.specs.Prelude.{◌≡◌, ◌<◌, ◌≤◌, ◌^◌, pos,
 ghost use Rattle.lattice.specs.Points.{of_dir};
 ghost use Rattle.sheet_plan.specs.Layout.{gap, cell_of, across_at, upward_at, shape_of, is_in_row, is_in_column, is_lower, part_of, lower_part_of};
 ghost use Rattle.sheet_plan.specs.Numbers.{measure_of};
-ghost use Rattle.sheet_plan.specs.Sizes.{IsInGrid, IsSmall, IsStride, AreShapes};
+ghost use Rattle.sheet_plan.specs.inner.Sizes.{IsInGrid, IsSmall, IsStride, AreShapes};
 
 use crate::bounds::Extent;
 use crate::cells::{Band, Cell, Shape};

@@ -5,15 +5,15 @@ use Rattle.intervals.specs.declared.interval.Interval.{Interval}
 use Rattle.lattice.specs.declared.pieces.Piece.{Piece}
 use Rattle.lattice.specs.declared.pieces.Style.{Style}
 use Rattle.geometry.specs.Pieces.{rank_of}
-use Rattle.line_merge.specs.declared.marks.Mark.{Mark}
+use Rattle.line_merge.specs.declared.ends.SeenEnd.{SeenEnd}
 use Rattle.line_merge.specs.declared.stretches.Stretch.{Stretch}
-use Rattle.line_merge.specs.inner.Marks.{seen_order}
+use Rattle.line_merge.specs.inner.Ends.{seen_order}
 
 -- by the style, then by where it begins, then by where it ends
 abbrev pub stretch_order : Stretch → Stretch → Ordering
 stretch_order x y = ordering_then (nat_cmp (rank_of x.style) (rank_of y.style)) (ordering_then (seen_order x.from y.from) (seen_order x.to y.to))
 
-abbrev pub stretch_of : Style → Interval Mark → Stretch
+abbrev pub stretch_of : Style → Interval SeenEnd → Stretch
 stretch_of style i = record { style = style; from = i.from; to = i.to }
 
 abbrev pub piece_of : Stretch → Piece

@@ -1,7 +1,7 @@
 use Rattle.std.proofs.Common.{take}
 use Rattle.std.specs.List.{AllZip}
 use Rattle.lattice.specs.Points.{of_dir}
-use Rattle.line_merge.specs.inner.Marks.{IsIntervalOf}
+use Rattle.line_merge.specs.inner.Ends.{IsIntervalOf}
 use Rattle.line_merge.proofs.merging.intervals_of.Given as goal
 
 -- the intervals of the strips so far

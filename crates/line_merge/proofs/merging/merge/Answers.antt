@@ -5,9 +5,9 @@ use Rattle.intervals.specs.declared.interval.Interval.{Interval}
 use Rattle.intervals.specs.Cuts.{AreRest}
 use Rattle.lattice.specs.declared.pieces.Style.TheVariants.{Solid, Dashed, Chain}
 use Rattle.lattice.specs.Points.{of_dir}
-use Rattle.line_merge.specs.declared.marks.Mark.{Mark}
+use Rattle.line_merge.specs.declared.ends.SeenEnd.{SeenEnd}
 use Rattle.line_merge.specs.declared.stretches.Stretch.{Stretch}
-use Rattle.line_merge.specs.inner.Marks.{mark_order}
+use Rattle.line_merge.specs.inner.Ends.{end_order}
 use Rattle.line_merge.specs.Merging.{AreMerged}
 use Rattle.line_merge.specs.inner.Stretches.{stretch_of, piece_of}
 use Rattle.line_merge.proofs.Given.{ends_of}
@@ -24,8 +24,8 @@ united_up_to-requires-2 c = ends_of (of_dir c.args.d.now) c.in_ok-numbered.ensur
 pub united_up_to-requires-3 : goal.united_up_to-requires-3
 united_up_to-requires-3 c = ends_of (of_dir c.args.d.now) c.in_ok-numbered.ensures.number c.args.strips.now c.deref-3.result.now (c.deref-3.ensures.value ∙ c.in_ok-numbered.ensures.same) c.requires
 
-left : (whole parts rest xs ys : List (Interval Mark)) → xs ≡ whole → ys ≡ parts → AreRest mark_order xs ys rest → AreRest mark_order whole parts rest
-left whole parts rest xs ys e f h = subst (λ (zs : List (Interval Mark)). AreRest mark_order zs parts rest) e (subst (λ (zs : List (Interval Mark)). AreRest mark_order xs zs rest) f h)
+left : (whole parts rest xs ys : List (Interval SeenEnd)) → xs ≡ whole → ys ≡ parts → AreRest end_order xs ys rest → AreRest end_order whole parts rest
+left whole parts rest xs ys e f h = subst (λ (zs : List (Interval SeenEnd)). AreRest end_order zs parts rest) e (subst (λ (zs : List (Interval SeenEnd)). AreRest end_order xs zs rest) f h)
 
 steps : (c : goal.After-drop-numbered-2)
     → AreSteps (of_dir c.args.d.now) c.args.strips.now c.in_ok-numbered.ensures.number c.in_ok-visible.visible.items c.in_ok-drawn.drawn.items c.in_ok-all.all.items c.in_ok-hidden.hidden.items c.in_ok-traces.traces.items

@@ -2,7 +2,8 @@ use Rattle.std.proofs.Common.{◌≡◌, ◌*◌, ℕ, List, ◌++◌, map, flat
 use Rattle.std.proofs.lemmas.List.{map-append}
 use Rattle.lattice.specs.Points.{of_corner}
 use Rattle.lattice.specs.Triple.{Triple}
-use Rattle.sample_part.specs.Boxes.{below, cube_at, cube_corners}
+use Rattle.sample_part.specs.Boxes.{below, cube_corners}
+use Rattle.sample_part.specs.inner.Cubes.{cube_at}
 use Rattle.sample_part.proofs.Numbered.{listed_more, corners_by_number}
 use Rattle.sample_part.proofs.sample.all_corners.Goals as goal
 

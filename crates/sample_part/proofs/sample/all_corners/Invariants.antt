@@ -1,6 +1,7 @@
 use Rattle.std.proofs.Common.{◌≡◌, map, flat_map}
 use Rattle.lattice.specs.Points.{of_corner}
-use Rattle.sample_part.specs.Boxes.{below, cube_at, cube_corners}
+use Rattle.sample_part.specs.Boxes.{below, cube_corners}
+use Rattle.sample_part.specs.inner.Cubes.{cube_at}
 use Rattle.sample_part.proofs.sample.all_corners.Given as goal
 
 -- the corners of the first cubes

@@ -32,7 +32,7 @@ loop-i-preserved c =
       direction = each_more (λ (j : ℕ) (e : Extent) (p : Spread). of_dir p.d ≡ of_dir e.d) c.args.extents.now old _ c.place.result i c.loop-i.invariant.count step c.loop-i.invariant.direction
           (λ e at. c.place.ensures.direction ∙ ap (λ (x : Extent). of_dir x.d) (c.index-extents-i.is ∙ get_or_from_slice_get c.args.extents.now i e c.index-extents-i.result at));
       each = each_more (λ (j : ℕ) (s : Shape) (p : Spread). StandsInCell c.args.shapes.now j s p) c.args.shapes.now old _ c.place.result i c.loop-i.invariant.count step c.loop-i.invariant.each
-          (λ s at. subst (λ (z : Shape). StandsInCell c.args.shapes.now i z c.place.result) (get_or_from_slice_get c.args.shapes.now i s _ at) (c.place.ensures.stands c.args.shapes.now i c.row_starts-rows.ensures.value c.column_starts-columns.ensures.value c.loop-i.invariant.taken));
+          (λ s at. subst (λ (z : Shape). StandsInCell c.args.shapes.now i z c.place.result) (get_or_from_slice_get c.args.shapes.now i s _ at) (c.place.ensures.stands c.args.shapes.now i c.of-rows.ensures.value c.of-columns.ensures.value c.loop-i.invariant.taken));
     })
 
 pub returns : goal.returns

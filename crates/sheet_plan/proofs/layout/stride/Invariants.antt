@@ -1,7 +1,7 @@
 use Rattle.std.proofs.Common.{◌≡◌, drop}
 use Rattle.std.specs.Int.{int_max}
 use Rattle.sheet_plan.specs.Layout.{greatest, part_of}
-use Rattle.sheet_plan.specs.Sizes.{IsStride}
+use Rattle.sheet_plan.specs.inner.Sizes.{IsStride}
 use Rattle.sheet_plan.proofs.layout.stride.Given as goal
 
 -- the greatest so far, and what is left

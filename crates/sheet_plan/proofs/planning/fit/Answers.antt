@@ -1,6 +1,7 @@
 use Rattle.std.proofs.Common.{arith}
 use Rattle.std.proofs.lemmas.Result.{IfErr-weaker}
-use Rattle.sheet_plan.specs.Plans.{IsRefusedAt, IsRefused}
+use Rattle.sheet_plan.specs.Plans.{IsRefused}
+use Rattle.sheet_plan.specs.inner.Refusals.{IsRefusedAt}
 use Rattle.sheet_plan.proofs.Rooms.{refused_last}
 use Rattle.sheet_plan.proofs.planning.fit.Goals as goal
 

@@ -1,7 +1,7 @@
 use Rattle.std.proofs.Common.{arith}
 use Rattle.std.proofs.lemmas.List.Elements.{All-push, All-same}
 use Rattle.sheet_plan.specs.Numbers.{measure_of}
-use Rattle.sheet_plan.specs.Sizes.{IsSmall}
+use Rattle.sheet_plan.specs.inner.Sizes.{IsSmall}
 use Rattle.sheet_plan.proofs.Listed.{shapes_more, shapes_all}
 use Rattle.sheet_plan.proofs.shapes.shapes.Goals as goal
 

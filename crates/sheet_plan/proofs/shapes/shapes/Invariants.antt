@@ -2,7 +2,7 @@ use Rattle.std.proofs.Common.{◌≡◌, ◌++◌, drop}
 use Rattle.std.specs.List.{All}
 use Rattle.sheet_plan.specs.Layout.{shapes_of}
 use Rattle.sheet_plan.specs.Numbers.{measure_of}
-use Rattle.sheet_plan.specs.Sizes.{IsSmall}
+use Rattle.sheet_plan.specs.inner.Sizes.{IsSmall}
 use Rattle.sheet_plan.proofs.shapes.shapes.Given as goal
 
 -- the shapes so far and those of the views that are left are all shapes

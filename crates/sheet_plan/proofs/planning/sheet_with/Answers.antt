@@ -5,7 +5,7 @@ use Rattle.sheet_plan.specs.declared.cells.Shape.{Shape}
 use Rattle.sheet_plan.specs.Layout.{AreInPlace}
 use Rattle.sheet_plan.specs.Numbers.{measure_of}
 use Rattle.sheet_plan.proofs.Rooms.{as_many, room, no_room}
-use Rattle.sheet_plan.proofs.planning.sheet_of.Goals as goal
+use Rattle.sheet_plan.proofs.planning.sheet_with.Goals as goal
 
 pub need_of-need-requires-clause-few : goal.need_of-need-requires-clause-few
 need_of-need-requires-clause-few c =

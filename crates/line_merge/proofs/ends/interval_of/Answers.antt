@@ -1,8 +1,8 @@
 use Rattle.std.proofs.Common.{true≢false, sym, ap, ◌∙◌}
 use Rattle.std.specs.Ordering.{is_lt}
 use Rattle.lattice.specs.Points.{of_dir}
-use Rattle.line_merge.proofs.MarkOrders.{turned_interval}
-use Rattle.line_merge.proofs.marks.interval_of.Goals as goal
+use Rattle.line_merge.proofs.EndOrders.{turned_interval}
+use Rattle.line_merge.proofs.ends.interval_of.Goals as goal
 
 pub returns-else-lt : goal.returns-else-lt
 returns-else-lt c =
