@@ -5,10 +5,10 @@ use Rattle.std.proofs.lemmas.Int.{ints}
 use Rattle.integers.proofs.Ring.{var, con, ◌⊕◌, ◌⊖◌, ◌⊗◌, ring, by_one, by_two}
 use Rattle.lattice.specs.declared.lines.Line.{Line}
 use Rattle.lattice.specs.declared.points.Corner.{Corner}
-use Rattle.lattice.specs.Lines.{IsOnLine, IsSameLine, across_between, upward_between}
+use Rattle.lattice.specs.Lines.{IsOnLine, IsSameLine}
 use Rattle.lattice.specs.Triple.{Triple, dot, cross, det, right_axis, up_axis}
 use Rattle.lattice.specs.Points.{Point, IsPoint, OnOneSight, point_of, scaled, difference}
-use Rattle.lattice.proofs.SameLines.{same_of_parallel}
+use Rattle.lattice.proofs.SameLines.{across_between, upward_between, same_of_parallel}
 use Rattle.lattice.proofs.SightLines.{right_axis-is}
 use Rattle.lattice.proofs.Vectors.{Letters, letters, dots, crosses}
 use Rattle.geometry.specs.Parts.{Part, Edge}

@@ -11,7 +11,15 @@ use Rattle.lattice.specs.Triple.{Triple}
 use Rattle.lattice.specs.Points.{Point, IsPoint, OnOneSight, across_of, upward_of}
 use Rattle.lattice.specs.declared.lines.Line.{Line}
 use Rattle.lattice.specs.LowestTerms.{leading_of, HaveNoCommonDivisor}
-use Rattle.lattice.specs.Lines.{IsOnLine, IsSameLine, across_between, upward_between}
+use Rattle.lattice.specs.Lines.{IsOnLine, IsSameLine}
+
+-- ---- differences
+-- the difference of U of two points, and that of V, each times both divisors
+abbrev pub across_between : Triple → Point → Point → ℤ
+across_between d p q = (across_of d q *ℤ p.w) -ℤ (across_of d p *ℤ q.w)
+
+abbrev pub upward_between : Triple → Point → Point → ℤ
+upward_between d p q = (upward_of d q *ℤ p.w) -ℤ (upward_of d p *ℤ q.w)
 
 -- ---- proportional numbers in lowest terms are equal
 -- those of one triple, each times the leading number of the other

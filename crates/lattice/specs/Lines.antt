@@ -1,5 +1,5 @@
 -- What is on a line of a view, when two lines are one, and when two spots are the ends of a strip.
-use Rattle.std.specs.Prelude.{◌≡◌, ℤ, ◌<◌, ◌+ℤ◌, ◌-ℤ◌, ◌*ℤ◌, unsigned_abs}
+use Rattle.std.specs.Prelude.{◌≡◌, ℤ, ◌<◌, ◌+ℤ◌, ◌*ℤ◌, unsigned_abs}
 use Rattle.lattice.specs.declared.lines.Line.{Line}
 use Rattle.lattice.specs.declared.points.Spot.{Spot}
 use Rattle.lattice.specs.declared.points.Dir.{Dir}
@@ -23,13 +23,6 @@ pub record IsLineOf (l : Line) (x y z : ℤ) : Type 0 where
   pub a : x ≡ l.a *ℤ n
   pub b : y ≡ l.b *ℤ n
   pub c : z ≡ l.c *ℤ n
-
--- the difference of U of two points, and that of V, each times both divisors
-abbrev pub across_between : Triple → Point → Point → ℤ
-across_between d p q = (across_of d q *ℤ p.w) -ℤ (across_of d p *ℤ q.w)
-
-abbrev pub upward_between : Triple → Point → Point → ℤ
-upward_between d p q = (upward_of d q *ℤ p.w) -ℤ (upward_of d p *ℤ q.w)
 
 -- both spots are seen on the line, and not at one place
 pub record AreStripEnds (d : Triple) (l : Line) (a b : Spot) : Type 0 where
