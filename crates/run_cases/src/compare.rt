@@ -1,4 +1,6 @@
 // What comes of the run of a case, beside what the case tells.
+ghost use Rattle.std.specs.Prelude.{◌≤◌, length};
+
 use crate::case::{Case, DRAWING};
 use dec_text::Name;
 use desk::MemoryDesk;
@@ -7,16 +9,21 @@ use plot_rack::{ListPlotter, Plotter};
 use std::alloc::{AllocError, Global};
 use std::io;
 
-// The desk of a case. Of one file it has so many bytes alone.
+// How many bytes of a file the desk has: all, or at most so many of the file that is cut.
+fn end_of(name: &str, bytes: &[u8], cut: Option<(&str, usize)>) -> usize
+    ensures { result ≤ length bytes.now }
+{
+    match cut {
+        Some((of, most)) if of == name => bytes.len().min(most),
+        _ => bytes.len(),
+    }
+}
+
+// The desk of a case, of which one file may be cut.
 fn desk_of(alloc: Global, case: &Case, cut: Option<(&str, usize)>) -> io::Result<MemoryDesk> {
     let mut copies = Vec::new(alloc);
     for (name, bytes) in &case.files {
-        let mut end = bytes.len();
-        if let Some((of, most)) = cut {
-            if of == name.as_str() {
-                end = end.min(most);
-            }
-        }
+        let end = end_of(name.as_str(), bytes, cut);
         let Ok(name) = Name::new(alloc, name.as_str()) else {
             return Err(io::Error::from(io::ErrorKind::OutOfMemory));
         };
