@@ -1,7 +1,7 @@
 -- What a face adds to a count next to a corner that it does not have.
-use Rattle.std.specs.Prelude.{◌≡◌, ◌⊎◌, ◌↔◌, ℕ, ◌+◌, ◌*◌, ◌<◌, nat_lt, ℤ, pos, negsuc, ◌+ℤ◌, ◌-ℤ◌, ◌*ℤ◌, ◌<ℤ◌}
+use Rattle.std.specs.Prelude.{◌≡◌, ◌⊎◌, ◌↔◌, ℕ, ◌+◌, ◌*◌, ◌<◌, nat_lt, ℤ, pos, ◌+ℤ◌, ◌-ℤ◌, ◌*ℤ◌, ◌<ℤ◌}
 use Rattle.hiding.proofs.Screens.{Screen, area_of, turn_of, SideCovers, lead_of}
-use Rattle.counting.specs.Counts.{Side, to_left, to_right}
+use Rattle.counting.specs.Counts.{Side}
 use Rattle.counting.specs.Turns.{Way, turn_from, product_of, Passes, perturbed, TurnPasses}
 use Rattle.face_counts.specs.inner.Tallies.{IsTally}
 use Rattle.face_counts.specs.inner.Perturbations.{perturbation_between, TwoAreLeft}

@@ -15,8 +15,7 @@ use Rattle.geometry.specs.Parts.{Part, Face, Edge}
 use Rattle.geometry.proofs.Counts.{count_of}
 use Rattle.geometry.proofs.Listed.{face_at, same_element}
 use Rattle.hiding.proofs.Screens.{turn_of, lead_of}
-use Rattle.hiding.specs.inner.Values.{side_of, depth_of}
-use Rattle.hiding.proofs.Decisions.{same_or, less_or, at_most_or, four_or, either_or, alike_or, element_or, below_next}
+use Rattle.hiding.proofs.Decisions.{same_or, less_or, either_or, alike_or, element_or, below_next}
 use Rattle.geometry.proofs.EachEdge.{turned_edge}
 use Rattle.hiding.proofs.Hiding.{front_or, hides-turned}
 use Rattle.hiding.proofs.Names.{ways}

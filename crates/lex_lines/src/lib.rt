@@ -10,4 +10,3 @@ mod tokens;
 
 pub use token::Token;
 pub use tokens::Tokens;
-

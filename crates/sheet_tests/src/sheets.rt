@@ -6,7 +6,7 @@ use dec_text::Name;
 use exact_frac::{Frac, OutOfMemory};
 use fixtures::{CUBE_TEXT, solid_of};
 use job_file::Scale;
-use lattice::{Dir, HatchLine, Piece, Spot, Style};
+use lattice::{Corner, Dir, HatchLine, Piece, Spot, Style};
 use sheet_plan::{Mark, Sheet, Spread, Stroke, extent};
 use std::alloc::Global;
 use std::test::Fail;
@@ -31,6 +31,14 @@ fn a3(alloc: Global, d: Dir, y0: i16, scale: Scale) -> Result<Sheet, OutOfMemory
     })
 }
 
+fn spot(corner: &[i16; 3]) -> Spot {
+    Spot::at(&Corner {
+        x: corner[0].into(),
+        y: corner[1].into(),
+        z: corner[2].into(),
+    })
+}
+
 #[test]
 fn extents_of_the_cube(rt: HostRuntime) -> Result<(), Fail> {
     let solid = solid_of(rt.alloc(), CUBE_TEXT).ok_or("no cube")?;
@@ -50,23 +58,18 @@ fn extents_of_the_cube(rt: HostRuntime) -> Result<(), Fail> {
 fn corners_of_the_cube_seen_from_above_a_corner(rt: HostRuntime) -> Result<(), Fail> {
     let d = Dir::new(1, -1, 1)?;
     let sheet = a3(rt.alloc(), d, 3225, Scale { num: 1, den: 1 })?;
-    for (x, y, z, place) in [
-        (0, 0, 0, (2000, 3225)),
-        (1, 0, 0, (2707, 3633)),
-        (1, 1, 0, (3414, 3225)),
-        (0, 1, 0, (2707, 2817)),
-        (0, 0, 1, (2000, 2409)),
-        (1, 0, 1, (2707, 2817)),
-        (1, 1, 1, (3414, 2409)),
-        (0, 1, 1, (2707, 2000)),
-    ] {
-        let spot = Spot {
-            x: 10_000 * x,
-            y: 10_000 * y,
-            z: 10_000 * z,
-            w: 1,
-        };
-        assert_eq!(rt; sheet.point(0, &spot), place, "{x}, {y}, {z}");
+    let rows: [([i16; 3], (i64, i64)); 8] = [
+        ([0, 0, 0], (2000, 3225)),
+        ([10_000, 0, 0], (2707, 3633)),
+        ([10_000, 10_000, 0], (3414, 3225)),
+        ([0, 10_000, 0], (2707, 2817)),
+        ([0, 0, 10_000], (2000, 2409)),
+        ([10_000, 0, 10_000], (2707, 2817)),
+        ([10_000, 10_000, 10_000], (3414, 2409)),
+        ([0, 10_000, 10_000], (2707, 2000)),
+    ];
+    for (corner, place) in rows {
+        assert_eq!(rt; sheet.point(0, &spot(&corner)), place, "{corner:?}");
     }
     Ok(())
 }

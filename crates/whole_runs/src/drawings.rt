@@ -88,12 +88,15 @@ fn tests_are_added_up(rt: HostRuntime) -> Result<(), Fail> {
 #[test]
 fn two_cubes_are_counted(rt: HostRuntime) -> Result<(), Fail> {
     let alloc = rt.alloc();
-    let drawing = drawn(alloc, "--job j p", MOVED_TEXT, THREE_VIEWS)?;
+    let job = "[[view]]\nname = \"front\"\n";
+    let drawing = drawn(alloc, "--job j p", MOVED_TEXT, job)?;
     let mut told = Vec::new(alloc);
-    for view in drawing.views.iter().take(1) {
-        for entry in view.counts.iter().filter(|entry| entry.edge == 22) {
-            for span in &entry.spans {
-                told.push((span.from, span.to, span.left, span.right))?;
+    for view in &drawing.views {
+        for entry in &view.counts {
+            if entry.edge == 22 {
+                for span in &entry.spans {
+                    told.push((span.from, span.to, span.left, span.right))?;
+                }
             }
         }
     }
