@@ -1,10 +1,8 @@
 //! Draws one part: `draw PART [--job JOB] [--out OUT]`.
 #![tactic(auto)]
 
-mod disk;
-
 use desk::Desk;
-use disk::DiskDesk;
+use disk_desk::DiskDesk;
 use draw_core::{MEMORY_LINE, draw};
 use plot_rack::{ListPlotter, Plotter};
 use std::alloc::Global;

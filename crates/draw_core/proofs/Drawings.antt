@@ -5,8 +5,8 @@ use Rattle.desk.specs.Files.{Files}
 use Rattle.draw_words.specs.Names.{Named}
 use Rattle.plot_rack.specs.Choices.{AreChosen}
 use Rattle.plot_rack.specs.Plotters.{Plot}
-use Rattle.draw_core.specs.declared.fault.Fault.{Fault}
-use Rattle.draw_core.specs.Kept.{WritesRack}
+use Rattle.part_input.specs.declared.fault.Fault.{Fault}
+use Rattle.draw_core.specs.inner.Kept.{WritesRack}
 use Rattle.draw_core.specs.declared.drawing.Drawing.{Drawing}
 use Rattle.draw_core.specs.Drawing.{drawn_in, Writes, WritesNamed}
 use Rattle.draw_core.specs.Run.{Drawn}

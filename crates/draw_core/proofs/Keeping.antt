@@ -4,12 +4,12 @@ use Rattle.std.specs.Prelude.{slice_get}
 use Rattle.std.proofs.lemmas.List.{take-map, take_all}
 use Rattle.std.proofs.lemmas.Option.{slice_get-map}
 use Rattle.desk.specs.Files.{Files, Keeps}
-use Rattle.draw_core.specs.Kept.{LeavesOne, TargetsInOrder}
-use Rattle.draw_core.specs.Made.{file_seen}
+use Rattle.draw_core.specs.inner.Kept.{LeavesOne, TargetsInOrder}
+use Rattle.draw_core.specs.inner.Made.{file_seen}
 use Rattle.draw_core.specs.Outputs.{File, KeepsAll, MayKeep, LeavesUpTo, LeavesAll, place_of}
 use Rattle.draw_core.specs.declared.outputs.Output.{Output}
-use Rattle.draw_core.specs.declared.fault.Fault.{Fault}
-use Rattle.draw_core.specs.declared.fault.Fault.TheVariants.{Usage, ReadFault, JobTooLong, Job as JobUnread, NoPlotter, SampleRange, PartTooLong, Part as PartUnread, Nothing, Mesh, DoesNotFit, WriteFault, Memory}
+use Rattle.part_input.specs.declared.fault.Fault.{Fault}
+use Rattle.part_input.specs.declared.fault.Fault.TheVariants.{Usage, ReadFault, JobTooLong, Job as JobUnread, NoPlotter, SampleRange, PartTooLong, Part as PartUnread, Nothing, Mesh, DoesNotFit, WriteFault, Memory}
 
 -- one file more
 pub keeps_more : (old between new : Files) (files : List File) (file : File) → KeepsAll old between files → Keeps between new file.0 file.1 → KeepsAll old new (files ++ file ∷ [])

@@ -1,7 +1,6 @@
 pub mod Answered
-pub mod Blocks
-pub mod Chains
 pub mod Drawings
+pub mod DrawnViews
 pub mod FileNames
 pub mod Keeping
 pub mod MadeFiles
@@ -9,7 +8,6 @@ pub mod OneAnswer
 pub mod Orders
 pub mod PlotFiles
 pub mod Saying
-pub mod Samples
 pub mod SheetFacts
 pub mod StrokeLists
 pub mod Unmet

@@ -4,7 +4,7 @@ use Rattle.std.specs.Prelude.{slice_get, unwrap_or}
 use Rattle.std.proofs.lemmas.List.{map_more, map-append, length-map, length-take-le}
 use Rattle.std.proofs.lemmas.Option.{get_or_from_slice_get, slice_get_within}
 use Rattle.plot_rack.specs.Plotters.{Plot, text_of}
-use Rattle.draw_core.specs.Made.{AreOutputs, file_seen, file_of_plot}
+use Rattle.draw_core.specs.inner.Made.{AreOutputs, file_seen, file_of_plot}
 use Rattle.draw_core.specs.Outputs.{File, plot_name, place_of}
 use Rattle.draw_core.specs.declared.outputs.Output.{Output}
 

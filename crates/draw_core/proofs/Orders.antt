@@ -1,18 +1,39 @@
 -- Faults of reading come in their order: of the job where it is named, of the part once the job was taken.
 use Rattle.std.proofs.Common.{◌≡◌, ℕ, List, [], Option, Some, None, refl, sym, subst}
-use Rattle.std.specs.Prelude.{Ok, IsSome, IsSomeAnd}
+use Rattle.std.specs.Prelude.{Result, Ok, Err, IfErr, IsSome, IsSomeAnd}
 use Rattle.desk.specs.Files.{Files}
 use Rattle.draw_words.specs.Names.{Named, named_by}
 use Rattle.job_file.specs.Documents.{JobValues, job_of_bytes}
 use Rattle.job_file.proofs.DocumentLemmas.{empty, usual}
-use Rattle.draw_core.specs.Run.{sample_size, TakesMetJob, IsOfJob, IsOfSampleOr, IsOfPart, IsOfSheet, ComesTo, ReadsInOrder, RunsInOrder}
-use Rattle.draw_core.specs.declared.fault.Fault.{Fault}
-use Rattle.draw_core.specs.declared.fault.Fault.TheVariants.{Usage, ReadFault, JobTooLong, Job as JobUnread, NoPlotter, SampleRange, PartTooLong, Part as PartUnread, Nothing, Mesh, DoesNotFit, WriteFault, Memory}
-use Rattle.draw_core.specs.declared.fault.Input.TheVariants.{Job as TheJob, Part as ThePart}
+use Rattle.part_input.specs.Jobs.{IsOfJobFile}
+use Rattle.part_input.specs.Parts.{sample_size, IsOfSampleOr, IsOfPart}
+use Rattle.draw_core.specs.Run.{TakesMetJob, IsOfNamedJob, IsOfJob, IsOfSheet, ComesTo, RunsInOrder}
+use Rattle.draw_core.specs.inner.Faults.{ReadsInOrder}
+use Rattle.part_input.specs.declared.fault.Fault.{Fault}
+use Rattle.part_input.specs.declared.fault.Fault.TheVariants.{Usage, ReadFault, JobTooLong, Job as JobUnread, NoPlotter, SampleRange, PartTooLong, Part as PartUnread, Nothing, Mesh, DoesNotFit, WriteFault, Memory}
+use Rattle.part_input.specs.declared.fault.Input.TheVariants.{Job as TheJob, Part as ThePart}
 
 -- the usual job asks for no output
 pub usual_outputs : (values : JobValues) → job_of_bytes [] ≡ Ok values → values.outputs ≡ []
 usual_outputs values h = cc (empty, usual)
+
+-- a fault of the file of a job is one of a named job
+pub named_job : {X : Type 0} (r : Result X Fault) → IfErr r IsOfJobFile → IfErr r IsOfNamedJob
+named_job (Ok x) h = tt
+named_job (Err (ReadFault TheJob)) h = tt
+named_job (Err (ReadFault ThePart)) h = absurd h
+named_job (Err JobTooLong) h = tt
+named_job (Err (JobUnread cause)) h = tt
+named_job (Err Memory) h = tt
+named_job (Err Usage) h = absurd h
+named_job (Err (NoPlotter name)) h = absurd h
+named_job (Err SampleRange) h = absurd h
+named_job (Err PartTooLong) h = absurd h
+named_job (Err (PartUnread cause)) h = absurd h
+named_job (Err Nothing) h = absurd h
+named_job (Err (Mesh fault)) h = absurd h
+named_job (Err (DoesNotFit need_w need_h have_w have_h)) h = absurd h
+named_job (Err (WriteFault target)) h = absurd h
 
 is_named : (name : Option (List ℕ)) → IsOfJob name (ReadFault TheJob) → IsSome name
 is_named None h = absurd h

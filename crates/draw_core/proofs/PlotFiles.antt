@@ -8,7 +8,7 @@ use Rattle.plot_rack.specs.Plotters.{Plot, drawn, AreDrawn}
 use Rattle.sheet_plan.specs.declared.sheet.Sheet.{Sheet}
 use Rattle.sheet_plan.specs.declared.sheet.Stroke.{Stroke}
 use Rattle.draw_core.specs.Drawing.{paper_of, plot_file}
-use Rattle.draw_core.specs.Made.{file_of_plot}
+use Rattle.draw_core.specs.inner.Made.{file_of_plot}
 use Rattle.draw_core.specs.Outputs.{plot_name}
 use Rattle.draw_core.proofs.Unmet.{find_map}
 

@@ -3,13 +3,13 @@ use Rattle.std.proofs.Common.{◌≡◌, ℕ, List, length, sym, subst, ◌∙�
 use Rattle.std.specs.Prelude.{Option, None, Some, IfSome}
 use Rattle.std.proofs.lemmas.List.{take_all, append-nil}
 use Rattle.desk.specs.Files.{Files}
-use Rattle.draw_core.specs.Kept.{IsOfSaying}
+use Rattle.draw_core.specs.inner.Kept.{IsOfSaying}
 use Rattle.draw_core.specs.Outputs.{File, KeepsAll, LeavesAll}
-use Rattle.draw_core.specs.Run.{IsWriteOutcome}
+use Rattle.draw_core.specs.inner.Faults.{IsWriteOutcome}
 use Rattle.draw_core.specs.Summary.{Says}
-use Rattle.draw_core.specs.declared.fault.Fault.{Fault}
-use Rattle.draw_core.specs.declared.fault.Fault.TheVariants.{Usage, ReadFault, JobTooLong, Job as JobUnread, NoPlotter, SampleRange, PartTooLong, Part as PartUnread, Nothing, Mesh, DoesNotFit, WriteFault, Memory}
-use Rattle.draw_core.specs.declared.fault.Target.TheVariants.{Out, Plot, Summary}
+use Rattle.part_input.specs.declared.fault.Fault.{Fault}
+use Rattle.part_input.specs.declared.fault.Fault.TheVariants.{Usage, ReadFault, JobTooLong, Job as JobUnread, NoPlotter, SampleRange, PartTooLong, Part as PartUnread, Nothing, Mesh, DoesNotFit, WriteFault, Memory}
+use Rattle.part_input.specs.declared.fault.Target.TheVariants.{Out, Plot, Summary}
 
 -- where nothing is said, that is so with each fault
 pub says_nothing : (fault : Fault) (old new line : List ℕ) → new ≡ old → Says (Some fault) old new line

@@ -2,7 +2,7 @@
 use Rattle.std.proofs.Common.{◌≡◌, length, refl, sym, ◌∙◌}
 use Rattle.std.proofs.lemmas.Slice.Zip.{AllZip-long}
 use Rattle.lattice.specs.declared.points.Corner.{Corner}
-use Rattle.std.specs.Prelude.{List}
+use Rattle.std.specs.Prelude.{List, Result, Ok, Err, IfErr}
 use Rattle.geometry.specs.Parts.{Part}
 use Rattle.job_file.specs.Seen.{direction_seen, job_seen}
 use Rattle.job_file.specs.declared.job.Job.{Job}
@@ -11,10 +11,13 @@ use Rattle.sheet_plan.specs.declared.bounds.Extent.{Extent}
 use Rattle.sheet_plan.specs.declared.sheet.Sheet.{Sheet}
 use Rattle.sheet_plan.specs.Extents.{IsExtent, AreExtents}
 use Rattle.sheet_plan.proofs.Rooms.{length_shapes_of}
-use Rattle.draw_core.specs.Run.{PlansSheet, Refuses}
-use Rattle.draw_core.specs.Sheets.{IsSheetOf, IsNoSheetOf}
-use Rattle.draw_core.specs.declared.fault.Fault.{Fault}
-use Rattle.draw_core.specs.declared.fault.Fault.TheVariants.{Usage, ReadFault, JobTooLong, Job as JobUnread, NoPlotter, SampleRange, PartTooLong, Part as PartUnread, Nothing, Mesh, DoesNotFit, WriteFault, Memory}
+use Rattle.part_input.specs.Steps.{Refuses}
+use Rattle.part_input.proofs.Answered.{IsOfNoDesk}
+use Rattle.draw_core.specs.Run.{PlansSheet, IsOfSheet}
+use Rattle.draw_core.specs.Sheets.{IsSheetOf}
+use Rattle.draw_core.specs.inner.Faults.{IsNoSheetOf}
+use Rattle.part_input.specs.declared.fault.Fault.{Fault}
+use Rattle.part_input.specs.declared.fault.Fault.TheVariants.{Usage, ReadFault, JobTooLong, Job as JobUnread, NoPlotter, SampleRange, PartTooLong, Part as PartUnread, Nothing, Mesh, DoesNotFit, WriteFault, Memory}
 
 -- there is an extent for each view
 pub as_many_extents : (corners : List Corner) (views : List JobView) (extents : List Extent) → AreExtents corners views extents → length extents ≡ length views
@@ -39,3 +42,10 @@ refused_sheet job part (PartUnread cause) none = absurd none
 refused_sheet job part Nothing none = absurd none
 refused_sheet job part (Mesh fault) none = absurd none
 refused_sheet job part (WriteFault target) none = absurd none
+
+-- nor is it the desk's
+pub sheet_no_desk : {X : Type 0} (r : Result X Fault) → IfErr r IsOfSheet → IfErr r IsOfNoDesk
+sheet_no_desk (Ok x) h = tt
+sheet_no_desk (Err (ReadFault input)) h = absurd h
+sheet_no_desk (Err (WriteFault target)) h = absurd h
+sheet_no_desk (Err e) h = tt

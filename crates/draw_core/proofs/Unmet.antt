@@ -9,9 +9,11 @@ use Rattle.job_file.specs.Documents.{JobValues}
 use Rattle.job_file.specs.Texts.{are_different, are_outputs, is_output}
 use Rattle.plot_rack.specs.Choices.{first_with, AreChosen, IsFirstMissing}
 use Rattle.draw_core.specs.Outputs.{first_unmet}
-use Rattle.draw_core.specs.Run.{HasPlotters, Refuses, IsOfOutputs, IsOfUsualJob, IsOfJob}
-use Rattle.draw_core.specs.declared.fault.Fault.{Fault}
-use Rattle.draw_core.specs.declared.fault.Fault.TheVariants.{Usage, ReadFault, JobTooLong, Job as JobUnread, NoPlotter, SampleRange, PartTooLong, Part as PartUnread, Nothing, Mesh, DoesNotFit, WriteFault, Memory}
+use Rattle.part_input.specs.Steps.{Refuses}
+use Rattle.draw_core.specs.Run.{HasPlotters, IsOfUsualJob, IsOfJob}
+use Rattle.draw_core.specs.inner.Faults.{IsOfOutputs}
+use Rattle.part_input.specs.declared.fault.Fault.{Fault}
+use Rattle.part_input.specs.declared.fault.Fault.TheVariants.{Usage, ReadFault, JobTooLong, Job as JobUnread, NoPlotter, SampleRange, PartTooLong, Part as PartUnread, Nothing, Mesh, DoesNotFit, WriteFault, Memory}
 
 -- ---- names and suffixes
 cond_map : {A B : Type 0} (f : A → B) (b : Bool) (x : A) (mapped : Option B) (plain : Option A) → mapped ≡ option_map f plain → cond b (Some (f x)) mapped ≡ option_map f (cond b (Some x) plain)

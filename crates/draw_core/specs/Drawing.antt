@@ -20,7 +20,7 @@ use Rattle.draw_core.specs.Run.{Drawn}
 use Rattle.draw_core.specs.Sheets.{IsSheetOf}
 use Rattle.draw_core.specs.Strokes.{AreStrokes}
 use Rattle.draw_core.specs.declared.drawing.Drawing.{Drawing}
-use Rattle.draw_core.specs.declared.fault.Fault.{Fault}
+use Rattle.part_input.specs.declared.fault.Fault.{Fault}
 use Rattle.view_lines.specs.Views.{ShowsView}
 use Rattle.view_lines.specs.declared.numbers.ViewNumbers.{ViewNumbers}
 use Rattle.view_lines.specs.declared.view.ViewDrawing.{ViewDrawing}

@@ -1,15 +1,10 @@
 pub mod Desks
 pub mod Drawing
-pub mod Fetch
-pub mod Kept
 pub mod Lines
-pub mod Made
 pub mod Numbers
 pub mod Outputs
-pub mod Reading
 pub mod Run
 pub mod Sheets
 pub mod Strokes
 pub mod Summary
-pub mod Taken
-pub mod Told
+pub mod inner

@@ -4,10 +4,10 @@ use Rattle.std.specs.Str.{bytes_eq}
 use Rattle.desk.specs.Files.{Files, Keeps, MayKeepFront, Rose}
 use Rattle.plot_rack.specs.Choices.{first_with}
 use Rattle.svg_page.specs.Texts.{◌⊕◌}
-use Rattle.draw_core.specs.declared.fault.Target.{Target}
-use Rattle.draw_core.specs.declared.fault.Target.TheVariants.{Out, Plot, Summary}
-use Rattle.draw_core.specs.declared.fault.Fault.{Fault}
-use Rattle.draw_core.specs.declared.fault.Fault.TheVariants.{WriteFault, Memory}
+use Rattle.part_input.specs.declared.fault.Target.{Target}
+use Rattle.part_input.specs.declared.fault.Target.TheVariants.{Out, Plot, Summary}
+use Rattle.part_input.specs.declared.fault.Fault.{Fault}
+use Rattle.part_input.specs.declared.fault.Fault.TheVariants.{WriteFault, Memory}
 
 -- the first name that is none of these suffixes
 abbrev pub first_unmet : List (List ℕ) → List (List ℕ) → Option (List ℕ)

@@ -10,8 +10,6 @@ use Rattle.sheet_plan.specs.declared.sheet.Sheet.{Sheet}
 use Rattle.sheet_plan.specs.Boxes.{ViewsAreApart, ViewsAreWithinMargins, StandInColumn, StandInRow}
 use Rattle.sheet_plan.specs.Extents.{AreExtents}
 use Rattle.sheet_plan.specs.Plans.{IsPlanned, IsRefused}
-use Rattle.draw_core.specs.declared.fault.Fault.{Fault}
-use Rattle.draw_core.specs.declared.fault.Fault.TheVariants.{DoesNotFit, Memory}
 
 -- the job's sheet for a part with these corners: its views stand apart, within the margins and in line
 pub record IsSheetOf (job : Job) (corners : List Corner) (sheet : Sheet) : Type 0 where
@@ -29,13 +27,7 @@ pub record HasNoRoomFor (job : Job) (corners : List Corner) (need_w need_h have_
   pub reach : AreExtents corners job.views.items extents
   pub refused : IsRefused job extents (NotFitting need_w need_h have_w have_h)
 
--- why there is no sheet: the views don't fit, or memory ran out
-abbrev pub IsNoSheetOf : Job → List Corner → Fault → Type 0
-IsNoSheetOf job corners (DoesNotFit need_w need_h have_w have_h) = HasNoRoomFor job corners need_w need_h have_w have_h
-IsNoSheetOf job corners Memory = Unit {0}
-IsNoSheetOf job corners fault = ⊥
-
--- the same of a job with these values
+-- that there is such a sheet for a job with these values, and that there is none
 abbrev pub HasSheet : JobValues → List Corner → Type 0
 HasSheet values corners = (job : Job) × (job_seen job ≡ values) × (sheet : Sheet) × IsSheetOf job corners sheet
 

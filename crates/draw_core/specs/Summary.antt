@@ -8,9 +8,9 @@ use Rattle.solid_mesh.specs.Solids.{solid_part}
 use Rattle.svg_page.specs.Texts.{◌⊕◌}
 use Rattle.draw_core.specs.Numbers.{SumsViews}
 use Rattle.draw_core.specs.declared.drawing.Drawing.{Drawing}
-use Rattle.draw_core.specs.declared.fault.Fault.{Fault}
-use Rattle.draw_core.specs.declared.fault.Fault.TheVariants.{WriteFault}
-use Rattle.draw_core.specs.declared.fault.Target.TheVariants.{Summary}
+use Rattle.part_input.specs.declared.fault.Fault.{Fault}
+use Rattle.part_input.specs.declared.fault.Fault.TheVariants.{WriteFault}
+use Rattle.part_input.specs.declared.fault.Target.TheVariants.{Summary}
 use Rattle.view_lines.specs.declared.numbers.ViewNumbers.{ViewNumbers}
 use Rattle.view_lines.specs.declared.view.ViewDrawing.{ViewDrawing}
 

@@ -1,7 +1,7 @@
 // What a run makes.
-use crate::fault::Fault;
 use cross_find::Meter;
 use job_file::Job;
+use part_input::Fault;
 use sheet_plan::Sheet;
 use solid_mesh::Solid;
 use view_lines::ViewDrawing;

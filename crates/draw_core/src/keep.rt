@@ -1,19 +1,20 @@
 // Keeps the files of a drawing, says its summary, and warns.
 ghost use Rattle.std.specs.Prelude.{◌≡◌, ◌++◌, true, map, None, Some, IfSome, IfNone, string_bytes};
 ghost use Rattle.desk.specs.Files.{OnlyWarns, AppendsFront, Keeps};
-ghost use Rattle.draw_core.specs.Desks.{OnlyFilesAndWarned, OnlySaidAndWarned, OnlyWrites, HearsAll};
+ghost use Rattle.draw_core.specs.Desks.{HearsAll};
+ghost use Rattle.draw_core.specs.inner.Desks.{OnlyFilesAndWarned, OnlySaidAndWarned, OnlyWrites};
 ghost use Rattle.draw_core.specs.Lines.{Warns, WarnsWhole};
-ghost use Rattle.draw_core.specs.Made.{file_seen};
+ghost use Rattle.draw_core.specs.inner.Made.{file_seen};
 ghost use Rattle.draw_core.specs.Outputs.{LeavesAll, CountsWrites, HasNoWriteFault};
-ghost use Rattle.draw_core.specs.Run.{IsWriteOutcome};
-ghost use Rattle.draw_core.specs.Kept.{LeavesOne, OnlyFiles, TargetsInOrder, IsOfSaying};
+ghost use Rattle.draw_core.specs.inner.Faults.{IsWriteOutcome};
+ghost use Rattle.draw_core.specs.inner.Kept.{LeavesOne, OnlyFiles, TargetsInOrder, IsOfSaying};
 ghost use Rattle.draw_core.specs.Summary.{Says};
 
-use crate::fault::{Fault, Target};
 use crate::lines::MEMORY_LINE;
 use crate::outputs::Output;
 use crate::summary::Summary;
 use desk::{Desk, DeskFault};
+use part_input::{Fault, Target};
 
 /// Warns by a line. A desk that can't is not asked again.
 pub(crate) fn warn<D: Desk>(line: &str, desk: &mut D)
@@ -91,6 +92,7 @@ fn say_summary<D: Desk>(summary: &Summary, desk: &mut D) -> Option<Fault>
         Warns result (D.state desk.old).warned (D.state desk.new).warned }
     ensures whole { HearsAll (D.state desk.old) (D.state desk.new) →
         WarnsWhole result (D.state desk.old).warned (D.state desk.new).warned }
+    ensures quiet { IfNone result ((D.state desk.new).warn_faults ≡ (D.state desk.old).warn_faults) }
     ensures changes { OnlySaidAndWarned (D.state desk.old) (D.state desk.new) }
 {
     match desk.say(summary.text.as_bytes()) {
@@ -125,6 +127,7 @@ pub(crate) fn write_all<D: Desk>(
         Warns result (D.state desk.old).warned (D.state desk.new).warned }
     ensures whole { HearsAll (D.state desk.old) (D.state desk.new) →
         WarnsWhole result (D.state desk.old).warned (D.state desk.new).warned }
+    ensures quiet { IfNone result ((D.state desk.new).warn_faults ≡ (D.state desk.old).warn_faults) }
     ensures changes { OnlyWrites (D.state desk.old) (D.state desk.new) }
 {
     match keep_all(outputs, desk) {

@@ -2,15 +2,12 @@
 #![tactic(auto)]
 
 mod drawing;
-mod fault;
-mod fetch;
 mod keep;
 mod lines;
 mod made;
+mod numbered;
 mod outputs;
-mod part;
 mod run;
-mod sample;
 mod sheets;
 mod strokes;
 mod summary;
@@ -20,8 +17,9 @@ mod views;
 pub use cross_find::Meter;
 pub use drawing::{Drawing, Outcome};
 pub use edge_pick::Picked;
-pub use fault::{Fault, Input, Target};
 pub use lines::MEMORY_LINE;
+pub use numbered::drawing_of;
+pub use part_input::{Fault, Input, Target};
 pub use run::draw;
 pub use span_count::{CountSpan, EdgeSpans, bound};
 pub use view_lines::ViewDrawing;

@@ -1,12 +1,12 @@
 // The files of a drawing, made before the first is kept.
 ghost use Rattle.std.specs.Prelude.{◌≡◌, ℕ, Some, IsSome, IfOk, slice_get};
 ghost use Rattle.plot_rack.specs.Racks.{boxes_of};
-ghost use Rattle.draw_core.specs.Made.{AreOutputs};
+ghost use Rattle.draw_core.specs.inner.Made.{AreOutputs};
 
-use crate::fault::Target;
 use crate::outputs::{Output, output_with_line, plot_output};
 use dec_text::Name;
 use exact_frac::OutOfMemory;
+use part_input::Target;
 use plot_rack::{Plotter, Rack};
 use std::alloc::Global;
 

@@ -4,12 +4,13 @@ ghost use Rattle.plot_rack.specs.Plotters.{text_of};
 ghost use Rattle.plot_rack.specs.Racks.{boxes_of};
 ghost use Rattle.draw_core.specs.Outputs.{stem_of, plot_name, place_of};
 ghost use Rattle.draw_core.specs.Lines.{write_line};
-ghost use Rattle.draw_core.specs.Told.{text_of as line_text};
+ghost use Rattle.fault_lines.specs.Told.{text_of as line_text};
 
-use crate::fault::{Fault, Target};
-use crate::lines::{Line, line_of};
+use crate::lines::draw_line;
 use dec_text::Name;
 use exact_frac::OutOfMemory;
+use fault_lines::Line;
+use part_input::{Fault, Target};
 use plot_rack::{Plotter, Rack};
 use std::alloc::Global;
 
@@ -34,7 +35,7 @@ pub(crate) fn output_with_line(
     ensures name { IfOk result (λ o. o.name ≡ name) }
     ensures bytes { IfOk result (λ o. o.bytes.items ≡ bytes.items) }
 {
-    let line = line_of(alloc, &Fault::WriteFault(target))?;
+    let line = draw_line(alloc, &Fault::WriteFault(target))?;
     Ok(Output {
         target,
         name,

@@ -1,32 +1,36 @@
 // The top call: from the words and a desk to a drawing.
-ghost use Rattle.std.specs.Prelude.{◌≡◌, ◌⊎◌, ◌++◌, true, false, length, None, Some, Ok, Err, map, IfOk, IfErr, IfSome, IfNone, IsSome, IsErrOf, OnOk, is_some, string_bytes, vec_len, ◌<◌, ◌≤◌};
-ghost use Rattle.desk.specs.Files.{OnlyReads, OnlyWarns, Rose, AppendsFront};
+ghost use Rattle.std.specs.Prelude.{◌≡◌, ◌⊎◌, true, None, Some, Ok, Err, map, IfOk, IfSome, IfNone, is_some, string_bytes, ◌<◌};
+ghost use Rattle.desk.specs.Files.{OnlyWarns, Rose};
 ghost use Rattle.draw_words.specs.Names.{named_by};
 ghost use Rattle.draw_words.specs.Seen.{texts};
-ghost use Rattle.draw_core.specs.Taken.{drawn_of, HasItsSheet};
+ghost use Rattle.draw_core.specs.inner.Taken.{drawn_of, IsDrawn};
 ghost use Rattle.plot_rack.specs.Racks.{boxes_of};
 ghost use Rattle.draw_core.specs.Outputs.{CountsWrites, HasNoWriteFault};
-ghost use Rattle.draw_core.specs.Run.{Runs, Refuses, IsAnswerOf, AnswersWords, RunsInOrder, CountsReads, IsMissing, HasDrawing, HasFiles, IsWriteOutcome, status_of};
-ghost use Rattle.draw_core.specs.Desks.{OnlyWrites, OnlyRuns, HearsAll};
-ghost use Rattle.draw_core.specs.Lines.{NamesNothing, Warns, WarnsWhole};
+ghost use Rattle.part_input.specs.Faults.{CountsReads, status_of};
+ghost use Rattle.part_input.specs.Steps.{Refuses, IsAnswerOf, IsMissing};
+ghost use Rattle.draw_core.specs.Run.{Runs, AnswersWords, RunsInOrder, HasDrawing, HasFiles};
+ghost use Rattle.draw_core.specs.inner.Faults.{IsWriteOutcome};
+ghost use Rattle.draw_core.specs.Desks.{OnlyRuns, HearsAll};
+ghost use Rattle.draw_core.specs.inner.Desks.{OnlyWrites};
+ghost use Rattle.draw_core.specs.Lines.{Warns, WarnsWhole};
+ghost use Rattle.fault_lines.specs.Lines.{NamesNothing};
 ghost use Rattle.draw_core.specs.Drawing.{drawn_in, IsDrawing, WritesNamed};
-ghost use Rattle.draw_core.specs.Kept.{AreRackFiles, WritesRack};
+ghost use Rattle.draw_core.specs.inner.Kept.{AreRackFiles, WritesRack};
 ghost use Rattle.draw_core.specs.Summary.{IsSummaryOf, SaysSummary};
 
 use crate::drawing::{Drawing, Outcome};
-use crate::fault::Fault;
 use crate::keep::{warn, write_all};
-use crate::lines::{MEMORY_LINE, line_of};
+use crate::lines::{MEMORY_LINE, draw_line};
 use crate::made::outputs_of;
 use crate::outputs::Output;
 use crate::strokes::strokes_of;
 use crate::summary::{Summary, summary_of};
 use crate::take::{Taken, take};
-use crate::views::{Views, views_of};
-use cross_find::Meter;
+use dec_text::Name;
 use desk::Desk;
 use exact_frac::OutOfMemory;
-use plot_rack::Plotter;
+use part_input::Fault;
+use plot_rack::{Plotter, Rack};
 use std::alloc::Global;
 use svg_page::svg;
 
@@ -38,9 +42,27 @@ struct Made {
     summary: Summary,
 }
 
-/// The drawing of what was taken, its files and its summary.
-fn drawing_of(alloc: Global, taken: Taken) -> Result<Made, OutOfMemory>
-    requires { HasItsSheet taken }
+/// The files of a drawing with this name, from its strokes, which the plotters draw.
+fn files_of(
+    alloc: Global,
+    out: Name,
+    rack: Rack,
+    drawing: &Drawing,
+) -> Result<Vec<Output>, OutOfMemory>
+    requires { IsDrawing drawing.now }
+    ensures { IfOk result (λ outputs. AreRackFiles (λ b. plot (b.vtable, b.value)) (boxes_of rack) drawing.now out outputs.items) }
+{
+    let mut rack = rack;
+    let strokes = strokes_of(alloc, &drawing.sheet, &drawing.views)?;
+    rack.draw(drawing.sheet.width, drawing.sheet.height, &strokes)?;
+    let text = svg(alloc, &drawing.sheet, &drawing.job.title, &strokes)?;
+    let outputs = outputs_of(alloc, out, text, &rack)?;
+    Ok(outputs)
+}
+
+/// The files and the summary of the drawing of what was taken.
+fn made_of(alloc: Global, taken: Taken) -> Result<Made, OutOfMemory>
+    requires { IsDrawn taken }
     ensures drawn { IfOk result (λ made. drawn_in made.drawing ≡ drawn_of taken) }
     ensures shows { IfOk result (λ made. IsDrawing made.drawing) }
     ensures summary { IfOk result (λ made. IsSummaryOf made.drawing (string_bytes made.summary.text)) }
@@ -48,32 +70,11 @@ fn drawing_of(alloc: Global, taken: Taken) -> Result<Made, OutOfMemory>
 {
     let Taken {
         out,
-        job,
-        mut rack,
-        solid,
-        sheet,
+        rack,
+        drawing,
+        numbers,
     } = taken;
-    let Views { views, numbers } = views_of(
-        alloc,
-        &solid,
-        job.crease,
-        sheet.spacing(),
-        &job.views,
-    )?;
-    let strokes = strokes_of(alloc, &sheet, &views)?;
-    rack.draw(sheet.width, sheet.height, &strokes)?;
-    let text = svg(alloc, &sheet, &job.title, &strokes)?;
-    let outputs = outputs_of(alloc, out, text, &rack)?;
-    let drawing = Drawing {
-        solid,
-        job,
-        sheet,
-        views,
-        meter: Meter {
-            tests: numbers.tests,
-        },
-        bound: numbers.bound,
-    };
+    let outputs = files_of(alloc, out, rack, &drawing)?;
     let summary = summary_of(alloc, &drawing, &numbers)?;
     Ok(Made {
         drawing,
@@ -107,7 +108,7 @@ fn refuse<D: Desk>(alloc: Global, fault: Fault, desk: &mut D) -> Outcome
         WarnsWhole result.fault (D.state desk.old).warned (D.state desk.new).warned }
     ensures changes { OnlyWarns (D.state desk.old) (D.state desk.new) }
 {
-    match line_of(alloc, &fault) {
+    match draw_line(alloc, &fault) {
         Ok(line) => {
             warn(line.as_str(), desk);
             ended(fault)
@@ -129,9 +130,9 @@ fn end_status(fault: &Option<Fault>) -> u8
     }
 }
 
-/// Draws what was taken, writes the drawing and says its summary.
+/// Writes the drawing of what was taken, and says its summary.
 fn write_drawing<D: Desk>(alloc: Global, taken: Taken, desk: &mut D) -> Outcome
-    requires { HasItsSheet taken }
+    requires { IsDrawn taken }
     ensures status { result.status ≡ status_of result.fault }
     ensures fault { IfSome result.fault IsWriteOutcome }
     ensures drawn { HasDrawing result.fault (is_some result.drawing) }
@@ -150,9 +151,10 @@ fn write_drawing<D: Desk>(alloc: Global, taken: Taken, desk: &mut D) -> Outcome
         Warns result.fault (D.state desk.old).warned (D.state desk.new).warned }
     ensures whole { HearsAll (D.state desk.old) (D.state desk.new) →
         WarnsWhole result.fault (D.state desk.old).warned (D.state desk.new).warned }
+    ensures quiet { IfNone result.fault ((D.state desk.new).warn_faults ≡ (D.state desk.old).warn_faults) }
     ensures changes { OnlyWrites (D.state desk.old) (D.state desk.new) }
 {
-    let made = match drawing_of(alloc, taken) {
+    let made = match made_of(alloc, taken) {
         Ok(made) => made,
         Err(_) => return refuse(alloc, Fault::Memory, desk),
     };
@@ -231,11 +233,12 @@ pub fn draw<D: Desk>(
         IfSome result.drawing (SaysSummary result.fault (D.state desk.old).said (D.state desk.new).said) }
     ensures unsaid { IfNone result.drawing ((D.state desk.new).said ≡ (D.state desk.old).said) }
 
-    // Of a fault it warns once, by its line.
+    // Of a fault it warns once, by its line, and with none not at all.
     ensures warned { (D.state desk.old).tells_warned ≡ true →
         Warns result.fault (D.state desk.old).warned (D.state desk.new).warned }
     ensures whole { HearsAll (D.state desk.old) (D.state desk.new) →
         WarnsWhole result.fault (D.state desk.old).warned (D.state desk.new).warned }
+    ensures quiet { IfNone result.fault ((D.state desk.new).warn_faults ≡ (D.state desk.old).warn_faults) }
 
     // Nothing else of the desk changes.
     ensures changes { OnlyRuns (D.state desk.old) (D.state desk.new) }

@@ -2,11 +2,12 @@
 ghost use Rattle.std.specs.Prelude.{IfOk, IfErr};
 ghost use Rattle.solid_mesh.specs.Solids.{solid_part};
 ghost use Rattle.sheet_plan.specs.Extents.{AreExtents};
-ghost use Rattle.draw_core.specs.Sheets.{IsSheetOf, IsNoSheetOf};
+ghost use Rattle.draw_core.specs.Sheets.{IsSheetOf};
+ghost use Rattle.draw_core.specs.inner.Faults.{IsNoSheetOf};
 
-use crate::fault::Fault;
 use exact_frac::OutOfMemory;
 use job_file::{Job, JobView};
+use part_input::Fault;
 use sheet_plan::{Extent, PlanError, Sheet, extent, plan};
 use solid_mesh::Solid;
 use std::alloc::Global;

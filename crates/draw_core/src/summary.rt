@@ -3,14 +3,15 @@ ghost use Rattle.std.specs.Prelude.{◌≡◌, ◌*◌, ◌<◌, ◌≤◌, ◌^
 ghost use Rattle.draw_core.specs.Lines.{write_line};
 ghost use Rattle.draw_core.specs.Numbers.{SumsViews};
 ghost use Rattle.draw_core.specs.Summary.{first_half, second_half, summary_line, is_style, pieces_in, hatches_in, IsSummaryOf};
-ghost use Rattle.draw_core.specs.Told.{text_of as line_text};
-ghost use Rattle.draw_core.specs.declared.fault.Target.{Target};
+ghost use Rattle.fault_lines.specs.Told.{text_of as line_text};
+ghost use Rattle.part_input.specs.declared.fault.Target.{Target};
 
 use crate::drawing::Drawing;
-use crate::fault::{Fault, Target};
-use crate::lines::{Line, line_of};
+use crate::lines::draw_line;
 use exact_frac::OutOfMemory;
+use fault_lines::Line;
 use lattice::{HatchLine, Piece, Style};
+use part_input::{Fault, Target};
 use std::alloc::{AllocError, Global};
 use view_lines::{ViewDrawing, ViewNumbers};
 
@@ -160,6 +161,6 @@ pub(crate) fn summary_of(
     ensures { IfOk result (λ summary. IsSummaryOf drawing.now (string_bytes summary.text)) }
 {
     let text = line_of_drawing(alloc, drawing, numbers)?;
-    let line = line_of(alloc, &Fault::WriteFault(Target::Summary))?;
+    let line = draw_line(alloc, &Fault::WriteFault(Target::Summary))?;
     Ok(Summary { text, line })
 }

@@ -1,5 +1,5 @@
 // The views of a job, drawn.
-ghost use Rattle.std.specs.Prelude.{◌≤◌, ◌^◌, length, IfOk};
+ghost use Rattle.std.specs.Prelude.{◌≤◌, length, IfOk};
 ghost use Rattle.std.specs.List.{AllZip};
 ghost use Rattle.draw_core.specs.Drawing.{ShowsJobView};
 ghost use Rattle.draw_core.specs.Numbers.{SumsViews};

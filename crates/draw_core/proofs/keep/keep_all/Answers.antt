@@ -3,7 +3,7 @@ use Rattle.std.specs.Prelude.{slice_get}
 use Rattle.std.proofs.lemmas.List.{map_more}
 use Rattle.std.proofs.lemmas.Option.{slice_get_read, get_or_from_slice_get}
 use Rattle.desk.specs.Files.{DeskState}
-use Rattle.draw_core.specs.Made.{file_seen}
+use Rattle.draw_core.specs.inner.Made.{file_seen}
 use Rattle.draw_core.proofs.Keeping.{keeps_output, leaves_at}
 use Rattle.draw_core.proofs.keep.keep_all.Goals as goal
 

@@ -1,6 +1,6 @@
 use Rattle.std.proofs.Common.{◌≡◌, true, map, take}
-use Rattle.draw_core.specs.Kept.{OnlyFiles}
-use Rattle.draw_core.specs.Made.{file_seen}
+use Rattle.draw_core.specs.inner.Kept.{OnlyFiles}
+use Rattle.draw_core.specs.inner.Made.{file_seen}
 use Rattle.draw_core.specs.Outputs.{KeepsAll}
 use Rattle.draw_core.proofs.keep.keep_all.Given as goal
 

@@ -1,6 +1,6 @@
 use Rattle.std.proofs.Common.{ℕ, List, map, sym, ap, subst, ◌∙◌, string_bytes}
 use Rattle.desk.specs.Files.{Files, DeskState}
-use Rattle.draw_core.specs.Made.{file_seen}
+use Rattle.draw_core.specs.inner.Made.{file_seen}
 use Rattle.draw_core.specs.Outputs.{KeepsAll}
 use Rattle.draw_core.specs.Summary.{Says}
 use Rattle.draw_core.proofs.Saying.{says_nothing, leaves_said, outcome_said}

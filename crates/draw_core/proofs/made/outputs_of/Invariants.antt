@@ -1,6 +1,6 @@
 use Rattle.std.proofs.Common.{take}
 use Rattle.plot_rack.specs.Racks.{boxes_of}
-use Rattle.draw_core.specs.Made.{AreOutputs}
+use Rattle.draw_core.specs.inner.Made.{AreOutputs}
 use Rattle.draw_core.proofs.made.outputs_of.Given as goal
 
 -- the files of the plotters so far are made

@@ -4,10 +4,12 @@ use Rattle.desk.specs.Files.{Files, DeskState, Rose}
 use Rattle.draw_words.specs.Names.{named_by}
 use Rattle.draw_words.specs.Seen.{texts}
 use Rattle.plot_rack.specs.Racks.{boxes_of}
-use Rattle.draw_core.specs.Kept.{WritesRack}
+use Rattle.draw_core.specs.inner.Kept.{WritesRack}
+use Rattle.draw_core.specs.Desks.{HearsAll}
+use Rattle.draw_core.specs.Lines.{WarnsWhole}
 use Rattle.draw_core.specs.Run.{Runs}
 use Rattle.draw_core.specs.Summary.{SaysSummary}
-use Rattle.draw_core.specs.Taken.{drawn_of}
+use Rattle.draw_core.specs.inner.Taken.{drawn_of}
 use Rattle.draw_core.proofs.Answered.{drawn_counted, drawn_steady, refused_counted, refused_steady, no_read, no_write}
 use Rattle.draw_core.proofs.Drawings.{made_of, writes_named, same_outputs}
 use Rattle.draw_core.proofs.run.draw.Goals as goal
@@ -27,7 +29,7 @@ returns-in-Ok-clause-files g c = λ told.
     let after = (state c.write_drawing.new.desk).files in
     let P : Files → Type 0 = λ files. IfSome end.drawing (WritesRack (λ b. (goal.Plotter-dyn g (b.vtable, b.value)).plot b.value) rack end.fault files after taken.out) in
     let left : P (state c.args.desk.now).files = subst P (ap (λ (s : DeskState). s.files) c.in-Ok.ensures.changes) (c.write_drawing.ensures.files tells) in
-    writes_named (λ b. (goal.Plotter-dyn g (b.vtable, b.value)).plot b.value) c.args.extras.items rack (named_by (texts c.args.words.now)) taken.out taken.job.outputs.items end.fault
+    writes_named (λ b. (goal.Plotter-dyn g (b.vtable, b.value)).plot b.value) c.args.extras.items rack (named_by (texts c.args.words.now)) taken.out taken.drawing.job.outputs.items end.fault
     (state c.args.desk.now).files after end.drawing c.in-Ok.ensures.out (same_outputs end.drawing (drawn_of taken) c.write_drawing.ensures.made) c.in-Ok.ensures.plotters left
 
 pub returns-in-Ok-clause-said : goal.returns-in-Ok-clause-said
@@ -93,3 +95,17 @@ returns-in-Err-clause-held g c = λ steady there.
           ∙ no_read suffixes (texts c.args.words.now) (state c.args.desk.now).files there c.in-Err.fault (state c.args.desk.now).read_faults (state c.take.new.desk).read_faults (c.in-Err.ensures.missing steady) c.in-Err.ensures.reads,
       ap (λ (s : DeskState). s.write_faults) c.refuse.ensures.changes ∙ ap (λ (s : DeskState). s.write_faults) c.in-Err.ensures.changes,
     )
+
+-- ---- what is heard
+pub returns-in-Ok-clause-whole : goal.returns-in-Ok-clause-whole
+returns-in-Ok-clause-whole g c = λ hears.
+    let state = g.D.Desk.state in
+    let between = state c.take.new.desk in
+    let after = state c.write_drawing.new.desk in
+    let same = c.in-Ok.ensures.changes in
+    let heard : HearsAll between after = record {
+      tells = ap (λ (s : DeskState). s.tells_warned) same ∙ hears.tells;
+      firm = ap (λ (s : DeskState). s.firm) same ∙ hears.firm;
+      no_fault = λ rose. hears.no_fault (subst (λ (n : ℕ). Rose n after.warn_faults) (ap (λ (s : DeskState). s.warn_faults) same) rose);
+    } in
+    subst (λ (warned : List ℕ). WarnsWhole c.write_drawing.result.fault warned after.warned) (ap (λ (s : DeskState). s.warned) same) (c.write_drawing.ensures.whole heard)

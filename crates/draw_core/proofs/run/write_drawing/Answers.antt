@@ -1,5 +1,5 @@
 use Rattle.std.proofs.Common.{List, map, subst, string_bytes}
-use Rattle.draw_core.specs.Made.{file_seen}
+use Rattle.draw_core.specs.inner.Made.{file_seen}
 use Rattle.draw_core.specs.Outputs.{LeavesAll}
 use Rattle.draw_core.specs.declared.outputs.Output.{Output}
 use Rattle.draw_core.proofs.run.write_drawing.Goals as goal

@@ -3,10 +3,14 @@ use Rattle.desk.specs.Files.{Files, DeskState}
 use Rattle.draw_words.specs.Seen.{named_seen}
 use Rattle.job_file.specs.Seen.{job_seen}
 use Rattle.solid_mesh.specs.Solids.{solid_part}
-use Rattle.std.specs.Prelude.{Ok}
-use Rattle.draw_core.specs.Run.{◌and_then◌, DrawsFiles, HasPlotters, TakesReadJob, TakesMetJob, TakesSolid, PlansSheet, Refuses, IsMissing}
-use Rattle.draw_core.specs.Taken.{drawn_of}
-use Rattle.draw_core.proofs.Chains.{refuses_as, missing_as, gives_next}
+use Rattle.std.specs.Prelude.{Ok, Err}
+use Rattle.part_input.specs.Jobs.{TakesReadJob}
+use Rattle.part_input.specs.Parts.{TakesSolid}
+use Rattle.part_input.specs.Steps.{◌and_then◌, Refuses, IsMissing}
+use Rattle.draw_core.specs.Run.{DrawsFiles, HasPlotters, TakesMetJob, PlansSheet}
+use Rattle.draw_core.specs.inner.Taken.{drawn_of}
+use Rattle.part_input.proofs.Chains.{refuses_as, missing_as, gives_next}
+use Rattle.part_input.proofs.Missing.{solid_missing}
 use Rattle.draw_core.proofs.Orders.{job_in_order, part_in_order}
 use Rattle.draw_core.proofs.Unmet.{of_rack}
 use Rattle.draw_core.proofs.take.take_files.Goals as goal
@@ -40,56 +44,58 @@ returns-in-Err-rack_of-clause-of_files g c =
     inl (of_rack (named_seen c.args.named).job c.in-Err-rack_of.fault c.in-Err-rack_of.ensures.of_outputs (λ none. c.in-Err-rack_of.ensures.usual (c.in-Ok.ensures.outputs none)))
 
 -- the job was taken, and the part of the same files is refused
-pub returns-in-Err-take_solid-clause-answer : goal.returns-in-Err-take_solid-clause-answer
-returns-in-Err-take_solid-clause-answer g c =
+pub returns-in-Err-fetch_solid-clause-answer : goal.returns-in-Err-fetch_solid-clause-answer
+returns-in-Err-fetch_solid-clause-answer g c =
     λ told.
     let old = g.D.Desk.state c.args.desk.now in
     let named = named_seen c.args.named in
     let job = job_seen c.in-Ok.job in
     let suffixes = (map (λ b. ((goal.Plotter-dyn g (b.vtable, b.value)).plot b.value).suffix) c.args.extras.items) in
-    let fault = c.in-Err-take_solid.fault in
+    let fault = c.in-Err-fetch_solid.fault in
     let tells = ap (λ (s : DeskState). s.tells) c.in-Ok.ensures.changes ∙ told in
     let P : Files → Type 0 = λ files. Refuses (TakesSolid files named.part job.decimals) fault in
-    let refused : P old.files = subst P (ap (λ (s : DeskState). s.files) c.in-Ok.ensures.changes) (c.in-Err-take_solid.ensures.answer tells) in
+    let refused : P old.files = subst P (ap (λ (s : DeskState). s.files) c.in-Ok.ensures.changes) (c.in-Err-fetch_solid.ensures.answer tells) in
     let met : TakesMetJob suffixes old.files named.job (Ok job) = (job, c.in-Ok.ensures.answer told, c.in-Ok-rack_of.ensures.answer) in
     refuses_as (TakesSolid old.files named.part job.decimals) (DrawsFiles suffixes old.files named) (λ e h. inr (job, met, inl h)) fault refused
 
 -- both were taken, and the sheet is planned
-pub returns-in-Ok-take_solid-clause-answer : goal.returns-in-Ok-take_solid-clause-answer
-returns-in-Ok-take_solid-clause-answer g c =
+pub returns-in-Ok-fetch_solid-clause-answer : goal.returns-in-Ok-fetch_solid-clause-answer
+returns-in-Ok-fetch_solid-clause-answer g c =
     λ told.
     let old = g.D.Desk.state c.args.desk.now in
     let named = named_seen c.args.named in
     let job = job_seen c.in-Ok.job in
     let suffixes = (map (λ b. ((goal.Plotter-dyn g (b.vtable, b.value)).plot b.value).suffix) c.args.extras.items) in
-    let part = solid_part c.in-Ok-take_solid.solid in
+    let part = solid_part c.in-Ok-fetch_solid.solid in
     let tells = ap (λ (s : DeskState). s.tells) c.in-Ok.ensures.changes ∙ told in
     let P : Files → Type 0 = λ files. TakesSolid files named.part job.decimals (Ok part) in
-    let taken : P old.files = subst P (ap (λ (s : DeskState). s.files) c.in-Ok.ensures.changes) (c.in-Ok-take_solid.ensures.answer tells) in
+    let taken : P old.files = subst P (ap (λ (s : DeskState). s.files) c.in-Ok.ensures.changes) (c.in-Ok-fetch_solid.ensures.answer tells) in
     let met : TakesMetJob suffixes old.files named.job (Ok job) = (job, c.in-Ok.ensures.answer told, c.in-Ok-rack_of.ensures.answer) in
-    let from_part = gives_next (TakesSolid old.files named.part job.decimals) (PlansSheet job) part taken drawn_of c.take_sheet.result c.take_sheet.ensures.answer in
-    gives_next (TakesMetJob suffixes old.files named.job) (λ job. TakesSolid old.files named.part job.decimals and_then PlansSheet job) job met drawn_of c.take_sheet.result from_part
+    let from_part = gives_next (TakesSolid old.files named.part job.decimals) (PlansSheet job) part taken drawn_of c.draw_solid.result c.draw_solid.ensures.answer in
+    gives_next (TakesMetJob suffixes old.files named.job) (λ job. TakesSolid old.files named.part job.decimals and_then PlansSheet job) job met drawn_of c.draw_solid.result from_part
 
 pub returns-in-Err-clause-order : goal.returns-in-Err-clause-order
 returns-in-Err-clause-order g c = λ told.
     job_in_order (map (λ b. ((goal.Plotter-dyn g (b.vtable, b.value)).plot b.value).suffix) c.args.extras.items) (g.D.Desk.state c.args.desk.now).files (named_seen c.args.named) c.in-Err.fault c.in-Err.ensures.of_job
 
-pub returns-in-Err-take_solid-clause-order : goal.returns-in-Err-take_solid-clause-order
-returns-in-Err-take_solid-clause-order g c = λ told.
+pub returns-in-Err-fetch_solid-clause-order : goal.returns-in-Err-fetch_solid-clause-order
+returns-in-Err-fetch_solid-clause-order g c = λ told.
     let old = g.D.Desk.state c.args.desk.now in
     let job = job_seen c.in-Ok.job in
-    part_in_order (map (λ b. ((goal.Plotter-dyn g (b.vtable, b.value)).plot b.value).suffix) c.args.extras.items) old.files (named_seen c.args.named) job (job, c.in-Ok.ensures.answer told, c.in-Ok-rack_of.ensures.answer) c.in-Err-take_solid.fault c.in-Err-take_solid.ensures.of_part
+    part_in_order (map (λ b. ((goal.Plotter-dyn g (b.vtable, b.value)).plot b.value).suffix) c.args.extras.items) old.files (named_seen c.args.named) job (job, c.in-Ok.ensures.answer told, c.in-Ok-rack_of.ensures.answer) c.in-Err-fetch_solid.fault c.in-Err-fetch_solid.ensures.of_part
 
-pub returns-in-Err-take_solid-clause-missing : goal.returns-in-Err-take_solid-clause-missing
-returns-in-Err-take_solid-clause-missing g c = λ steady.
+pub returns-in-Err-fetch_solid-clause-missing : goal.returns-in-Err-fetch_solid-clause-missing
+returns-in-Err-fetch_solid-clause-missing g c = λ steady.
     let old = g.D.Desk.state c.args.desk.now in
     let named = named_seen c.args.named in
     let job = job_seen c.in-Ok.job in
     let suffixes = (map (λ b. ((goal.Plotter-dyn g (b.vtable, b.value)).plot b.value).suffix) c.args.extras.items) in
-    let fault = c.in-Err-take_solid.fault in
+    let fault = c.in-Err-fetch_solid.fault in
     let told = g.met.D.Desk.steady_tells c.args.desk.now steady in
     let still = ap (λ (s : DeskState). s.steady) c.in-Ok.ensures.changes ∙ steady in
+    let between = (g.D.Desk.state c.take_job.new.desk).files in
     let P : Files → Type 0 = λ files. IsMissing (TakesSolid files named.part job.decimals) fault in
-    let missing : P old.files = subst P (ap (λ (s : DeskState). s.files) c.in-Ok.ensures.changes) (c.in-Err-take_solid.ensures.missing still) in
+    let missing : P old.files = subst P (ap (λ (s : DeskState). s.files) c.in-Ok.ensures.changes)
+    (solid_missing between named.part job.decimals (Err fault) c.in-Err-fetch_solid.ensures.of_part (c.in-Err-fetch_solid.ensures.missing still)) in
     let met : TakesMetJob suffixes old.files named.job (Ok job) = (job, c.in-Ok.ensures.answer told, c.in-Ok-rack_of.ensures.answer) in
     missing_as (TakesSolid old.files named.part job.decimals) (DrawsFiles suffixes old.files named) (λ e h. inr (job, met, inl h)) fault missing

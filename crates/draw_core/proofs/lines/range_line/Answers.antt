@@ -1,4 +1,0 @@
-use Rattle.draw_core.proofs.lines.range_line.Goals as goal
-
-pub returns : goal.returns
-returns c = simp (c.axis_text-axis.ensures) at c.format.ensures.ok

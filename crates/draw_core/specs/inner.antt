@@ -1,0 +1,6 @@
+-- What only this crate's own functions cite.
+pub mod Desks
+pub mod Faults
+pub mod Kept
+pub mod Made
+pub mod Taken

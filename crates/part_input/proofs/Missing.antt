@@ -1,0 +1,128 @@
+-- Which faults are whose, and a fault of reading is that of a missing file.
+use Rattle.std.proofs.Common.{◌≡◌, ℕ, List, Option, Some, None, IsSome, Result, Ok, Err, inl, refl, sym, subst}
+use Rattle.std.specs.Prelude.{◌↔◌, IfErr, IfSome, IsErrOf}
+use Rattle.desk.specs.Files.{Files}
+use Rattle.part_input.specs.Jobs.{TakesReadJob, IsOfJobFile}
+use Rattle.part_input.specs.Parts.{sample_size, cubes_along, TakesSoupOr, TakesSoup, TakesSolid, HasSize, IsOfSoupOr, IsOfSoup, IsOfSampleOr, IsOfPart}
+use Rattle.part_input.specs.Steps.{IsMissing}
+use Rattle.part_input.specs.inner.Texts.{IsOfMesh}
+use Rattle.part_input.specs.declared.fault.Input.TheVariants.{Job as TheJob, Part as ThePart}
+use Rattle.part_input.specs.declared.fault.Fault.{Fault}
+use Rattle.part_input.specs.declared.fault.Fault.TheVariants.{Usage, ReadFault, JobTooLong, Job as JobUnread, NoPlotter, SampleRange, PartTooLong, Part as PartUnread, Nothing, Mesh, DoesNotFit, WriteFault, Memory}
+use Rattle.part_input.proofs.Answered.{IsOfNoDesk, IsOfNoWriting}
+
+-- ---- jobs
+module _ {X : Type 0} (files : Files) (name : List ℕ) where
+  pub job_not_written : (r : Result X Fault) → IfErr r IsOfJobFile → IfErr r IsOfNoWriting
+  job_not_written (Ok x) h = tt
+  job_not_written (Err (WriteFault target)) h = absurd h
+  job_not_written (Err e) h = tt
+
+  -- a fault of reading is that of a missing file
+  pub job_missing : (r : Result X Fault) → IfErr r IsOfJobFile → IsErrOf r (ReadFault TheJob) ↔ (files name ≡ None) → IfErr r (IsMissing (TakesReadJob files (Some name)))
+  job_missing (Ok x) h m = tt
+  job_missing (Err (ReadFault TheJob)) h m = inl (inl (refl, m.0 refl))
+  job_missing (Err (ReadFault ThePart)) h m = absurd h
+  job_missing (Err e) h m = tt
+
+-- ---- parts
+no_job : (size : Option (List ℕ)) → IsOfSampleOr size (ReadFault TheJob) → ⊥
+no_job None h = h
+no_job (Some size) h = h
+
+no_writing : (size : Option (List ℕ)) (target : _) → IsOfSampleOr size (WriteFault target) → ⊥
+no_writing None target h = h
+no_writing (Some size) target h = h
+
+-- a fault before the check, and one of the check, is a fault of the part
+soup_in_part : (size : Option (List ℕ)) (e : Fault) → IsOfSoupOr size e → IsOfSampleOr size e
+soup_in_part None (ReadFault TheJob) h = absurd h
+soup_in_part None (ReadFault ThePart) h = tt
+soup_in_part None PartTooLong h = tt
+soup_in_part None (PartUnread cause) h = tt
+soup_in_part None Nothing h = tt
+soup_in_part None Memory h = tt
+soup_in_part None Usage h = absurd h
+soup_in_part None JobTooLong h = absurd h
+soup_in_part None (JobUnread cause) h = absurd h
+soup_in_part None (NoPlotter name) h = absurd h
+soup_in_part None SampleRange h = absurd h
+soup_in_part None (Mesh fault) h = absurd h
+soup_in_part None (DoesNotFit need_w need_h have_w have_h) h = absurd h
+soup_in_part None (WriteFault target) h = absurd h
+soup_in_part (Some size) SampleRange h = h
+soup_in_part (Some size) Memory h = tt
+soup_in_part (Some size) Usage h = absurd h
+soup_in_part (Some size) (ReadFault input) h = absurd h
+soup_in_part (Some size) JobTooLong h = absurd h
+soup_in_part (Some size) (JobUnread cause) h = absurd h
+soup_in_part (Some size) (NoPlotter name) h = absurd h
+soup_in_part (Some size) PartTooLong h = absurd h
+soup_in_part (Some size) (PartUnread cause) h = absurd h
+soup_in_part (Some size) Nothing h = absurd h
+soup_in_part (Some size) (Mesh fault) h = absurd h
+soup_in_part (Some size) (DoesNotFit need_w need_h have_w have_h) h = absurd h
+soup_in_part (Some size) (WriteFault target) h = absurd h
+
+mesh_in_part : (size : Option (List ℕ)) → IfSome size (λ s. IsSome (cubes_along s)) → (e : Fault) → IsOfMesh e → IsOfSampleOr size e
+mesh_in_part None sized (Mesh fault) h = tt
+mesh_in_part None sized Memory h = tt
+mesh_in_part (Some size) sized (Mesh fault) h = sized
+mesh_in_part (Some size) sized Memory h = tt
+mesh_in_part size sized Usage h = absurd h
+mesh_in_part size sized (ReadFault input) h = absurd h
+mesh_in_part size sized JobTooLong h = absurd h
+mesh_in_part size sized (JobUnread cause) h = absurd h
+mesh_in_part size sized (NoPlotter name) h = absurd h
+mesh_in_part size sized SampleRange h = absurd h
+mesh_in_part size sized PartTooLong h = absurd h
+mesh_in_part size sized (PartUnread cause) h = absurd h
+mesh_in_part size sized Nothing h = absurd h
+mesh_in_part size sized (DoesNotFit need_w need_h have_w have_h) h = absurd h
+mesh_in_part size sized (WriteFault target) h = absurd h
+
+-- a fault of reading comes with no size
+no_size : (size : Option (List ℕ)) → IsOfSampleOr size (ReadFault ThePart) → size ≡ None
+no_size None h = refl
+no_size (Some size) h = absurd h
+
+-- the check is no fault of the desk
+pub mesh_no_desk : {X : Type 0} (r : Result X Fault) → IfErr r IsOfMesh → IfErr r IsOfNoDesk
+mesh_no_desk (Ok x) h = tt
+mesh_no_desk (Err (ReadFault input)) h = absurd h
+mesh_no_desk (Err (WriteFault target)) h = absurd h
+mesh_no_desk (Err e) h = tt
+
+module _ (files : Files) (name : List ℕ) where
+  pub of_soup : (e : Fault) → IsOfSoup name e → IsOfPart name e
+  of_soup e h = soup_in_part (sample_size name) e h
+
+  pub of_mesh : HasSize name → (e : Fault) → IsOfMesh e → IsOfPart name e
+  of_mesh sized e h = mesh_in_part (sample_size name) sized e h
+
+  module _ {X : Type 0} where
+    pub soups : (r : Result X Fault) → IfErr r (IsOfSoup name) → IfErr r (IsOfPart name)
+    soups (Ok x) h = tt
+    soups (Err e) h = of_soup e h
+
+    pub part_not_written : (r : Result X Fault) → IfErr r (IsOfPart name) → IfErr r IsOfNoWriting
+    part_not_written (Ok x) h = tt
+    part_not_written (Err (WriteFault target)) h = absurd (no_writing (sample_size name) target h)
+    part_not_written (Err e) h = tt
+
+    abbrev pub IsMissingFile : Result X Fault → Type 0
+    IsMissingFile r = IsErrOf r (ReadFault ThePart) ↔ ((sample_size name ≡ None) × (files name ≡ None))
+
+    pub soup_missing : (decimals : ℕ) (r : Result X Fault) → IfErr r (IsOfPart name) → IsMissingFile r → IfErr r (IsMissing (TakesSoup files name decimals))
+    soup_missing decimals (Ok x) h m = tt
+    soup_missing decimals (Err (ReadFault ThePart)) h m =
+        let (none, missing) = m.0 refl in
+        subst (λ (size : Option (List ℕ)). TakesSoupOr size files name decimals (Err (ReadFault ThePart))) (sym none) (inl (inl (refl, missing)))
+    soup_missing decimals (Err (ReadFault TheJob)) h m = absurd (no_job (sample_size name) h)
+    soup_missing decimals (Err e) h m = tt
+
+    pub solid_missing : (decimals : ℕ) (r : Result X Fault) → IfErr r (IsOfPart name) → IsMissingFile r → IfErr r (IsMissing (TakesSolid files name decimals))
+    solid_missing decimals (Ok x) h m = tt
+    solid_missing decimals (Err (ReadFault ThePart)) h m = inl (soup_missing decimals (Err (ReadFault ThePart)) h m)
+    solid_missing decimals (Err (ReadFault TheJob)) h m = absurd (no_job (sample_size name) h)
+    solid_missing decimals (Err e) h m = tt

@@ -1,0 +1,6 @@
+pub mod Faults
+pub mod Jobs
+pub mod Parts
+pub mod Reading
+pub mod Steps
+pub mod inner

@@ -1,0 +1,21 @@
+-- What the reading of a part's text answers.
+use Rattle.std.specs.Prelude.{ℕ, List, Result, Ok, Err}
+use Rattle.weld.specs.Raw.{seen}
+use Rattle.weld.specs.declared.fault.PartError.{PartError}
+use Rattle.weld.specs.declared.fault.PartError.TheVariants.{Part, Memory}
+use Rattle.weld.specs.declared.raw_part.RawPart.{RawPart}
+use Rattle.part_input.specs.Reading.{ReadsPartText}
+use Rattle.part_input.specs.declared.fault.Fault.{Fault}
+use Rattle.part_input.specs.declared.fault.Fault.TheVariants.{Mesh, Memory as NoMemory}
+
+-- the answer is what the text says, or want of memory
+abbrev pub AnswersPart : ℕ → List ℕ → Result RawPart PartError → Type 0
+AnswersPart decimals bytes (Ok raw) = ReadsPartText decimals bytes (Ok (seen raw))
+AnswersPart decimals bytes (Err (Part fault)) = ReadsPartText decimals bytes (Err fault)
+AnswersPart decimals bytes (Err (Memory e)) = Unit {0}
+
+-- the faults of a surface
+abbrev pub IsOfMesh : Fault → Type 0
+IsOfMesh (Mesh fault) = Unit {0}
+IsOfMesh NoMemory = Unit {0}
+IsOfMesh fault = ⊥
