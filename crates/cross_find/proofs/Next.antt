@@ -2,34 +2,14 @@
 use Rattle.std.proofs.Common.{◌≡◌, inl, inr, [], ◌∷◌, refl, sym, subst, ap, ◌∙◌, arith}
 use Rattle.std.specs.Prelude.{ℤ, pos, ◌+ℤ◌, ◌-ℤ◌, ◌*ℤ◌, ◌<ℤ◌, ◌≤ℤ◌, unsigned_abs}
 use Rattle.std.proofs.lemmas.Int.{ints, by_lt_z}
-use Rattle.integers.proofs.Ring.{Expr, var, con, ◌⊕◌, ◌⊖◌, ◌⊗◌, ring}
+use Rattle.integers.proofs.Comparisons.{not_negative_of_positive, gap_of_at_most, sum_not_negative, at_most_of_gap, less_of_gap, sum_positive_last, one_less_not_negative, negative_of_negation, zero_between, less_not_at_most, sum_positive_first}
+use Rattle.integers.proofs.Ring.{Expr, var, con, ◌⊕◌, ◌⊖◌, ◌⊗◌, ring, gap_of_less}
 use Rattle.integers.proofs.Signs.{mul_nonneg, mul_pos, pos_of_mul}
 use Rattle.hiding.specs.inner.Values.{value_at}
 use Rattle.cross_find.specs.inner.Ends.{HoldsNext, IsNotBelow, IsAbove}
 
-weaker : (a : ℤ) → pos 0 <ℤ a → pos 0 ≤ℤ a
-weaker a h = omega (arith, ints)
-
 -- ---- two at once: below the product of the two shares
 module _ (n m v w : ℤ) (n_some : pos 0 <ℤ n) (n_most : n ≤ℤ m) (v_some : pos 0 <ℤ v) (v_most : v ≤ℤ w) where
-  gap : (a b : ℤ) → a ≤ℤ b → pos 0 ≤ℤ (b -ℤ a)
-  gap a b h = omega (arith, ints)
-
-  least_sum : (a b : ℤ) → pos 0 ≤ℤ a → pos 0 ≤ℤ b → pos 0 ≤ℤ (a +ℤ b)
-  least_sum a b h k = omega (arith, ints)
-
-  more_sum : (a b : ℤ) → pos 0 ≤ℤ a → pos 0 <ℤ b → pos 0 <ℤ (a +ℤ b)
-  more_sum a b h k = omega (arith, ints)
-
-  most : (a b : ℤ) → pos 0 ≤ℤ (b -ℤ a) → a ≤ℤ b
-  most a b h = omega (arith, ints)
-
-  less : (a b : ℤ) → pos 0 <ℤ (b -ℤ a) → a <ℤ b
-  less a b h = omega (arith, ints)
-
-  less_gap : (a b : ℤ) → a <ℤ b → pos 0 <ℤ (b -ℤ a)
-  less_gap a b h = omega (arith, ints)
-
   m_some : pos 0 <ℤ m
   m_some = omega (arith, ints)
 
@@ -40,16 +20,16 @@ module _ (n m v w : ℤ) (n_some : pos 0 <ℤ n) (n_most : n ≤ℤ m) (v_some :
   product_within =
       let same : (m *ℤ w) -ℤ (n *ℤ v) ≡ (m *ℤ (w -ℤ v)) +ℤ ((m -ℤ n) *ℤ v) =
       ring (n ∷ m ∷ v ∷ w ∷ []) ((var 1 ⊗ var 3) ⊖ (var 0 ⊗ var 2)) ((var 1 ⊗ (var 3 ⊖ var 2)) ⊕ ((var 1 ⊖ var 0) ⊗ var 2)) refl in
-      most (n *ℤ v) (m *ℤ w) (subst (λ (x : ℤ). pos 0 ≤ℤ x) (sym same)
-      (least_sum _ _ (mul_nonneg m (w -ℤ v) (weaker m m_some) (gap v w v_most)) (mul_nonneg (m -ℤ n) v (gap n m n_most) (weaker v v_some))))
+      at_most_of_gap (n *ℤ v) (m *ℤ w) (subst (λ (x : ℤ). pos 0 ≤ℤ x) (sym same)
+      (sum_not_negative _ _ (mul_nonneg m (w -ℤ v) (not_negative_of_positive m m_some) (gap_of_at_most v w v_most)) (mul_nonneg (m -ℤ n) v (gap_of_at_most n m n_most) (not_negative_of_positive v v_some))))
 
   pub product_below : (k l : ℤ) → pos 0 <ℤ l → (k *ℤ (m *ℤ w)) <ℤ ((n *ℤ v) *ℤ l) → (k *ℤ m) <ℤ (n *ℤ l)
   product_below k l positive h =
       let same : w *ℤ ((n *ℤ l) -ℤ (k *ℤ m)) ≡ ((n *ℤ l) *ℤ (w -ℤ v)) +ℤ (((n *ℤ v) *ℤ l) -ℤ (k *ℤ (m *ℤ w))) =
       ring (n ∷ m ∷ v ∷ w ∷ k ∷ l ∷ []) (var 3 ⊗ ((var 0 ⊗ var 5) ⊖ (var 4 ⊗ var 1)))
       (((var 0 ⊗ var 5) ⊗ (var 3 ⊖ var 2)) ⊕ (((var 0 ⊗ var 2) ⊗ var 5) ⊖ (var 4 ⊗ (var 1 ⊗ var 3)))) refl in
-      less (k *ℤ m) (n *ℤ l) (pos_of_mul w _ w_some (subst (λ (x : ℤ). pos 0 <ℤ x) (sym same)
-      (more_sum _ _ (mul_nonneg (n *ℤ l) (w -ℤ v) (weaker _ (mul_pos n l n_some positive)) (gap v w v_most)) (less_gap _ _ h))))
+      less_of_gap (k *ℤ m) (n *ℤ l) (pos_of_mul w _ w_some (subst (λ (x : ℤ). pos 0 <ℤ x) (sym same)
+      (sum_positive_last _ _ (mul_nonneg (n *ℤ l) (w -ℤ v) (not_negative_of_positive _ (mul_pos n l n_some positive)) (gap_of_at_most v w v_most)) (gap_of_less _ _ h))))
 
 swapped : (k m w n v l : ℤ) → (k *ℤ (m *ℤ w)) <ℤ ((n *ℤ v) *ℤ l) → (k *ℤ (w *ℤ m)) <ℤ ((v *ℤ n) *ℤ l)
 swapped k m w n v l h =
@@ -98,17 +78,11 @@ module _ (f g : ℤ) where
     some = h;
     within = grows f (size g) (size_least g);
     over = λ k l hk hl less. subst (λ (x : ℤ). pos 0 <ℤ x) (sym (same k l (size g)))
-        (sum _ _ (apart _ _ less) (mul_nonneg k (size g +ℤ g) (weaker k hk) (size_up g)));
+        (sum_positive_first _ _ (gap_of_less _ _ less) (mul_nonneg k (size g +ℤ g) (not_negative_of_positive k hk) (size_up g)));
   }
     where
       grows : (a b : ℤ) → pos 0 ≤ℤ b → a ≤ℤ (a +ℤ b)
       grows a b h = omega (arith, ints)
-
-      apart : (a b : ℤ) → a <ℤ b → pos 0 <ℤ (b -ℤ a)
-      apart a b h = omega (arith, ints)
-
-      sum : (a b : ℤ) → pos 0 <ℤ a → pos 0 ≤ℤ b → pos 0 <ℤ (a +ℤ b)
-      sum a b h k = omega (arith, ints)
 
       same : (k l G : ℤ) → value_at f g k l ≡ ((f *ℤ l) -ℤ (k *ℤ (f +ℤ G))) +ℤ (k *ℤ (G +ℤ g))
       same k l G = ring (f ∷ g ∷ k ∷ l ∷ G ∷ []) (values (var 2) (var 3)) (((var 0 ⊗ var 3) ⊖ (var 2 ⊗ (var 0 ⊕ var 4))) ⊕ (var 2 ⊗ (var 4 ⊕ var 1))) refl
@@ -125,8 +99,8 @@ module _ (f g : ℤ) where
   above_next (inr (none, h)) = everywhere (λ k l. pos 0 <ℤ value_at f g k l) (λ k l hk. subst (λ (x : ℤ). pos 0 <ℤ x) (sym (level k l none)) (mul_pos k g hk h))
 
   pub not_below_next : IsNotBelow f g → HoldsNext (λ k l. pos 0 ≤ℤ value_at f g k l)
-  not_below_next (inl h) = next_map (λ k l. pos 0 <ℤ value_at f g k l) (λ k l. pos 0 ≤ℤ value_at f g k l) (λ k l hk hl h. weaker _ h) (positive_next h)
-  not_below_next (inr (none, h)) = everywhere (λ k l. pos 0 ≤ℤ value_at f g k l) (λ k l hk. subst (λ (x : ℤ). pos 0 ≤ℤ x) (sym (level k l none)) (mul_nonneg k g (weaker k hk) h))
+  not_below_next (inl h) = next_map (λ k l. pos 0 <ℤ value_at f g k l) (λ k l. pos 0 ≤ℤ value_at f g k l) (λ k l hk hl h. not_negative_of_positive _ h) (positive_next h)
+  not_below_next (inr (none, h)) = everywhere (λ k l. pos 0 ≤ℤ value_at f g k l) (λ k l hk. subst (λ (x : ℤ). pos 0 ≤ℤ x) (sym (level k l none)) (mul_nonneg k g (not_negative_of_positive k hk) h))
 
   -- ---- the other way, at the share 1 / (m + 1 + size g)
   module _ (n m : ℤ) (some : pos 0 <ℤ n) (within : n ≤ℤ m) where
@@ -140,14 +114,8 @@ module _ (f g : ℤ) where
         positive m G n h k l = omega (arith, ints)
 
     far_below : (pos 1 *ℤ m) <ℤ (n *ℤ far)
-    far_below = less (pos 1 *ℤ m) (n *ℤ far) (subst (λ (x : ℤ). pos 0 <ℤ x) (sym (same (size g))) (sum _ _ (mul_nonneg (n -ℤ pos 1) far (rest n some) (weaker _ far_positive)) (size_least g)))
+    far_below = less_of_gap (pos 1 *ℤ m) (n *ℤ far) (subst (λ (x : ℤ). pos 0 <ℤ x) (sym (same (size g))) (sum _ _ (mul_nonneg (n -ℤ pos 1) far (one_less_not_negative n some) (not_negative_of_positive _ far_positive)) (size_least g)))
       where
-        less : (a b : ℤ) → pos 0 <ℤ (b -ℤ a) → a <ℤ b
-        less a b h = omega (arith, ints)
-
-        rest : (n : ℤ) → pos 0 <ℤ n → pos 0 ≤ℤ (n -ℤ pos 1)
-        rest n h = omega (arith, ints)
-
         sum : (a b : ℤ) → pos 0 ≤ℤ a → pos 0 ≤ℤ b → pos 0 <ℤ (a +ℤ (pos 1 +ℤ b))
         sum a b h k = omega (arith, ints)
 
@@ -156,12 +124,9 @@ module _ (f g : ℤ) where
 
     -- a value that is below 0 at the end is so there
     falls : f <ℤ pos 0 → value_at f g (pos 1) far <ℤ pos 0
-    falls h = below _ (subst (λ (x : ℤ). pos 0 <ℤ x) (sym (same (size g)))
+    falls h = negative_of_negation _ (subst (λ (x : ℤ). pos 0 <ℤ x) (sym (same (size g)))
         (sum _ _ _ (mul_nonneg (m +ℤ size g) ((pos 0 -ℤ f) -ℤ pos 1) (least m n (size g) some within (size_least g)) (rest f h)) (positive n m some within) (size_down g)))
       where
-        below : (x : ℤ) → pos 0 <ℤ (pos 0 -ℤ x) → x <ℤ pos 0
-        below x h = omega (arith, ints)
-
         rest : (f : ℤ) → f <ℤ pos 0 → pos 0 ≤ℤ ((pos 0 -ℤ f) -ℤ pos 1)
         rest f h = omega (arith, ints)
 
@@ -183,22 +148,16 @@ module _ (f g : ℤ) where
         same : (g : ℤ) → pos 1 *ℤ g ≡ g
         same g = omega (arith, ints)
 
-  zero_of : (f : ℤ) → f ≤ℤ pos 0 → pos 0 ≤ℤ f → f ≡ pos 0
-  zero_of f h k = omega (arith, ints)
-
-  clash : (x : ℤ) → x <ℤ pos 0 → pos 0 ≤ℤ x → ⊥
-  clash x h k = omega (arith, ints)
-
   pub above_of_next : HoldsNext (λ k l. pos 0 <ℤ value_at f g k l) → IsAbove f g
   above_of_next h =
       let here = h.over (pos 1) (far h.n h.m h.some h.within) (omega (arith, ints)) (far_positive h.n h.m h.some h.within) (far_below h.n h.m h.some h.within) in
       by_lt_z (pos 0) f (λ positive. inl positive) (λ most. by_lt_z f (pos 0)
-      (λ negative. absurd (clash _ (falls h.n h.m h.some h.within negative) (weaker _ here)))
-      (λ least. let none = zero_of f most least in inr (none, subst (λ (x : ℤ). pos 0 <ℤ x) (once h.n h.m h.some h.within none) here)))
+      (λ negative. absurd (less_not_at_most _ (pos 0) (falls h.n h.m h.some h.within negative) (not_negative_of_positive _ here)))
+      (λ least. let none = zero_between f least most in inr (none, subst (λ (x : ℤ). pos 0 <ℤ x) (once h.n h.m h.some h.within none) here)))
 
   pub not_below_of_next : HoldsNext (λ k l. pos 0 ≤ℤ value_at f g k l) → IsNotBelow f g
   not_below_of_next h =
       let here = h.over (pos 1) (far h.n h.m h.some h.within) (omega (arith, ints)) (far_positive h.n h.m h.some h.within) (far_below h.n h.m h.some h.within) in
       by_lt_z (pos 0) f (λ positive. inl positive) (λ most. by_lt_z f (pos 0)
-      (λ negative. absurd (clash _ (falls h.n h.m h.some h.within negative) here))
-      (λ least. let none = zero_of f most least in inr (none, subst (λ (x : ℤ). pos 0 ≤ℤ x) (once h.n h.m h.some h.within none) here)))
+      (λ negative. absurd (less_not_at_most _ (pos 0) (falls h.n h.m h.some h.within negative) here))
+      (λ least. let none = zero_between f least most in inr (none, subst (λ (x : ℤ). pos 0 ≤ℤ x) (once h.n h.m h.some h.within none) here)))

@@ -2,6 +2,7 @@
 use Rattle.std.proofs.Common.{◌≡◌, [], ◌∷◌, Option, Some, None, refl, sym, subst, ap, ◌∙◌, arith}
 use Rattle.std.specs.Prelude.{ℤ, pos, ◌-ℤ◌, ◌*ℤ◌, ◌<ℤ◌, ◌≤ℤ◌, ◌<◌, ◌^◌, unsigned_abs, MatchOption, IfSome}
 use Rattle.std.proofs.lemmas.Int.{ints, by_lt_z}
+use Rattle.integers.proofs.Comparisons.{less_of_gap, times_zero, positive_not_zero}
 use Rattle.integers.proofs.Ring.{var, con, ◌⊖◌, ◌⊗◌, ring, gap_of_less, less_by}
 use Rattle.integers.proofs.Signs.{mul_pos, pos_of_mul}
 use Rattle.exact_frac.specs.declared.Frac.{Frac}
@@ -22,13 +23,7 @@ module _ (c h r : ℤ) where
   above least p = by_lt_z (pos 0) c (λ k. k) (λ most. absurd (none h c least most p.after))
     where
       none : (h c : ℤ) → pos 0 ≤ℤ c → c ≤ℤ pos 0 → pos 0 <ℤ (h *ℤ c) → ⊥
-      none h c p q k = let zero : c ≡ pos 0 = omega (arith, ints) in less_none (h *ℤ c) (ap (λ (x : ℤ). h *ℤ x) zero ∙ nothing h) k
-        where
-          nothing : (h : ℤ) → h *ℤ pos 0 ≡ pos 0
-          nothing h = omega (arith, ints)
-
-          less_none : (x : ℤ) → x ≡ pos 0 → pos 0 <ℤ x → ⊥
-          less_none x e h = omega (arith, ints)
+      none h c p q k = let zero : c ≡ pos 0 = omega (arith, ints) in positive_not_zero (h *ℤ c) k (ap (λ (x : ℤ). h *ℤ x) zero ∙ times_zero h)
 
   around : (a : ℤ) → a *ℤ c ≡ c *ℤ a
   around a = ring (a ∷ c ∷ []) (var 0 ⊗ var 1) (var 1 ⊗ var 0) refl
@@ -36,15 +31,12 @@ module _ (c h r : ℤ) where
   rest : (c *ℤ c) -ℤ (h *ℤ c) ≡ c *ℤ (c -ℤ h)
   rest = ring (h ∷ c ∷ []) ((var 1 ⊗ var 1) ⊖ (var 0 ⊗ var 1)) (var 1 ⊗ (var 1 ⊖ var 0)) refl
 
-  more : (a b : ℤ) → pos 0 <ℤ (b -ℤ a) → a <ℤ b
-  more a b h = omega (arith, ints)
-
   pub within_of_passes : pos 0 ≤ℤ c → PassesBy c h r → PassesForward c h r
   within_of_passes least p =
       let positive = above least p in
       record {
         after = pos_of_mul c h positive (subst (λ (x : ℤ). pos 0 <ℤ x) (around h) p.after);
-        before = more h c (pos_of_mul c (c -ℤ h) positive (subst (λ (x : ℤ). pos 0 <ℤ x) rest (gap_of_less (h *ℤ c) (c *ℤ c) p.before)));
+        before = less_of_gap h c (pos_of_mul c (c -ℤ h) positive (subst (λ (x : ℤ). pos 0 <ℤ x) rest (gap_of_less (h *ℤ c) (c *ℤ c) p.before)));
         nearer = pos_of_mul c r positive (subst (λ (x : ℤ). pos 0 <ℤ x) (around r) p.nearer);
       }
 

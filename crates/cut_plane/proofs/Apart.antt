@@ -1,7 +1,8 @@
 -- The two ends of the border of a face that is not flat are seen at different places.
-use Rattle.std.proofs.Common.{◌≡◌, ℕ, zero, suc, ◌+◌, ◌<◌, List, [], ◌∷◌, refl, sym, subst, ◌∙◌, unsigned_abs, arith}
+use Rattle.std.proofs.Common.{◌≡◌, ℕ, zero, suc, ◌<◌, List, [], ◌∷◌, refl, sym, subst, ◌∙◌, unsigned_abs, arith}
 use Rattle.std.specs.Prelude.{ℤ, pos, ◌+ℤ◌, ◌-ℤ◌, ◌*ℤ◌, ◌<ℤ◌}
 use Rattle.std.proofs.lemmas.Int.{ints}
+use Rattle.integers.proofs.Absolutes.{pos-sum, some_abs_of_positive, some_abs_of_negative, natural_positive}
 use Rattle.integers.proofs.Ring.{Expr, var, con, ◌⊕◌, ◌⊖◌, ◌⊗◌, ring, by_two, by_three, same_of_gap}
 use Rattle.integers.proofs.Signs.{zero_of_mul, mul_pos}
 use Rattle.lattice.specs.declared.points.Corner.{Corner}
@@ -39,9 +40,6 @@ agree_along c p q first second sight s =
         ((((con (pos 2) ⊗ var 0) ⊖ (var 2 ⊗ var 3)) ⊗ var 4) ⊕ (((con (pos 2) ⊗ var 1) ⊖ (var 2 ⊗ var 4)) ⊗ (con (pos 0) ⊖ var 3))) refl) e f))
 
 -- ---- crossings of two sides of a corner
-two_is : (m n : ℕ) → pos (m + n) ≡ pos m +ℤ pos n
-two_is m n = omega (arith, ints)
-
 module _ (c : Plane) (k l m : Corner) (far : 0 < unsigned_abs (over_of c k)) (first : IsOnPlane c (crossing_of c k l)) (second : IsOnPlane c (crossing_of c k m)) (sight : OnOneSight (toward_of c) (crossing_of c k l) (crossing_of c k m)) where
   abbrev near : ℤ
   near = pos (unsigned_abs (over_of c k))
@@ -69,16 +67,13 @@ module _ (c : Plane) (k l m : Corner) (far : 0 < unsigned_abs (over_of c k)) (fi
 
       agreed : dot s (scaled (crossing_of c k l)) *ℤ (of_m +ℤ near) ≡ dot s (scaled (crossing_of c k m)) *ℤ (of_l +ℤ near)
       agreed =
-          (λ i. dot s (scaled (crossing_of c k l)) *ℤ sym (two_is (unsigned_abs (over_of c m)) (unsigned_abs (over_of c k))) i)
+          (λ i. dot s (scaled (crossing_of c k l)) *ℤ sym (pos-sum (unsigned_abs (over_of c m)) (unsigned_abs (over_of c k))) i)
           ∙ agree_along c (crossing_of c k l) (crossing_of c k m) first second sight s
-          ∙ (λ i. dot s (scaled (crossing_of c k m)) *ℤ two_is (unsigned_abs (over_of c l)) (unsigned_abs (over_of c k)) i)
+          ∙ (λ i. dot s (scaled (crossing_of c k m)) *ℤ pos-sum (unsigned_abs (over_of c l)) (unsigned_abs (over_of c k)) i)
 
       positive : pos 0 <ℤ (near *ℤ (of_m +ℤ near))
-      positive = mul_pos near (of_m +ℤ near) (some (unsigned_abs (over_of c k)) far) (more (unsigned_abs (over_of c m)) (unsigned_abs (over_of c k)) far)
+      positive = mul_pos near (of_m +ℤ near) (natural_positive (unsigned_abs (over_of c k)) far) (more (unsigned_abs (over_of c m)) (unsigned_abs (over_of c k)) far)
         where
-          some : (n : ℕ) → 0 < n → pos 0 <ℤ pos n
-          some n h = omega (arith, ints)
-
           more : (m n : ℕ) → 0 < n → pos 0 <ℤ (pos m +ℤ pos n)
           more m n h = omega (arith, ints)
 
@@ -129,21 +124,15 @@ module _ (a b d : Corner) where
       none z e = omega (arith, ints)
 
 -- ---- the border of a face
-size_above : (z : ℤ) → pos 0 <ℤ z → 0 < unsigned_abs z
-size_above z h = omega (arith, ints)
-
-size_below : (z : ℤ) → z <ℤ pos 0 → 0 < unsigned_abs z
-size_below z h = omega (arith, ints)
-
 module _ (c : Plane) (k l m : Corner) where
   flat_before : GoesBeyond c k l → GoesBeyond c k m → OnOneSight (toward_of c) (crossing_of c k l) (crossing_of c k m) → IsFlat k l m
-  flat_before p q sight = flat_of_sight c k l m (size_above (over_of c k) (over_before c k p.0)) (crossing_on_plane c k l p) (crossing_on_plane c k m q) sight
+  flat_before p q sight = flat_of_sight c k l m (some_abs_of_positive (over_of c k) (over_before c k p.0)) (crossing_on_plane c k l p) (crossing_on_plane c k m q) sight
 
   flat_beyond : GoesBeyond c l k → GoesBeyond c m k → OnOneSight (toward_of c) (crossing_of c l k) (crossing_of c m k) → IsFlat k l m
   flat_beyond p q sight =
       let first = edge_turned l k (unsigned_abs (over_of c k)) (unsigned_abs (over_of c l)) in
       let second = edge_turned m k (unsigned_abs (over_of c k)) (unsigned_abs (over_of c m)) in
-      flat_of_sight c k l m (size_below (over_of c k) (over_beyond c k p.1)) (subst (IsOnPlane c) first (crossing_on_plane c l k p)) (subst (IsOnPlane c) second (crossing_on_plane c m k q))
+      flat_of_sight c k l m (some_abs_of_negative (over_of c k) (over_beyond c k p.1)) (subst (IsOnPlane c) first (crossing_on_plane c l k p)) (subst (IsOnPlane c) second (crossing_on_plane c m k q))
       (subst (λ (x : Point). OnOneSight (toward_of c) x (crossing_of c k m)) first (subst (λ (y : Point). OnOneSight (toward_of c) (crossing_of c l k) y) second sight))
 
 module _ (c : Plane) {s : Part} (f : Face s) where

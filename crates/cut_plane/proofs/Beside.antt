@@ -1,7 +1,8 @@
 -- From the order of V of a point and of a segment's two ends to whether the segment is to the point's right.
-use Rattle.std.proofs.Common.{◌≡◌, ◌≢◌, ◌↔◌, ◌⊎◌, inl, inr, Bool, true, false, refl, sym, ◌∙◌, arith}
-use Rattle.std.specs.Prelude.{ℤ, ◌+ℤ◌, ◌*ℤ◌, ◌<ℤ◌, ◌≤ℤ◌, IsTrue}
-use Rattle.std.proofs.lemmas.Int.{ints, by_lt_z}
+use Rattle.std.proofs.Common.{◌≡◌, ◌≢◌, ◌↔◌, ◌⊎◌, inl, inr, Bool, true, false, refl, sym, ◌∙◌}
+use Rattle.std.specs.Prelude.{◌+ℤ◌, ◌*ℤ◌, ◌<ℤ◌, IsTrue}
+use Rattle.std.proofs.lemmas.Int.{by_lt_z}
+use Rattle.integers.proofs.Comparisons.{less_not_at_most}
 use Rattle.lattice.specs.Triple.{Triple}
 use Rattle.lattice.specs.Points.{Point, of_spot, across_of, upward_of}
 use Rattle.cut_plane.specs.declared.segments.Segment.{Segment}
@@ -10,10 +11,7 @@ use Rattle.cut_plane.proofs.Lists.{not_true}
 
 module _ (d : Triple) where
   pub not_both : (p q : Point) → IsNotAbove d p q → IsLower d q p → ⊥
-  not_both p q h k = go (upward_of d p *ℤ q.w) (upward_of d q *ℤ p.w) h k
-    where
-      go : (x y : ℤ) → x ≤ℤ y → y <ℤ x → ⊥
-      go x y h k = omega (arith, ints)
+  not_both p q h k = less_not_at_most (upward_of d q *ℤ p.w) (upward_of d p *ℤ q.w) k h
 
   pub below_of_not : (p q : Point) → ¬ IsNotAbove d p q → IsLower d q p
   below_of_not p q h = by_lt_z (upward_of d q *ℤ p.w) (upward_of d p *ℤ q.w) (λ less. less) (λ least. absurd (h least))

@@ -2,6 +2,7 @@
 use Rattle.std.proofs.Common.{◌≡◌, ℕ, zero, suc, ◌+◌, ◌*◌, ◌<◌, [], ◌∷◌, refl, sym, subst, ◌∙◌, unsigned_abs, arith}
 use Rattle.std.specs.Prelude.{ℤ, pos, ◌+ℤ◌, ◌-ℤ◌, ◌*ℤ◌, ◌<ℤ◌}
 use Rattle.std.proofs.lemmas.Int.{ints}
+use Rattle.integers.proofs.Absolutes.{abs_of_positive, pos-sum, some_abs_of_positive, some_abs_of_negative, pos-sum_of_three, abs_of_negative, pos-sum_of_products, pos-product}
 use Rattle.integers.proofs.Ring.{var, con, ◌⊕◌, ◌⊖◌, ◌⊗◌, ring, by_one, by_two}
 use Rattle.lattice.specs.declared.points.Corner.{Corner}
 use Rattle.lattice.specs.Points.{Point, point_of, height_of}
@@ -12,6 +13,7 @@ use Rattle.geometry.specs.Parts.{Part, Face}
 use Rattle.geometry.specs.Cuts.{over_of, GoesBeyond, crossing_of, start_corner, end_corner, IsBorderOf}
 use Rattle.geometry.proofs.Shares.{edge_turned}
 use Rattle.geometry.proofs.Borders.{face_rise, rise_on, over_beyond, over_before, not_both_sides, crossing_on_plane}
+use Rattle.geometry.proofs.FacePoints.{face_point-turned}
 
 -- a positive multiple of r is a sum of p and q with whole weights that are not both 0
 pub record IsMixOf (p q r : Point) : Type 0 where
@@ -44,18 +46,6 @@ on_plane_of_sum c i j p q first second =
 abbrev size : Plane → Corner → ℕ
 size c k = unsigned_abs (over_of c k)
 
-two_is : (m n : ℕ) → pos (m + n) ≡ pos m +ℤ pos n
-two_is m n = omega (arith, ints)
-
-three_is : (l m n : ℕ) → pos (l + m + n) ≡ (pos l +ℤ pos m) +ℤ pos n
-three_is l m n = omega (arith, ints)
-
-product_is : (m n : ℕ) → pos (m * n) ≡ pos m *ℤ pos n
-product_is m n = omega (arith, ints)
-
-weights_is : (i m j n : ℕ) → pos (i * m + j * n) ≡ (pos i *ℤ pos m) +ℤ (pos j *ℤ pos n)
-weights_is i m j n = two_is (i * m) (j * n) ∙ (λ t. product_is i m t +ℤ product_is j n t)
-
 module _ (c : Plane) (k l m : Corner) (far : 0 < size c k)
     (balance : (i j n : ℕ) → IsOnPlane c (face_sum k l m i j n) → pos i *ℤ pos (size c k) ≡ (pos j *ℤ pos (size c l)) +ℤ (pos n *ℤ pos (size c m))) where
   within_ends : (r : Point) → IsPointOfFace k l m r → IsOnPlane c r → IsMixOf (crossing_of c k l) (crossing_of c k m) r
@@ -71,9 +61,9 @@ module _ (c : Plane) (k l m : Corner) (far : 0 < size c k)
         x = coordinate i j n k.x l.x m.x e;
         y = coordinate i j n k.y l.y m.y e;
         z = coordinate i j n k.z l.z m.z e;
-        w = (λ t. (pos j *ℤ two_is (size c l) (size c k) t) +ℤ (pos n *ℤ two_is (size c m) (size c k) t))
+        w = (λ t. (pos j *ℤ pos-sum (size c l) (size c k) t) +ℤ (pos n *ℤ pos-sum (size c m) (size c k) t))
             ∙ divisor (pos i) (pos j) (pos n) (pos (size c k)) (pos (size c l)) (pos (size c m)) e
-            ∙ (λ t. pos (size c k) *ℤ sym (three_is i j n) t);
+            ∙ (λ t. pos (size c k) *ℤ sym (pos-sum_of_three i j n) t);
       })
     where
       positive : (x : ℕ) → 0 < x → pos 0 <ℤ pos x
@@ -81,7 +71,7 @@ module _ (c : Plane) (k l m : Corner) (far : 0 < size c k)
 
       weights : (i j n x y z : ℕ) → 0 < x → 0 < i + j + n → pos i *ℤ pos x ≡ (pos j *ℤ pos y) +ℤ (pos n *ℤ pos z) → 0 < j + n
       weights zero zero zero x y z h some e = absurd (omega arith)
-      weights (suc i) zero zero x y z h some e = absurd (none i x y z h (product_is (suc i) x ∙ e ∙ nothing (pos y) (pos z)))
+      weights (suc i) zero zero x y z h some e = absurd (none i x y z h (pos-product (suc i) x ∙ e ∙ nothing (pos y) (pos z)))
         where
           nothing : (y z : ℤ) → (pos 0 *ℤ y) +ℤ (pos 0 *ℤ z) ≡ pos 0
           nothing y z = ring (y ∷ z ∷ []) ((con (pos 0) ⊗ var 0) ⊕ (con (pos 0) ⊗ var 1)) (con (pos 0)) refl
@@ -137,16 +127,16 @@ module _ (c : Plane) (k l m : Corner) (far : 0 < size c k)
           ring (pos i ∷ pos j ∷ a ∷ b ∷ d ∷ pos (size c k) ∷ pos (size c l) ∷ pos (size c m) ∷ [])
           ((var 0 ⊗ ((var 6 ⊗ var 2) ⊕ (var 5 ⊗ var 3))) ⊕ (var 1 ⊗ ((var 7 ⊗ var 2) ⊕ (var 5 ⊗ var 4))))
           (((((var 0 ⊗ var 6) ⊕ (var 1 ⊗ var 7)) ⊗ var 2) ⊕ ((var 0 ⊗ var 5) ⊗ var 3)) ⊕ ((var 1 ⊗ var 5) ⊗ var 4)) refl
-          ∙ (λ t. ((sym (weights_is i (size c l) j (size c m)) t *ℤ a) +ℤ (sym (product_is i (size c k)) t *ℤ b)) +ℤ (sym (product_is j (size c k)) t *ℤ d))
+          ∙ (λ t. ((sym (pos-sum_of_products i (size c l) j (size c m)) t *ℤ a) +ℤ (sym (pos-product i (size c k)) t *ℤ b)) +ℤ (sym (pos-product j (size c k)) t *ℤ d))
 
       divisor : (pos i *ℤ pos (size c l + size c k)) +ℤ (pos j *ℤ pos (size c m + size c k)) ≡ pos (i * size c l + j * size c m + i * size c k + j * size c k)
       divisor =
-          (λ t. (pos i *ℤ two_is (size c l) (size c k) t) +ℤ (pos j *ℤ two_is (size c m) (size c k) t))
+          (λ t. (pos i *ℤ pos-sum (size c l) (size c k) t) +ℤ (pos j *ℤ pos-sum (size c m) (size c k) t))
           ∙ ring (pos i ∷ pos j ∷ pos (size c k) ∷ pos (size c l) ∷ pos (size c m) ∷ [])
           ((var 0 ⊗ (var 3 ⊕ var 2)) ⊕ (var 1 ⊗ (var 4 ⊕ var 2)))
           ((((var 0 ⊗ var 3) ⊕ (var 1 ⊗ var 4)) ⊕ (var 0 ⊗ var 2)) ⊕ (var 1 ⊗ var 2)) refl
-          ∙ (λ t. (sym (weights_is i (size c l) j (size c m)) t +ℤ sym (product_is i (size c k)) t) +ℤ sym (product_is j (size c k)) t)
-          ∙ sym (three_is (i * size c l + j * size c m) (i * size c k) (j * size c k))
+          ∙ (λ t. (sym (pos-sum_of_products i (size c l) j (size c m)) t +ℤ sym (pos-product i (size c k)) t) +ℤ sym (pos-product j (size c k)) t)
+          ∙ sym (pos-sum_of_three (i * size c l + j * size c m) (i * size c k) (j * size c k))
 
   -- the two crossings are the ends
   lone_ends : IsOnPlane c (crossing_of c k l) → IsOnPlane c (crossing_of c k m) → AreEnds c k l m (crossing_of c k l) (crossing_of c k m)
@@ -159,9 +149,6 @@ module _ (c : Plane) (k l m : Corner) (far : 0 < size c k)
 -- ---- the order of the corners
 turned : (x y z : ℤ) → (y +ℤ z) +ℤ x ≡ (x +ℤ y) +ℤ z
 turned x y z = omega (arith, ints)
-
-swapped : (x y z : ℤ) → (x +ℤ z) +ℤ y ≡ (x +ℤ y) +ℤ z
-swapped x y z = omega (arith, ints)
 
 round : (k l m : Corner) (p : Point) → IsPointOfFace l m k p → IsPointOfFace k l m p
 round k l m p (j, n, i, some, is) = (
@@ -180,23 +167,6 @@ round k l m p (j, n, i, some, is) = (
     sum : (i j n : ℕ) → j + n + i ≡ i + j + n
     sum i j n = omega arith
 
-swap : (k l m : Corner) (p : Point) → IsPointOfFace k m l p → IsPointOfFace k l m p
-swap k l m p (i, n, j, some, is) = (
-  i,
-  j,
-  n,
-  omega arith,
-  is ∙ (λ t. record {
-    x = swapped (pos i *ℤ k.x) (pos j *ℤ l.x) (pos n *ℤ m.x) t;
-    y = swapped (pos i *ℤ k.y) (pos j *ℤ l.y) (pos n *ℤ m.y) t;
-    z = swapped (pos i *ℤ k.z) (pos j *ℤ l.z) (pos n *ℤ m.z) t;
-    w = pos (sum i j n t);
-  }),
-)
-  where
-    sum : (i j n : ℕ) → i + n + j ≡ i + j + n
-    sum i j n = omega arith
-
 -- the same triangle with its corners in another order
 reordered : (c : Plane) (k l m k' l' m' : Corner) (p q : Point) → ((r : Point) → IsPointOfFace k' l' m' r → IsPointOfFace k l m r) → ((r : Point) → IsPointOfFace k l m r → IsPointOfFace k' l' m' r)
     → AreEnds c k l m p q → AreEnds c k' l' m' p q
@@ -207,18 +177,6 @@ reordered c k l m k' l' m' p q back on h = record {
 }
 
 -- ---- by the signs of the heights
-positive_size : (z : ℤ) → pos 0 <ℤ z → pos (unsigned_abs z) ≡ z
-positive_size z h = omega (arith, ints)
-
-negative_size : (z : ℤ) → z <ℤ pos 0 → pos (unsigned_abs z) ≡ pos 0 -ℤ z
-negative_size z h = omega (arith, ints)
-
-some_above : (z : ℤ) → pos 0 <ℤ z → 0 < unsigned_abs z
-some_above z h = omega (arith, ints)
-
-some_below : (z : ℤ) → z <ℤ pos 0 → 0 < unsigned_abs z
-some_below z h = omega (arith, ints)
-
 module _ (c : Plane) (k l m : Corner) where
   height_sum : (i j n : ℕ) → IsOnPlane c (face_sum k l m i j n) → ((pos i *ℤ over_of c k) +ℤ (pos j *ℤ over_of c l)) +ℤ (pos n *ℤ over_of c m) ≡ pos 0
   height_sum i j n on = sym (face_rise c k l m i j n) ∙ rise_on c (face_sum k l m i j n) on
@@ -226,33 +184,33 @@ module _ (c : Plane) (k l m : Corner) where
   -- k is before the plane, l and m are beyond it
   before_ends : GoesBeyond c k l → GoesBeyond c k m → AreEnds c k l m (crossing_of c k l) (crossing_of c k m)
   before_ends first second =
-      lone_ends c k l m (some_above (over_of c k) (over_before c k first.0)) balance (crossing_on_plane c k l first) (crossing_on_plane c k m second)
+      lone_ends c k l m (some_abs_of_positive (over_of c k) (over_before c k first.0)) balance (crossing_on_plane c k l first) (crossing_on_plane c k m second)
     where
       balance : (i j n : ℕ) → IsOnPlane c (face_sum k l m i j n) → pos i *ℤ pos (size c k) ≡ (pos j *ℤ pos (size c l)) +ℤ (pos n *ℤ pos (size c m))
       balance i j n on =
-          (λ t. pos i *ℤ positive_size (over_of c k) (over_before c k first.0) t)
+          (λ t. pos i *ℤ abs_of_positive (over_of c k) (over_before c k first.0) t)
           ∙ by_one _ _ (((pos i *ℤ over_of c k) +ℤ (pos j *ℤ over_of c l)) +ℤ (pos n *ℤ over_of c m)) (pos 0) (pos 1)
           (ring (pos i ∷ pos j ∷ pos n ∷ over_of c k ∷ over_of c l ∷ over_of c m ∷ [])
           ((var 0 ⊗ var 3) ⊖ ((var 1 ⊗ (con (pos 0) ⊖ var 4)) ⊕ (var 2 ⊗ (con (pos 0) ⊖ var 5))))
           (((((var 0 ⊗ var 3) ⊕ (var 1 ⊗ var 4)) ⊕ (var 2 ⊗ var 5)) ⊖ con (pos 0)) ⊗ con (pos 1)) refl) (height_sum i j n on)
-          ∙ (λ t. (pos j *ℤ sym (negative_size (over_of c l) (over_beyond c l first.1)) t) +ℤ (pos n *ℤ sym (negative_size (over_of c m) (over_beyond c m second.1)) t))
+          ∙ (λ t. (pos j *ℤ sym (abs_of_negative (over_of c l) (over_beyond c l first.1)) t) +ℤ (pos n *ℤ sym (abs_of_negative (over_of c m) (over_beyond c m second.1)) t))
 
   -- k is beyond the plane, l and m are before it
   beyond_ends : GoesBeyond c l k → GoesBeyond c m k → AreEnds c k l m (crossing_of c l k) (crossing_of c m k)
   beyond_ends first second =
       subst (λ (p : Point). AreEnds c k l m p (crossing_of c m k)) (edge_turned k l (size c l) (size c k))
       (subst (λ (q : Point). AreEnds c k l m (crossing_of c k l) q) (edge_turned k m (size c m) (size c k))
-      (lone_ends c k l m (some_below (over_of c k) (over_beyond c k first.1)) balance
+      (lone_ends c k l m (some_abs_of_negative (over_of c k) (over_beyond c k first.1)) balance
       (subst (IsOnPlane c) (edge_turned l k (size c k) (size c l)) (crossing_on_plane c l k first)) (subst (IsOnPlane c) (edge_turned m k (size c k) (size c m)) (crossing_on_plane c m k second))))
     where
       balance : (i j n : ℕ) → IsOnPlane c (face_sum k l m i j n) → pos i *ℤ pos (size c k) ≡ (pos j *ℤ pos (size c l)) +ℤ (pos n *ℤ pos (size c m))
       balance i j n on =
-          (λ t. pos i *ℤ negative_size (over_of c k) (over_beyond c k first.1) t)
+          (λ t. pos i *ℤ abs_of_negative (over_of c k) (over_beyond c k first.1) t)
           ∙ by_one _ _ (((pos i *ℤ over_of c k) +ℤ (pos j *ℤ over_of c l)) +ℤ (pos n *ℤ over_of c m)) (pos 0) (pos 0 -ℤ pos 1)
           (ring (pos i ∷ pos j ∷ pos n ∷ over_of c k ∷ over_of c l ∷ over_of c m ∷ [])
           ((var 0 ⊗ (con (pos 0) ⊖ var 3)) ⊖ ((var 1 ⊗ var 4) ⊕ (var 2 ⊗ var 5)))
           (((((var 0 ⊗ var 3) ⊕ (var 1 ⊗ var 4)) ⊕ (var 2 ⊗ var 5)) ⊖ con (pos 0)) ⊗ (con (pos 0) ⊖ con (pos 1))) refl) (height_sum i j n on)
-          ∙ (λ t. (pos j *ℤ sym (positive_size (over_of c l) (over_before c l first.0)) t) +ℤ (pos n *ℤ sym (positive_size (over_of c m) (over_before c m second.0)) t))
+          ∙ (λ t. (pos j *ℤ sym (abs_of_positive (over_of c l) (over_before c l first.0)) t) +ℤ (pos n *ℤ sym (abs_of_positive (over_of c m) (over_before c m second.0)) t))
 
 -- ---- the border of a face
 module _ (c : Plane) {s : Part} (f : Face s) where
@@ -260,7 +218,7 @@ module _ (c : Plane) {s : Part} (f : Face s) where
       → AreEnds c f.a f.b f.c (crossing_of c (start_corner f first) (end_corner f first)) (crossing_of c (end_corner f second) (start_corner f second))
   by_sides zero zero h g p q = absurd (not_both_sides c (point_of f.a) q.1 p.0)
   by_sides zero (suc zero) h g p q =
-      reordered c f.b f.a f.c f.a f.b f.c _ _ (λ r there. swap f.b f.a f.c r (round f.b f.c f.a r (round f.c f.a f.b r there))) (λ r there. swap f.a f.b f.c r (round f.a f.c f.b r (round f.c f.b f.a r there)))
+      reordered c f.b f.a f.c f.a f.b f.c _ _ (λ r there. face_point-turned f.b f.c f.a r (round f.b f.c f.a r (round f.c f.a f.b r there))) (λ r there. face_point-turned f.a f.c f.b r (round f.a f.c f.b r (round f.c f.b f.a r there)))
       (beyond_ends c f.b f.a f.c p q)
   by_sides zero (suc (suc n)) h g p q = before_ends c f.a f.b f.c p q
   by_sides (suc zero) zero h g p q =
@@ -268,10 +226,10 @@ module _ (c : Plane) {s : Part} (f : Face s) where
       (before_ends c f.b f.c f.a p q)
   by_sides (suc zero) (suc zero) h g p q = absurd (not_both_sides c (point_of f.b) q.1 p.0)
   by_sides (suc zero) (suc (suc n)) h g p q =
-      reordered c f.c f.b f.a f.a f.b f.c _ _ (λ r there. swap f.c f.b f.a r (round f.c f.a f.b r there)) (λ r there. swap f.a f.b f.c r (round f.a f.c f.b r there))
+      reordered c f.c f.b f.a f.a f.b f.c _ _ (λ r there. face_point-turned f.c f.a f.b r (round f.c f.a f.b r there)) (λ r there. face_point-turned f.a f.c f.b r (round f.a f.c f.b r there))
       (beyond_ends c f.c f.b f.a p q)
   by_sides (suc (suc m)) zero h g p q =
-      reordered c f.a f.c f.b f.a f.b f.c _ _ (λ r there. swap f.a f.c f.b r there) (λ r there. swap f.a f.b f.c r there)
+      reordered c f.a f.c f.b f.a f.b f.c _ _ (λ r there. face_point-turned f.a f.b f.c r there) (λ r there. face_point-turned f.a f.c f.b r there)
       (beyond_ends c f.a f.c f.b p q)
   by_sides (suc (suc m)) (suc zero) h g p q =
       reordered c f.c f.a f.b f.a f.b f.c _ _ (λ r there. round f.c f.a f.b r there) (λ r there. round f.a f.b f.c r (round f.b f.c f.a r there))

@@ -2,12 +2,10 @@
 use Rattle.std.proofs.Common.{◌≡◌, ◌↔◌, ◌⊎◌, inl, inr, [], ◌∷◌, refl, ◌∙◌, arith}
 use Rattle.std.specs.Prelude.{ℤ, pos, ◌+ℤ◌, ◌-ℤ◌, ◌*ℤ◌, ◌<ℤ◌, ◌≤ℤ◌}
 use Rattle.std.proofs.lemmas.Int.{ints, by_lt_z}
+use Rattle.integers.proofs.Comparisons.{gap_of_at_most, not_negative_of_positive, sum_positive_last}
 use Rattle.integers.specs.Floors.{IsFloor}
-use Rattle.integers.proofs.Ring.{var, con, ◌⊕◌, ◌⊖◌, ◌⊗◌, ring, less_by}
+use Rattle.integers.proofs.Ring.{var, con, ◌⊕◌, ◌⊖◌, ◌⊗◌, ring, less_by, gap_of_less}
 use Rattle.integers.proofs.Signs.{mul_nonneg}
-
-at_least : (a b : ℤ) → a ≤ℤ b → pos 0 ≤ℤ (b -ℤ a)
-at_least a b h = omega (arith, ints)
 
 -- with the floor q of r / d: w + r / d is less than c exactly where w + q is
 pub less_by_floor : (w r c d q : ℤ) → pos 0 <ℤ d → IsFloor q r d → ((w +ℤ q) <ℤ c) ↔ (((w *ℤ d) +ℤ r) <ℤ (c *ℤ d))
@@ -19,28 +17,16 @@ less_by_floor w r c d q positive floor = (down, λ less. up less (by_lt_z (w +�
         (ring (w ∷ r ∷ c ∷ d ∷ q ∷ [])
         ((var 2 ⊗ var 3) ⊖ ((var 0 ⊗ var 3) ⊕ var 1))
         ((((var 2 ⊖ (var 0 ⊕ var 4)) ⊖ con (pos 1)) ⊗ var 3) ⊕ (((var 4 ⊗ var 3) ⊕ var 3) ⊖ var 1)) refl)
-        (both _ _ (mul_nonneg ((c -ℤ (w +ℤ q)) -ℤ pos 1) d (one_less (w +ℤ q) c less) (not_less d positive)) (gap r ((q *ℤ d) +ℤ d) floor.rest_below))
+        (sum_positive_last _ _ (mul_nonneg ((c -ℤ (w +ℤ q)) -ℤ pos 1) d (one_less (w +ℤ q) c less) (not_negative_of_positive d positive)) (gap_of_less r ((q *ℤ d) +ℤ d) floor.rest_below))
       where
         one_less : (x y : ℤ) → x <ℤ y → pos 0 ≤ℤ ((y -ℤ x) -ℤ pos 1)
         one_less x y h = omega (arith, ints)
 
-        not_less : (x : ℤ) → pos 0 <ℤ x → pos 0 ≤ℤ x
-        not_less x h = omega (arith, ints)
-
-        gap : (x y : ℤ) → x <ℤ y → pos 0 <ℤ (y -ℤ x)
-        gap x y h = omega (arith, ints)
-
-        both : (x y : ℤ) → pos 0 ≤ℤ x → pos 0 <ℤ y → pos 0 <ℤ (x +ℤ y)
-        both x y h k = omega (arith, ints)
-
     up : ((w *ℤ d) +ℤ r) <ℤ (c *ℤ d) → ((w +ℤ q) <ℤ c) ⊎ (c ≤ℤ (w +ℤ q)) → (w +ℤ q) <ℤ c
     up less (inl h) = h
-    up less (inr h) = absurd (no_sum ((w *ℤ d) +ℤ r) (c *ℤ d) _ _ (mul_nonneg ((w +ℤ q) -ℤ c) d (at_least c (w +ℤ q) h) (positive_is d positive)) (at_least (q *ℤ d) r floor.at_most)
+    up less (inr h) = absurd (no_sum ((w *ℤ d) +ℤ r) (c *ℤ d) _ _ (mul_nonneg ((w +ℤ q) -ℤ c) d (gap_of_at_most c (w +ℤ q) h) (not_negative_of_positive d positive)) (gap_of_at_most (q *ℤ d) r floor.at_most)
         (ring (w ∷ r ∷ c ∷ d ∷ q ∷ []) (((var 0 ⊗ var 3) ⊕ var 1) ⊖ (var 2 ⊗ var 3)) ((((var 0 ⊕ var 4) ⊖ var 2) ⊗ var 3) ⊕ (var 1 ⊖ (var 4 ⊗ var 3))) refl) less)
       where
-        positive_is : (x : ℤ) → pos 0 <ℤ x → pos 0 ≤ℤ x
-        positive_is x h = omega (arith, ints)
-
         no_sum : (x y a b : ℤ) → pos 0 ≤ℤ a → pos 0 ≤ℤ b → x -ℤ y ≡ a +ℤ b → x <ℤ y → ⊥
         no_sum x y a b h k e less = omega (arith, ints)
 

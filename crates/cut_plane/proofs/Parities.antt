@@ -2,6 +2,7 @@
 use Rattle.std.proofs.Common.{◌≡◌, ◌↔◌, ◌⊎◌, inl, inr, ℕ, zero, suc, ◌+◌, ◌%◌, ◌<◌, List, [], ◌∷◌, refl, sym, subst, ◌∙◌, arith}
 use Rattle.std.specs.Prelude.{ℤ, pos, ◌+ℤ◌, ◌-ℤ◌, ◌*ℤ◌, ◌<ℤ◌, ◌≤ℤ◌}
 use Rattle.std.proofs.lemmas.Int.{ints, by_lt_z}
+use Rattle.integers.proofs.Comparisons.{not_negative_of_positive, negation_positive}
 use Rattle.integers.proofs.Ring.{var, con, ◌⊕◌, ◌⊖◌, ◌⊗◌, ring, by_one}
 use Rattle.integers.proofs.Signs.{mul_pos, mul_nonneg}
 use Rattle.lattice.specs.declared.points.Corner.{Corner}
@@ -23,10 +24,7 @@ use Rattle.cut_plane.proofs.RightOf.{left_of_right, right_of_left}
 module _ (c : Plane) {s : Part} (f : Face s) where
   -- heights of one sign have no sum of 0
   term_least : (n : ℕ) (x : ℤ) → pos 0 <ℤ x → pos 0 ≤ℤ (pos n *ℤ x)
-  term_least n x h = mul_nonneg (pos n) x (omega (arith, ints)) (at_least x h)
-    where
-      at_least : (x : ℤ) → pos 0 <ℤ x → pos 0 ≤ℤ x
-      at_least x h = omega (arith, ints)
+  term_least n x h = mul_nonneg (pos n) x (omega (arith, ints)) (not_negative_of_positive x h)
 
   above_sum : (i j n : ℕ) (x y z : ℤ) → pos 0 <ℤ x → pos 0 <ℤ y → pos 0 <ℤ z → 0 < i + j + n → ((pos i *ℤ x) +ℤ (pos j *ℤ y)) +ℤ (pos n *ℤ z) ≡ pos 0 → ⊥
   above_sum i j n x y z hx hy hz some e = by i j n some (term_least i x hx) (term_least j y hy) (term_least n z hz) e
@@ -48,14 +46,11 @@ module _ (c : Plane) {s : Part} (f : Face s) where
 
   below_sum : (i j n : ℕ) (x y z : ℤ) → x <ℤ pos 0 → y <ℤ pos 0 → z <ℤ pos 0 → 0 < i + j + n → ((pos i *ℤ x) +ℤ (pos j *ℤ y)) +ℤ (pos n *ℤ z) ≡ pos 0 → ⊥
   below_sum i j n x y z hx hy hz some e =
-      above_sum i j n (pos 0 -ℤ x) (pos 0 -ℤ y) (pos 0 -ℤ z) (back x hx) (back y hy) (back z hz) some
+      above_sum i j n (pos 0 -ℤ x) (pos 0 -ℤ y) (pos 0 -ℤ z) (negation_positive x hx) (negation_positive y hy) (negation_positive z hz) some
       (by_one _ _ (((pos i *ℤ x) +ℤ (pos j *ℤ y)) +ℤ (pos n *ℤ z)) (pos 0) (pos 0 -ℤ pos 1)
       (ring (pos i ∷ pos j ∷ pos n ∷ x ∷ y ∷ z ∷ [])
       ((((var 0 ⊗ (con (pos 0) ⊖ var 3)) ⊕ (var 1 ⊗ (con (pos 0) ⊖ var 4))) ⊕ (var 2 ⊗ (con (pos 0) ⊖ var 5))) ⊖ con (pos 0))
       (((((var 0 ⊗ var 3) ⊕ (var 1 ⊗ var 4)) ⊕ (var 2 ⊗ var 5)) ⊖ con (pos 0)) ⊗ (con (pos 0) ⊖ con (pos 1))) refl) e)
-    where
-      back : (x : ℤ) → x <ℤ pos 0 → pos 0 <ℤ (pos 0 -ℤ x)
-      back x h = omega (arith, ints)
 
   pub crossed_of_point : (r : Point) → IsOnBorder c f r → IsCrossed c f
   crossed_of_point r ((i, j, n, some, is), on) = by (side_of_corner c f.a) (side_of_corner c f.b) (side_of_corner c f.c)

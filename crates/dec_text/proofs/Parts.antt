@@ -1,6 +1,6 @@
 -- A number is parted in one way only.
 use Rattle.std.proofs.Common.{◌≡◌, ◌⊎◌, ℕ, ◌+◌, ◌<◌, ◌≤◌, suc, Bool, true, false, ◌||◌, ◌==◌, ℤ, pos, ◌+ℤ◌, ◌-ℤ◌, List, [], ◌∷◌, ◌++◌, length, refl, sym, ◌∙◌, ap, subst, arith, inl, inr, append_assoc}
-use Rattle.std.proofs.lemmas.Bool.{and_parts, ne_eqb}
+use Rattle.std.proofs.lemmas.Bool.{and_parts, ne_eqb, or_parts}
 use Rattle.std.proofs.lemmas.List.{length-append}
 use Rattle.std.specs.List.{list_all}
 use Rattle.std.specs.Char.{is_ascii_digit}
@@ -10,10 +10,6 @@ use Rattle.dec_text.proofs.Digits.{one_end, digit_size}
 
 or_neither : (x y : Bool) → x ≡ false → y ≡ false → (x || y) ≡ false
 or_neither x y h k = rw (h, k) refl
-
-or_false : (x y : Bool) → (x || y) ≡ false → (x ≡ false) × (y ≡ false)
-or_false true y h = absurd (let n : ⊥ = cc in n)
-or_false false y h = (refl, h)
 
 -- ---- the exponent's mark is no digit and no point
 mark_end : (mark : ℕ) (behind : List ℕ) → (mark ≡ 101) ⊎ (mark ≡ 69) → IsDigitEnd (mark ∷ behind)
@@ -61,7 +57,7 @@ unsigned_rest (w ∷ ws) behind fraction tail h f some = digit_unsigned w (ws ++
 
 plain_minus : (bytes : List ℕ) → IsUnsigned bytes → is_minus bytes ≡ false
 plain_minus [] h = refl
-plain_minus (b ∷ bs) h = (or_false (b == 43) (b == 45) h).1
+plain_minus (b ∷ bs) h = (or_parts (b == 43) (b == 45) h).1
 
 plain_behind : (bytes : List ℕ) → IsUnsigned bytes → behind_sign bytes ≡ bytes
 plain_behind [] h = refl

@@ -6,9 +6,10 @@ use Rattle.std.proofs.Math.Seq.{get_or-append_seam}
 use Rattle.std.proofs.lemmas.Bool.{cases_lt}
 use Rattle.std.proofs.lemmas.List.Kept.{AllPairs-from_increasing}
 use Rattle.std.proofs.lemmas.Option.{slice_get-get_or, slice_get_within, get_or_from_slice_get, same_Some}
+use Rattle.integers.proofs.Lists.{some_element}
 use Rattle.geometry.specs.Parts.{Part, Edge, IsNumbered}
 use Rattle.geometry.specs.Runs.{ShareACorner, Leads, start, step}
-use Rattle.geometry.proofs.Listed.{found, same_element}
+use Rattle.geometry.proofs.Listed.{same_element}
 use Rattle.solid_mesh.specs.declared.solid.Edge as given
 use Rattle.solid_mesh.specs.Solids.{HasNumbers}
 use Rattle.edge_pick.specs.declared.order.EdgeCorners.{EdgeCorners}
@@ -140,5 +141,5 @@ module _ (s : Part) (halves drawn : List ℕ) (edges : List EdgeCorners) (long :
     leads_of k l (begin _) i j at_i at_j = subst (Leads s halves drawn i) (same_element drawn k k i j refl at_i at_j) (start i (listed k i at_i))
     leads_of k l (further _ q _ g inside meet) i j at_i at_j =
         let within = reached_in k q (omega (arith, slice_get_within drawn k i at_i, long)) g in
-        let (o, at_o) = found drawn q (omega (arith, within, long)) in
+        let (o, at_o) = some_element drawn q (omega (arith, within, long)) in
         step i o j (leads_of k q g i o at_i at_o) (listed l j at_j) (shares q l o j at_o at_j meet)

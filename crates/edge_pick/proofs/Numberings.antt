@@ -10,9 +10,10 @@ use Rattle.std.proofs.lemmas.List.FromFn.{length-range_with_len, get_or-range_wi
 use Rattle.std.proofs.lemmas.List.Quantifiers.{all_pairs_push}
 use Rattle.std.proofs.lemmas.List.Sorted.{IsPermutation-sym, Contains-permutation, length_permutation}
 use Rattle.std.proofs.lemmas.Option.{slice_get_within, get_or_from_slice_get}
+use Rattle.integers.proofs.Lists.{some_element}
 use Rattle.geometry.specs.Parts.{Part}
 use Rattle.geometry.specs.Runs.{Leads, CountUpFrom, AreRuns}
-use Rattle.geometry.proofs.Listed.{found, same_element}
+use Rattle.geometry.proofs.Listed.{same_element}
 use Rattle.edge_pick.specs.declared.order.EdgeCorners.{EdgeCorners}
 use Rattle.edge_pick.specs.declared.order.DrawnEnd.{DrawnEnd}
 use Rattle.edge_pick.specs.declared.order.Step.{Step}
@@ -381,7 +382,7 @@ module _ (s : Part) (halves drawn : List ℕ) (edges : List EdgeCorners) (long :
       let within : k < length edges = omega (arith, below, h.long) in
       let x = h.right k within in
       let x_at = slice_get_within (starts_in steps) (get_or runs k 0) x.start x.listed in
-      let (start, at) = found (starts_in steps) r (omega (arith, x_at, less)) in
+      let (start, at) = some_element (starts_in steps) r (omega (arith, x_at, less)) in
       let rises = h.rising r (get_or runs k 0) 0 less x_at in
       let before : start < x.start = omega (arith, rises, get_or_from_slice_get (starts_in steps) r start 0 at, get_or_from_slice_get (starts_in steps) (get_or runs k 0) x.start 0 x.listed) in
       let start_inside : start < length edges = omega (arith, before, x.first, within) in

@@ -10,14 +10,14 @@ use Rattle.std.proofs.lemmas.List.FromFn.{length-range_with_len, get_or-range_wi
 use Rattle.std.proofs.lemmas.List.Quantifiers.{all_pairs_push}
 use Rattle.std.proofs.lemmas.List.Sorted.{IsPermutation-refl, IsPermutation-sym, IsPermutation-cons, IsPermutation-trans, IsPermutation-remove, Contains-permutation, length_permutation}
 use Rattle.std.proofs.lemmas.Option.{slice_get_within, get_or_from_slice_get}
-use Rattle.geometry.proofs.Listed.{found, same_element}
+use Rattle.geometry.proofs.Listed.{same_element}
 use Rattle.edge_pick.specs.declared.order.EdgeCorners.{EdgeCorners}
 use Rattle.edge_pick.specs.declared.order.DrawnEnd.{DrawnEnd}
 use Rattle.edge_pick.specs.declared.order.Step.{Step}
 use Rattle.edge_pick.specs.Orders.{IsWalkedBefore}
 use Rattle.edge_pick.specs.Orders.{corner_at, corner_of, Meet, Reaches, begin, further, places_of, begun_at, starts_in, IsFrom, AreWalked}
 use Rattle.edge_pick.specs.inner.Searches.{AreBelow, AreEndsAt, IsReached, AreEndsLeft, IsSearch, IsClosed, IsOnward, IsSpread, IsAround, IsRun}
-use Rattle.integers.proofs.Lists.{slice_get_push}
+use Rattle.integers.proofs.Lists.{slice_get_push, some_element}
 use Rattle.edge_pick.proofs.Lists.{few_of}
 use Rattle.edge_pick.proofs.CornerEnds.{end_at, within_room}
 
@@ -70,7 +70,7 @@ place_listed steps k step at =
 pub step_at : (steps : List Step) (place : ℕ) → Contains (places_of steps) place → (k : ℕ) × (step : Step) × (slice_get steps k ≡ Some step) × (step.to.place ≡ place)
 step_at steps place (k, within, is) =
     let inside : k < length steps = omega (arith, length-map steps (λ (s : Step). s.to.place)) in
-    let (step, at) = found steps k inside in
+    let (step, at) = some_element steps k inside in
     (k, step, at, sym (get_or-map (λ (s : Step). s.to.place) steps k step place inside ∙ ap (λ (s : Step). s.to.place) (get_or_from_slice_get steps k step step at)) ∙ is)
 
 walked_kept : (old new : List Step) → ((k : ℕ) (step : Step) → slice_get old k ≡ Some step → slice_get new k ≡ Some step) → (k place : ℕ) → IsWalkedBefore old k place → IsWalkedBefore new k place
@@ -301,7 +301,7 @@ module _ (edges : List EdgeCorners) where
         done : (k : ℕ) (s : Step) → (k < head) ⊎ (head ≤ k) → k < head + 1 → slice_get new_steps k ≡ Some s → (other : ℕ) → other < length edges → Meet edges s.to.place other → IsReached new_reached other
         done k s (inl l) below is other inside meet =
             let before = slice_get_within steps head step at in
-            let (x, x_at) = found steps k (omega arith) in
+            let (x, x_at) = some_element steps k (omega arith) in
             let same : x ≡ s = same_element new_steps k k x s refl (on.onward.kept k x x_at) is in
             on.onward.grows other (h.done k x l x_at other inside (subst (λ (y : Step). Meet edges y.to.place other) (sym same) meet))
         done k s (inr l) below is other inside meet =

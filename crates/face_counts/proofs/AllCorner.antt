@@ -2,7 +2,7 @@
 use Rattle.std.proofs.Common.{◌≡◌, ◌⊎◌, ℕ, ◌+◌, ◌*◌, ◌<◌, nat_lt, inl, inr, [], ◌∷◌, refl, sym, ap, ◌∙◌, subst, arith}
 use Rattle.std.specs.Prelude.{ℤ, pos, negsuc, ◌+ℤ◌, ◌-ℤ◌, ◌*ℤ◌, ◌<ℤ◌}
 use Rattle.std.proofs.lemmas.Int.{ints}
-use Rattle.hiding.proofs.ScreenSides.{pos_at}
+use Rattle.integers.proofs.Comparisons.{positive_at}
 use Rattle.hiding.proofs.Screens.{lead_of, Screen, area_of, SideCovers}
 use Rattle.integers.proofs.Ring.{var, con, ◌⊕◌, ◌⊖◌, ◌⊗◌, ring}
 use Rattle.counting.specs.Counts.{Side}
@@ -64,7 +64,7 @@ own_clear o a b d ow up h s = clash_zero _ (side_is o a b d ow up s).3 (level h)
 own_quiet : (o a b d : Screen) (sign : ℤ) → o.w ≡ pos 1 → IsSign (area_of a b d) sign → ¬ (area_of a b d ≡ pos 0) → HasCorner o a b d → ¬ SideCovers a b o
 own_quiet o a b d sign ow (edge_on e) some h s = some e
 own_quiet o a b d sign ow (front up') some h s = own_clear o a b d ow up' h s
-own_quiet o a b d sign ow (back down) some h s = own_clear o b a d ow (pos_at _ _ (flipped a b d) (up _ down)) (other h) (side_back a b o s)
+own_quiet o a b d sign ow (back down) some h s = own_clear o b a d ow (positive_at _ _ (flipped a b d) (up _ down)) (other h) (side_back a b o s)
   where
     other : HasCorner o a b d → HasCorner o b a d
     other (inl e) = inr (inl e)
@@ -107,7 +107,7 @@ module _ (c c' : Side) (o q q' a b d : Screen) (k n m n' m' : ℤ) (ow : o.w ≡
       let f = suits_back o q a b d k n m qw s in
       let f' = suits_back o q' a b d k n' m' qw' s' in
       scaled_back _ p r u v w z
-      (front_corner c c' o q q' a d b k n m n' m' _ _ _ _ _ _ _ _ ow qw qw' apart apart' (pos_at _ _ (area-swap a b d) (up _ h)) (λ x. free (touches_swap a b d o x))
+      (front_corner c c' o q q' a d b k n m n' m' _ _ _ _ _ _ _ _ ow qw qw' apart apart' (positive_at _ _ (area-swap a b d) (up _ h)) (λ x. free (touches_swap a b d o x))
       f.ab f.bd f.da f.lead f.near f'.ab f'.bd f'.da f'.lead f'.near
       (tally_of (counts_swap c o q a d b n m) (counts_swap c o q a b d n m) t) (tally_of (counts_swap c' o q' a d b n' m') (counts_swap c' o q' a b d n' m') t')
       record {
@@ -131,7 +131,7 @@ module _ (c c' : Side) (o q q' a b d : Screen) (k n m n' m' : ℤ) (ow : o.w ≡
 
   sign_at : {x y s : ℤ} → y ≡ x → IsSign x s → IsSign y s
   sign_at e (edge_on h) = edge_on (e ∙ h)
-  sign_at e (front h) = front (pos_at _ _ e h)
+  sign_at e (front h) = front (positive_at _ _ e h)
   sign_at {x = x} {y = y} e (back h) = back (omega (arith, ints))
 
   clash_below : (x : ℤ) → x <ℤ pos 0 → x ≡ pos 0 → ⊥

@@ -2,6 +2,7 @@
 use Rattle.std.proofs.Common.{◌≡◌, ◌⊎◌, inl, inr, ℕ, ◌+◌, ◌/◌, ◌%◌, ◌<◌, [], ◌∷◌, refl, sym, ap, subst, ◌∙◌, arith}
 use Rattle.std.specs.Prelude.{ℤ, pos, ◌+ℤ◌, ◌*ℤ◌, ◌<ℤ◌}
 use Rattle.std.proofs.lemmas.Int.{ints}
+use Rattle.geometry.proofs.FacePoints.{dot-face_sum}
 use Rattle.integers.proofs.Ring.{var, con, ◌⊕◌, ◌⊗◌, ring}
 use Rattle.lattice.specs.declared.points.Corner.{Corner}
 use Rattle.lattice.specs.declared.soup.Tri.{Tri}
@@ -15,7 +16,7 @@ use Rattle.geometry.specs.Sound.{MeetsFace, IsSound}
 use Rattle.geometry.proofs.Listed.{same_element}
 use Rattle.hiding.proofs.Screens.{Screen}
 use Rattle.hiding.proofs.Decisions.{either_or}
-use Rattle.hiding.proofs.OnScreens.{unpack, dot_sum}
+use Rattle.hiding.proofs.OnScreens.{unpack}
 use Rattle.face_counts.proofs.Shares.{Touches}
 use Rattle.face_counts.proofs.CornerLaws.{HasCorner}
 use Rattle.face_counts.proofs.EdgePasses.{same_or_not}
@@ -125,7 +126,7 @@ module _ (d : Triple) (directed : ¬ IsZero d) (s : Part) (sound : IsSound s) (e
       told : (i j k : ℕ) (t : Triple)
           → (((pos i *ℤ dot t (scaled (point_of f.a))) +ℤ (pos j *ℤ dot t (scaled (point_of f.b)))) +ℤ (pos k *ℤ dot t (scaled (point_of f.c)))) *ℤ pos 1 ≡ dot t (scaled (point_of e.a)) *ℤ pos (i + j + k)
           → dot t (scaled (face_sum f.a f.b f.c i j k)) *ℤ pos 1 ≡ dot t (scaled (point_of e.a)) *ℤ pos (i + j + k)
-      told i j k t h = ap (λ v. v *ℤ pos 1) (dot_sum t f.a f.b f.c i j k) ∙ h
+      told i j k t h = ap (λ v. v *ℤ pos 1) (dot-face_sum t f.a f.b f.c i j k) ∙ h
 
   -- so the corner is none of its own, as it is seen
   pub not_seen_corner : ¬ HasCorner (on d e.a) (on d f.a) (on d f.b) (on d f.c)

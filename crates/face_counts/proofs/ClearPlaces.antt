@@ -2,6 +2,7 @@
 use Rattle.std.proofs.Common.{◌≡◌, ◌⊎◌, inl, inr, ℕ, ◌+◌, ◌<◌, All, length, [], ◌∷◌, refl, sym, ap, ◌∙◌, arith}
 use Rattle.std.specs.Prelude.{ℤ, pos, negsuc, ◌+ℤ◌, ◌-ℤ◌, ◌*ℤ◌, ◌≤ℤ◌, ◌<ℤ◌}
 use Rattle.std.proofs.lemmas.Int.{ints, by_lt_z}
+use Rattle.geometry.proofs.FacePoints.{dot-edge_sum}
 use Rattle.integers.proofs.Ring.{var, con, ◌⊕◌, ◌⊖◌, ◌⊗◌, ring, by_one}
 use Rattle.lattice.specs.declared.points.Corner.{Corner}
 use Rattle.lattice.specs.Triangles.{IsBelow}
@@ -14,7 +15,6 @@ use Rattle.geometry.proofs.Shares.{edge_share}
 use Rattle.hiding.proofs.Screens.{Screen, area_of, turn_of}
 use Rattle.hiding.specs.inner.Values.{IsSideOf}
 use Rattle.hiding.proofs.Decisions.{same_or}
-use Rattle.hiding.proofs.OnScreens.{dot_edge_sum}
 use Rattle.hiding.proofs.Ordinary.{not-at-crossing}
 use Rattle.hiding.proofs.Readings.{dot-share}
 use Rattle.hiding.proofs.Weights.{natural}
@@ -113,8 +113,8 @@ module _ (d : Triple) {s : Part} (closed : IsClosed s) (in_range : All (IsBelow 
         → ((i *ℤ (on d k).v) +ℤ (j *ℤ (on d l).v)) *ℤ m ≡ (place_of (on d e.a) (on d e.b) n m).v *ℤ (i +ℤ j) → Zeros
     by_weights (pos i) (pos j) hi hj some eu ev =
         along i j (some_of i j some) record {
-          across = (λ t. dot_edge_sum (right_axis d) k l i j t *ℤ m) ∙ eu ∙ (λ t. sym (dot-share (right_axis d) e.a e.b n m) t *ℤ pos (i + j));
-          upward = (λ t. dot_edge_sum (up_axis d) k l i j t *ℤ m) ∙ ev ∙ (λ t. sym (dot-share (up_axis d) e.a e.b n m) t *ℤ pos (i + j));
+          across = (λ t. dot-edge_sum (right_axis d) k l i j t *ℤ m) ∙ eu ∙ (λ t. sym (dot-share (right_axis d) e.a e.b n m) t *ℤ pos (i + j));
+          upward = (λ t. dot-edge_sum (up_axis d) k l i j t *ℤ m) ∙ ev ∙ (λ t. sym (dot-share (up_axis d) e.a e.b n m) t *ℤ pos (i + j));
         }
       where
         some_of : (i j : ℕ) → pos 0 <ℤ pos (i + j) → 0 < i + j

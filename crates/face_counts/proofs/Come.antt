@@ -2,7 +2,7 @@
 use Rattle.std.proofs.Common.{◌≡◌, ◌⊎◌, inl, inr, [], ◌∷◌, refl, sym, ◌∙◌, arith}
 use Rattle.std.specs.Prelude.{ℤ, pos, ◌+ℤ◌, ◌-ℤ◌, ◌*ℤ◌, ◌≤ℤ◌, ◌<ℤ◌}
 use Rattle.std.proofs.lemmas.Int.{ints, by_lt_z}
-use Rattle.hiding.proofs.ScreenSides.{pos_at, nonneg_at}
+use Rattle.integers.proofs.Comparisons.{positive_at, not_negative_at}
 use Rattle.hiding.specs.inner.Values.{value_at}
 use Rattle.integers.proofs.Ring.{Expr, var, con, ◌⊕◌, ◌⊖◌, ◌⊗◌, ring, less_by}
 use Rattle.integers.proofs.Signs.{mul_nonneg, mul_pos}
@@ -67,8 +67,8 @@ module _ {e e' z z' l l' : ℤ} (f : IsFree e e' z z' l l') where
       (λ h.
       let i = up_weak _ h in
       absurd (f.free _ _ (inner_mixed n m n' m' _ _ p q i l0)
-      (nonneg_at _ _ (mixed e e' n m n' m' _ _) (sum_nonneg _ _ (mul_nonneg _ _ i e0) (mul_nonneg _ _ (weak _ l0) e1)))
-      (nonneg_at _ _ (mixed z z' n m n' m' _ _) (sum_nonneg _ _ (mul_nonneg _ _ i z0) (mul_nonneg _ _ (weak _ l0) z1)))
+      (not_negative_at _ _ (mixed e e' n m n' m' _ _) (sum_nonneg _ _ (mul_nonneg _ _ i e0) (mul_nonneg _ _ (weak _ l0) e1)))
+      (not_negative_at _ _ (mixed z z' n m n' m' _ _) (sum_nonneg _ _ (mul_nonneg _ _ i z0) (mul_nonneg _ _ (weak _ l0) z1)))
       (mixed l l' n m n' m' _ _
       ∙ ring (value_at l l' n m ∷ value_at l l' n' m' ∷ []) (((con (pos 0) ⊖ var 1) ⊗ var 0) ⊕ (var 0 ⊗ var 1)) (con (pos 0)) refl)))
 
@@ -134,21 +134,21 @@ module _ {e e' z z' l l' : ℤ} (f : IsFree e e' z z' l l') (n m n' m' : ℤ) (p
       inr (
         h,
         o.0,
-        pos_at _ _ (sym (mixed l l' n m n' m' _ _))
+        positive_at _ _ (sym (mixed l l' n m n' m' _ _))
             (same f n' m' _ _ q (come_inner h o.0) (weak _ o.0) (weak _ o.1) o.2 (come_e h o.0) (come_z h o.0)),
       )
 
   -- a face that goes was over the earlier place, or came
   pub went_from : (E0 <ℤ pos 0) ⊎ (pos 0 <ℤ E0) → Goes → Over e e' z z' l l' n m ⊎ Comes e e' z z' l l' n m n' m'
   went_from (inr h) g =
-      inl (h, g.0, same f _ _ n m (go_inner g.0 g.1) p (go_e g.0 g.1) (go_z g.0 g.1) (pos_at _ _ (mixed l l' n m n' m' _ _) g.2) (weak _ h) (weak _ g.0))
+      inl (h, g.0, same f _ _ n m (go_inner g.0 g.1) p (go_e g.0 g.1) (go_z g.0 g.1) (positive_at _ _ (mixed l l' n m n' m' _ _) g.2) (weak _ h) (weak _ g.0))
   went_from (inl h) g =
       let up = f.left_of_right n' m' q g.1 in
       inr (
         h,
         up,
-        pos_at _ _ (sym (mixed l l' n m n' m' _ _))
-            (same f _ _ _ _ (go_inner g.0 g.1) (come_inner h up) (go_e g.0 g.1) (go_z g.0 g.1) (pos_at _ _ (mixed l l' n m n' m' _ _) g.2) (come_e h up) (come_z h up)),
+        positive_at _ _ (sym (mixed l l' n m n' m' _ _))
+            (same f _ _ _ _ (go_inner g.0 g.1) (come_inner h up) (go_e g.0 g.1) (go_z g.0 g.1) (positive_at _ _ (mixed l l' n m n' m' _ _) g.2) (come_e h up) (come_z h up)),
       )
 
 -- seen from the other end, coming is going

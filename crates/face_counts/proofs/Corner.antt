@@ -2,9 +2,10 @@
 use Rattle.std.proofs.Common.{◌≡◌, inl, inr, List, [], ◌∷◌, refl, sym, ap, ◌∙◌, arith}
 use Rattle.std.specs.Prelude.{ℤ, pos, ◌+ℤ◌, ◌-ℤ◌, ◌*ℤ◌, ◌≤ℤ◌, ◌<ℤ◌}
 use Rattle.std.proofs.lemmas.Int.{ints, by_lt_z}
+use Rattle.integers.proofs.Comparisons.{positive_at}
 use Rattle.face_counts.proofs.OfSides.{of_ab}
 use Rattle.hiding.proofs.ScreenFaces.{covers_to}
-use Rattle.hiding.proofs.ScreenSides.{pos_at, side_to}
+use Rattle.hiding.proofs.ScreenSides.{side_to}
 use Rattle.hiding.proofs.Screens.{lead_of, Screen, area_of, turn_of, SideCovers}
 use Rattle.integers.proofs.Ring.{Expr, var, con, ◌⊕◌, ◌⊖◌, ◌⊗◌, ring, by_one}
 use Rattle.integers.proofs.Signs.{mul_pos, pos_of_mul, zero_of_mul}
@@ -23,7 +24,7 @@ use Rattle.face_counts.proofs.Near.{near_law, long_of, leans_off}
 -- ---- where a side has a strictly nearer spot on the line of sight
 module _ (o a b d : Screen) (ow : o.w ≡ pos 1) (area_up : pos 0 <ℤ area_of a b d) where
   o_pos : pos 0 <ℤ o.w
-  o_pos = pos_at _ _ ow (omega (arith, ints))
+  o_pos = positive_at _ _ ow (omega (arith, ints))
 
   covers_side : turn_of o a b ≡ pos 0 → pos 0 ≤ℤ turn_of o b d → pos 0 ≤ℤ turn_of o d a → pos 0 <ℤ lead_of a b d o → SideCovers a b o
   covers_side = side_over a b d o o_pos area_up
@@ -44,7 +45,7 @@ pub record Around (o a b d : Screen) (x y : Way) : Type 0 where
 around_rotate : {o a b d : Screen} {x y : Way} → Around o a b d x y → Around o b d a x y
 around_rotate {a = a} {b = b} {d = d} r = record {
   ow = r.ow;
-  area_up = pos_at _ _ (sym (area-rotate b d a)) r.area_up;
+  area_up = positive_at _ _ (sym (area-rotate b d a)) r.area_up;
   ab = r.bd;
   bd = r.da;
   da = r.ab;
@@ -61,10 +62,10 @@ ends_rotate e = record {
 }
 
 over_rotate : (o a b d : Screen) (x : Way) → IsOverWay o a b d x → IsOverWay o b d a x
-over_rotate o a b d x v = (pos_at _ _ (sym (lead-rotate b d a o)) v.0, v.2, v.3, v.1)
+over_rotate o a b d x v = (positive_at _ _ (sym (lead-rotate b d a o)) v.0, v.2, v.3, v.1)
 
 over_back : (o a b d : Screen) (x : Way) → IsOverWay o b d a x → IsOverWay o a b d x
-over_back o a b d x v = (pos_at _ _ (lead-rotate b d a o) v.0, v.3, v.1, v.2)
+over_back o a b d x v = (positive_at _ _ (lead-rotate b d a o) v.0, v.3, v.1, v.2)
 
 -- ---- identities about the corner
 module _ (o a b d : Screen) (x : Way) (ow : o.w ≡ pos 1) where
@@ -167,15 +168,15 @@ module _ {o a b d : Screen} {x y : Way} (r : Around o a b d x y) {before after a
     in_angle : (z : Way) → IsOverWay o a b d z → Passes (way o b) z (way o a)
     in_angle z (l', wa, wb, inl h) = absurd (twice _ h zd)
     in_angle z (l', wa, wb, inr h) = inl (
-      pos_of_mul _ _ r.area_up (pos_at _ _ (to_b o a b d z r.ow zd) (mul_pos _ _ ta h.1)),
-      pos_of_mul _ _ r.area_up (pos_at _ _ (to_a o a b d z r.ow zd) (mul_pos _ _ tb h.1)),
+      pos_of_mul _ _ r.area_up (positive_at _ _ (to_b o a b d z r.ow zd) (mul_pos _ _ ta h.1)),
+      pos_of_mul _ _ r.area_up (positive_at _ _ (to_a o a b d z r.ow zd) (mul_pos _ _ tb h.1)),
     )
 
     no_turn : ¬ (pos 0 <ℤ turn_from (way o a) (way o b))
     no_turn h = twice _ h (to_both o a b d x r.ow ∙ zd)
 
     of_angle : (z : Way) → Passes (way o b) z (way o a) → IsOverWay o a b d z
-    of_angle z (inl h) = (l, inl ta, inl tb, inr (zd, pos_of_mul _ _ ta (pos_at _ _ (sym (to_b o a b d z r.ow zd)) (mul_pos _ _ r.area_up h.0))))
+    of_angle z (inl h) = (l, inl ta, inl tb, inr (zd, pos_of_mul _ _ ta (positive_at _ _ (sym (to_b o a b d z r.ow zd)) (mul_pos _ _ r.area_up h.0))))
     of_angle z (inr (inl h)) = absurd (no_turn h.1)
     of_angle z (inr (inr h)) = absurd (no_turn h.0)
 
@@ -195,10 +196,10 @@ module _ {o a b d : Screen} {x y : Way} (r : Around o a b d x y) {before after a
         (none_tally (λ z. no_bd z.0) e.at_bd_b) (none_tally (λ z. no_bd z.0) e.at_bd_d) (none_tally (λ z. no_da z.0) e.at_da_d) (none_tally (λ z. no_da z.0) e.at_da_a)
       where
         no_bd : ¬ SideCovers b d o
-        no_bd s = twice _ ta ((side_is o b d a r.ow (pos_at _ _ (sym (area-rotate b d a)) r.area_up) s).0)
+        no_bd s = twice _ ta ((side_is o b d a r.ow (positive_at _ _ (sym (area-rotate b d a)) r.area_up) s).0)
 
         no_da : ¬ SideCovers d a o
-        no_da s = twice _ tb ((side_is o d a b r.ow (pos_at _ _ (area-rotate a b d) r.area_up) s).0)
+        no_da s = twice _ tb ((side_is o d a b r.ow (positive_at _ _ (area-rotate a b d) r.area_up) s).0)
 
         alone : (p q r s u v : ℤ) → r ≡ pos 0 → s ≡ pos 0 → u ≡ pos 0 → v ≡ pos 0 → q -ℤ p ≡ total p q r s u v
         alone p q r s u v e f g h = omega (arith, ints)
@@ -233,7 +234,7 @@ module _ {o a b d : Screen} {x y : Way} (r : Around o a b d x y) {before after a
         least e = omega (arith, ints)
 
     side_bd : SideCovers b d o
-    side_bd = covers_side o b d a r.ow (pos_at _ _ (sym (area-rotate b d a)) r.area_up) za (weak _ tb) (least zd) (pos_at _ _ (sym (lead-rotate b d a o)) l)
+    side_bd = covers_side o b d a r.ow (positive_at _ _ (sym (area-rotate b d a)) r.area_up) za (weak _ tb) (least zd) (positive_at _ _ (sym (lead-rotate b d a o)) l)
       where
         least : {x : ℤ} → x ≡ pos 0 → pos 0 ≤ℤ x
         least e = omega (arith, ints)
@@ -267,10 +268,10 @@ module _ {o a b d : Screen} {x y : Way} (r : Around o a b d x y) {before after a
     in_corner : (z : Way) → IsOverWay o a b d z → Passes (way o d) z (way o a)
     in_corner z (l', inl h, wb, wd) = absurd (twice _ h za)
     in_corner z (l', inr h, wb, inl k) = absurd (twice _ k zd)
-    in_corner z (l', inr h, wb, inr k) = inl (pos_at _ _ (to_d z) h.1, pos_at _ _ (from_a z) k.1)
+    in_corner z (l', inr h, wb, inr k) = inl (positive_at _ _ (to_d z) h.1, positive_at _ _ (from_a z) k.1)
 
     of_corner : (z : Way) → Passes (way o d) z (way o a) → IsOverWay o a b d z
-    of_corner z (inl h) = (l, inr (za, pos_at _ _ (sym (to_d z)) h.0), inl tb, inr (zd, pos_at _ _ (sym (from_a z)) h.1))
+    of_corner z (inl h) = (l, inr (za, positive_at _ _ (sym (to_d z)) h.0), inl tb, inr (zd, positive_at _ _ (sym (from_a z)) h.1))
     of_corner z (inr (inl h)) = absurd (not_wide h.1)
     of_corner z (inr (inr h)) = absurd (not_wide h.0)
 
@@ -285,7 +286,7 @@ module _ {o a b d : Screen} {x y : Way} (r : Around o a b d x y) {before after a
         (none_tally (λ z. z.1 under) e.at_ab_b) (none_tally (λ z. z.1 under) e.at_bd_b) (none_tally (λ z. no_da z.0) e.at_da_d) (none_tally (λ z. no_da z.0) e.at_da_a)
       where
         no_da : ¬ SideCovers d a o
-        no_da s = twice _ tb ((side_is o d a b r.ow (pos_at _ _ (area-rotate a b d) r.area_up) s).0)
+        no_da s = twice _ tb ((side_is o d a b r.ow (positive_at _ _ (area-rotate a b d) r.area_up) s).0)
 
         alone : (p q r s u v : ℤ) → q ≡ pos 0 → r ≡ pos 0 → u ≡ pos 0 → v ≡ pos 0 → s -ℤ p ≡ total p q r s u v
         alone p q r s u v e f g h = omega (arith, ints)
@@ -318,8 +319,8 @@ module _ {o a b d : Screen} {x y : Way} (r : Around o a b d x y) {before after a
   out n =
       quiet r t t' e (λ v. absurd (n (held x v))) (λ v. absurd (n (held y v)))
       (λ s. let z = side_is o a b d r.ow r.area_up s in n (z.1, z.2, least z.0, z.3))
-      (λ s. let z = side_is o b d a r.ow (pos_at _ _ (sym (area-rotate b d a)) r.area_up) s in n (least z.0, z.1, z.2, pos_at _ _ (lead-rotate b d a o) z.3))
-      (λ s. let z = side_is o d a b r.ow (pos_at _ _ (area-rotate a b d) r.area_up) s in n (z.2, least z.0, z.1, pos_at _ _ (sym (lead-rotate a b d o)) z.3))
+      (λ s. let z = side_is o b d a r.ow (positive_at _ _ (sym (area-rotate b d a)) r.area_up) s in n (least z.0, z.1, z.2, positive_at _ _ (lead-rotate b d a o) z.3))
+      (λ s. let z = side_is o d a b r.ow (positive_at _ _ (area-rotate a b d) r.area_up) s in n (z.2, least z.0, z.1, positive_at _ _ (sym (lead-rotate a b d o)) z.3))
     where
       least : {k : ℤ} → k ≡ pos 0 → pos 0 ≤ℤ k
       least e = omega (arith, ints)
@@ -331,8 +332,8 @@ module _ {o a b d : Screen} {x y : Way} (r : Around o a b d x y) {before after a
   inside l ta tb td =
       quiet r t t' e (λ v. (l, inl ta, inl tb, inl td)) (λ v. (l, inl ta, inl tb, inl td))
       (λ s. clash_zero _ td (side_is o a b d r.ow r.area_up s).0)
-      (λ s. clash_zero _ ta (side_is o b d a r.ow (pos_at _ _ (sym (area-rotate b d a)) r.area_up) s).0)
-      (λ s. clash_zero _ tb (side_is o d a b r.ow (pos_at _ _ (area-rotate a b d) r.area_up) s).0)
+      (λ s. clash_zero _ ta (side_is o b d a r.ow (positive_at _ _ (sym (area-rotate b d a)) r.area_up) s).0)
+      (λ s. clash_zero _ tb (side_is o d a b r.ow (positive_at _ _ (area-rotate a b d) r.area_up) s).0)
 
   once : {z : ℤ} (x : Way) → IsTally (IsOverWay o a b d x) z → IsTally (IsOverWay o b d a x) z
   once x = tally_of (over_rotate o a b d x) (over_back o a b d x)
@@ -360,14 +361,14 @@ module _ {o a b d : Screen} {x y : Way} (r : Around o a b d x y) {before after a
   cases l (above ta) (above tb) (above td) = inside l ta tb td
   cases l (above ta) (above tb) (zero_at zd) = one_side r t t' e l zd ta tb
   cases l (zero_at za) (above tb) (above td) =
-      from_once _ ab_a ab_b bd_b bd_d da_d da_a (one_side (around_rotate r) (once x t) (once y t') (ends_rotate e) (pos_at _ _ (sym (lead-rotate b d a o)) l) za tb td)
+      from_once _ ab_a ab_b bd_b bd_d da_d da_a (one_side (around_rotate r) (once x t) (once y t') (ends_rotate e) (positive_at _ _ (sym (lead-rotate b d a o)) l) za tb td)
   cases l (above ta) (zero_at zb) (above td) =
-      from_twice _ ab_a ab_b bd_b bd_d da_d da_a (one_side (around_rotate (around_rotate r)) (twice_over x t) (twice_over y t') (ends_rotate (ends_rotate e)) (pos_at _ _ (lead-rotate a b d o) l) zb td ta)
+      from_twice _ ab_a ab_b bd_b bd_d da_d da_a (one_side (around_rotate (around_rotate r)) (twice_over x t) (twice_over y t') (ends_rotate (ends_rotate e)) (positive_at _ _ (lead-rotate a b d o) l) zb td ta)
   cases l (zero_at za) (above tb) (zero_at zd) = two_sides r t t' e l zd za tb
   cases l (zero_at za) (zero_at zb) (above td) =
-      from_once _ ab_a ab_b bd_b bd_d da_d da_a (two_sides (around_rotate r) (once x t) (once y t') (ends_rotate e) (pos_at _ _ (sym (lead-rotate b d a o)) l) za zb td)
+      from_once _ ab_a ab_b bd_b bd_d da_d da_a (two_sides (around_rotate r) (once x t) (once y t') (ends_rotate e) (positive_at _ _ (sym (lead-rotate b d a o)) l) za zb td)
   cases l (above ta) (zero_at zb) (zero_at zd) =
-      from_twice _ ab_a ab_b bd_b bd_d da_d da_a (two_sides (around_rotate (around_rotate r)) (twice_over x t) (twice_over y t') (ends_rotate (ends_rotate e)) (pos_at _ _ (lead-rotate a b d o) l) zb zd ta)
+      from_twice _ ab_a ab_b bd_b bd_d da_d da_a (two_sides (around_rotate (around_rotate r)) (twice_over x t) (twice_over y t') (ends_rotate (ends_rotate e)) (positive_at _ _ (lead-rotate a b d o) l) zb zd ta)
   cases l (zero_at za) (zero_at zb) (zero_at zd) = absurd (none_left za zb zd)
 
   pub cone_change : Law
@@ -388,7 +389,7 @@ front_corner c c' o q q' a b d k n m n' m' before after ab_a ab_b bd_b bd_d da_d
     e
   where
     up_bd : pos 0 <ℤ area_of b d a
-    up_bd = pos_at _ _ (sym (area-rotate b d a)) area_up
+    up_bd = positive_at _ _ (sym (area-rotate b d a)) area_up
 
     up_da : pos 0 <ℤ area_of d a b
-    up_da = pos_at _ _ (area-rotate a b d) area_up
+    up_da = positive_at _ _ (area-rotate a b d) area_up

@@ -2,6 +2,7 @@
 use Rattle.std.proofs.Common.{◌≡◌, ◌⊎◌, inl, inr, ℕ, [], ◌∷◌, refl, sym, ap, ◌∙◌, arith}
 use Rattle.std.specs.Prelude.{ℤ, pos, ◌+ℤ◌, ◌-ℤ◌, ◌*ℤ◌, ◌≤ℤ◌, ◌<ℤ◌, ◌↔◌}
 use Rattle.std.proofs.lemmas.Int.{ints, by_lt_z}
+use Rattle.integers.proofs.Comparisons.{positive_at}
 use Rattle.integers.proofs.Ring.{var, con, ◌⊕◌, ◌⊖◌, ◌⊗◌, ring, by_one, less_by}
 use Rattle.integers.proofs.Signs.{mul_nonneg, zero_of_mul}
 use Rattle.lattice.specs.declared.points.Corner.{Corner}
@@ -12,7 +13,7 @@ use Rattle.hiding.specs.inner.Values.{SideHides}
 use Rattle.hiding.proofs.Screens.{Screen, turn_of, along_of, rest_of, side_lead_of, SideCovers}
 use Rattle.hiding.proofs.Decisions.{same_or, less_or, at_most_or, four_or, either_or, alike_or}
 use Rattle.hiding.proofs.OnScreens.{side_covers_of_hides, side_hides_of_covers}
-use Rattle.hiding.proofs.ScreenSides.{pos_at, side_from, side_to, length_least, length_zero, pos_of_least}
+use Rattle.hiding.proofs.ScreenSides.{side_from, side_to, length_least, length_zero, pos_of_least}
 use Rattle.counting.specs.Counts.{Side}
 use Rattle.counting.specs.Turns.{Way, turn_from, Passes, perturbed, way_to, IsNearerOver, PassesEnd}
 use Rattle.face_counts.proofs.CornerLaws.{way, EndPasses, IsFineTurn}
@@ -103,7 +104,7 @@ place_or a b = both_or (same_or a.u b.u) (same_or a.v b.v)
 
 module _ (o a b : Screen) (ow : o.w ≡ pos 1) where
   o_pos : pos 0 <ℤ o.w
-  o_pos = pos_at _ _ ow (omega (arith, ints))
+  o_pos = positive_at _ _ ow (omega (arith, ints))
 
   wide_or : ¬ AtOnePlace a b → SideCovers a b o ⊎ ¬ SideCovers a b o
   wide_or apart =
@@ -147,7 +148,7 @@ module _ (o a b : Screen) (ow : o.w ≡ pos 1) where
       low : ¬ (o.h <ℤ a.h) → ¬ (o.h <ℤ b.h) → ¬ SideCovers a b o
       low f g s =
           none (s.i *ℤ (o.h -ℤ a.h)) (s.j *ℤ (o.h -ℤ b.h)) (mul_nonneg s.i _ s.i_least (least _ _ f)) (mul_nonneg s.j _ s.j_least (least _ _ g))
-          (pos_at _ _
+          (positive_at _ _
           (ring (s.i ∷ s.j ∷ o.h ∷ a.h ∷ b.h ∷ []) (con (pos 0) ⊖ ((var 0 ⊗ (var 2 ⊖ var 3)) ⊕ (var 1 ⊗ (var 2 ⊖ var 4)))) ((((var 0 ⊗ var 3) ⊕ (var 1 ⊗ var 4)) ⊗ con (pos 1)) ⊖ (var 2 ⊗ (var 0 ⊕ var 1))) refl
           ∙ (λ t. (((s.i *ℤ a.h) +ℤ (s.j *ℤ b.h)) *ℤ sym ow t) -ℤ (o.h *ℤ (s.i +ℤ s.j)))) (gap _ _ s.nearer))
         where

@@ -2,6 +2,7 @@
 use Rattle.std.proofs.Common.{◌≡◌, ◌⊎◌, inl, inr, ℕ, [], ◌∷◌, refl, sym, ap, subst, ◌∙◌, arith}
 use Rattle.std.specs.Prelude.{ℤ, pos, ◌+ℤ◌, ◌-ℤ◌, ◌*ℤ◌, ◌≤ℤ◌, ◌<ℤ◌}
 use Rattle.std.proofs.lemmas.Int.{ints}
+use Rattle.integers.proofs.Comparisons.{positive_at, not_negative_at}
 use Rattle.integers.proofs.Ring.{var, con, ◌⊕◌, ◌⊖◌, ◌⊗◌, ring, by_one, by_two}
 use Rattle.integers.proofs.Signs.{mul_nonneg, nonneg_of_mul, square_nonneg}
 use Rattle.lattice.specs.declared.points.Corner.{Corner}
@@ -12,7 +13,7 @@ use Rattle.geometry.specs.Parts.{Part, Edge}
 use Rattle.geometry.specs.Views.{face_sign}
 use Rattle.hiding.proofs.Screens.{Screen, length_of, along_of, rest_of, side_lead_of, SideCovers}
 use Rattle.hiding.proofs.Names.{ways}
-use Rattle.hiding.proofs.ScreenSides.{pos_at, nonneg_at, side_from, side_to, length_least, length_zero, pos_of_least}
+use Rattle.hiding.proofs.ScreenSides.{side_from, side_to, length_least, length_zero, pos_of_least}
 use Rattle.counting.specs.Counts.{Side}
 use Rattle.counting.specs.Covers.{IsOneWhere}
 use Rattle.counting.specs.Turns.{Way, product_of, way_to, IsNearerOver, PassesEnd, HasTurned}
@@ -78,7 +79,7 @@ module _ (o a b : Screen) (ow : o.w ≡ pos 1) where
   square_least x = sum_nonneg _ _ (square_nonneg x.u) (square_nonneg x.v)
 
   o_pos : pos 0 <ℤ o.w
-  o_pos = pos_at _ _ ow (omega (arith, ints))
+  o_pos = positive_at _ _ ow (omega (arith, ints))
 
   more : (x y : ℤ) → pos 0 ≤ℤ x → y ≤ℤ pos 0 → pos 0 ≤ℤ (x -ℤ y)
   more x y h l = omega (arith, ints)
@@ -101,12 +102,12 @@ module _ (o a b : Screen) (ow : o.w ≡ pos 1) where
 
   pub covers_of_between : PassesBetween V W (a.h -ℤ o.h) (b.h -ℤ o.h) → SideCovers a b o
   covers_of_between p =
-      side_from a b o o_pos (between_wide p) (sym (to_both o a b b V ow) ∙ p.on_line) (nonneg_at _ _ along_is (along_least p)) (nonneg_at _ _ rest_is (rest_least p)) (pos_at _ _ lead_is p.nearer)
+      side_from a b o o_pos (between_wide p) (sym (to_both o a b b V ow) ∙ p.on_line) (not_negative_at _ _ along_is (along_least p)) (not_negative_at _ _ rest_is (rest_least p)) (positive_at _ _ lead_is p.nearer)
 
   pub between_of_covers : ¬ AtOnePlace a b → SideCovers a b o → PassesBetween V W (a.h -ℤ o.h) (b.h -ℤ o.h)
   between_of_covers apart s =
       let r = side_to a b o s o_pos (pos_of_least _ (length_least a b) (λ z. apart (length_zero a b z))) in
-      record { on_line = to_both o a b b V ow ∙ r.0; between = between; nearer = pos_at _ _ (sym lead_is) r.3 }
+      record { on_line = to_both o a b b V ow ∙ r.0; between = between; nearer = positive_at _ _ (sym lead_is) r.3 }
     where
       low : (x y : ℤ) → x ≡ pos 0 -ℤ y → pos 0 ≤ℤ x → y ≤ℤ pos 0
       low x y e h = omega (arith, ints)
@@ -130,7 +131,7 @@ module _ (o a b : Screen) (ow : o.w ≡ pos 1) where
       between : product_of V W ≤ℤ pos 0
       between =
           low _ _ refl (nonneg_of_mul (s.i +ℤ s.j) (pos 0 -ℤ product_of V W) s.some
-          (nonneg_at _ _ (sym sum_is) (sum_nonneg _ _ (mul_nonneg s.i _ s.i_least (square_least V)) (mul_nonneg s.j _ s.j_least (square_least W)))))
+          (not_negative_at _ _ (sym sum_is) (sum_nonneg _ _ (mul_nonneg s.i _ s.i_least (square_least V)) (mul_nonneg s.j _ s.j_least (square_least W)))))
 
 -- ---- an end that the turn passes
 module _ (d : Triple) (number : ℕ) (c : Corner) (k : Side) (x : Way) (l : Side) (y : Way) {s : Part} (o : Edge s) where

@@ -2,6 +2,8 @@
 use Rattle.std.proofs.Common.{◌≡◌, ◌≢◌, ◌⊎◌, inl, inr, ℕ, zero, suc, ◌+◌, ◌<◌, [], ◌∷◌, refl, ap, ◌∙◌, arith}
 use Rattle.std.specs.Prelude.{ℤ, pos, negsuc, ◌+ℤ◌, ◌-ℤ◌, ◌*ℤ◌, ◌≤ℤ◌, ◌<ℤ◌}
 use Rattle.std.proofs.lemmas.Int.{ints}
+use Rattle.integers.proofs.Comparisons.{positive_at}
+use Rattle.geometry.proofs.FacePoints.{edge_point-at_share}
 use Rattle.integers.proofs.Ring.{Expr, var, con, ◌⊕◌, ◌⊖◌, ◌⊗◌, ring, by_one, by_two, gap_of_less}
 use Rattle.integers.proofs.Signs.{mul_pos, pos_of_mul}
 use Rattle.exact_frac.specs.declared.Frac.{Frac}
@@ -13,8 +15,6 @@ use Rattle.geometry.specs.Faces.{edge_sum}
 use Rattle.geometry.specs.Parts.{Part, Edge}
 use Rattle.geometry.specs.Places.{point_at}
 use Rattle.geometry.specs.Views.{IsOrdinary, IsSeenOver, face_sign}
-use Rattle.hiding.proofs.SidePoints.{share-of-edge}
-use Rattle.hiding.proofs.ScreenSides.{pos_at}
 use Rattle.counting.specs.Counts.{Side, to_left, to_right, orientation_of}
 use Rattle.counting.specs.Shares.{mark, change_of, denominator_of, numerator_of, height_numerator_of, Changes, IsCrossedAt}
 
@@ -170,14 +170,14 @@ module _ (numerator denominator num den : ℤ) (den_pos : pos 0 <ℤ den) (here 
   least : pos 0 <ℤ num
   least =
       pos_of_mul (denominator *ℤ denominator) num square
-      (pos_at _ _ (by_one _ _ _ _ denominator
+      (positive_at _ _ (by_one _ _ _ _ denominator
       (ring (numerator ∷ denominator ∷ num ∷ den ∷ []) (((var 1 ⊗ var 1) ⊗ var 2) ⊖ (var 3 ⊗ (var 0 ⊗ var 1))) (((var 2 ⊗ var 1) ⊖ (var 0 ⊗ var 3)) ⊗ var 1) refl) here)
       (mul_pos den (numerator *ℤ denominator) den_pos after))
 
   most : pos 0 <ℤ (den -ℤ num)
   most =
       pos_of_mul (denominator *ℤ denominator) (den -ℤ num) square
-      (pos_at _ _ (by_one _ _ _ _ (pos 0 -ℤ denominator)
+      (positive_at _ _ (by_one _ _ _ _ (pos 0 -ℤ denominator)
       (ring (numerator ∷ denominator ∷ num ∷ den ∷ []) (((var 1 ⊗ var 1) ⊗ (var 3 ⊖ var 2)) ⊖ (var 3 ⊗ ((var 1 ⊗ var 1) ⊖ (var 0 ⊗ var 1)))) (((var 2 ⊗ var 1) ⊖ (var 0 ⊗ var 3)) ⊗ (con (pos 0) ⊖ var 1)) refl) here)
       (mul_pos den _ den_pos (gap_of_less (numerator *ℤ denominator) (denominator *ℤ denominator) before)))
 
@@ -196,7 +196,7 @@ crossing_not_ordinary d {s} e o c r here ordinary =
     let up = least (numerator_of d e o) (denominator_of d e o) r.num r.den r.positive here p.after p.before in
     let down = most (numerator_of d e o) (denominator_of d e o) r.num r.den r.positive here p.after p.before in
     let own : IsSeenOver d e (point_at e r) =
-    (point_at e r, share-of-edge e.a e.b r.num r.den r.positive (weak r.num up) (below r.num r.den down), record { across = refl; upward = refl }) in
+    (point_at e r, edge_point-at_share e.a e.b r.num r.den r.positive (weak r.num up) (below r.num r.den down), record { across = refl; upward = refl }) in
     climbs (numerator_of d e o) (denominator_of d e o) r.num r.den r.positive here p.after p.before
     (ordinary.off_crossings e o own (outline_over d e o r here (goes_across d e o c)))
   where

@@ -2,10 +2,10 @@
 use Rattle.std.proofs.Common.{◌≡◌, ◌⊎◌, inl, inr, [], ◌∷◌, refl, sym, subst, ◌∙◌, arith}
 use Rattle.std.specs.Prelude.{ℤ, pos, ◌-ℤ◌, ◌*ℤ◌, ◌≤ℤ◌, ◌<ℤ◌, ◌↔◌}
 use Rattle.std.proofs.lemmas.Int.{ints}
+use Rattle.integers.proofs.Comparisons.{positive_at}
 use Rattle.integers.proofs.Ring.{var, ◌⊕◌, ◌⊖◌, ◌⊗◌, ring, less_by}
 use Rattle.hiding.proofs.Screens.{Screen, area_of, turn_of, Covers}
 use Rattle.hiding.specs.inner.Values.{value_at}
-use Rattle.hiding.proofs.ScreenSides.{pos_at}
 use Rattle.counting.specs.Counts.{Side, to_left, to_right}
 use Rattle.counting.specs.Turns.{other_side}
 use Rattle.face_counts.proofs.CornerLaws.{IsBelow, IsNear}
@@ -112,5 +112,5 @@ module _ (p q : Screen) where
         (ring (R ∷ K ∷ n ∷ m ∷ []) (((var 3 ⊖ var 2) ⊗ (var 1 ⊗ var 1)) ⊖ ((var 0 ⊗ var 1) ⊗ var 3))
         ((((var 0 ⊖ var 1) ⊗ (Zero ⊖ var 1)) ⊗ var 3) ⊖ (var 2 ⊗ ((Zero ⊖ var 1) ⊗ (Zero ⊖ var 1)))) refl
         ∙ sym (λ t. ((numerator_back a b t *ℤ denominator_back a b t) *ℤ m) -ℤ (n *ℤ (denominator_back a b t *ℤ denominator_back a b t))))
-        (gap _ _ (after_near q p a b k n m qw pw near small (pos_at _ _
+        (gap _ _ (after_near q p a b k n m qw pw near small (positive_at _ _
         ((λ t. numerator_back a b t *ℤ denominator_back a b t) ∙ ring (R ∷ K ∷ []) ((var 0 ⊖ var 1) ⊗ (Zero ⊖ var 1)) ((var 1 ⊗ var 1) ⊖ (var 0 ⊗ var 1)) refl) (gap _ _ h))))

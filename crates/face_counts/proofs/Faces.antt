@@ -1,10 +1,10 @@
 -- One face that is turned to the viewer, and that has one corner on one side of the edge's line and two on the other.
 use Rattle.std.proofs.Common.{◌≡◌, refl, sym, ◌∙◌}
 use Rattle.std.specs.Prelude.{ℤ, pos, ◌+ℤ◌, ◌*ℤ◌, ◌≤ℤ◌, ◌<ℤ◌}
+use Rattle.integers.proofs.Comparisons.{positive_at, not_negative_at}
 use Rattle.face_counts.proofs.Linear.{turn-place, lead-place}
 use Rattle.face_counts.proofs.Places.{place_of}
 use Rattle.hiding.proofs.ScreenFaces.{covers_from, covers_to}
-use Rattle.hiding.proofs.ScreenSides.{pos_at, nonneg_at}
 use Rattle.hiding.proofs.Screens.{lead_of, Screen, area_of, turn_of, Covers}
 use Rattle.hiding.specs.inner.Values.{value_at}
 use Rattle.integers.proofs.Ring.{◌⊕◌, ◌⊗◌, ring}
@@ -47,21 +47,21 @@ module _ (p q a b c : Screen) (n m : ℤ) (pw : p.w ≡ pos 1) (qw : q.w ≡ pos
     pub covers_at : pos 0 ≤ℤ weight_a → pos 0 ≤ℤ weight_b → pos 0 ≤ℤ weight_c → pos 0 <ℤ height → Covers a b c (place_of p q n m)
     covers_at i j k l =
         covers_from a b c (place_of p q n m) m_pos area_up
-        (nonneg_at _ _ (turn-place p q b c n m pw qw) i) (nonneg_at _ _ (turn-place p q c a n m pw qw) j) (nonneg_at _ _ (turn-place p q a b n m pw qw) k)
-        (pos_at _ _ (lead-place p q a b c n m pw qw) l)
+        (not_negative_at _ _ (turn-place p q b c n m pw qw) i) (not_negative_at _ _ (turn-place p q c a n m pw qw) j) (not_negative_at _ _ (turn-place p q a b n m pw qw) k)
+        (positive_at _ _ (lead-place p q a b c n m pw qw) l)
 
     pub at_covers : Covers a b c (place_of p q n m) → (pos 0 ≤ℤ weight_a) × (pos 0 ≤ℤ weight_b) × (pos 0 ≤ℤ weight_c) × (pos 0 <ℤ height)
     at_covers x =
         let t = covers_to a b c (place_of p q n m) x m_pos area_up in (
-          nonneg_at _ _ (sym (turn-place p q b c n m pw qw)) t.0,
-          nonneg_at _ _ (sym (turn-place p q c a n m pw qw)) t.1,
-          nonneg_at _ _ (sym (turn-place p q a b n m pw qw)) t.2,
-          pos_at _ _ (sym (lead-place p q a b c n m pw qw)) t.3,
+          not_negative_at _ _ (sym (turn-place p q b c n m pw qw)) t.0,
+          not_negative_at _ _ (sym (turn-place p q c a n m pw qw)) t.1,
+          not_negative_at _ _ (sym (turn-place p q a b n m pw qw)) t.2,
+          positive_at _ _ (sym (lead-place p q a b c n m pw qw)) t.3,
         )
 
     -- a place that the face covers at the edge's own height is on the face
     pub touches_at : pos 0 ≤ℤ weight_a → pos 0 ≤ℤ weight_b → pos 0 ≤ℤ weight_c → height ≡ pos 0 → Touches a b c (place_of p q n m)
     touches_at i j k l =
         touches a b c (place_of p q n m) m_pos area_up
-        (nonneg_at _ _ (turn-place p q b c n m pw qw) i) (nonneg_at _ _ (turn-place p q c a n m pw qw) j) (nonneg_at _ _ (turn-place p q a b n m pw qw) k)
+        (not_negative_at _ _ (turn-place p q b c n m pw qw) i) (not_negative_at _ _ (turn-place p q c a n m pw qw) j) (not_negative_at _ _ (turn-place p q a b n m pw qw) k)
         (lead-place p q a b c n m pw qw ∙ l)

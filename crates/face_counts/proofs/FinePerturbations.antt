@@ -2,9 +2,9 @@
 use Rattle.std.proofs.Common.{◌≡◌, ◌⊎◌, inl, inr, ℕ, suc, ◌+◌, ◌<◌, [], ◌∷◌, refl, sym, ap, ◌∙◌, arith, unsigned_abs}
 use Rattle.std.specs.Prelude.{ℤ, pos, negsuc, ◌+ℤ◌, ◌-ℤ◌, ◌*ℤ◌, ◌≤ℤ◌, ◌<ℤ◌, ◌↔◌}
 use Rattle.std.proofs.lemmas.Int.{ints}
+use Rattle.integers.proofs.Comparisons.{positive_at}
 use Rattle.integers.proofs.Ring.{var, con, ◌⊕◌, ◌⊖◌, ◌⊗◌, ring}
 use Rattle.integers.proofs.Signs.{mul_pos, mul_nonneg, pos_of_mul}
-use Rattle.hiding.proofs.ScreenSides.{pos_at}
 use Rattle.counting.specs.Counts.{Side, to_left, to_right}
 use Rattle.counting.specs.Turns.{Way, turn_from, product_of, Passes, perturbed, TurnPasses}
 use Rattle.face_counts.specs.inner.Perturbations.{perturbation_between, perturbation_of, IsLeft, TwoAreLeft}
@@ -72,12 +72,12 @@ module _ (h t e : ℤ) (large : pos 0 <ℤ h) (small : IsBelow h e) where
       to : pos 0 <ℤ ((h *ℤ t) +ℤ e) → (pos 0 <ℤ t) ⊎ ((t ≡ pos 0) × (pos 0 <ℤ e))
       to p = elim (sign_three t) [
         | inl u ↦ inl u
-        | inr more ↦ elim more [ inl n ↦ absurd (not_down n p) | inr z ↦ inr (z, pos_at _ _ (sym (none h t e z)) p) ]
+        | inr more ↦ elim more [ inl n ↦ absurd (not_down n p) | inr z ↦ inr (z, positive_at _ _ (sym (none h t e z)) p) ]
       ]
 
       of : (pos 0 <ℤ t) ⊎ ((t ≡ pos 0) × (pos 0 <ℤ e)) → pos 0 <ℤ ((h *ℤ t) +ℤ e)
       of (inl u) = up_of u
-      of (inr z) = pos_at _ _ (none h t e z.0) z.1
+      of (inr z) = positive_at _ _ (none h t e z.0) z.1
 
 -- a perturbation's product is of the size of the product
 perturbation_small : (s h p : ℤ) → (s ≡ pos 1) ⊎ (s ≡ negsuc 0) → IsBelow h p → IsBelow h (s *ℤ p)
@@ -120,12 +120,12 @@ module _ (k l : Side) (x w y : Way) (h : ℤ) (fine : IsFineTurn h x w y) where
   first_is : (pos 0 <ℤ turn_from (perturbed k h x) w) ↔ IsLeft (pos 0 -ℤ perturbation_of k) x w
   first_is =
       let law = large_part h (turn_from x w) ((pos 0 -ℤ perturbation_of k) *ℤ product_of x w) (above h fine.large) (perturbation_small (pos 0 -ℤ perturbation_of k) h (product_of x w) (less_perturbation_is k) fine.first) in
-      (λ p. law.0 (pos_at _ _ (sym (first_turn k h x w)) p), λ q. pos_at _ _ (first_turn k h x w) (law.1 q))
+      (λ p. law.0 (positive_at _ _ (sym (first_turn k h x w)) p), λ q. positive_at _ _ (first_turn k h x w) (law.1 q))
 
   second_is : (pos 0 <ℤ turn_from w (perturbed l h y)) ↔ IsLeft (perturbation_of l) w y
   second_is =
       let law = large_part h (turn_from w y) (perturbation_of l *ℤ product_of w y) (above h fine.large) (perturbation_small (perturbation_of l) h (product_of w y) (perturbation_is l) fine.second) in
-      (λ p. law.0 (pos_at _ _ (sym (second_turn l h w y)) p), λ q. pos_at _ _ (second_turn l h w y) (law.1 q))
+      (λ p. law.0 (positive_at _ _ (sym (second_turn l h w y)) p), λ q. positive_at _ _ (second_turn l h w y) (law.1 q))
 
   third_is : (pos 0 <ℤ turn_from (perturbed l h y) (perturbed k h x)) ↔ IsLeft (perturbation_between l k) y x
   third_is = (to, of)
@@ -137,13 +137,13 @@ module _ (k l : Side) (x w y : Way) (h : ℤ) (fine : IsFineTurn h x w y) where
             | inl u ↦ inl u
             | inr more ↦ elim more [
               | inl n ↦ absurd (clash_both _ p (law.1 n))
-              | inr z ↦ inr (z, pos_of_mul h (perturbation_between l k *ℤ product_of y x) (above h fine.large) (pos_at _ _ (sym (law.2 z)) p))
+              | inr z ↦ inr (z, pos_of_mul h (perturbation_between l k *ℤ product_of y x) (above h fine.large) (positive_at _ _ (sym (law.2 z)) p))
             ]
           ]
 
       of : IsLeft (perturbation_between l k) y x → pos 0 <ℤ turn_from (perturbed l h y) (perturbed k h x)
       of (inl u) = (perturbed_law l k h y x fine.large fine.third).0 u
-      of (inr z) = pos_at _ _ ((perturbed_law l k h y x fine.large fine.third).2 z.0) (mul_pos h (perturbation_between l k *ℤ product_of y x) (above h fine.large) z.1)
+      of (inr z) = positive_at _ _ ((perturbed_law l k h y x fine.large fine.third).2 z.0) (mul_pos h (perturbation_between l k *ℤ product_of y x) (above h fine.large) z.1)
 
   -- a turn by a fine perturbation passes the way where two of the three turns are to the left
   pub fine_turn : Passes (perturbed k h x) w (perturbed l h y) ↔ TwoAreLeft k x l y w

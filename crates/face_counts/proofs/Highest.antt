@@ -2,7 +2,8 @@
 use Rattle.std.proofs.Common.{◌≡◌, ◌⊎◌, ℕ, zero, suc, ◌<◌, ◌≤◌, inl, inr, [], ◌∷◌, refl, sym, ap, subst, ◌∙◌, arith}
 use Rattle.std.specs.Prelude.{ℤ, pos, ◌+ℤ◌, ◌-ℤ◌, ◌*ℤ◌, ◌≤ℤ◌, ◌<ℤ◌}
 use Rattle.std.proofs.lemmas.Int.{ints, by_lt_z}
-use Rattle.hiding.proofs.ScreenSides.{pos_at, side_from, side_to}
+use Rattle.integers.proofs.Comparisons.{positive_at}
+use Rattle.hiding.proofs.ScreenSides.{side_from, side_to}
 use Rattle.hiding.proofs.Screens.{rest_of, side_lead_of, Screen, turn_of, along_of, length_of, SideCovers}
 use Rattle.integers.proofs.Ring.{var, con, ◌⊕◌, ◌⊖◌, ◌⊗◌, ring, by_two, less_by}
 use Rattle.integers.proofs.Signs.{mul_pos, mul_nonneg, pos_of_mul, zero_of_mul}
@@ -13,7 +14,7 @@ use Rattle.face_counts.proofs.Signs.{weak, gap, sum_pos, clash_zero}
 -- p/q < r/s and r/s ≤ t/u give p/q < t/u
 after_most : (p q r s t u : ℤ) → pos 0 <ℤ q → pos 0 <ℤ s → pos 0 <ℤ u → (p *ℤ s) <ℤ (r *ℤ q) → (r *ℤ u) ≤ℤ (t *ℤ s) → (p *ℤ u) <ℤ (t *ℤ q)
 after_most p q r s t u hq hs hu l m =
-    less_by _ _ _ refl (pos_of_mul s _ hs (pos_at _ _
+    less_by _ _ _ refl (pos_of_mul s _ hs (positive_at _ _
     (ring (p ∷ q ∷ r ∷ s ∷ t ∷ u ∷ []) (var 3 ⊗ ((var 4 ⊗ var 1) ⊖ (var 0 ⊗ var 5))) ((var 1 ⊗ ((var 4 ⊗ var 3) ⊖ (var 2 ⊗ var 5))) ⊕ (var 5 ⊗ ((var 2 ⊗ var 1) ⊖ (var 0 ⊗ var 3)))) refl)
     (sum_pos _ _ (mul_nonneg q _ (weak q hq) (gap_weak _ _ m)) (mul_pos u _ hu (gap _ _ l)))))
   where

@@ -2,8 +2,9 @@
 use Rattle.std.proofs.Common.{◌≡◌, [], ◌∷◌, refl, sym, ap, ◌∙◌, arith}
 use Rattle.std.specs.Prelude.{ℤ, pos, ◌+ℤ◌, ◌-ℤ◌, ◌*ℤ◌, ◌≤ℤ◌, ◌<ℤ◌}
 use Rattle.std.proofs.lemmas.Int.{ints}
+use Rattle.integers.proofs.Comparisons.{positive_at}
 use Rattle.face_counts.proofs.Places.{place_of}
-use Rattle.hiding.proofs.ScreenSides.{pos_at, pos_of_least}
+use Rattle.hiding.proofs.ScreenSides.{pos_of_least}
 use Rattle.hiding.proofs.Screens.{lead_of, Screen, area_of, turn_of, Covers}
 use Rattle.hiding.specs.inner.Values.{value_at}
 use Rattle.integers.proofs.Ring.{var, con, ◌⊕◌, ◌⊖◌, ◌⊗◌, ring, by_one}
@@ -21,7 +22,7 @@ use Rattle.face_counts.proofs.Faces.{weight_a, weight_b, weight_c, height, whole
 module _ (r k n m n' m' : ℤ) (m_pos : pos 0 <ℤ m) (m'_pos : pos 0 <ℤ m') (order : (n *ℤ m') <ℤ (n' *ℤ m)) where
   rising : k <ℤ pos 0 → pos 0 <ℤ ((r *ℤ m) -ℤ (n *ℤ k)) → pos 0 <ℤ ((r *ℤ m') -ℤ (n' *ℤ k))
   rising falls h =
-      pos_of_mul_pos _ m m_pos (pos_at _ _
+      pos_of_mul_pos _ m m_pos (positive_at _ _
       (ring (r ∷ k ∷ n ∷ m ∷ n' ∷ m' ∷ [])
       (((var 0 ⊗ var 5) ⊖ (var 4 ⊗ var 1)) ⊗ var 3)
       ((((var 4 ⊗ var 3) ⊖ (var 2 ⊗ var 5)) ⊗ (con (pos 0) ⊖ var 1)) ⊕ (((var 0 ⊗ var 3) ⊖ (var 2 ⊗ var 1)) ⊗ var 5)) refl)
@@ -29,7 +30,7 @@ module _ (r k n m n' m' : ℤ) (m_pos : pos 0 <ℤ m) (m'_pos : pos 0 <ℤ m') (
 
   falling : pos 0 <ℤ k → pos 0 <ℤ ((r *ℤ m') -ℤ (n' *ℤ k)) → pos 0 <ℤ ((r *ℤ m) -ℤ (n *ℤ k))
   falling rises h =
-      pos_of_mul_pos _ m' m'_pos (pos_at _ _
+      pos_of_mul_pos _ m' m'_pos (positive_at _ _
       (ring (r ∷ k ∷ n ∷ m ∷ n' ∷ m' ∷ [])
       (((var 0 ⊗ var 3) ⊖ (var 2 ⊗ var 1)) ⊗ var 5)
       ((((var 4 ⊗ var 3) ⊖ (var 2 ⊗ var 5)) ⊗ var 1) ⊕ (((var 0 ⊗ var 5) ⊖ (var 4 ⊗ var 1)) ⊗ var 3)) refl)
@@ -51,7 +52,7 @@ lead-rotate a b c p =
 
 -- a sum with equal values in it
 pub sum_at : (x y f g f' g' : ℤ) → f ≡ f' → g ≡ g' → pos 0 <ℤ ((x *ℤ f) +ℤ (y *ℤ g)) → pos 0 <ℤ ((x *ℤ f') +ℤ (y *ℤ g'))
-sum_at x y f g f' g' e h = pos_at _ _ (λ t. (x *ℤ sym e t) +ℤ (y *ℤ sym h t))
+sum_at x y f g f' g' e h = positive_at _ _ (λ t. (x *ℤ sym e t) +ℤ (y *ℤ sym h t))
 
 module _ (p q a b c : Screen) (n m n' m' : ℤ) (pw : p.w ≡ pos 1) (qw : q.w ≡ pos 1) (i : IsInner n m) (i' : IsInner n' m') (order : (n *ℤ m') <ℤ (n' *ℤ m))
     (area_up : pos 0 <ℤ area_of a b c) (unpierced : IsUnpierced p q a b c)
@@ -99,7 +100,7 @@ module _ (p q a b c : Screen) (n m n' m' : ℤ) (pw : p.w ≡ pos 1) (qw : q.w �
   turned n m t = value_at (lead-rotate a b c p t) (lead-rotate a b c q t) n m
 
   up_ca : pos 0 <ℤ area_of c a b
-  up_ca = pos_at _ _ (area-rotate a b c) area_up
+  up_ca = positive_at _ _ (area-rotate a b c) area_up
 
   comes_ca : Kca <ℤ pos 0 → {z : ℤ} → IsTally (Crosses p q c a n m n' m') z
       → IsTally ((Wb n m <ℤ pos 0) × (pos 0 <ℤ Wb n' m') × (pos 0 <ℤ ((Wb n' m' *ℤ H n m) +ℤ ((pos 0 -ℤ Wb n m) *ℤ H n' m')))) z
@@ -158,10 +159,10 @@ module _ (p q a b c : Screen) (n m n' m' : ℤ) (pw : p.w ≡ pos 1) (qw : q.w �
         → IsTally (Crosses p q a b n m n' m') ab → IsTally (Crosses p q c a n m n' m') ca → after -ℤ before ≡ ab -ℤ ca
     high_change t t' x y =
         come_and_go high_free n m n' m' i i' (sign_cases _ c_off) (sign_cases _ b_off')
-        (λ h. pos_at _ _ (turn-numerator p q a b n' m' pw qw)
-        (rising (numerator_of p a b) Kab n m n' m' (inner_pos n m i) (inner_pos n' m' i') order falls_ab (pos_at _ _ (sym (turn-numerator p q a b n m pw qw)) h)))
-        (λ h. pos_at _ _ (turn-numerator p q c a n m pw qw)
-        (falling (numerator_of p c a) Kca n m n' m' (inner_pos n m i) (inner_pos n' m' i') order rises_ca (pos_at _ _ (sym (turn-numerator p q c a n' m' pw qw)) h)))
+        (λ h. positive_at _ _ (turn-numerator p q a b n' m' pw qw)
+        (rising (numerator_of p a b) Kab n m n' m' (inner_pos n m i) (inner_pos n' m' i') order falls_ab (positive_at _ _ (sym (turn-numerator p q a b n m pw qw)) h)))
+        (λ h. positive_at _ _ (turn-numerator p q c a n m pw qw)
+        (falling (numerator_of p c a) Kca n m n' m' (inner_pos n m i) (inner_pos n' m' i') order rises_ca (positive_at _ _ (sym (turn-numerator p q c a n' m' pw qw)) h)))
         (high_over n m i b_off c_off t) (high_over n' m' i' b_off' c_off' t')
         (tally_of (comes_of_crosses p q a b c n m n' m' pw qw order area_up falls_ab) (crosses_of_comes p q a b c n m n' m' pw qw order area_up falls_ab) x)
         (goes_ca rises_ca y)
@@ -209,10 +210,10 @@ module _ (p q a b c : Screen) (n m n' m' : ℤ) (pw : p.w ≡ pos 1) (qw : q.w �
         → IsTally (Crosses p q a b n m n' m') ab → IsTally (Crosses p q c a n m n' m') ca → after -ℤ before ≡ ca -ℤ ab
     low_change t t' x y =
         come_and_go low_free n m n' m' i i' (sign_cases _ b_off) (sign_cases _ c_off')
-        (λ h. pos_at _ _ (turn-numerator p q c a n' m' pw qw)
-        (rising (numerator_of p c a) Kca n m n' m' (inner_pos n m i) (inner_pos n' m' i') order falls_ca (pos_at _ _ (sym (turn-numerator p q c a n m pw qw)) h)))
-        (λ h. pos_at _ _ (turn-numerator p q a b n m pw qw)
-        (falling (numerator_of p a b) Kab n m n' m' (inner_pos n m i) (inner_pos n' m' i') order rises_ab (pos_at _ _ (sym (turn-numerator p q a b n' m' pw qw)) h)))
+        (λ h. positive_at _ _ (turn-numerator p q c a n' m' pw qw)
+        (rising (numerator_of p c a) Kca n m n' m' (inner_pos n m i) (inner_pos n' m' i') order falls_ca (positive_at _ _ (sym (turn-numerator p q c a n m pw qw)) h)))
+        (λ h. positive_at _ _ (turn-numerator p q a b n m pw qw)
+        (falling (numerator_of p a b) Kab n m n' m' (inner_pos n m i) (inner_pos n' m' i') order rises_ab (positive_at _ _ (sym (turn-numerator p q a b n' m' pw qw)) h)))
         (low_over n m i b_off c_off t) (low_over n' m' i' b_off' c_off' t')
         (comes_ca falls_ca y)
         (tally_of (goes_of_crosses p q a b c n m n' m' pw qw order area_up rises_ab) (crosses_of_goes p q a b c n m n' m' pw qw order area_up rises_ab) x)

@@ -3,6 +3,7 @@ use Rattle.std.proofs.Common.{◌≡◌, ◌⊎◌, inl, inr, ℕ, suc, ◌+◌,
 use Rattle.std.specs.Prelude.{ℤ, pos, negsuc, ◌-ℤ◌, ◌*ℤ◌, ◌≤ℤ◌, ◌<ℤ◌, false}
 use Rattle.std.proofs.lemmas.Int.{ints}
 use Rattle.std.proofs.lemmas.Option.{slice_get-get_or}
+use Rattle.integers.proofs.Lists.{some_element}
 use Rattle.integers.proofs.Ring.{var, con, ◌⊕◌, ◌⊖◌, ◌⊗◌, ring, less_by}
 use Rattle.integers.proofs.Signs.{mul_nonneg}
 use Rattle.lattice.specs.declared.points.Corner.{Corner}
@@ -13,7 +14,7 @@ use Rattle.geometry.specs.Faces.{share_point}
 use Rattle.geometry.specs.Parts.{Part, Face, Edge}
 use Rattle.geometry.specs.Views.{IsOrdinary}
 use Rattle.geometry.specs.Sound.{IsSound}
-use Rattle.geometry.proofs.Listed.{same_element, found, face_at}
+use Rattle.geometry.proofs.Listed.{same_element, face_at}
 use Rattle.hiding.proofs.Screens.{Screen}
 use Rattle.hiding.proofs.Decisions.{less_or}
 use Rattle.counting.specs.Counts.{Side, HasCounted, AreCounted}
@@ -56,7 +57,7 @@ module _ (d : Triple) (s : Part) (f : Face s) (X : Screen → Screen → Screen 
 module _ (s : Part) (in_range : All (IsBelow (length s.corners)) s.triangles) where
   -- the face with a number
   abbrev pub face_of : (t : ℕ) → t < length s.triangles → Face s
-  face_of t l = let x = found s.triangles t l in face_at s in_range x.0 t x.1
+  face_of t l = let x = some_element s.triangles t l in face_at s in_range x.0 t x.1
 
 -- ---- tallies
 pub one_tally : {P : Type 0} (n : ℕ) → IsOneWhere P n → IsTally P (pos n)

@@ -2,7 +2,8 @@
 use Rattle.std.proofs.Common.{◌≡◌, ◌⊎◌, inl, inr, [], ◌∷◌, refl, sym, ap, ◌∙◌, arith}
 use Rattle.std.specs.Prelude.{ℤ, pos, ◌+ℤ◌, ◌-ℤ◌, ◌*ℤ◌, ◌≤ℤ◌, ◌<ℤ◌}
 use Rattle.std.proofs.lemmas.Int.{ints, by_lt_z}
-use Rattle.hiding.proofs.ScreenSides.{pos_at, nonneg_at, pos_of_least, length_least, length_zero}
+use Rattle.integers.proofs.Comparisons.{positive_at, not_negative_at}
+use Rattle.hiding.proofs.ScreenSides.{pos_of_least, length_least, length_zero}
 use Rattle.hiding.proofs.Screens.{lead_of, Screen, area_of, turn_of, length_of}
 use Rattle.hiding.specs.inner.Values.{value_at}
 use Rattle.integers.proofs.Ring.{Expr, var, con, ◌⊕◌, ◌⊖◌, ◌⊗◌, ring, by_two}
@@ -22,7 +23,7 @@ use Rattle.face_counts.proofs.Lone.{area-rotate}
 module _ (f g k n m : ℤ) (near : IsNear k n m) where
   pub near_pos : pos 0 <ℤ f → (pos 0 -ℤ k) <ℤ g → pos 0 <ℤ value_at f g n m
   near_pos h l =
-      pos_at _ _
+      positive_at _ _
       (ring (f ∷ g ∷ k ∷ n ∷ m ∷ [])
       (((var 4 ⊖ var 3) ⊗ var 0) ⊕ (var 3 ⊗ var 1))
       ((((var 4 ⊖ var 3) ⊗ (var 0 ⊖ con (pos 1))) ⊕ (var 3 ⊗ ((var 2 ⊕ var 1) ⊖ con (pos 1)))) ⊕ (var 4 ⊖ (var 3 ⊗ var 2))) refl)
@@ -39,7 +40,7 @@ module _ (f g k n m : ℤ) (near : IsNear k n m) where
 
 pub near_neg : (f g k n m : ℤ) → IsNear k n m → f <ℤ pos 0 → g <ℤ k → value_at f g n m <ℤ pos 0
 near_neg f g k n m near h l =
-    turned _ (pos_at _ _ (ring (f ∷ g ∷ n ∷ m ∷ []) (con (pos 0) ⊖ (((var 3 ⊖ var 2) ⊗ var 0) ⊕ (var 2 ⊗ var 1))) (((var 3 ⊖ var 2) ⊗ (con (pos 0) ⊖ var 0)) ⊕ (var 2 ⊗ (con (pos 0) ⊖ var 1))) refl)
+    turned _ (positive_at _ _ (ring (f ∷ g ∷ n ∷ m ∷ []) (con (pos 0) ⊖ (((var 3 ⊖ var 2) ⊗ var 0) ⊕ (var 2 ⊗ var 1))) (((var 3 ⊖ var 2) ⊗ (con (pos 0) ⊖ var 0)) ⊕ (var 2 ⊗ (con (pos 0) ⊖ var 1))) refl)
     (near_pos (pos 0 -ℤ f) (pos 0 -ℤ g) k n m near (up f h) (flip k g l)))
   where
     turned : (x : ℤ) → pos 0 <ℤ (pos 0 -ℤ x) → x <ℤ pos 0
@@ -132,7 +133,7 @@ module _ (c : Side) (o q a b : Screen) (k : ℤ) (ow : o.w ≡ pos 1) (qw : q.w 
     not_out : F ≡ pos 0 → pos 0 <ℤ T → pos 0 ≤ℤ G
     not_out e h =
         by_lt_z G (pos 0)
-        (λ low. absurd (drop (k *ℤ G) E k (past k G k_pos low) e_below.most (pos_at _ _ (sym (at_zero e)) h)))
+        (λ low. absurd (drop (k *ℤ G) E k (past k G k_pos low) e_below.most (positive_at _ _ (sym (at_zero e)) h)))
         (λ r. r)
       where
         -- k times a number below 0 is at most -k
@@ -149,7 +150,7 @@ module _ (c : Side) (o q a b : Screen) (k : ℤ) (ow : o.w ≡ pos 1) (qw : q.w 
         drop x e k h l n = omega (arith, ints)
 
     inward : F ≡ pos 0 → pos 0 <ℤ G → pos 0 <ℤ T
-    inward e h = pos_at _ _ (at_zero e) (rise (k *ℤ G) E k (past k G k_pos h) e_below.least)
+    inward e h = positive_at _ _ (at_zero e) (rise (k *ℤ G) E k (past k G k_pos h) e_below.least)
       where
         past : (k g : ℤ) → pos 0 <ℤ k → pos 0 <ℤ g → k ≤ℤ (k *ℤ g)
         past k g h l = turned k (k *ℤ g) (k *ℤ (g -ℤ pos 1)) (mul_nonneg k (g -ℤ pos 1) (weak k h) (one g l)) (ring (k ∷ g ∷ []) (var 0 ⊗ (var 1 ⊖ con (pos 1))) ((var 0 ⊗ var 1) ⊖ var 0) refl)
@@ -255,31 +256,31 @@ module _ (c : Side) (o q a b d : Screen) (k n m : ℤ) (ow : o.w ≡ pos 1) (qw 
       by_lt_z (pos 0) (turn_of o a b) (λ r. inl r)
       (λ low.
       let e = zero_of _ (start_least h) low in
-      let g = nonneg_of_mul n _ near.after (nonneg_at _ _ (sym (near_zero _ _ k n m near e)) h) in
+      let g = nonneg_of_mul n _ near.after (not_negative_at _ _ (sym (near_zero _ _ k n m near e)) h) in
       by_lt_z (pos 0) (turn_of q a b) (λ r. inr (e, inward c o q a b k ow qw fine e r))
       (λ flat.
       let f = zero_of _ g flat in
       inr (
         e,
-        pos_at _ _ (beside c o q a b k ow qw fine e f)
-            (pos_of_mul_pos _ _ area_up (pos_at _ _ (tilt_along o q a b d ow qw e f c) (mul_pos _ _ (long_of a b d area_up) (third_side e f side)))),
+        positive_at _ _ (beside c o q a b k ow qw fine e f)
+            (pos_of_mul_pos _ _ area_up (positive_at _ _ (tilt_along o q a b d ow qw e f c) (mul_pos _ _ (long_of a b d area_up) (third_side e f side)))),
       )))
 
   pub weight_least : IsWithin o a b (perturbed c k (way o q)) → pos 0 ≤ℤ W
   weight_least (inl r) = weak _ (near_pos _ _ k n m near r (let f = fine.turn in f.least))
-  weight_least (inr r) = nonneg_at _ _ (near_zero _ _ k n m near r.0) (mul_nonneg n _ (weak n near.after) (not_out c o q a b k ow qw fine r.0 r.1))
+  weight_least (inr r) = not_negative_at _ _ (near_zero _ _ k n m near r.0) (mul_nonneg n _ (weak n near.after) (not_out c o q a b k ow qw fine r.0 r.1))
 
   -- with no third corner on the side, the weight is above 0
   pub weight_some : IsWithin o a b (perturbed c k (way o q)) → tilt c (area_of o q d) ≤ℤ pos 0 → pos 0 <ℤ W
   weight_some (inl r) low = near_pos _ _ k n m near r (let f = fine.turn in f.least)
   weight_some (inr r) low =
       by_lt_z (pos 0) (turn_of q a b)
-      (λ g. pos_at _ _ (near_zero _ _ k n m near r.0) (mul_pos n _ near.after g))
+      (λ g. positive_at _ _ (near_zero _ _ k n m near r.0) (mul_pos n _ near.after g))
       (λ flat.
       let f = zero_of _ (not_out c o q a b k ow qw fine r.0 r.1) flat in
       absurd (clash _
       (pos_of_mul _ _ (long_of a b d area_up)
-      (pos_at _ _ (sym (tilt_along o q a b d ow qw r.0 f c)) (mul_pos _ _ (pos_at _ _ (sym (beside c o q a b k ow qw fine r.0 f)) r.1) area_up)))
+      (positive_at _ _ (sym (tilt_along o q a b d ow qw r.0 f c)) (mul_pos _ _ (positive_at _ _ (sym (beside c o q a b k ow qw fine r.0 f)) r.1) area_up)))
       low))
 
 -- ---- the law
@@ -303,10 +304,10 @@ each_zero x y z s t u hx hy hz hs ht hu e =
 module _ (c : Side) (o q a b d : Screen) (k n m : ℤ) (ow : o.w ≡ pos 1) (qw : q.w ≡ pos 1) (apart : ¬ ((o.u ≡ q.u) × (o.v ≡ q.v))) (area_up : pos 0 <ℤ area_of a b d)
     (free : ¬ Touches a b d o) (fine_ab : IsFine o q a b k) (fine_bd : IsFine o q b d k) (fine_da : IsFine o q d a k) (fine_lead : IsBelow k (lead_of a b d q)) (near : IsNear k n m) where
   up_bd : pos 0 <ℤ area_of b d a
-  up_bd = pos_at _ _ (sym (area-rotate b d a)) area_up
+  up_bd = positive_at _ _ (sym (area-rotate b d a)) area_up
 
   up_da : pos 0 <ℤ area_of d a b
-  up_da = pos_at _ _ (area-rotate a b d) area_up
+  up_da = positive_at _ _ (area-rotate a b d) area_up
 
   m_pos : pos 0 <ℤ m
   m_pos = sum_of n m near.after near.before
@@ -315,7 +316,7 @@ module _ (c : Side) (o q a b d : Screen) (k n m : ℤ) (ow : o.w ≡ pos 1) (qw 
       sum_of n m h l = omega (arith, ints)
 
   one_pos : pos 0 <ℤ o.w
-  one_pos = pos_at _ _ ow (omega (arith, ints))
+  one_pos = positive_at _ _ ow (omega (arith, ints))
 
   to_over : CountsAt c o q a b d n m → IsOverWay o a b d (perturbed c k (way o q))
   to_over (v, s) =

@@ -2,11 +2,11 @@
 use Rattle.std.proofs.Common.{◌≡◌, ◌⊎◌, inl, inr, [], ◌∷◌, refl, sym, ap, ◌∙◌, arith}
 use Rattle.std.specs.Prelude.{ℤ, pos, ◌-ℤ◌, ◌*ℤ◌, ◌≤ℤ◌, ◌<ℤ◌}
 use Rattle.std.proofs.lemmas.Int.{ints, by_lt_z}
+use Rattle.integers.proofs.Comparisons.{positive_at, not_negative_at}
 use Rattle.integers.proofs.Ring.{var, con, ◌⊖◌, ◌⊗◌, ring, less_by, mul_comm}
 use Rattle.integers.proofs.Signs.{mul_pos, mul_nonneg, pos_of_mul, nonneg_of_mul, zero_of_mul, square_nonneg}
 use Rattle.hiding.proofs.Screens.{Screen, area_of, turn_of, lead_of, Covers}
 use Rattle.hiding.specs.inner.Values.{value_at}
-use Rattle.hiding.proofs.ScreenSides.{pos_at, nonneg_at}
 use Rattle.face_counts.proofs.Places.{place_of}
 use Rattle.face_counts.proofs.Shares.{numerator_of, denominator_of, IsClearOf, IsClear}
 use Rattle.face_counts.proofs.CornerLaws.{IsBelow, IsNear}
@@ -31,7 +31,7 @@ module _ (f g k n m n' m' : ℤ) (near : IsNear k n m) (near' : IsNear k n' m') 
       by : (pos 0 <ℤ f) ⊎ (f <ℤ pos 0) ⊎ (f ≡ pos 0) → pos 0 ≤ℤ value_at f g n' m'
       by (inl r) = weak _ (near_pos f g k n' m' near' r small.least)
       by (inr (inl r)) = absurd (clash_neg _ h (near_neg f g k n m near r small.most))
-      by (inr (inr e)) = nonneg_at _ _ (near_zero f g k n' m' near' e) (mul_nonneg n' g (weak n' near'.after) (nonneg_of_mul n g near.after (nonneg_at _ _ (sym (near_zero f g k n m near e)) h)))
+      by (inr (inr e)) = not_negative_at _ _ (near_zero f g k n' m' near' e) (mul_nonneg n' g (weak n' near'.after) (nonneg_of_mul n g near.after (not_negative_at _ _ (sym (near_zero f g k n m near e)) h)))
 
   pub some_near : pos 0 <ℤ value_at f g n m → pos 0 <ℤ value_at f g n' m'
   some_near h = by (sign_three f)
@@ -39,7 +39,7 @@ module _ (f g k n m n' m' : ℤ) (near : IsNear k n m) (near' : IsNear k n' m') 
       by : (pos 0 <ℤ f) ⊎ (f <ℤ pos 0) ⊎ (f ≡ pos 0) → pos 0 <ℤ value_at f g n' m'
       by (inl r) = near_pos f g k n' m' near' r small.least
       by (inr (inl r)) = absurd (clash_both _ h (near_neg f g k n m near r small.most))
-      by (inr (inr e)) = pos_at _ _ (near_zero f g k n' m' near' e) (mul_pos n' g near'.after (pos_of_mul n g near.after (pos_at _ _ (sym (near_zero f g k n m near e)) h)))
+      by (inr (inr e)) = positive_at _ _ (near_zero f g k n' m' near' e) (mul_pos n' g near'.after (pos_of_mul n g near.after (positive_at _ _ (sym (near_zero f g k n m near e)) h)))
 
 -- ---- faces
 -- k is above the values of a face at the edge's other end
@@ -75,7 +75,7 @@ module _ (p q : Screen) (k n m n' m' : ℤ) (pw : p.w ≡ pos 1) (qw : q.w ≡ p
       by : (area_of a b c <ℤ pos 0) ⊎ (pos 0 <ℤ area_of a b c) → Covers a b c (place_of p q n' m')
       by (inl down) =
           covers_swap a b c (place_of p q n' m')
-          (front_near a c b (above_back q a b c k qw s) (pos_at _ _ (area-swap a b c) (up _ down)) (covers_swap a c b (place_of p q n m) x))
+          (front_near a c b (above_back q a b c k qw s) (positive_at _ _ (area-swap a b c) (up _ down)) (covers_swap a c b (place_of p q n m) x))
       by (inr high) = front_near a b c s high x
 
 -- ---- crossings
@@ -89,7 +89,7 @@ module _ (f g k n m : ℤ) (near : IsNear k n m) (small : IsBelow k g) where
     where
       by : (pos 0 <ℤ f) ⊎ (f <ℤ pos 0) ⊎ (f ≡ pos 0) → pos 0 <ℤ (V *ℤ (f -ℤ g))
       by (inl r) = mul_pos V (f -ℤ g) (near_pos f g k n m near r small.least) (pos_of_mul f (f -ℤ g) r h)
-      by (inr (inl r)) = mul_two_neg V (f -ℤ g) (near_neg f g k n m near r small.most) (neg_of_mul_neg (f -ℤ g) f r (pos_at _ _ (mul_comm (f -ℤ g) f) h))
+      by (inr (inl r)) = mul_two_neg V (f -ℤ g) (near_neg f g k n m near r small.most) (neg_of_mul_neg (f -ℤ g) f r (positive_at _ _ (mul_comm (f -ℤ g) f) h))
       by (inr (inr e)) = absurd (clash_zero _ h (ap (λ v. v *ℤ (f -ℤ g)) e ∙ ring (f ∷ g ∷ []) (con (pos 0) ⊗ (var 0 ⊖ var 1)) (con (pos 0)) refl))
 
   pub passed_start : pos 0 <ℤ (V *ℤ (f -ℤ g)) → pos 0 <ℤ (f *ℤ (f -ℤ g))
@@ -103,7 +103,7 @@ module _ (f g k n m : ℤ) (near : IsNear k n m) (small : IsBelow k g) where
 
       by : (pos 0 <ℤ f) ⊎ (f <ℤ pos 0) ⊎ (f ≡ pos 0) → pos 0 <ℤ (f *ℤ (f -ℤ g))
       by (inl r) = mul_pos f (f -ℤ g) r (pos_of_mul V (f -ℤ g) (near_pos f g k n m near r small.least) h)
-      by (inr (inl r)) = mul_two_neg f (f -ℤ g) r (neg_of_mul_neg (f -ℤ g) V (near_neg f g k n m near r small.most) (pos_at _ _ (mul_comm (f -ℤ g) V) h))
+      by (inr (inl r)) = mul_two_neg f (f -ℤ g) r (neg_of_mul_neg (f -ℤ g) V (near_neg f g k n m near r small.most) (positive_at _ _ (mul_comm (f -ℤ g) V) h))
       by (inr (inr e)) = absurd (none _ _ h (turned (near_zero f g k n m near e) e) (mul_nonneg n (g *ℤ g) (weak n near.after) (square_nonneg g)))
 
 module _ (p q a b : Screen) (k n m : ℤ) (pw : p.w ≡ pos 1) (qw : q.w ≡ pos 1) (near : IsNear k n m) (small : IsBelow k (turn_of q a b)) where
@@ -139,10 +139,10 @@ module _ (p q a b : Screen) (k n m : ℤ) (pw : p.w ≡ pos 1) (qw : q.w ≡ pos
 
   -- a crossing behind a near place is one behind the edge's end, and the other way round
   pub after_near : pos 0 <ℤ (R *ℤ K) → (n *ℤ (K *ℤ K)) <ℤ ((R *ℤ K) *ℤ m)
-  after_near h = less_by _ _ _ (sym near_product) (passed_near Start Finish k n m near small (pos_at _ _ start_product h))
+  after_near h = less_by _ _ _ (sym near_product) (passed_near Start Finish k n m near small (positive_at _ _ start_product h))
 
   pub after_start : (n *ℤ (K *ℤ K)) <ℤ ((R *ℤ K) *ℤ m) → pos 0 <ℤ (R *ℤ K)
-  after_start h = pos_at _ _ (sym start_product) (passed_start Start Finish k n m near small (pos_at _ _ near_product (gap _ _ h)))
+  after_start h = positive_at _ _ (sym start_product) (passed_start Start Finish k n m near small (positive_at _ _ near_product (gap _ _ h)))
 
   -- no side that is not along the edge has a near place
   pub clear_near : IsClearOf p q a b n m

@@ -4,11 +4,11 @@ use Rattle.std.specs.Prelude.{ℤ, pos, ◌+ℤ◌, ◌-ℤ◌, ◌*ℤ◌, ◌<
 use Rattle.std.specs.List.{AllZip}
 use Rattle.std.proofs.lemmas.Int.{ints}
 use Rattle.std.proofs.lemmas.Option.{slice_get-get_or}
+use Rattle.lattice.proofs.Vectors.{dot_somewhere}
 use Rattle.integers.proofs.Ring.{var, con, ◌⊖◌, ◌⊗◌, ring, less_by}
 use Rattle.integers.proofs.Signs.{mul_pos}
 use Rattle.lattice.specs.Triangles.{IsBelow as IsTriBelow}
 use Rattle.lattice.specs.Triple.{Triple, dot, IsZero}
-use Rattle.lattice.proofs.SightAxes.{square_of_direction}
 use Rattle.geometry.specs.Faces.{share_point}
 use Rattle.geometry.specs.Parts.{Part, Face, Edge, AreEdges, IsNumbered}
 use Rattle.geometry.specs.Sound.{IsSound}
@@ -62,7 +62,7 @@ far_before k = omega (arith, ints)
 module _ (d : Triple) (somewhere : ¬ IsZero d) {s : Part} (e o : Edge s) (k : ℕ) (small : IsBelow (pos k) (turn_of (on d e.a) (on d o.a) (on d o.b))) where
   crossed_far : PassesNearer d e o → IsCrossedBefore d e o (far k) (divisor k)
   crossed_far p =
-      let long = square_of_direction d somewhere in
+      let long = dot_somewhere d somewhere in
       let R = numerator_between d e o in
       let K = denominator_between d e o in
       let D = height_numerator_between e o in

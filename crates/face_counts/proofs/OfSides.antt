@@ -2,9 +2,9 @@
 use Rattle.std.proofs.Common.{refl, ◌∙◌, arith}
 use Rattle.std.specs.Prelude.{pos}
 use Rattle.std.proofs.lemmas.Int.{ints}
+use Rattle.integers.proofs.Comparisons.{positive_at}
 use Rattle.integers.proofs.Ring.{con, ◌⊕◌, ◌⊖◌, ◌⊗◌, ring, less_by, gap_of_less}
 use Rattle.hiding.proofs.ScreenLetters.{A, B, C, P, I, J, weighed, values}
-use Rattle.hiding.proofs.ScreenSides.{pos_at}
 use Rattle.hiding.proofs.Screens.{Screen, Covers, SideCovers}
 
 pub of_ab : (a b c p : Screen) → SideCovers a b p → Covers a b c p
@@ -18,7 +18,7 @@ of_ab a b c p q =
       i_least = q.i_least;
       j_least = q.j_least;
       k_least = omega (arith, ints);
-      some = pos_at _ _ (ring here ((I ⊕ J) ⊕ O) (I ⊕ J) refl) q.some;
+      some = positive_at _ _ (ring here ((I ⊕ J) ⊕ O) (I ⊕ J) refl) q.some;
       same_u = ring here (weighed I J O A.u B.u C.u ⊗ P.w) (((I ⊗ A.u) ⊕ (J ⊗ B.u)) ⊗ P.w) refl ∙ q.same_u ∙ ring here (P.u ⊗ (I ⊕ J)) (P.u ⊗ ((I ⊕ J) ⊕ O)) refl;
       same_v = ring here (weighed I J O A.v B.v C.v ⊗ P.w) (((I ⊗ A.v) ⊕ (J ⊗ B.v)) ⊗ P.w) refl ∙ q.same_v ∙ ring here (P.v ⊗ (I ⊕ J)) (P.v ⊗ ((I ⊕ J) ⊕ O)) refl;
       nearer = less_by _ _ _

@@ -2,9 +2,9 @@
 use Rattle.std.proofs.Common.{◌≡◌, ◌⊎◌, zero, suc, inl, inr, [], ◌∷◌, refl, sym, ap, ◌∙◌, arith}
 use Rattle.std.specs.Prelude.{ℤ, pos, negsuc, ◌+ℤ◌, ◌-ℤ◌, ◌*ℤ◌, ◌≤ℤ◌, ◌<ℤ◌}
 use Rattle.std.proofs.lemmas.Int.{ints, by_lt_z}
+use Rattle.integers.proofs.Comparisons.{positive_at}
 use Rattle.face_counts.proofs.Linear.{turn-place}
 use Rattle.face_counts.proofs.Places.{place_of}
-use Rattle.hiding.proofs.ScreenSides.{pos_at}
 use Rattle.hiding.proofs.Screens.{Screen, area_of, turn_of, Covers}
 use Rattle.hiding.specs.inner.Values.{value_at}
 use Rattle.integers.proofs.Ring.{var, con, ◌⊕◌, ◌⊖◌, ◌⊗◌, ring}
@@ -84,7 +84,7 @@ touches_rotate a b c p t =
       i_least = t.k_least;
       j_least = t.i_least;
       k_least = t.j_least;
-      some = pos_at _ _ e t.some;
+      some = positive_at _ _ e t.some;
       same_u = ap (λ v. v *ℤ p.w) (rotated_sum (t.k *ℤ a.u) (t.i *ℤ b.u) (t.j *ℤ c.u)) ∙ t.same_u ∙ ap (λ v. p.u *ℤ v) (sym e);
       same_v = ap (λ v. v *ℤ p.w) (rotated_sum (t.k *ℤ a.v) (t.i *ℤ b.v) (t.j *ℤ c.v)) ∙ t.same_v ∙ ap (λ v. p.v *ℤ v) (sym e);
       same_h = ap (λ v. v *ℤ p.w) (rotated_sum (t.k *ℤ a.h) (t.i *ℤ b.h) (t.j *ℤ c.h)) ∙ t.same_h ∙ ap (λ v. p.h *ℤ v) (sym e);
@@ -102,7 +102,7 @@ covers_rotate a b c p t =
       i_least = t.k_least;
       j_least = t.i_least;
       k_least = t.j_least;
-      some = pos_at _ _ e t.some;
+      some = positive_at _ _ e t.some;
       same_u = ap (λ v. v *ℤ p.w) (rotated_sum (t.k *ℤ a.u) (t.i *ℤ b.u) (t.j *ℤ c.u)) ∙ t.same_u ∙ ap (λ v. p.u *ℤ v) (sym e);
       same_v = ap (λ v. v *ℤ p.w) (rotated_sum (t.k *ℤ a.v) (t.i *ℤ b.v) (t.j *ℤ c.v)) ∙ t.same_v ∙ ap (λ v. p.v *ℤ v) (sym e);
       nearer = less_at _ _ _ _ (ap (λ v. p.h *ℤ v) e) (ap (λ v. v *ℤ p.w) (rotated_sum (t.k *ℤ a.h) (t.i *ℤ b.h) (t.j *ℤ c.h))) t.nearer;
@@ -122,7 +122,7 @@ scene_rotate {p = p} {q = q} {a = a} {b = b} {c = c} s = record {
   pw = s.pw;
   qw = s.qw;
   order = s.order;
-  area_up = pos_at _ _ (sym (area-rotate b c a)) s.area_up;
+  area_up = positive_at _ _ (sym (area-rotate b c a)) s.area_up;
   clear = clear_rotate s.clear;
   clear' = clear_rotate s.clear';
   unpierced = λ n m h k t. s.unpierced n m h k (touches_rotate a b c (place_of p q n m) t);
@@ -314,7 +314,7 @@ touches_swap a b c p t =
       i_least = t.i_least;
       j_least = t.k_least;
       k_least = t.j_least;
-      some = pos_at _ _ e t.some;
+      some = positive_at _ _ e t.some;
       same_u = ap (λ v. v *ℤ p.w) (swapped_sum (t.i *ℤ a.u) (t.k *ℤ b.u) (t.j *ℤ c.u)) ∙ t.same_u ∙ ap (λ v. p.u *ℤ v) (sym e);
       same_v = ap (λ v. v *ℤ p.w) (swapped_sum (t.i *ℤ a.v) (t.k *ℤ b.v) (t.j *ℤ c.v)) ∙ t.same_v ∙ ap (λ v. p.v *ℤ v) (sym e);
       same_h = ap (λ v. v *ℤ p.w) (swapped_sum (t.i *ℤ a.h) (t.k *ℤ b.h) (t.j *ℤ c.h)) ∙ t.same_h ∙ ap (λ v. p.h *ℤ v) (sym e);
@@ -329,7 +329,7 @@ covers_swap a b c p t =
       i_least = t.i_least;
       j_least = t.k_least;
       k_least = t.j_least;
-      some = pos_at _ _ e t.some;
+      some = positive_at _ _ e t.some;
       same_u = ap (λ v. v *ℤ p.w) (swapped_sum (t.i *ℤ a.u) (t.k *ℤ b.u) (t.j *ℤ c.u)) ∙ t.same_u ∙ ap (λ v. p.u *ℤ v) (sym e);
       same_v = ap (λ v. v *ℤ p.w) (swapped_sum (t.i *ℤ a.v) (t.k *ℤ b.v) (t.j *ℤ c.v)) ∙ t.same_v ∙ ap (λ v. p.v *ℤ v) (sym e);
       nearer = less_at _ _ _ _ (ap (λ v. p.h *ℤ v) e) (ap (λ v. v *ℤ p.w) (swapped_sum (t.i *ℤ a.h) (t.k *ℤ b.h) (t.j *ℤ c.h))) t.nearer;
@@ -394,7 +394,7 @@ one_face k p q a b c sign n m n' m' before after ab bc ca pw qw (back down) some
       pw = pw;
       qw = qw;
       order = order;
-      area_up = pos_at _ _ (area-swap a b c) (up _ down);
+      area_up = positive_at _ _ (area-swap a b c) (up _ down);
       clear = clear_swap p q a b c n m clear;
       clear' = clear_swap p q a b c n' m' clear';
       unpierced = λ n m h k t. unpierced n m h k (touches_swap a b c (place_of p q n m) t);

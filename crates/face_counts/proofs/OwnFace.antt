@@ -2,8 +2,8 @@
 use Rattle.std.proofs.Common.{◌≡◌, inl, inr, [], ◌∷◌, refl, sym, ap, ◌∙◌, subst, arith}
 use Rattle.std.specs.Prelude.{ℤ, pos, negsuc, ◌-ℤ◌, ◌*ℤ◌, ◌≤ℤ◌, ◌<ℤ◌}
 use Rattle.std.proofs.lemmas.Int.{ints}
+use Rattle.integers.proofs.Comparisons.{positive_at}
 use Rattle.face_counts.proofs.Places.{place_of}
-use Rattle.hiding.proofs.ScreenSides.{pos_at}
 use Rattle.hiding.proofs.Screens.{lead_of, Screen, area_of, Covers}
 use Rattle.hiding.specs.inner.Values.{value_at}
 use Rattle.integers.proofs.Ring.{var, ◌⊕◌, ◌⊖◌, ◌⊗◌, ring}
@@ -65,7 +65,7 @@ level_back p q c n m pw qw =
 module _ (p q : Screen) (n m : ℤ) (pw : p.w ≡ pos 1) (qw : q.w ≡ pos 1) (i : IsInner n m) where
   uncovered_at : (c : Screen) → ¬ (area_of p q c ≡ pos 0) → ¬ Covers p q c (place_of p q n m)
   uncovered_at c some x = elim (sign_cases _ some) [
-    | inl h ↦ clash_zero _ ((at_covers p q p c q n m pw qw (inner_pos n m i) (pos_at _ _ (area-swap p q c) (up _ h)) (covers_swap p c q (place_of p q n m) x)).3) (level_back p q c n m pw qw)
+    | inl h ↦ clash_zero _ ((at_covers p q p c q n m pw qw (inner_pos n m i) (positive_at _ _ (area-swap p q c) (up _ h)) (covers_swap p c q (place_of p q n m) x)).3) (level_back p q c n m pw qw)
     | inr h ↦ clash_zero _ ((at_covers p q p q c n m pw qw (inner_pos n m i) h x).3) (level p q c n m pw qw)
   ]
 

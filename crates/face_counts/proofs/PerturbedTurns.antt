@@ -2,7 +2,7 @@
 use Rattle.std.proofs.Common.{◌≡◌, [], ◌∷◌, refl, ap, ◌∙◌, arith}
 use Rattle.std.specs.Prelude.{ℤ, pos, negsuc, ◌+ℤ◌, ◌-ℤ◌, ◌*ℤ◌, ◌≤ℤ◌, ◌<ℤ◌}
 use Rattle.std.proofs.lemmas.Int.{ints}
-use Rattle.hiding.proofs.ScreenSides.{pos_at}
+use Rattle.integers.proofs.Comparisons.{positive_at}
 use Rattle.integers.proofs.Ring.{Expr, var, con, ◌⊕◌, ◌⊖◌, ◌⊗◌, ring}
 use Rattle.integers.proofs.Signs.{mul_pos, mul_nonneg}
 use Rattle.counting.specs.Counts.{Side, to_left, to_right}
@@ -52,7 +52,7 @@ module _ (k : ℤ) (x y : Way) where
 module _ (k s h d : ℤ) (large : pos 1 <ℤ k) (s_least : pos 0 ≤ℤ (s +ℤ pos 1)) (least : (pos 0 -ℤ k) <ℤ (h *ℤ d)) where
   grown : (t : ℤ) → pos 0 <ℤ t → pos 0 <ℤ ((((k *ℤ k) +ℤ s) *ℤ t) +ℤ (k *ℤ (h *ℤ d)))
   grown t p =
-      pos_at _ _
+      positive_at _ _
       (ring (k ∷ s ∷ h ∷ d ∷ t ∷ [])
       ((((var 0 ⊗ var 0) ⊕ var 1) ⊗ var 4) ⊕ (var 0 ⊗ (var 2 ⊗ var 3)))
       ((((var 1 ⊕ one) ⊗ var 4) ⊕ (((var 0 ⊗ var 0) ⊖ one) ⊗ (var 4 ⊖ one))) ⊕ ((var 0 ⊖ one) ⊕ (var 0 ⊗ ((var 0 ⊕ (var 2 ⊗ var 3)) ⊖ one)))) refl)
@@ -101,8 +101,8 @@ perturbation_back c c' k d l h = perturbation_least c c' k (pos 0 -ℤ d) l (let
 
 pub perturbed_law : PerturbedLaw
 perturbed_law c c' k x y large below = (
-  λ p. pos_at _ _ (form k x y c c') (grown k (both c c') (perturbation_between c c') (product_of x y) large (both_least c c') (perturbation_least c c' k (product_of x y) large below) (turn_from x y) p),
-  λ p. turned _ (pos_at _ _ (ap (λ v. pos 0 -ℤ v) (form k x y c c') ∙ flip (both c c') (perturbation_between c c') (turn_from x y) (product_of x y))
+  λ p. positive_at _ _ (form k x y c c') (grown k (both c c') (perturbation_between c c') (product_of x y) large (both_least c c') (perturbation_least c c' k (product_of x y) large below) (turn_from x y) p),
+  λ p. turned _ (positive_at _ _ (ap (λ v. pos 0 -ℤ v) (form k x y c c') ∙ flip (both c c') (perturbation_between c c') (turn_from x y) (product_of x y))
       (grown k (both c c') (perturbation_between c c') (pos 0 -ℤ product_of x y) large (both_least c c') (perturbation_back c c' k (product_of x y) large below) (pos 0 -ℤ turn_from x y) (up _ p))),
   λ e. form k x y c c' ∙ ap (λ v. (((k *ℤ k) +ℤ both c c') *ℤ v) +ℤ (k *ℤ (perturbation_between c c' *ℤ product_of x y))) e ∙ none (k *ℤ k) (both c c') (k *ℤ (perturbation_between c c' *ℤ product_of x y)),
 )

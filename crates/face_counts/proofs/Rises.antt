@@ -6,9 +6,8 @@ use Rattle.integers.proofs.Signs.{zero_of_mul}
 use Rattle.lattice.specs.declared.points.Corner.{Corner}
 use Rattle.lattice.specs.Triple.{Triple, dot, right_axis, up_axis, IsZero}
 use Rattle.lattice.specs.Points.{point_of, difference}
-use Rattle.lattice.proofs.Vectors.{letters, dots}
+use Rattle.lattice.proofs.Vectors.{letters, dots, dot_somewhere}
 use Rattle.lattice.proofs.SightLines.{alike, right_axis-is, multiple_x, multiple_y, multiple_z}
-use Rattle.lattice.proofs.SightAxes.{square_of_direction}
 use Rattle.geometry.specs.Faces.{IsFlat}
 use Rattle.hiding.proofs.Screens.{Screen, area_of, length_of}
 use Rattle.hiding.proofs.OnScreens.{seen}
@@ -87,14 +86,14 @@ module _ (d : Triple) (directed : ¬ IsZero d) (a b c : Corner) (long : pos 0 <�
   none : IsZero way
   none =
       let axis = right_axis-is d in
-      let zero = alike (right_axis d) way d axis.square axis.level across upward in
+      let zero = alike (right_axis d) (right_axis d) way d axis.square axis.level across upward in
       record { x = still _ _ (multiple_x d way zero); y = still _ _ (multiple_y d way zero); z = still _ _ (multiple_z d way zero) }
     where
       times_zero : (n : ℤ) → pos 0 *ℤ n ≡ pos 0
       times_zero n = ring (n ∷ []) (con (pos 0) ⊗ var 0) (con (pos 0)) refl
 
       still : (x y : ℤ) → dot d d *ℤ x ≡ dot d way *ℤ y → x ≡ pos 0
-      still x y h = zero_of_mul (dot d d) x (square_of_direction d directed) (h ∙ ap (λ v. v *ℤ y) height ∙ times_zero y)
+      still x y h = zero_of_mul (dot d d) x (dot_somewhere d directed) (h ∙ ap (λ v. v *ℤ y) height ∙ times_zero y)
 
   -- one component of the normal
   part : (p q r s : ℤ) → (length_of A B *ℤ r) -ℤ (foot_of A B C *ℤ p) ≡ pos 0 → (length_of A B *ℤ s) -ℤ (foot_of A B C *ℤ q) ≡ pos 0 → (p *ℤ s) -ℤ (q *ℤ r) ≡ pos 0

@@ -2,6 +2,7 @@
 use Rattle.std.proofs.Common.{◌≡◌, ◌⊎◌, zero, suc, inl, inr, [], ◌∷◌, refl, sym, ap, subst, ◌∙◌, arith}
 use Rattle.std.specs.Prelude.{ℤ, pos, negsuc, ◌-ℤ◌, ◌*ℤ◌, ◌<ℤ◌}
 use Rattle.std.proofs.lemmas.Int.{ints}
+use Rattle.integers.proofs.Comparisons.{positive_at}
 use Rattle.integers.proofs.Ring.{var, con, ◌⊖◌, ◌⊗◌, ring}
 use Rattle.integers.proofs.Signs.{mul_pos, mul_neg, pos_of_mul, zero_of_mul}
 use Rattle.lattice.specs.declared.points.Corner.{Corner}
@@ -16,7 +17,6 @@ use Rattle.hiding.proofs.Names.{ways}
 use Rattle.hiding.proofs.OnScreens.{seen, covers_of_hides, hides_of_covers}
 use Rattle.hiding.proofs.Readings.{dot-share}
 use Rattle.hiding.proofs.ScreenScale.{area_scale, lead_scale}
-use Rattle.hiding.proofs.ScreenSides.{pos_at}
 use Rattle.counting.specs.Counts.{Side, to_left, to_right, orientation_of, StandsOn, ReachesTo, IsCounted}
 use Rattle.counting.specs.Shares.{mark}
 use Rattle.face_counts.proofs.Places.{place_of}
@@ -128,7 +128,7 @@ mark_scaled k s (pos (suc n)) h = mark_pos k _ (mul_pos s (pos (suc n)) h (omega
 mark_scaled k s (negsuc n) h = mark_neg k _ (mul_neg s (negsuc n) h (omega (arith, ints))) ∙ sym (mark_neg k (negsuc n) (omega (arith, ints)))
 
 neg_of_scaled : (s z : ℤ) → pos 0 <ℤ s → (s *ℤ z) <ℤ pos 0 → z <ℤ pos 0
-neg_of_scaled s z h n = turned z (pos_of_mul s (pos 0 -ℤ z) h (pos_at _ _ (ring (s ∷ z ∷ []) (var 0 ⊗ (con (pos 0) ⊖ var 1)) (con (pos 0) ⊖ (var 0 ⊗ var 1)) refl) (flip _ n)))
+neg_of_scaled s z h n = turned z (pos_of_mul s (pos 0 -ℤ z) h (positive_at _ _ (ring (s ∷ z ∷ []) (var 0 ⊗ (con (pos 0) ⊖ var 1)) (con (pos 0) ⊖ (var 0 ⊗ var 1)) refl) (flip _ n)))
   where
     flip : (x : ℤ) → x <ℤ pos 0 → pos 0 <ℤ (pos 0 -ℤ x)
     flip x h = omega (arith, ints)
@@ -143,11 +143,11 @@ change_seen d k sign p q a b = λ t.
 
 -- ---- sides
 pub on_side_of : (d : Triple) (k : Side) (p q c : Corner) → StandsOn k d p q c → IsOnSide k (on d p) (on d q) (on d c)
-on_side_of d to_left p q c h = pos_at _ _ (area_seen d p q c) (mul_pos (scale d) _ (scale_pos d) h)
+on_side_of d to_left p q c h = positive_at _ _ (area_seen d p q c) (mul_pos (scale d) _ (scale_pos d) h)
 on_side_of d to_right p q c h = neg_at _ _ (area_seen d p q c) (mul_neg (scale d) _ (scale_pos d) h)
 
 pub of_on_side : (d : Triple) (k : Side) (p q c : Corner) → IsOnSide k (on d p) (on d q) (on d c) → StandsOn k d p q c
-of_on_side d to_left p q c h = pos_of_mul (scale d) _ (scale_pos d) (pos_at _ _ (sym (area_seen d p q c)) h)
+of_on_side d to_left p q c h = pos_of_mul (scale d) _ (scale_pos d) (positive_at _ _ (sym (area_seen d p q c)) h)
 of_on_side d to_right p q c h = neg_of_scaled (scale d) _ (scale_pos d) (neg_at _ _ (sym (area_seen d p q c)) h)
 
 pub facing_some : (d : Triple) (a b c : Corner) → ¬ (facing_of d a b c ≡ pos 0) → ¬ (area_of (on d a) (on d b) (on d c) ≡ pos 0)

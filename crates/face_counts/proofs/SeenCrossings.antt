@@ -2,14 +2,14 @@
 use Rattle.std.proofs.Common.{◌≡◌, [], ◌∷◌, refl, sym, ap, ◌∙◌, arith}
 use Rattle.std.specs.Prelude.{ℤ, pos, ◌-ℤ◌, ◌*ℤ◌, ◌≤ℤ◌, ◌<ℤ◌}
 use Rattle.std.proofs.lemmas.Int.{ints}
+use Rattle.lattice.proofs.Vectors.{dot_somewhere}
+use Rattle.integers.proofs.Comparisons.{positive_at}
 use Rattle.integers.proofs.Ring.{var, ◌⊕◌, ◌⊖◌, ◌⊗◌, ring, less_by}
 use Rattle.integers.proofs.Signs.{mul_pos, mul_nonneg, pos_of_mul, square_nonneg}
 use Rattle.lattice.specs.Triple.{Triple, dot, IsZero}
-use Rattle.lattice.proofs.SightAxes.{square_of_direction}
 use Rattle.geometry.specs.Parts.{Part, Edge}
 use Rattle.geometry.specs.Views.{face_sign}
 use Rattle.hiding.proofs.Screens.{turn_of}
-use Rattle.hiding.proofs.ScreenSides.{pos_at}
 use Rattle.counting.specs.Counts.{Side}
 use Rattle.face_counts.proofs.Changed.{IsCrossedBefore, HasChanged}
 use Rattle.counting.specs.Shares.{denominator_of as denominator_between, numerator_of as numerator_between, height_numerator_of as height_numerator_between, change_of as change_between, PassesNearer}
@@ -34,23 +34,23 @@ module _ (s e R K D : ℤ) (s_pos : pos 0 <ℤ s) (e_pos : pos 0 <ℤ e) where
   scaled_height = ring (s ∷ e ∷ D ∷ K ∷ []) (((var 0 ⊗ var 1) ⊗ var 2) ⊗ (var 0 ⊗ var 3)) (((var 0 ⊗ var 1) ⊗ var 0) ⊗ (var 2 ⊗ var 3)) refl
 
   start_of_scaled : pos 0 <ℤ ((s *ℤ R) *ℤ (s *ℤ K)) → pos 0 <ℤ (R *ℤ K)
-  start_of_scaled h = pos_of_mul (s *ℤ s) _ square_pos (pos_at _ _ (sym scaled_product) h)
+  start_of_scaled h = pos_of_mul (s *ℤ s) _ square_pos (positive_at _ _ (sym scaled_product) h)
 
   scaled_of_start : pos 0 <ℤ (R *ℤ K) → pos 0 <ℤ ((s *ℤ R) *ℤ (s *ℤ K))
-  scaled_of_start h = pos_at _ _ scaled_product (mul_pos (s *ℤ s) _ square_pos h)
+  scaled_of_start h = positive_at _ _ scaled_product (mul_pos (s *ℤ s) _ square_pos h)
 
   height_of_scaled : pos 0 <ℤ (((s *ℤ e) *ℤ D) *ℤ (s *ℤ K)) → pos 0 <ℤ (D *ℤ K)
-  height_of_scaled h = pos_of_mul ((s *ℤ e) *ℤ s) _ (mul_pos _ s (mul_pos s e s_pos e_pos) s_pos) (pos_at _ _ (sym scaled_height) h)
+  height_of_scaled h = pos_of_mul ((s *ℤ e) *ℤ s) _ (mul_pos _ s (mul_pos s e s_pos e_pos) s_pos) (positive_at _ _ (sym scaled_height) h)
 
   scaled_of_height : pos 0 <ℤ (D *ℤ K) → pos 0 <ℤ (((s *ℤ e) *ℤ D) *ℤ (s *ℤ K))
-  scaled_of_height h = pos_at _ _ scaled_height (mul_pos _ _ (mul_pos _ s (mul_pos s e s_pos e_pos) s_pos) h)
+  scaled_of_height h = positive_at _ _ scaled_height (mul_pos _ _ (mul_pos _ s (mul_pos s e s_pos e_pos) s_pos) h)
 
   module _ (n m : ℤ) where
     scaled_gap : (n *ℤ ((s *ℤ K) *ℤ (s *ℤ K))) -ℤ (((s *ℤ R) *ℤ (s *ℤ K)) *ℤ m) ≡ (s *ℤ s) *ℤ ((n *ℤ (K *ℤ K)) -ℤ ((R *ℤ K) *ℤ m))
     scaled_gap = ring (s ∷ R ∷ K ∷ n ∷ m ∷ []) ((var 3 ⊗ ((var 0 ⊗ var 2) ⊗ (var 0 ⊗ var 2))) ⊖ (((var 0 ⊗ var 1) ⊗ (var 0 ⊗ var 2)) ⊗ var 4)) ((var 0 ⊗ var 0) ⊗ ((var 3 ⊗ (var 2 ⊗ var 2)) ⊖ ((var 1 ⊗ var 2) ⊗ var 4))) refl
 
     pub before_of_scaled : (((s *ℤ R) *ℤ (s *ℤ K)) *ℤ m) <ℤ (n *ℤ ((s *ℤ K) *ℤ (s *ℤ K))) → ((R *ℤ K) *ℤ m) <ℤ (n *ℤ (K *ℤ K))
-    before_of_scaled h = less_by _ _ _ refl (pos_of_mul (s *ℤ s) _ square_pos (pos_at _ _ (sym scaled_gap) (gap _ _ h)))
+    before_of_scaled h = less_by _ _ _ refl (pos_of_mul (s *ℤ s) _ square_pos (positive_at _ _ (sym scaled_gap) (gap _ _ h)))
 
     pub scaled_of_before : ((R *ℤ K) *ℤ m) <ℤ (n *ℤ (K *ℤ K)) → (((s *ℤ R) *ℤ (s *ℤ K)) *ℤ m) <ℤ (n *ℤ ((s *ℤ K) *ℤ (s *ℤ K)))
     scaled_of_before h = less_by _ _ _ scaled_gap (mul_pos (s *ℤ s) _ square_pos (gap _ _ h))
@@ -58,7 +58,7 @@ module _ (s e R K D : ℤ) (s_pos : pos 0 <ℤ s) (e_pos : pos 0 <ℤ e) where
 -- what is crossed before an inner place is crossed before the end
 inner_before : (R K n m : ℤ) → pos 0 <ℤ n → n <ℤ m → ((R *ℤ K) *ℤ m) <ℤ (n *ℤ (K *ℤ K)) → (R *ℤ K) <ℤ (K *ℤ K)
 inner_before R K n m after before h =
-    less_by _ _ _ refl (pos_of_mul m _ (divisor n m after before) (pos_at _ _
+    less_by _ _ _ refl (pos_of_mul m _ (divisor n m after before) (positive_at _ _
     (ring (R ∷ K ∷ n ∷ m ∷ []) (var 3 ⊗ ((var 1 ⊗ var 1) ⊖ (var 0 ⊗ var 1))) (((var 2 ⊗ (var 1 ⊗ var 1)) ⊖ ((var 0 ⊗ var 1) ⊗ var 3)) ⊕ ((var 3 ⊖ var 2) ⊗ (var 1 ⊗ var 1))) refl)
     (sum_pos_left _ _ (gap _ _ h) (mul_nonneg _ _ (least n m before) (square_nonneg K)))))
   where
@@ -106,16 +106,16 @@ module _ (d : Triple) (somewhere : ¬ IsZero d) {s : Part} (e o : Edge s) (k i j
   height_is = depth_seen d e.a e.b o.a o.b
 
   long : pos 0 <ℤ dot d d
-  long = square_of_direction d somewhere
+  long = dot_somewhere d somewhere
 
   passed_of_crossed : IsCrossed → IsPassed
   passed_of_crossed x =
       let crossed = before_of_scaled (scale d) (dot d d) R K D (scale_pos d) long n m (less_at _ _ _ _ (ap (λ v. v *ℤ m) (product_is d e o)) (ap (λ v. n *ℤ v) (square_is d e o)) x.before) in (
         record {
           after = start_of_scaled (scale d) (dot d d) R K D (scale_pos d) long
-              (pos_at _ _ (sym (product_is d e o)) (after_start (on d e.a) (on d e.b) (on d o.a) (on d o.b) k i j refl refl near small x.after));
+              (positive_at _ _ (sym (product_is d e o)) (after_start (on d e.a) (on d e.b) (on d o.a) (on d o.b) k i j refl refl near small x.after));
           before = inner_before R K n m after before crossed;
-          nearer = height_of_scaled (scale d) (dot d d) R K D (scale_pos d) long (pos_at _ _ (sym (λ t. height_is t *ℤ denominator_is d e o t)) x.nearer);
+          nearer = height_of_scaled (scale d) (dot d d) R K D (scale_pos d) long (positive_at _ _ (sym (λ t. height_is t *ℤ denominator_is d e o t)) x.nearer);
         },
         crossed,
       )
@@ -123,9 +123,9 @@ module _ (d : Triple) (somewhere : ¬ IsZero d) {s : Part} (e o : Edge s) (k i j
   pub crossed_of_passed : IsPassed → IsCrossed
   crossed_of_passed (x, crossed) = record {
     after = after_near (on d e.a) (on d e.b) (on d o.a) (on d o.b) k i j refl refl near small
-        (pos_at _ _ (product_is d e o) (scaled_of_start (scale d) (dot d d) R K D (scale_pos d) long x.after));
+        (positive_at _ _ (product_is d e o) (scaled_of_start (scale d) (dot d d) R K D (scale_pos d) long x.after));
     before = less_at _ _ _ _ (sym (ap (λ v. v *ℤ m) (product_is d e o))) (sym (ap (λ v. n *ℤ v) (square_is d e o))) (scaled_of_before (scale d) (dot d d) R K D (scale_pos d) long n m crossed);
-    nearer = pos_at _ _ (λ t. height_is t *ℤ denominator_is d e o t) (scaled_of_height (scale d) (dot d d) R K D (scale_pos d) long x.nearer);
+    nearer = positive_at _ _ (λ t. height_is t *ℤ denominator_is d e o t) (scaled_of_height (scale d) (dot d d) R K D (scale_pos d) long x.nearer);
   }
 
   -- what an edge changes as it is seen

@@ -2,7 +2,7 @@
 use Rattle.std.proofs.Common.{◌≡◌, [], ◌∷◌, refl, sym, ap, ◌∙◌, arith}
 use Rattle.std.specs.Prelude.{ℤ, pos, ◌+ℤ◌, ◌-ℤ◌, ◌*ℤ◌, ◌<ℤ◌}
 use Rattle.std.proofs.lemmas.Int.{ints}
-use Rattle.hiding.proofs.ScreenSides.{pos_at}
+use Rattle.integers.proofs.Comparisons.{positive_at}
 use Rattle.hiding.proofs.Screens.{lead_of, Screen, area_of, turn_of}
 use Rattle.hiding.specs.inner.Values.{value_at}
 use Rattle.integers.proofs.Ring.{Expr, var, con, ◌⊕◌, ◌⊖◌, ◌⊗◌, ring, less_by}
@@ -111,32 +111,32 @@ module _ (p q a b c : Screen) (n m n' m' : ℤ) (pw : p.w ≡ pos 1) (qw : q.w �
   module _ (falls : K <ℤ pos 0) where
     pub comes_of_crosses : Crosses p q a b n m n' m' → (E0 <ℤ pos 0) × (pos 0 <ℤ E1) × (pos 0 <ℤ ((E1 *ℤ L0) +ℤ ((pos 0 -ℤ E0) *ℤ L1)))
     comes_of_crosses x = (
-      neg_of_mul_neg E0 K falls (pos_at _ _ before_is (gap _ _ x.after)),
-      down E1 (neg_of_mul_neg (pos 0 -ℤ E1) K falls (pos_at _ _ after_is (gap _ _ x.before))),
-      pos_at _ _ lead_is (mul_pos _ _ wide (mul_pos _ _ area_up (up D (neg_of_mul_neg D K falls x.nearer)))),
+      neg_of_mul_neg E0 K falls (positive_at _ _ before_is (gap _ _ x.after)),
+      down E1 (neg_of_mul_neg (pos 0 -ℤ E1) K falls (positive_at _ _ after_is (gap _ _ x.before))),
+      positive_at _ _ lead_is (mul_pos _ _ wide (mul_pos _ _ area_up (up D (neg_of_mul_neg D K falls x.nearer)))),
     )
 
     pub crosses_of_comes : (E0 <ℤ pos 0) × (pos 0 <ℤ E1) × (pos 0 <ℤ ((E1 *ℤ L0) +ℤ ((pos 0 -ℤ E0) *ℤ L1))) → Crosses p q a b n m n' m'
     crosses_of_comes x = record {
       after = less_by _ _ _ (sym before_is) (mul_two_neg E0 K x.0 falls);
       before = less_by _ _ _ (sym after_is) (mul_two_neg (pos 0 -ℤ E1) K (up_pos E1 x.1) falls);
-      nearer = mul_two_neg D K (down_pos D (pos_of_mul _ _ area_up (pos_of_mul _ _ wide (pos_at _ _ (sym lead_is) x.2)))) falls;
+      nearer = mul_two_neg D K (down_pos D (pos_of_mul _ _ area_up (pos_of_mul _ _ wide (positive_at _ _ (sym lead_is) x.2)))) falls;
     }
 
   -- a side that climbs to the left is where it goes
   module _ (rises : pos 0 <ℤ K) where
     pub goes_of_crosses : Crosses p q a b n m n' m' → (pos 0 <ℤ E0) × (E1 <ℤ pos 0) × (pos 0 <ℤ (((pos 0 -ℤ E1) *ℤ L0) +ℤ (E0 *ℤ L1)))
     goes_of_crosses x = (
-      pos_of_mul_pos E0 K rises (pos_at _ _ before_is (gap _ _ x.after)),
-      down_pos E1 (pos_of_mul_pos (pos 0 -ℤ E1) K rises (pos_at _ _ after_is (gap _ _ x.before))),
-      pos_at _ _ lead_back (mul_pos _ _ wide (mul_pos _ _ area_up (pos_of_mul_pos D K rises x.nearer))),
+      pos_of_mul_pos E0 K rises (positive_at _ _ before_is (gap _ _ x.after)),
+      down_pos E1 (pos_of_mul_pos (pos 0 -ℤ E1) K rises (positive_at _ _ after_is (gap _ _ x.before))),
+      positive_at _ _ lead_back (mul_pos _ _ wide (mul_pos _ _ area_up (pos_of_mul_pos D K rises x.nearer))),
     )
 
     pub crosses_of_goes : (pos 0 <ℤ E0) × (E1 <ℤ pos 0) × (pos 0 <ℤ (((pos 0 -ℤ E1) *ℤ L0) +ℤ (E0 *ℤ L1))) → Crosses p q a b n m n' m'
     crosses_of_goes x = record {
       after = less_by _ _ _ (sym before_is) (mul_pos E0 K x.0 rises);
       before = less_by _ _ _ (sym after_is) (mul_pos (pos 0 -ℤ E1) K (up E1 x.1) rises);
-      nearer = mul_pos D K (pos_of_mul _ _ area_up (pos_of_mul _ _ wide (pos_at _ _ (sym lead_back) x.2))) rises;
+      nearer = mul_pos D K (pos_of_mul _ _ area_up (pos_of_mul _ _ wide (positive_at _ _ (sym lead_back) x.2))) rises;
     }
 
 -- ---- the reverse of a side crosses where it does
@@ -147,7 +147,7 @@ pub crosses_reverse : (p q a b : Screen) (n m n' m' : ℤ) → Crosses p q a b n
 crosses_reverse p q a b n m n' m' x = record {
   after = same_less _ _ _ _ (ap (λ v. n *ℤ v) squares) (ap (λ v. v *ℤ m) reaches) x.after;
   before = same_less _ _ _ _ (ap (λ v. v *ℤ m') reaches) (ap (λ v. n' *ℤ v) squares) x.before;
-  nearer = pos_at _ _ (ap (λ v. v *ℤ denominator_of p q b a) depths ∙ ap (λ v. (pos 0 -ℤ depth_of p q a b) *ℤ v) (denominator-reverse p q a b)
+  nearer = positive_at _ _ (ap (λ v. v *ℤ denominator_of p q b a) depths ∙ ap (λ v. (pos 0 -ℤ depth_of p q a b) *ℤ v) (denominator-reverse p q a b)
       ∙ ring (depth_of p q a b ∷ denominator_of p q a b ∷ []) ((Zero ⊖ var 0) ⊗ (Zero ⊖ var 1)) (var 0 ⊗ var 1) refl) x.nearer;
 }
   where

@@ -1,8 +1,8 @@
 -- A spot that a triangle covers at its own height is on the triangle.
 use Rattle.std.proofs.Common.{◌≡◌, refl}
 use Rattle.std.specs.Prelude.{pos, ◌≤ℤ◌, ◌<ℤ◌}
+use Rattle.integers.proofs.Comparisons.{positive_at}
 use Rattle.hiding.proofs.ScreenLetters.{A, B, C, P, area, turn, weighed, values}
-use Rattle.hiding.proofs.ScreenSides.{pos_at}
 use Rattle.hiding.proofs.Screens.{lead_of, Screen, area_of, turn_of}
 use Rattle.integers.proofs.Ring.{◌⊕◌, ◌⊖◌, ◌⊗◌, con, ring, by_one}
 use Rattle.integers.proofs.Signs.{mul_pos}
@@ -21,7 +21,7 @@ touches a b c p w area_up i_least j_least k_least level =
       i_least = i_least;
       j_least = j_least;
       k_least = k_least;
-      some = pos_at _ _ (ring none s (P.w ⊗ area A B C) refl) (mul_pos p.w (area_of a b c) w area_up);
+      some = positive_at _ _ (ring none s (P.w ⊗ area A B C) refl) (mul_pos p.w (area_of a b c) w area_up);
       same_u = ring none (weighed i j k A.u B.u C.u ⊗ P.w) (P.u ⊗ s) refl;
       same_v = ring none (weighed i j k A.v B.v C.v ⊗ P.w) (P.v ⊗ s) refl;
       same_h = by_one _ _ _ _ p.w

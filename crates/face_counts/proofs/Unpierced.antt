@@ -2,6 +2,7 @@
 use Rattle.std.proofs.Common.{◌≡◌, ◌≢◌, inl, inr, ℕ, zero, suc, ◌+◌, ◌*◌, ◌-◌, ◌/◌, ◌%◌, ◌<◌, [], ◌∷◌, Some, slice_get, refl, sym, ap, subst, ◌∙◌, arith}
 use Rattle.std.specs.Prelude.{ℤ, pos, negsuc, ◌+ℤ◌, ◌-ℤ◌, ◌*ℤ◌, ◌≤ℤ◌, ◌<ℤ◌}
 use Rattle.std.proofs.lemmas.Int.{ints}
+use Rattle.geometry.proofs.FacePoints.{dot-face_sum}
 use Rattle.integers.proofs.Ring.{var, con, ◌⊕◌, ◌⊖◌, ◌⊗◌, ring, by_one, same_of_gap}
 use Rattle.integers.proofs.Signs.{zero_of_mul}
 use Rattle.lattice.specs.declared.points.Corner.{Corner}
@@ -15,7 +16,7 @@ use Rattle.geometry.specs.Sound.{MeetsFace, IsSound}
 use Rattle.geometry.proofs.Listed.{same_element}
 use Rattle.hiding.specs.inner.Values.{value_at}
 use Rattle.hiding.proofs.Screens.{Screen}
-use Rattle.hiding.proofs.OnScreens.{seen, dot_sum}
+use Rattle.hiding.proofs.OnScreens.{seen}
 use Rattle.hiding.proofs.Readings.{dot-share}
 use Rattle.face_counts.proofs.Shares.{IsUnpierced}
 
@@ -183,7 +184,7 @@ module _ (s : Part) (sound : IsSound s) (e : Edge s) (f : Face s) (not_left : f.
             → (((pos i *ℤ dot t (scaled (point_of f.a))) +ℤ (pos j *ℤ dot t (scaled (point_of f.b)))) +ℤ (pos k *ℤ dot t (scaled (point_of f.c)))) *ℤ pos (r + n)
             ≡ value_at (dot t (scaled (point_of e.a))) (dot t (scaled (point_of e.b))) (pos n) (pos (r + n)) *ℤ pos (i + j + k)
             → dot t (scaled (face_sum f.a f.b f.c i j k)) *ℤ pos (r + n) ≡ dot t (scaled (share_point e.a e.b (pos n) (pos (r + n)))) *ℤ pos (i + j + k)
-        told t h = (λ v. dot_sum t f.a f.b f.c i j k v *ℤ pos (r + n)) ∙ h ∙ (λ v. sym (dot-share t e.a e.b (pos n) (pos (r + n))) v *ℤ pos (i + j + k))
+        told t h = (λ v. dot-face_sum t f.a f.b f.c i j k v *ℤ pos (r + n)) ∙ h ∙ (λ v. sym (dot-share t e.a e.b (pos n) (pos (r + n))) v *ℤ pos (i + j + k))
 
     pub unpierced : IsUnpierced (on e.a) (on e.b) (on f.a) (on f.b) (on f.c)
     unpierced (negsuc n) m g h t = absurd (omega (arith, ints))

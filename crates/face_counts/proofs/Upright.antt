@@ -2,8 +2,8 @@
 use Rattle.std.proofs.Common.{◌≡◌, inl, inr, [], ◌∷◌, refl, sym, ap, subst, ◌∙◌, arith}
 use Rattle.std.specs.Prelude.{ℤ, pos, ◌+ℤ◌, ◌-ℤ◌, ◌*ℤ◌, ◌≤ℤ◌, ◌<ℤ◌}
 use Rattle.std.proofs.lemmas.Int.{ints, by_lt_z}
+use Rattle.integers.proofs.Comparisons.{positive_at, not_negative_at}
 use Rattle.face_counts.proofs.Places.{place_of}
-use Rattle.hiding.proofs.ScreenSides.{pos_at, nonneg_at}
 use Rattle.hiding.proofs.Screens.{Screen, SideCovers}
 use Rattle.hiding.specs.inner.Values.{value_at}
 use Rattle.integers.proofs.Ring.{Expr, var, con, ◌⊕◌, ◌⊖◌, ◌⊗◌, ring, by_one, less_by, mul_comm}
@@ -202,7 +202,7 @@ side_back a b p q = record {
   j = q.i;
   i_least = q.j_least;
   j_least = q.i_least;
-  some = pos_at _ _ (swapped q.j q.i) q.some;
+  some = positive_at _ _ (swapped q.j q.i) q.some;
   same_u = (λ e. swapped (q.j *ℤ b.u) (q.i *ℤ a.u) e *ℤ p.w) ∙ q.same_u ∙ (λ e. p.u *ℤ swapped q.i q.j e);
   same_v = (λ e. swapped (q.j *ℤ b.v) (q.i *ℤ a.v) e *ℤ p.w) ∙ q.same_v ∙ (λ e. p.v *ℤ swapped q.i q.j e);
   nearer = less_at _ _ _ _ (λ e. p.h *ℤ swapped q.j q.i e) (λ e. swapped (q.j *ℤ b.h) (q.i *ℤ a.h) e *ℤ p.w) q.nearer;
@@ -227,7 +227,7 @@ higher_side a b c l t r i j l_pos r_pos i_pos j_pos on =
     same_spot = subst (λ p. SideCovers c b p) (λ e. record { u = swapped (j *ℤ b.u) (i *ℤ a.u) e; v = swapped (j *ℤ b.v) (i *ℤ a.v) e; h = swapped (j *ℤ b.h) (i *ℤ a.h) e; w = swapped j i e })
 
     left_over : (((i +ℤ j) *ℤ t) -ℤ (j *ℤ l)) <ℤ pos 0 → pos 0 ≤ℤ (((j +ℤ i) *ℤ (l -ℤ t)) -ℤ (i *ℤ l))
-    left_over h = nonneg_at _ _ (ring (i ∷ j ∷ l ∷ t ∷ []) (((var 1 ⊕ var 0) ⊗ (var 2 ⊖ var 3)) ⊖ (var 0 ⊗ var 2)) (con (pos 0) ⊖ (((var 0 ⊕ var 1) ⊗ var 3) ⊖ (var 1 ⊗ var 2))) refl) (flip _ h)
+    left_over h = not_negative_at _ _ (ring (i ∷ j ∷ l ∷ t ∷ []) (((var 1 ⊕ var 0) ⊗ (var 2 ⊖ var 3)) ⊖ (var 0 ⊗ var 2)) (con (pos 0) ⊖ (((var 0 ⊕ var 1) ⊗ var 3) ⊖ (var 1 ⊗ var 2))) refl) (flip _ h)
       where
         flip : (x : ℤ) → x <ℤ pos 0 → pos 0 ≤ℤ (pos 0 -ℤ x)
         flip x h = omega (arith, ints)

@@ -1,6 +1,7 @@
 -- The border of a face runs at right angles to its normal and to the direction, and what is ordinary in a cut view stays so along a line of sight.
 use Rattle.std.proofs.Common.{◌≡◌, List, [], ◌∷◌, suc, refl, subst, sym, ◌∙◌, arith}
 use Rattle.std.proofs.lemmas.Int.{ints}
+use Rattle.integers.proofs.Absolutes.{pos-sum_of_three}
 use Rattle.integers.proofs.Signs.{zero_of_mul}
 use Rattle.std.specs.Prelude.{ℕ, ◌+◌, ℤ, pos, ◌+ℤ◌, ◌-ℤ◌, ◌*ℤ◌, ◌<ℤ◌}
 use Rattle.integers.proofs.Ring.{Expr, var, con, ◌⊕◌, ◌⊖◌, ◌⊗◌, ring, by_one, by_two}
@@ -61,11 +62,8 @@ level_step k x y h v w positive e g =
 pub along_normal : (a b c : Corner) (p : Point) → IsPointOfFace a b c p → pos 1 *ℤ dot (normal a b c) (scaled p) ≡ dot (normal a b c) (scaled (point_of a)) *ℤ p.w
 along_normal a b c p (i, j, k, some, is) =
     let P : Point → Type 0 = λ q. pos 1 *ℤ dot (normal a b c) (scaled q) ≡ dot (normal a b c) (scaled (point_of a)) *ℤ q.w in
-    subst P (sym is) (sum (pos i) (pos j) (pos k) (pos (i + j + k)) (whole i j k))
+    subst P (sym is) (sum (pos i) (pos j) (pos k) (pos (i + j + k)) (pos-sum_of_three i j k))
   where
-    whole : (i j k : ℕ) → pos (i + j + k) ≡ (pos i +ℤ pos j) +ℤ pos k
-    whole i j k = omega (arith, ints)
-
     sum : (i j k w : ℤ) → w ≡ (i +ℤ j) +ℤ k
         → pos 1 *ℤ dot (normal a b c) (record { x = ((i *ℤ a.x) +ℤ (j *ℤ b.x)) +ℤ (k *ℤ c.x); y = ((i *ℤ a.y) +ℤ (j *ℤ b.y)) +ℤ (k *ℤ c.y); z = ((i *ℤ a.z) +ℤ (j *ℤ b.z)) +ℤ (k *ℤ c.z) })
         ≡ dot (normal a b c) (scaled (point_of a)) *ℤ w

@@ -1,8 +1,10 @@
 -- Borders: how high sums of corners are above the plane of a cut, where sides cross it, and that border points are never hidden.
 use Rattle.std.proofs.Common.{◌≡◌, ℕ, suc, zero, ◌+◌, ◌<◌, ◌⊎◌, inl, inr, [], ◌∷◌, refl, subst, ◌∙◌, unsigned_abs, arith}
-use Rattle.std.specs.Prelude.{ℤ, pos, ◌+ℤ◌, ◌-ℤ◌, ◌*ℤ◌, ◌<ℤ◌, ◌≤ℤ◌}
+use Rattle.std.specs.Prelude.{ℤ, pos, ◌+ℤ◌, ◌-ℤ◌, ◌*ℤ◌, ◌<ℤ◌}
 use Rattle.std.proofs.lemmas.Int.{ints, by_lt_z}
-use Rattle.integers.proofs.Ring.{Expr, var, con, ◌⊕◌, ◌⊖◌, ◌⊗◌, ring, by_one}
+use Rattle.integers.proofs.Absolutes.{pos-sum_of_three, pos-sum, abs_of_positive, abs_of_negative}
+use Rattle.integers.proofs.Comparisons.{gap_of_same, same_of_both}
+use Rattle.integers.proofs.Ring.{Expr, var, con, ◌⊕◌, ◌⊖◌, ◌⊗◌, ring, by_one, same_of_gap}
 use Rattle.lattice.specs.declared.points.Corner.{Corner}
 use Rattle.lattice.specs.Triple.{Triple, dot}
 use Rattle.lattice.specs.Points.{Point, point_of, scaled, height_of}
@@ -54,16 +56,10 @@ two_rise d h k l i j w e =
 
 module _ (c : Plane) where
   pub face_rise : (k l m : Corner) (i j n : ℕ) → rise_of c (face_sum k l m i j n) ≡ ((pos i *ℤ over_of c k) +ℤ (pos j *ℤ over_of c l)) +ℤ (pos n *ℤ over_of c m)
-  face_rise k l m i j n = three_rise (toward_of c) (plane_height c) k l m (pos i) (pos j) (pos n) (pos (i + j + n)) (whole i j n)
-    where
-      whole : (i j n : ℕ) → pos (i + j + n) ≡ (pos i +ℤ pos j) +ℤ pos n
-      whole i j n = omega (arith, ints)
+  face_rise k l m i j n = three_rise (toward_of c) (plane_height c) k l m (pos i) (pos j) (pos n) (pos (i + j + n)) (pos-sum_of_three i j n)
 
   pub edge_rise : (k l : Corner) (i j : ℕ) → rise_of c (edge_sum k l i j) ≡ (pos i *ℤ over_of c k) +ℤ (pos j *ℤ over_of c l)
-  edge_rise k l i j = two_rise (toward_of c) (plane_height c) k l (pos i) (pos j) (pos (i + j)) (whole i j)
-    where
-      whole : (i j : ℕ) → pos (i + j) ≡ pos i +ℤ pos j
-      whole i j = omega (arith, ints)
+  edge_rise k l i j = two_rise (toward_of c) (plane_height c) k l (pos i) (pos j) (pos (i + j)) (pos-sum i j)
 
   -- ---- the sign of the height tells the side
   pub rise_beyond : (p : Point) → IsBeyond c p → rise_of c p <ℤ pos 0
@@ -79,16 +75,10 @@ module _ (c : Plane) where
       go x y h = omega (arith, ints)
 
   pub rise_on : (p : Point) → IsOnPlane c p → rise_of c p ≡ pos 0
-  rise_on p h = go (pos 2 *ℤ height_of (toward_of c) p) (plane_height c *ℤ p.w) h
-    where
-      go : (x y : ℤ) → x ≡ y → x -ℤ y ≡ pos 0
-      go x y h = omega (arith, ints)
+  rise_on p h = gap_of_same (pos 2 *ℤ height_of (toward_of c) p) (plane_height c *ℤ p.w) h
 
   pub on_of_rise : (p : Point) → rise_of c p ≡ pos 0 → IsOnPlane c p
-  on_of_rise p h = go (pos 2 *ℤ height_of (toward_of c) p) (plane_height c *ℤ p.w) h
-    where
-      go : (x y : ℤ) → x -ℤ y ≡ pos 0 → x ≡ y
-      go x y h = omega (arith, ints)
+  on_of_rise p h = same_of_gap (pos 2 *ℤ height_of (toward_of c) p) (plane_height c *ℤ p.w) h
 
   over_is : (k : Corner) → rise_of c (point_of k) ≡ over_of c k
   over_is k = go (pos 2 *ℤ height_of (toward_of c) (point_of k)) (plane_height c)
@@ -107,10 +97,7 @@ module _ (c : Plane) where
   side_of_corner k =
       let x = pos 2 *ℤ height_of (toward_of c) (point_of k) in
       let y = plane_height c *ℤ pos 1 in
-      by_lt_z x y inl (λ h. by_lt_z y x inr (λ g. absurd (corner_off_plane c k (same x y h g))))
-    where
-      same : (x y : ℤ) → y ≤ℤ x → x ≤ℤ y → x ≡ y
-      same x y h g = omega (arith, ints)
+      by_lt_z x y inl (λ h. by_lt_z y x inr (λ g. absurd (corner_off_plane c k (same_of_both x y g h))))
 
   pub not_both_sides : (p : Point) → IsBeyond c p → IsBeforePlane c p → ⊥
   not_both_sides p h g = go (pos 2 *ℤ height_of (toward_of c) p) (plane_height c *ℤ p.w) h g
@@ -129,15 +116,9 @@ module _ (c : Plane) where
   crossing_on_plane k l h =
       on_of_rise (crossing_of c k l) (edge_rise k l (unsigned_abs (over_of c l)) (unsigned_abs (over_of c k)) ∙ balance (over_of c k) (over_of c l) (over_before k h.0) (over_beyond l h.1))
     where
-      size_is : (x : ℤ) → pos 0 <ℤ x → pos (unsigned_abs x) ≡ x
-      size_is x h = omega (arith, ints)
-
-      size_back : (x : ℤ) → x <ℤ pos 0 → pos (unsigned_abs x) ≡ pos 0 -ℤ x
-      size_back x h = omega (arith, ints)
-
       balance : (x y : ℤ) → pos 0 <ℤ x → y <ℤ pos 0 → (pos (unsigned_abs y) *ℤ x) +ℤ (pos (unsigned_abs x) *ℤ y) ≡ pos 0
       balance x y h g =
-          (λ i. (size_back y g i *ℤ x) +ℤ (size_is x h i *ℤ y))
+          (λ i. (abs_of_negative y g i *ℤ x) +ℤ (abs_of_positive x h i *ℤ y))
           ∙ ring (x ∷ y ∷ []) (((con (pos 0) ⊖ var 1) ⊗ var 0) ⊕ (var 0 ⊗ var 1)) (con (pos 0)) refl
 
   -- ---- points on the plane are never hidden

@@ -1,6 +1,7 @@
 pub mod Listed
 pub mod Sights
 pub mod Shares
+pub mod FacePoints
 pub mod EachEdge
 pub mod EdgeLines
 pub mod StepLines

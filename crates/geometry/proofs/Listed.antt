@@ -1,18 +1,11 @@
 -- Elements of lists at their places, and the faces of a part whose corner numbers are in range.
-use Rattle.std.proofs.Common.{◌≡◌, ℕ, ◌<◌, ◌≤◌, ◌⊎◌, inl, inr, List, All, length, get_or, slice_get, Some, None, sym, ap, ◌∙◌, arith}
-use Rattle.std.proofs.lemmas.Option.{slice_get_cases, slice_get_within, get_or_from_slice_get}
+use Rattle.std.proofs.Common.{◌≡◌, ℕ, List, All, length, get_or, slice_get, Some, sym, ap, ◌∙◌}
+use Rattle.std.proofs.lemmas.Option.{slice_get_within, get_or_from_slice_get}
 use Rattle.std.proofs.lemmas.List.Elements.{All-contains}
+use Rattle.integers.proofs.Lists.{some_element}
 use Rattle.lattice.specs.declared.soup.Tri.{Tri}
 use Rattle.lattice.specs.Triangles.{IsBelow}
 use Rattle.geometry.specs.Parts.{Part, Face}
-
--- a list has an element at each place below its length
-pub found : {X : Type 0} (xs : List X) (i : ℕ) → i < length xs → (x : X) × (slice_get xs i ≡ Some x)
-found {X} xs i h = by (slice_get_cases xs i).1
-  where
-    by : ((x : X) × (i < length xs) × (slice_get xs i ≡ Some x) × (get_or xs i x ≡ x)) ⊎ ((length xs ≤ i) × (slice_get xs i ≡ None)) → (x : X) × (slice_get xs i ≡ Some x)
-    by (inl (x, within, at, is)) = (x, at)
-    by (inr (past, none)) = absurd (omega arith)
 
 -- and one element
 pub same_element : {X : Type 0} (xs : List X) (i j : ℕ) (x y : X) → i ≡ j → slice_get xs i ≡ Some x → slice_get xs j ≡ Some y → x ≡ y
@@ -26,7 +19,7 @@ module _ (s : Part) (in_range : All (IsBelow (length s.corners)) s.triangles) (t
   -- the triangle with its corners
   abbrev pub face_at : Face s
   face_at =
-      let a = found s.corners t.a triangle_below.a in
-      let b = found s.corners t.b triangle_below.b in
-      let c = found s.corners t.c triangle_below.c in
+      let a = some_element s.corners t.a triangle_below.a in
+      let b = some_element s.corners t.b triangle_below.b in
+      let c = some_element s.corners t.c triangle_below.c in
       record { number = i; tri = t; a = a.0; b = b.0; c = c.0; listed = at; at_a = a.1; at_b = b.1; at_c = c.1 }

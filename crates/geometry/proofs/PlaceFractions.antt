@@ -1,30 +1,13 @@
 -- Orders of fractions by cross products.
-use Rattle.std.proofs.Common.{◌≡◌, [], ◌∷◌, refl, arith}
+use Rattle.std.proofs.Common.{◌≡◌, [], ◌∷◌, refl}
 use Rattle.std.specs.Prelude.{ℤ, pos, ◌+ℤ◌, ◌-ℤ◌, ◌*ℤ◌, ◌<ℤ◌, ◌≤ℤ◌}
-use Rattle.std.proofs.lemmas.Int.{ints, by_lt_z}
-use Rattle.integers.proofs.Ring.{var, con, ◌⊕◌, ◌⊖◌, ◌⊗◌, ring, by_two, gap_of_less}
+use Rattle.std.proofs.lemmas.Int.{by_lt_z}
+use Rattle.integers.proofs.Comparisons.{at_most_of_less, less_of_gap, gap_of_at_most, sum_positive, same_of_both}
+use Rattle.integers.proofs.Ring.{var, con, ◌⊕◌, ◌⊖◌, ◌⊗◌, ring, by_two, gap_of_less, same_of_gap}
 use Rattle.integers.proofs.Signs.{mul_pos, mul_nonneg, pos_of_mul, zero_of_mul}
 
-pub weaker : {a b : ℤ} → a <ℤ b → a ≤ℤ b
-weaker {a} {b} h = omega (arith, ints)
-
-pub no_less : {a b : ℤ} → a ≡ b → a ≤ℤ b
-no_less {a} {b} h = omega (arith, ints)
-
 pub strict : {a b : ℤ} → a ≤ℤ b → ¬ (a ≡ b) → a <ℤ b
-strict {a} {b} h apart = by_lt_z a b (λ less. less) (λ rest. absurd (apart (alike a b h rest)))
-  where
-    alike : (a b : ℤ) → a ≤ℤ b → b ≤ℤ a → a ≡ b
-    alike a b h k = omega (arith, ints)
-
-pub positive_of : (n m : ℤ) → pos 0 <ℤ n → n <ℤ m → pos 0 <ℤ m
-positive_of n m h k = omega (arith, ints)
-
-equal_by : (a b : ℤ) → a -ℤ b ≡ pos 0 → a ≡ b
-equal_by a b h = omega (arith, ints)
-
-less_of_gap : (a b : ℤ) → pos 0 <ℤ (b -ℤ a) → a <ℤ b
-less_of_gap a b h = omega (arith, ints)
+strict {a} {b} h apart = by_lt_z a b (λ less. less) (λ rest. absurd (apart (same_of_both a b h rest)))
 
 -- ---- n / m is k / l
 module _ (k l n m : ℤ) (positive : pos 0 <ℤ l) (same : n *ℤ l ≡ k *ℤ m) where
@@ -36,17 +19,11 @@ module _ (k l n m : ℤ) (positive : pos 0 <ℤ l) (same : n *ℤ l ≡ k *ℤ m
 
   pub value_at_finish : k ≡ l → n ≡ m
   value_at_finish h =
-      equal_by n m (zero_of_mul l (n -ℤ m) positive
+      same_of_gap n m (zero_of_mul l (n -ℤ m) positive
       (by_two (l *ℤ (n -ℤ m)) (pos 0) (n *ℤ l) (k *ℤ m) (pos 1) k l m
       (ring (k ∷ l ∷ n ∷ m ∷ []) ((var 1 ⊗ (var 2 ⊖ var 3)) ⊖ con (pos 0)) ((((var 2 ⊗ var 1) ⊖ (var 0 ⊗ var 3)) ⊗ con (pos 1)) ⊕ ((var 0 ⊖ var 1) ⊗ var 3)) refl) same h))
 
 -- ---- n / m is after a / b and before c / e
-sum_positive : (a b x : ℤ) → x ≡ a +ℤ b → pos 0 <ℤ a → pos 0 <ℤ b → pos 0 <ℤ x
-sum_positive a b x h p q = omega (arith, ints)
-
-sum_positive_too : (a b x : ℤ) → x ≡ a +ℤ b → pos 0 ≤ℤ a → pos 0 <ℤ b → pos 0 <ℤ x
-sum_positive_too a b x h p q = omega (arith, ints)
-
 pub earlier_between : (a b c e n m : ℤ) → pos 0 <ℤ b → pos 0 <ℤ e → pos 0 <ℤ m → (a *ℤ m) <ℤ (n *ℤ b) → (n *ℤ e) <ℤ (c *ℤ m) → (a *ℤ e) <ℤ (c *ℤ b)
 earlier_between a b c e n m hb he hm after before =
     less_of_gap (a *ℤ e) (c *ℤ b) (pos_of_mul m ((c *ℤ b) -ℤ (a *ℤ e)) hm
@@ -54,21 +31,18 @@ earlier_between a b c e n m hb he hm after before =
     (ring (a ∷ b ∷ c ∷ e ∷ n ∷ m ∷ [])
     (var 5 ⊗ ((var 2 ⊗ var 1) ⊖ (var 0 ⊗ var 3)))
     ((var 1 ⊗ ((var 2 ⊗ var 5) ⊖ (var 4 ⊗ var 3))) ⊕ (var 3 ⊗ ((var 4 ⊗ var 1) ⊖ (var 0 ⊗ var 5)))) refl)
-    (mul_pos b _ hb (gap_of_less (n *ℤ e) (c *ℤ m) before)) (mul_pos e _ he (gap_of_less (a *ℤ m) (n *ℤ b) after))))
+    (at_most_of_less _ _ (mul_pos b _ hb (gap_of_less (n *ℤ e) (c *ℤ m) before))) (mul_pos e _ he (gap_of_less (a *ℤ m) (n *ℤ b) after))))
 
 -- after a place from 0 on
 pub after_start : (a b n m : ℤ) → pos 0 ≤ℤ a → pos 0 <ℤ b → pos 0 <ℤ m → (a *ℤ m) <ℤ (n *ℤ b) → pos 0 <ℤ n
 after_start a b n m least hb hm after =
-    pos_of_mul b n hb (sum_positive_too (a *ℤ m) ((n *ℤ b) -ℤ (a *ℤ m)) (b *ℤ n)
+    pos_of_mul b n hb (sum_positive (a *ℤ m) ((n *ℤ b) -ℤ (a *ℤ m)) (b *ℤ n)
     (ring (a ∷ b ∷ n ∷ m ∷ []) (var 1 ⊗ var 2) ((var 0 ⊗ var 3) ⊕ ((var 2 ⊗ var 1) ⊖ (var 0 ⊗ var 3))) refl)
-    (mul_nonneg a m least (weaker hm)) (gap_of_less (a *ℤ m) (n *ℤ b) after))
+    (mul_nonneg a m least (at_most_of_less _ _ hm)) (gap_of_less (a *ℤ m) (n *ℤ b) after))
 
 -- before a place up to 1
 pub before_finish : (c e n m : ℤ) → c ≤ℤ e → pos 0 <ℤ e → pos 0 <ℤ m → (n *ℤ e) <ℤ (c *ℤ m) → n <ℤ m
 before_finish c e n m most he hm before =
-    less_of_gap n m (pos_of_mul e (m -ℤ n) he (sum_positive_too ((e -ℤ c) *ℤ m) ((c *ℤ m) -ℤ (n *ℤ e)) (e *ℤ (m -ℤ n))
+    less_of_gap n m (pos_of_mul e (m -ℤ n) he (sum_positive ((e -ℤ c) *ℤ m) ((c *ℤ m) -ℤ (n *ℤ e)) (e *ℤ (m -ℤ n))
     (ring (c ∷ e ∷ n ∷ m ∷ []) (var 1 ⊗ (var 3 ⊖ var 2)) (((var 1 ⊖ var 0) ⊗ var 3) ⊕ ((var 0 ⊗ var 3) ⊖ (var 2 ⊗ var 1))) refl)
-    (mul_nonneg (e -ℤ c) m (gap_of_most c e most) (weaker hm)) (gap_of_less (n *ℤ e) (c *ℤ m) before)))
-  where
-    gap_of_most : (c e : ℤ) → c ≤ℤ e → pos 0 ≤ℤ (e -ℤ c)
-    gap_of_most c e h = omega (arith, ints)
+    (mul_nonneg (e -ℤ c) m (gap_of_at_most c e most) (at_most_of_less _ _ hm)) (gap_of_less (n *ℤ e) (c *ℤ m) before)))

@@ -2,6 +2,7 @@
 use Rattle.std.proofs.Common.{◌≡◌, ℕ, ◌+◌, List, [], ◌∷◌, refl, ◌∙◌, arith}
 use Rattle.std.specs.Prelude.{ℤ, pos, ◌+ℤ◌, ◌-ℤ◌, ◌*ℤ◌, ◌<ℤ◌}
 use Rattle.std.proofs.lemmas.Int.{ints}
+use Rattle.integers.proofs.Comparisons.{sum_exchanged}
 use Rattle.integers.proofs.Ring.{Expr, var, con, ◌⊕◌, ◌⊖◌, ◌⊗◌, ring, by_one, gap_of_less, same_of_gap}
 use Rattle.integers.proofs.Signs.{zero_of_mul}
 use Rattle.lattice.specs.declared.points.Corner.{Corner}
@@ -87,22 +88,19 @@ sum_is a b n m n' m' i j p q is_p is_q =
         ((var 0 ⊗ (((var 5 ⊖ var 4) ⊗ var 2) ⊕ (var 4 ⊗ var 3))) ⊕ (var 1 ⊗ (((var 7 ⊖ var 6) ⊗ var 2) ⊕ (var 6 ⊗ var 3))))
         (((((var 0 ⊗ var 5) ⊕ (var 1 ⊗ var 7)) ⊖ ((var 0 ⊗ var 4) ⊕ (var 1 ⊗ var 6))) ⊗ var 2) ⊕ (((var 0 ⊗ var 4) ⊕ (var 1 ⊗ var 6)) ⊗ var 3)) refl
 
-add_turned : (x y : ℤ) → x +ℤ y ≡ y +ℤ x
-add_turned x y = omega (arith, ints)
-
 pub sum_turned : (p q : Spot) (i j : ℕ) → spot_sum p q i j ≡ spot_sum q p j i
 sum_turned p q i j k = record {
-  x = add_turned (pos i *ℤ p.x) (pos j *ℤ q.x) k;
-  y = add_turned (pos i *ℤ p.y) (pos j *ℤ q.y) k;
-  z = add_turned (pos i *ℤ p.z) (pos j *ℤ q.z) k;
-  w = add_turned (pos i *ℤ p.w) (pos j *ℤ q.w) k;
+  x = sum_exchanged (pos i *ℤ p.x) (pos j *ℤ q.x) k;
+  y = sum_exchanged (pos i *ℤ p.y) (pos j *ℤ q.y) k;
+  z = sum_exchanged (pos i *ℤ p.z) (pos j *ℤ q.z) k;
+  w = sum_exchanged (pos i *ℤ p.w) (pos j *ℤ q.w) k;
 }
 
 pub edge_turned : (a b : Corner) (i j : ℕ) → edge_sum a b i j ≡ edge_sum b a j i
 edge_turned a b i j k = record {
-  x = add_turned (pos i *ℤ a.x) (pos j *ℤ b.x) k;
-  y = add_turned (pos i *ℤ a.y) (pos j *ℤ b.y) k;
-  z = add_turned (pos i *ℤ a.z) (pos j *ℤ b.z) k;
+  x = sum_exchanged (pos i *ℤ a.x) (pos j *ℤ b.x) k;
+  y = sum_exchanged (pos i *ℤ a.y) (pos j *ℤ b.y) k;
+  z = sum_exchanged (pos i *ℤ a.z) (pos j *ℤ b.z) k;
   w = pos (swap i j k);
 }
   where

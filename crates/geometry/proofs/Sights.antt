@@ -1,21 +1,10 @@
 -- Being on one line of sight is an equivalence of points, and what is ordinary stays so along one.
-use Rattle.std.proofs.Common.{◌≡◌, [], ◌∷◌, refl, sym}
-use Rattle.std.specs.Prelude.{ℤ, pos, ◌-ℤ◌, ◌*ℤ◌, ◌<ℤ◌}
-use Rattle.integers.proofs.Ring.{var, con, ◌⊕◌, ◌⊖◌, ◌⊗◌, ring, by_two, same_of_gap}
-use Rattle.integers.proofs.Signs.{zero_of_mul}
+use Rattle.std.proofs.Common.{sym}
+use Rattle.integers.proofs.Orders.{same_through}
 use Rattle.lattice.specs.Triple.{Triple}
 use Rattle.lattice.specs.Points.{Point, IsPoint, point_of, OnOneSight, across_of, upward_of}
 use Rattle.geometry.specs.Parts.{Part, Edge}
 use Rattle.geometry.specs.Views.{IsOrdinary, IsSeenOver}
-
--- two fractions with the value of a third are of one value
-cancel : (u v w a b c : ℤ) → pos 0 <ℤ b → u *ℤ b ≡ v *ℤ a → v *ℤ c ≡ w *ℤ b → u *ℤ c ≡ w *ℤ a
-cancel u v w a b c positive e f =
-    same_of_gap (u *ℤ c) (w *ℤ a) (zero_of_mul b ((u *ℤ c) -ℤ (w *ℤ a)) positive
-    (by_two (b *ℤ ((u *ℤ c) -ℤ (w *ℤ a))) (pos 0) (u *ℤ b) (v *ℤ a) c (v *ℤ c) (w *ℤ b) a
-    (ring (u ∷ v ∷ w ∷ a ∷ b ∷ c ∷ [])
-    ((var 4 ⊗ ((var 0 ⊗ var 5) ⊖ (var 2 ⊗ var 3))) ⊖ con (pos 0))
-    ((((var 0 ⊗ var 4) ⊖ (var 1 ⊗ var 3)) ⊗ var 5) ⊕ (((var 1 ⊗ var 5) ⊖ (var 2 ⊗ var 4)) ⊗ var 3)) refl) e f))
 
 module _ (d : Triple) where
   pub sight_back : (p q : Point) → OnOneSight d p q → OnOneSight d q p
@@ -23,8 +12,8 @@ module _ (d : Triple) where
 
   pub sight_on : (p q r : Point) → IsPoint q → OnOneSight d p q → OnOneSight d q r → OnOneSight d p r
   sight_on p q r positive h k = record {
-    across = cancel (across_of d p) (across_of d q) (across_of d r) p.w q.w r.w positive h.across k.across;
-    upward = cancel (upward_of d p) (upward_of d q) (upward_of d r) p.w q.w r.w positive h.upward k.upward;
+    across = same_through (across_of d p) (across_of d q) (across_of d r) p.w q.w r.w positive h.across k.across;
+    upward = same_through (upward_of d p) (upward_of d q) (upward_of d r) p.w q.w r.w positive h.upward k.upward;
   }
 
   pub ordinary_along : (s : Part) (p q : Point) → IsPoint q → OnOneSight d q p → IsOrdinary d s p → IsOrdinary d s q

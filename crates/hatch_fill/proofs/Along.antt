@@ -7,6 +7,7 @@ use Rattle.std.specs.declared.cmp.Ordering.{Ordering}
 use Rattle.std.specs.declared.cmp.Ordering.TheVariants.{Less, Equal, Greater}
 use Rattle.std.proofs.lemmas.Int.{ints, by_lt_z}
 use Rattle.std.proofs.lemmas.List.Elements.{All-push, All-append, Contains-push, Contains-append_left, Contains-append_right}
+use Rattle.integers.proofs.Comparisons.{at_most_of_same, same_of_both, at_most_itself}
 use Rattle.integers.proofs.Orders.{mul_less, equal_of_cmp}
 use Rattle.exact_frac.specs.Frac.{order_of}
 use Rattle.intervals.specs.declared.interval.Interval.{Interval}
@@ -21,22 +22,13 @@ use Rattle.hatch_fill.proofs.MeetingLists.{numbers_apart}
 
 -- the first number from a U - V on that a hatch line has is that line's
 pub first_is : (n w : ℤ) (spacing : ℕ) (first number : ℤ) → 1 ≤ spacing → pos 0 <ℤ w → IsFirstNumber n w spacing first → n ≡ (number *ℤ pos spacing) *ℤ w → first ≡ number
-first_is n w spacing first number some positive h e = same first number ((h number).1 (equal n _ e)) (by_lt_z first number (λ l. absurd (none l)) (λ l. l))
+first_is n w spacing first number some positive h e = same_of_both first number ((h number).1 (at_most_of_same n _ e)) (by_lt_z first number (λ l. absurd (none l)) (λ l. l))
   where
-    equal : (a b : ℤ) → a ≡ b → a ≤ℤ b
-    equal a b e = omega (arith, ints)
-
-    same : (a b : ℤ) → a ≤ℤ b → b ≤ℤ a → a ≡ b
-    same a b h k = omega (arith, ints)
-
     apart : (a b c : ℤ) → a ≡ b → a ≤ℤ c → c <ℤ b → ⊥
     apart a b c e f g = omega (arith, ints)
 
-    itself : (a : ℤ) → a ≤ℤ a
-    itself a = omega (arith, ints)
-
     none : first <ℤ number → ⊥
-    none l = apart n ((number *ℤ pos spacing) *ℤ w) ((first *ℤ pos spacing) *ℤ w) e ((h first).0 (itself first)) (mul_less (first *ℤ pos spacing) (number *ℤ pos spacing) w positive (numbers_apart first number spacing some l))
+    none l = apart n ((number *ℤ pos spacing) *ℤ w) ((first *ℤ pos spacing) *ℤ w) e ((h first).0 (at_most_itself first)) (mul_less (first *ℤ pos spacing) (number *ℤ pos spacing) w positive (numbers_apart first number spacing some l))
 
 -- ---- the interval between two places, if it has an inside
 pub by_less : (s t : Place) (P : List (Interval Place) → Type 0) → (place_order s t ≡ Less → P (record { from = s; to = t } ∷ [])) → (¬ (place_order s t ≡ Less) → P []) → P (between s t)

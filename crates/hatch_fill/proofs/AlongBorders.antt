@@ -3,6 +3,7 @@ use Rattle.std.proofs.Common.{◌≡◌, ◌≢◌, ◌⊎◌, inl, inr, ℕ, ze
 use Rattle.std.specs.Prelude.{ℤ, pos, negsuc, ◌+ℤ◌, ◌-ℤ◌, ◌*ℤ◌, ◌<ℤ◌, ◌≤ℤ◌}
 use Rattle.std.proofs.lemmas.Int.{ints}
 use Rattle.std.proofs.lemmas.List.Elements.{All-contains, Contains-append_left, Contains-append_right}
+use Rattle.integers.proofs.Comparisons.{less_not_same, at_most_of_less}
 use Rattle.integers.proofs.Ring.{var, con, ◌⊕◌, ◌⊖◌, ◌⊗◌, ring, by_three, same_of_gap}
 use Rattle.integers.proofs.Signs.{zero_of_times, zero_of_mul}
 use Rattle.integers.proofs.Weighted.{sum_pos}
@@ -33,7 +34,7 @@ use Rattle.hatch_fill.specs.inner.Stretches.{IsPlaceOf, IsSpotOn, AreEndsAlong, 
 use Rattle.hatch_fill.proofs.Crossed.{meets_of, upward_at, same_sight}
 use Rattle.hatch_fill.proofs.Cuts.{is_not_after, crosses_after}
 use Rattle.hatch_fill.proofs.Meets.{size_of_some, same_quotient}
-use Rattle.hatch_fill.proofs.Ratios.{from_first, until_second, less_most, less_not_same}
+use Rattle.hatch_fill.proofs.Ratios.{from_first, until_second, less_most}
 use Rattle.hatch_fill.proofs.Runs.{less_on_line, one_diagonal}
 use Rattle.hatch_fill.proofs.Seen.{across_near, upward_near, crossing_short}
 use Rattle.hatch_fill.proofs.Turns.{IsAt}
@@ -76,14 +77,11 @@ module _ (d : Triple) (diagonal : ℤ) (t t' : Place) (k k' : Spot) (is : IsPlac
       (λ z. ((pos i *ℤ is.num z) +ℤ (pos j *ℤ is'.num z)) *ℤ r.w) ∙ ap (λ (z : ℤ). z *ℤ r.w) (sym (product_of_sum (right_axis d) (pos i) (pos j) (of_spot k) (of_spot k'))) ∙ sight.across
       ∙ (λ z. across_of d r *ℤ ((pos i *ℤ sym is.den z) +ℤ (pos j *ℤ sym is'.den z)))
 
-  less : (a b : ℤ) → a <ℤ b → a ≤ℤ b
-  less a b h = omega (arith, ints)
-
   pub seen_after : (t.across.num *ℤ r.w) ≤ℤ (across_of d r *ℤ t.across.den)
-  seen_after = from_first t.across.num t.across.den t'.across.num t'.across.den (across_of d r) r.w i j t.across.positive t'.across.positive some (less _ _ order) same there
+  seen_after = from_first t.across.num t.across.den t'.across.num t'.across.den (across_of d r) r.w i j t.across.positive t'.across.positive some (at_most_of_less _ _ order) same there
 
   pub seen_until : (across_of d r *ℤ t'.across.den) ≤ℤ (t'.across.num *ℤ r.w)
-  seen_until = until_second t.across.num t.across.den t'.across.num t'.across.den (across_of d r) r.w i j t.across.positive t'.across.positive some (less _ _ order) same there
+  seen_until = until_second t.across.num t.across.den t'.across.num t'.across.den (across_of d r) r.w i j t.across.positive t'.across.positive some (at_most_of_less _ _ order) same there
 
 module _ (c : Plane) (small : unsigned_abs c.at ≤ 2 ^ 20) (s : Part) (whole : HasNoFlatTriangle s) (segments : List Segment) (starts : List ℕ) (borders : AreBorders c s segments starts) (spacing : ℕ) (stretches : List (Interval Place))
     (joined : AreJoined (AreStretches (toward_of c) spacing) segments stretches) where

@@ -2,7 +2,10 @@
 use Rattle.std.proofs.Common.{◌≡◌, ◌≢◌, ℕ, ◌+◌, ◌<◌, [], ◌∷◌, refl, sym, subst, ◌∙◌, unsigned_abs, arith}
 use Rattle.std.specs.Prelude.{ℤ, pos, ◌+ℤ◌, ◌-ℤ◌, ◌*ℤ◌, ◌<ℤ◌, ◌≤ℤ◌}
 use Rattle.std.proofs.lemmas.Int.{ints}
-use Rattle.integers.proofs.Ring.{var, con, ◌⊕◌, ◌⊖◌, ◌⊗◌, ring, by_two, by_three}
+use Rattle.integers.proofs.Absolutes.{abs_of_positive, abs_of_not_negative}
+use Rattle.integers.proofs.Comparisons.{gap_of_at_most}
+use Rattle.integers.proofs.Orders.{same_through}
+use Rattle.integers.proofs.Ring.{var, con, ◌⊕◌, ◌⊖◌, ◌⊗◌, ring, by_two, by_three, gap_of_less}
 use Rattle.integers.proofs.Signs.{zero_of_mul}
 use Rattle.integers.proofs.Weighted.{sum_pos}
 use Rattle.lattice.specs.declared.lines.Line.{Line}
@@ -56,18 +59,6 @@ same_sight d p q diagonal at_p at_q e = record { across = e; upward = by (across
         ((var 1 ⊗ var 5) ⊖ (var 4 ⊗ var 2))
         (((((var 0 ⊗ var 5) ⊖ (var 3 ⊗ var 2)) ⊗ con (pos 1)) ⊕ (((var 0 ⊖ var 1) ⊖ (var 6 ⊗ var 2)) ⊗ (con (pos 0) ⊖ var 5))) ⊕ (((var 3 ⊖ var 4) ⊖ (var 6 ⊗ var 5)) ⊗ var 2)) refl) e f g
 
--- two of one U with a third
-pub same_value : (u w n m u' w' : ℤ) → pos 0 <ℤ m → u *ℤ m ≡ n *ℤ w → n *ℤ w' ≡ u' *ℤ m → u *ℤ w' ≡ u' *ℤ w
-same_value u w n m u' w' positive e f =
-    cancel (u *ℤ w') (u' *ℤ w) (zero_of_mul m ((u *ℤ w') -ℤ (u' *ℤ w)) positive
-    (by_two _ _ (u *ℤ m) (n *ℤ w) w' (n *ℤ w') (u' *ℤ m) w
-    (ring (u ∷ w ∷ n ∷ m ∷ u' ∷ w' ∷ [])
-    ((var 3 ⊗ ((var 0 ⊗ var 5) ⊖ (var 4 ⊗ var 1))) ⊖ con (pos 0))
-    ((((var 0 ⊗ var 3) ⊖ (var 2 ⊗ var 1)) ⊗ var 5) ⊕ (((var 2 ⊗ var 5) ⊖ (var 4 ⊗ var 3)) ⊗ var 1)) refl) e f))
-  where
-    cancel : (x y : ℤ) → x -ℤ y ≡ pos 0 → x ≡ y
-    cancel x y h = omega (arith, ints)
-
 -- ---- the point
 module _ (d : Triple) (k m : Point) (k_there : IsPoint k) (m_there : IsPoint m) (diagonal : ℤ) (h : IsAcross diagonal (sight_of d k) (sight_of d m)) where
   abbrev x : ℤ
@@ -77,16 +68,10 @@ module _ (d : Triple) (k m : Point) (k_there : IsPoint k) (m_there : IsPoint m) 
   y = (diagonal *ℤ k.w) -ℤ diagonal_of d k
 
   x_positive : pos 0 <ℤ x
-  x_positive = by _ _ h.to
-    where
-      by : (a b : ℤ) → a <ℤ b → pos 0 <ℤ (b -ℤ a)
-      by a b h = omega (arith, ints)
+  x_positive = gap_of_less _ _ h.to
 
   y_least : pos 0 ≤ℤ y
-  y_least = by _ _ h.from
-    where
-      by : (a b : ℤ) → a ≤ℤ b → pos 0 ≤ℤ (b -ℤ a)
-      by a b h = omega (arith, ints)
+  y_least = gap_of_at_most _ _ h.from
 
   abbrev pub weight : ℕ
   weight = unsigned_abs x
@@ -95,16 +80,10 @@ module _ (d : Triple) (k m : Point) (k_there : IsPoint k) (m_there : IsPoint m) 
   weight' = unsigned_abs y
 
   x_is : pos weight ≡ x
-  x_is = by x x_positive
-    where
-      by : (z : ℤ) → pos 0 <ℤ z → pos (unsigned_abs z) ≡ z
-      by z h = omega (arith, ints)
+  x_is = abs_of_positive x x_positive
 
   y_is : pos weight' ≡ y
-  y_is = by y y_least
-    where
-      by : (z : ℤ) → pos 0 ≤ℤ z → pos (unsigned_abs z) ≡ z
-      by z h = omega (arith, ints)
+  y_is = abs_of_not_negative y y_least
 
   pub some_weight : 0 < weight + weight'
   some_weight = by x weight' x_positive
@@ -150,7 +129,7 @@ module _ (d : Triple) (k m : Point) (k_there : IsPoint k) (m_there : IsPoint m) 
     -- a point of the hatch line where the line meets it is seen with the point of the segment
     pub mid_seen : (n q : ℤ) → pos 0 <ℤ q → MeetsAt l diagonal n q → (p : Point) → IsAt d diagonal p → n *ℤ p.w ≡ across_of d p *ℤ q → OnOneSight d mid p
     mid_seen n q positive meets p at e =
-        same_sight d mid p diagonal mid_at at (same_value (across_of d mid) mid.w n q (across_of d p) p.w positive (same_quotient (l.a +ℤ l.b) (l.c +ℤ (l.b *ℤ diagonal)) (across_of d mid) mid.w n q line_crosses mid_meets meets) e)
+        same_sight d mid p diagonal mid_at at (same_through (across_of d mid) n (across_of d p) mid.w q p.w positive (same_quotient (l.a +ℤ l.b) (l.c +ℤ (l.b *ℤ diagonal)) (across_of d mid) mid.w n q line_crosses mid_meets meets) e)
 
 -- so the hatch line has a place there
 pub has_meeting : (c : Plane) (l : Line) (k m : Spot) (diagonal : ℤ) → IsAcross diagonal (sight_of (toward_of c) (of_spot k)) (sight_of (toward_of c) (of_spot m)) → IsOnLine (toward_of c) l (of_spot k) → IsOnLine (toward_of c) l (of_spot m) → HasMeeting l diagonal

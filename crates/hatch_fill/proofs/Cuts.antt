@@ -7,6 +7,7 @@ use Rattle.std.specs.declared.cmp.Ordering.{Ordering}
 use Rattle.std.specs.declared.cmp.Ordering.TheVariants.{Less, Equal, Greater}
 use Rattle.std.proofs.lemmas.Int.{ints}
 use Rattle.integers.proofs.Chains.{Chains, chained, chained_total, chained_ratios, before_less}
+use Rattle.integers.proofs.Orders.{at_most_of_not_lt}
 use Rattle.exact_frac.specs.Frac.{order_of}
 use Rattle.intervals.specs.declared.interval.Interval.{Interval}
 use Rattle.intervals.specs.Cuts.{IsCut, Crosses}
@@ -71,14 +72,6 @@ less_of a b = by (int_cmp a b) (int_ranks a b)
     by Equal h e = cc
     by Greater h e = cc
 
-pub most_of : (a b : ℤ) → is_lt (int_cmp a b) ≡ false → b ≤ℤ a
-most_of a b = by (int_cmp a b) (int_ranks a b)
-  where
-    by : (r : Ordering) → MatchOrdering r (a <ℤ b) (a ≡ b) (b <ℤ a) → is_lt r ≡ false → b ≤ℤ a
-    by Less h e = cc
-    by Equal h e = omega (arith, ints)
-    by Greater h e = omega (arith, ints)
-
 pub of_less : (a b : ℤ) → a <ℤ b → is_lt (int_cmp a b) ≡ true
 of_less a b h = ap is_lt (sym (int_cmp_is a b Less h))
 
@@ -118,7 +111,7 @@ module _ (i : Interval Place) (one : i.from.diagonal ≡ i.to.diagonal) (diagona
       by Equal h = record {
         line = h;
         after = less_of _ _ (sym (ap is_lt (on_line diagonal u w i.from h)) ∙ begun);
-        until = most_of _ _ (sym (ap is_lt (on_line diagonal u w i.to (sym one ∙ h))) ∙ ended);
+        until = at_most_of_not_lt _ _ (sym (ap is_lt (on_line diagonal u w i.to (sym one ∙ h))) ∙ ended);
       }
 
   pub crosses : IsAmong → Crosses (is_before diagonal u w) i

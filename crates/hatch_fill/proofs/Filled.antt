@@ -10,6 +10,7 @@ use Rattle.std.specs.declared.cmp.Ordering.TheVariants.{Less, Equal, Greater}
 use Rattle.std.proofs.lemmas.Int.{ints, by_lt_z}
 use Rattle.std.proofs.lemmas.List.Elements.{All-contains, Contains-append_cases, Contains-get_or}
 use Rattle.std.proofs.lemmas.List.Kept.{AllPairs-cons}
+use Rattle.integers.proofs.Comparisons.{less_not_at_most, less_not_same, at_most_of_less, at_most_itself}
 use Rattle.exact_frac.specs.Frac.{order_of}
 use Rattle.intervals.specs.declared.interval.Interval.{Interval}
 use Rattle.intervals.specs.Cuts.{IsEndOf, AreUnited, AreRest, Crosses, CrossesAny, IsProper}
@@ -39,7 +40,7 @@ use Rattle.hatch_fill.proofs.Crossed.{same_sight}
 use Rattle.hatch_fill.proofs.Cuts.{line_cut, is_line_cut, is_before, before_is_cut, is_not_after, not_after_is_cut, among, crosses, crosses_after, not_line_crossed, of_less, of_most}
 use Rattle.hatch_fill.proofs.MeetingLists.{numbers_apart}
 use Rattle.hatch_fill.proofs.Paired.{Ascend, EvenLines, pairs_on_lines, crossed_where_odd}
-use Rattle.hatch_fill.proofs.Ratios.{less_most, less_not_most, less_not_same, doubled_both}
+use Rattle.hatch_fill.proofs.Ratios.{less_most, doubled_both}
 use Rattle.hatch_fill.proofs.Runs.{less_on_line, one_diagonal, spot_across, spot_divisor, spot_at, is_hatch_line, from_to, lies_within}
 use Rattle.hatch_fill.proofs.SegmentCounts.{one_number}
 use Rattle.hatch_fill.proofs.Sections.{sorted_ascend, even_sorted, sorted_mark, inside_where_odd_sorted}
@@ -157,9 +158,6 @@ module _ (c : Plane) (small : unsigned_abs c.at ≤ 2 ^ 20) (s : Part) (closed :
   rest_line : (i : Interval Place) → Contains rest i → place_order i.from i.to ≡ Less → i.from.diagonal ≡ i.to.diagonal
   rest_line i there proper = by (int_cmp i.from.diagonal i.to.diagonal) (int_ranks i.from.diagonal i.to.diagonal) proper
     where
-      itself : (z : ℤ) → z ≤ℤ z
-      itself z = omega (arith, ints)
-
       none : CrossesAny (line_cut i.to.diagonal) (pairs_of sorted) → ⊥
       none (k, u, within, at, crossed) = not_line_crossed u (pair_line u (k, within, at)) (pos 0) (pos 0) (pos 0) i.to.diagonal crossed
 
@@ -167,7 +165,7 @@ module _ (c : Plane) (small : unsigned_abs c.at ≤ 2 ^ 20) (s : Part) (closed :
       by Less h e =
           let cut = is_line_cut i.to.diagonal in
           absurd (none ((steps.united.within (line_cut i.to.diagonal) cut).0 ((steps.left.within (line_cut i.to.diagonal) cut).0
-          (any_of (Crosses (line_cut i.to.diagonal)) rest i there (of_less i.from.diagonal i.to.diagonal h, of_most i.to.diagonal i.to.diagonal (itself i.to.diagonal)))).0))
+          (any_of (Crosses (line_cut i.to.diagonal)) rest i there (of_less i.from.diagonal i.to.diagonal h, of_most i.to.diagonal i.to.diagonal (at_most_itself i.to.diagonal)))).0))
       by Equal h e = h
       by Greater h e = cc
 
@@ -291,7 +289,7 @@ module _ (c : Plane) (small : unsigned_abs c.at ≤ 2 ^ 20) (s : Part) (closed :
       let at' = from_to c i' h.second.one h.second.proper x' over' p there lies' in
       let one = one_diagonal d p i.from.diagonal i'.from.diagonal there at.at at'.at in
       let less = less_on_line i.to i'.from (sym h.first.one ∙ one) h.less in
-      less_not_most _ _ (less_most i.to.across.num i.to.across.den i'.from.across.num i'.from.across.den (across_of d p) p.w i.to.across.positive i'.from.across.positive there less at'.from) at.to
+      less_not_at_most _ _ (less_most i.to.across.num i.to.across.den i'.from.across.num i'.from.across.den (across_of d p) p.w i.to.across.positive i'.from.across.positive there less at'.from) at.to
 
   stands : (i i' : Interval Place) (x x' : HatchLine) → IsLineOver c i x → IsLineOver c i' x' → AreAfter i i' → StandsBefore c spacing x x'
   stands i i' x x' over over' h m n is is' = by (int_cmp i.to.diagonal i'.from.diagonal) (int_ranks i.to.diagonal i'.from.diagonal) h.less
@@ -306,11 +304,8 @@ module _ (c : Plane) (small : unsigned_abs c.at ≤ 2 ^ 20) (s : Part) (closed :
       lesser l = by_lt_z m n (λ k. k) (λ most. absurd (past most (subst (λ (z : ℤ). z <ℤ (n *ℤ pos spacing)) (sym h.first.one ∙ sym first) (subst (λ (z : ℤ). i.to.diagonal <ℤ z) (sym second) l))))
         where
           past : n ≤ℤ m → (m *ℤ pos spacing) <ℤ (n *ℤ pos spacing) → ⊥
-          past most k = by_lt_z n m (λ o. less_not_most _ _ k (least _ _ (numbers_apart n m spacing some o))) (λ o. less_not_same _ _ k (λ z. same o most z *ℤ pos spacing))
+          past most k = by_lt_z n m (λ o. less_not_at_most _ _ k (at_most_of_less _ _ (numbers_apart n m spacing some o))) (λ o. less_not_same _ _ k (λ z. same o most z *ℤ pos spacing))
             where
-              least : (a b : ℤ) → a <ℤ b → a ≤ℤ b
-              least a b h = omega (arith, ints)
-
               same : m ≤ℤ n → n ≤ℤ m → m ≡ n
               same a b = omega (arith, ints)
 
@@ -321,10 +316,7 @@ module _ (c : Plane) (small : unsigned_abs c.at ≤ 2 ^ 20) (s : Part) (closed :
           subst (λ (z : ℤ). z <ℤ (across_of d (of_spot x'.a) *ℤ x.a.w)) (λ t. sym (spot_across c i.from x.a over.first) t *ℤ sym (spot_divisor c i'.from x'.a over'.first) t)
           (subst (λ (z : ℤ). ((pos 2 *ℤ i.from.across.num) *ℤ (pos 2 *ℤ i'.from.across.den)) <ℤ z) (λ t. sym (spot_across c i'.from x'.a over'.first) t *ℤ sym (spot_divisor c i.from x.a over.first) t)
           (doubled_both i.from.across.num i.from.across.den i'.from.across.num i'.from.across.den
-          (less_most i.from.across.num i.from.across.den i.to.across.num i.to.across.den i'.from.across.num i'.from.across.den i.from.across.positive i.to.across.positive i'.from.across.positive a (least _ _ b))))
-        where
-          least : (a b : ℤ) → a <ℤ b → a ≤ℤ b
-          least a b h = omega (arith, ints)
+          (less_most i.from.across.num i.from.across.den i.to.across.num i.to.across.den i'.from.across.num i'.from.across.den i.from.across.positive i.to.across.positive i'.from.across.positive a (at_most_of_less _ _ b))))
 
       by : (r : Ordering) → MatchOrdering r (i.to.diagonal <ℤ i'.from.diagonal) (i.to.diagonal ≡ i'.from.diagonal) (i'.from.diagonal <ℤ i.to.diagonal) → ordering_then r (order_of i.to.across i'.from.across) ≡ Less → (m <ℤ n) ⊎ ((m ≡ n) × IsLeftOf d (of_spot x.a) (of_spot x'.a))
       by Less l e = inl (lesser l)

@@ -3,6 +3,7 @@ use Rattle.std.proofs.Common.{◌≡◌, ◌≢◌, ◌⊎◌, inl, inr, ℕ, �
 use Rattle.std.specs.Prelude.{ℤ, pos, ◌+ℤ◌, ◌-ℤ◌, ◌*ℤ◌, ◌<ℤ◌, ◌≤ℤ◌}
 use Rattle.std.proofs.lemmas.Int.{ints, by_lt_z}
 use Rattle.std.proofs.lemmas.List.Elements.{All-contains, All-push, Contains-append_left, Contains-push, Contains-push_cases, All-weaker}
+use Rattle.integers.proofs.Comparisons.{less_not_same}
 use Rattle.integers.proofs.Ring.{var, ◌⊖◌, ◌⊗◌, ring}
 use Rattle.integers.proofs.Signs.{mul_pos}
 use Rattle.intervals.proofs.Lists.{pairs_append}
@@ -10,7 +11,6 @@ use Rattle.lattice.specs.declared.lines.Line.{Line}
 use Rattle.hatch_fill.specs.declared.places.Place.{Place}
 use Rattle.hatch_fill.specs.inner.Meetings.{IsMeeting, HasMeeting}
 use Rattle.hatch_fill.specs.inner.Crossings.{IsMeetingAmong, AreMeetings}
-use Rattle.hatch_fill.proofs.Ratios.{less_not_same}
 
 -- hatch lines with different numbers are apart
 pub numbers_apart : (i j : ℤ) (spacing : ℕ) → 1 ≤ spacing → i <ℤ j → (i *ℤ pos spacing) <ℤ (j *ℤ pos spacing)

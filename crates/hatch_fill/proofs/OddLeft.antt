@@ -1,7 +1,8 @@
 -- The segments that cross a diagonal left of a point are as many as the triangles whose borders do.
-use Rattle.std.proofs.Common.{◌≡◌, ◌↔◌, ◌⊎◌, inl, inr, ℕ, zero, suc, ◌%◌, List, sym, subst, ◌∙◌, arith}
-use Rattle.std.specs.Prelude.{ℤ, pos, ◌*ℤ◌, ◌<ℤ◌, ◌≤ℤ◌}
-use Rattle.std.proofs.lemmas.Int.{ints, by_lt_z}
+use Rattle.std.proofs.Common.{◌≡◌, ◌↔◌, ◌⊎◌, inl, inr, ℕ, zero, suc, ◌%◌, List, sym, subst, ◌∙◌}
+use Rattle.std.specs.Prelude.{pos, ◌*ℤ◌}
+use Rattle.std.proofs.lemmas.Int.{by_lt_z}
+use Rattle.integers.proofs.Comparisons.{less_not_at_most}
 use Rattle.lattice.specs.declared.points.Corner.{Corner}
 use Rattle.lattice.specs.Triple.{Triple}
 use Rattle.lattice.specs.Points.{Point, of_spot}
@@ -57,15 +58,12 @@ one_border c f p q p' q' h h' = (
 
 -- ---- over or not
 module _ (d : Triple) (p : Point) where
-  most_not_less : (x y : ℤ) → x ≤ℤ y → y <ℤ x → ⊥
-  most_not_less x y h k = omega (arith, ints)
-
   decide_goes : (k l : Point) → GoesOver d k l p ⊎ ¬ GoesOver d k l p
   decide_goes k l =
-      by_lt_z (diagonal_of d p *ℤ k.w) (diagonal_of d k *ℤ p.w) (λ more. inr (λ g. most_not_less _ _ g.from more))
+      by_lt_z (diagonal_of d p *ℤ k.w) (diagonal_of d k *ℤ p.w) (λ more. inr (λ g. less_not_at_most _ _ more g.from))
       (λ from. by_lt_z (diagonal_of d p *ℤ l.w) (diagonal_of d l *ℤ p.w)
-      (λ to. by_lt_z (pos 0) (turn_of (sight_of d k) (sight_of d l) (sight_of d p)) (λ left. inl (record { from = from; to = to; left = left })) (λ right. inr (λ g. most_not_less _ _ right g.left)))
-      (λ back. inr (λ g. most_not_less _ _ back g.to)))
+      (λ to. by_lt_z (pos 0) (turn_of (sight_of d k) (sight_of d l) (sight_of d p)) (λ left. inl (record { from = from; to = to; left = left })) (λ right. inr (λ g. less_not_at_most _ _ g.left right)))
+      (λ back. inr (λ g. less_not_at_most _ _ g.to back)))
 
   decide_crosses : (k l : Point) → CrossesLeftOf d k l p ⊎ ¬ CrossesLeftOf d k l p
   decide_crosses k l = by (decide_goes k l) (decide_goes l k)

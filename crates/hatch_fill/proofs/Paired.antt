@@ -3,6 +3,7 @@ use Rattle.std.proofs.Common.{◌≡◌, ◌↔◌, ◌⊎◌, inl, inr, ℕ, �
 use Rattle.std.specs.Prelude.{ℤ, pos, ◌*ℤ◌, ◌<ℤ◌, ◌≤ℤ◌, ◌&&◌}
 use Rattle.std.specs.Cmp.{int_ranks, int_cmp_is}
 use Rattle.std.proofs.lemmas.List.Elements.{Contains-append_cases}
+use Rattle.integers.proofs.Comparisons.{less_not_same}
 use Rattle.hatch_fill.proofs.PlaceOrders.{place_order_total}
 use Rattle.std.specs.Ordering.{int_cmp, ordering_reverse, ordering_then, is_lt, is_eq, MatchOrdering}
 use Rattle.std.specs.declared.cmp.Ordering.{Ordering}
@@ -192,16 +193,13 @@ module _ (diagonal u w : ℤ) (positive : pos 0 <ℤ w) where
           same : s.diagonal ≡ t.diagonal
           same = one_line s t rest up even
 
-          less_apart : (a b : ℤ) → a <ℤ b → a ≡ b → ⊥
-          less_apart a b h e = omega (arith, ints)
-
           more_apart : (a b : ℤ) → b <ℤ a → a ≡ b → ⊥
           more_apart a b h e = omega (arith, ints)
 
           by_order : (r : Ordering) → MatchOrdering r (s.diagonal <ℤ diagonal) (s.diagonal ≡ diagonal) (diagonal <ℤ s.diagonal) → ((left s ≡ cut s) × (left t ≡ cut t)) ⊎ ((cut s ≡ cut t) × (left s ≡ false) × (left t ≡ false))
           by_order Less h =
               let k = subst (λ (z : ℤ). z <ℤ diagonal) same h in
-              inr (ap is_lt (on_lesser diagonal u w s h) ∙ sym (ap is_lt (on_lesser diagonal u w t k)), not_left diagonal u w s (less_apart s.diagonal diagonal h), not_left diagonal u w t (less_apart t.diagonal diagonal k))
+              inr (ap is_lt (on_lesser diagonal u w s h) ∙ sym (ap is_lt (on_lesser diagonal u w t k)), not_left diagonal u w s (less_not_same s.diagonal diagonal h), not_left diagonal u w t (less_not_same t.diagonal diagonal k))
           by_order Equal h = inl (left_test diagonal u w s h, left_test diagonal u w t (sym same ∙ h))
           by_order Greater h =
               let k = subst (λ (z : ℤ). diagonal <ℤ z) same h in

@@ -2,24 +2,11 @@
 use Rattle.std.proofs.Common.{◌≡◌, ℕ, ◌+◌, ◌<◌, [], ◌∷◌, refl, sym, subst, arith}
 use Rattle.std.specs.Prelude.{ℤ, pos, ◌+ℤ◌, ◌-ℤ◌, ◌*ℤ◌, ◌<ℤ◌, ◌≤ℤ◌}
 use Rattle.std.proofs.lemmas.Int.{ints}
-use Rattle.integers.proofs.Ring.{var, con, ◌⊕◌, ◌⊖◌, ◌⊗◌, ring, by_one}
+use Rattle.integers.proofs.Absolutes.{natural_not_negative}
+use Rattle.integers.proofs.Comparisons.{not_negative_of_positive, gap_of_at_most, less_of_gap, at_most_of_gap}
+use Rattle.integers.proofs.Ring.{var, con, ◌⊕◌, ◌⊖◌, ◌⊗◌, ring, by_one, gap_of_less}
 use Rattle.integers.proofs.Signs.{mul_pos, mul_nonneg, nonneg_of_mul, pos_of_mul}
 use Rattle.integers.proofs.Weighted.{sum_pos}
-
-gap_less : (a b : ℤ) → a <ℤ b → pos 0 <ℤ (b -ℤ a)
-gap_less a b h = omega (arith, ints)
-
-gap_most : (a b : ℤ) → a ≤ℤ b → pos 0 ≤ℤ (b -ℤ a)
-gap_most a b h = omega (arith, ints)
-
-less_of_gap : (a b : ℤ) → pos 0 <ℤ (b -ℤ a) → a <ℤ b
-less_of_gap a b h = omega (arith, ints)
-
-most_of_gap : (a b : ℤ) → pos 0 ≤ℤ (b -ℤ a) → a ≤ℤ b
-most_of_gap a b h = omega (arith, ints)
-
-least : (a : ℤ) → pos 0 <ℤ a → pos 0 ≤ℤ a
-least a h = omega (arith, ints)
 
 -- n / m, k / l and u / w
 module _ (n m k l u w : ℤ) (hm : pos 0 <ℤ m) (hl : pos 0 <ℤ l) (hw : pos 0 <ℤ w) where
@@ -30,57 +17,45 @@ module _ (n m k l u w : ℤ) (hm : pos 0 <ℤ m) (hl : pos 0 <ℤ l) (hw : pos 0
       ((((var 2 ⊗ var 1) ⊖ (var 0 ⊗ var 3)) ⊗ var 5) ⊕ (((var 4 ⊗ var 3) ⊖ (var 2 ⊗ var 5)) ⊗ var 1)) refl
 
   pub less_most : (n *ℤ l) <ℤ (k *ℤ m) → (k *ℤ w) ≤ℤ (u *ℤ l) → (n *ℤ w) <ℤ (u *ℤ m)
-  less_most f g = less_of_gap _ _ (pos_of_mul l _ hl (sum _ _ _ chain (mul_pos _ w (gap_less _ _ f) hw) (mul_nonneg _ m (gap_most _ _ g) (least m hm))))
+  less_most f g = less_of_gap _ _ (pos_of_mul l _ hl (sum _ _ _ chain (mul_pos _ w (gap_of_less _ _ f) hw) (mul_nonneg _ m (gap_of_at_most _ _ g) (not_negative_of_positive m hm))))
     where
       sum : (a b c : ℤ) → a ≡ b +ℤ c → pos 0 <ℤ b → pos 0 ≤ℤ c → pos 0 <ℤ a
       sum a b c e h k = omega (arith, ints)
 
   pub most_less : (n *ℤ l) ≤ℤ (k *ℤ m) → (k *ℤ w) <ℤ (u *ℤ l) → (n *ℤ w) <ℤ (u *ℤ m)
-  most_less f g = less_of_gap _ _ (pos_of_mul l _ hl (sum _ _ _ chain (mul_nonneg _ w (gap_most _ _ f) (least w hw)) (mul_pos _ m (gap_less _ _ g) hm)))
+  most_less f g = less_of_gap _ _ (pos_of_mul l _ hl (sum _ _ _ chain (mul_nonneg _ w (gap_of_at_most _ _ f) (not_negative_of_positive w hw)) (mul_pos _ m (gap_of_less _ _ g) hm)))
     where
       sum : (a b c : ℤ) → a ≡ b +ℤ c → pos 0 ≤ℤ b → pos 0 <ℤ c → pos 0 <ℤ a
       sum a b c e h k = omega (arith, ints)
 
   pub most_most : (n *ℤ l) ≤ℤ (k *ℤ m) → (k *ℤ w) ≤ℤ (u *ℤ l) → (n *ℤ w) ≤ℤ (u *ℤ m)
-  most_most f g = most_of_gap _ _ (nonneg_of_mul l _ hl (sum _ _ _ chain (mul_nonneg _ w (gap_most _ _ f) (least w hw)) (mul_nonneg _ m (gap_most _ _ g) (least m hm))))
+  most_most f g = at_most_of_gap _ _ (nonneg_of_mul l _ hl (sum _ _ _ chain (mul_nonneg _ w (gap_of_at_most _ _ f) (not_negative_of_positive w hw)) (mul_nonneg _ m (gap_of_at_most _ _ g) (not_negative_of_positive m hm))))
     where
       sum : (a b c : ℤ) → a ≡ b +ℤ c → pos 0 ≤ℤ b → pos 0 ≤ℤ c → pos 0 ≤ℤ a
       sum a b c e h k = omega (arith, ints)
-
-pub less_not_most : (x y : ℤ) → x <ℤ y → y ≤ℤ x → ⊥
-less_not_most x y h k = omega (arith, ints)
-
-pub less_not_same : (x y : ℤ) → x <ℤ y → x ≡ y → ⊥
-less_not_same x y h e = omega (arith, ints)
-
-pub same_most : (x y : ℤ) → x ≡ y → x ≤ℤ y
-same_most x y e = omega (arith, ints)
 
 -- ---- a value of a sum of two fractions is from the one to the other
 module _ (n m n' m' k l : ℤ) (i j : ℕ) (hm : pos 0 <ℤ m) (hm' : pos 0 <ℤ m') (some : 0 < i + j) (order : (n *ℤ m') ≤ℤ (n' *ℤ m)) (same : ((pos i *ℤ n) +ℤ (pos j *ℤ n')) *ℤ l ≡ k *ℤ ((pos i *ℤ m) +ℤ (pos j *ℤ m'))) (hl : pos 0 <ℤ l) where
   weight : pos 0 <ℤ ((pos i *ℤ m) +ℤ (pos j *ℤ m'))
   weight = sum_pos m m' i j hm hm' some
 
-  count : (i : ℕ) → pos 0 ≤ℤ pos i
-  count i = omega (arith, ints)
-
   pub from_first : (n *ℤ l) ≤ℤ (k *ℤ m)
   from_first =
-      most_of_gap _ _ (nonneg_of_mul _ _ weight (subst (λ (z : ℤ). pos 0 ≤ℤ z)
+      at_most_of_gap _ _ (nonneg_of_mul _ _ weight (subst (λ (z : ℤ). pos 0 ≤ℤ z)
       (sym (by_one _ _ (((pos i *ℤ n) +ℤ (pos j *ℤ n')) *ℤ l) (k *ℤ ((pos i *ℤ m) +ℤ (pos j *ℤ m'))) (pos 0 -ℤ m)
       (ring (n ∷ m ∷ n' ∷ m' ∷ k ∷ l ∷ pos i ∷ pos j ∷ [])
       ((((var 6 ⊗ var 1) ⊕ (var 7 ⊗ var 3)) ⊗ ((var 4 ⊗ var 1) ⊖ (var 0 ⊗ var 5))) ⊖ ((var 7 ⊗ ((var 2 ⊗ var 1) ⊖ (var 0 ⊗ var 3))) ⊗ var 5))
       (((((var 6 ⊗ var 0) ⊕ (var 7 ⊗ var 2)) ⊗ var 5) ⊖ (var 4 ⊗ ((var 6 ⊗ var 1) ⊕ (var 7 ⊗ var 3)))) ⊗ (con (pos 0) ⊖ var 1)) refl) same))
-      (mul_nonneg _ l (mul_nonneg (pos j) _ (count j) (gap_most _ _ order)) (least l hl))))
+      (mul_nonneg _ l (mul_nonneg (pos j) _ (natural_not_negative j) (gap_of_at_most _ _ order)) (not_negative_of_positive l hl))))
 
   pub until_second : (k *ℤ m') ≤ℤ (n' *ℤ l)
   until_second =
-      most_of_gap _ _ (nonneg_of_mul _ _ weight (subst (λ (z : ℤ). pos 0 ≤ℤ z)
+      at_most_of_gap _ _ (nonneg_of_mul _ _ weight (subst (λ (z : ℤ). pos 0 ≤ℤ z)
       (sym (by_one _ _ (((pos i *ℤ n) +ℤ (pos j *ℤ n')) *ℤ l) (k *ℤ ((pos i *ℤ m) +ℤ (pos j *ℤ m'))) m'
       (ring (n ∷ m ∷ n' ∷ m' ∷ k ∷ l ∷ pos i ∷ pos j ∷ [])
       ((((var 6 ⊗ var 1) ⊕ (var 7 ⊗ var 3)) ⊗ ((var 2 ⊗ var 5) ⊖ (var 4 ⊗ var 3))) ⊖ ((var 6 ⊗ ((var 2 ⊗ var 1) ⊖ (var 0 ⊗ var 3))) ⊗ var 5))
       (((((var 6 ⊗ var 0) ⊕ (var 7 ⊗ var 2)) ⊗ var 5) ⊖ (var 4 ⊗ ((var 6 ⊗ var 1) ⊕ (var 7 ⊗ var 3)))) ⊗ var 3) refl) same))
-      (mul_nonneg _ l (mul_nonneg (pos i) _ (count i) (gap_most _ _ order)) (least l hl))))
+      (mul_nonneg _ l (mul_nonneg (pos i) _ (natural_not_negative i) (gap_of_at_most _ _ order)) (not_negative_of_positive l hl))))
 
 -- ---- doubled fractions
 doubled_left : (n l : ℤ) → (pos 2 *ℤ n) *ℤ l ≡ pos 2 *ℤ (n *ℤ l)

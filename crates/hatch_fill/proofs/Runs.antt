@@ -1,14 +1,13 @@
 -- Intervals of one hatch line, and their hatch lines.
-use Rattle.std.proofs.Common.{◌≡◌, ℕ, [], ◌∷◌, refl, sym, ap, subst, ◌∙◌, arith}
+use Rattle.std.proofs.Common.{◌≡◌, ℕ, [], ◌∷◌, refl, sym, ap, subst, ◌∙◌}
 use Rattle.std.specs.Prelude.{ℤ, pos, ◌+ℤ◌, ◌-ℤ◌, ◌*ℤ◌, ◌<ℤ◌, ◌≤ℤ◌}
 use Rattle.std.specs.Cmp.{int_cmp_is}
 use Rattle.std.specs.Ordering.{ordering_then}
 use Rattle.std.specs.declared.cmp.Ordering.{Ordering}
 use Rattle.std.specs.declared.cmp.Ordering.TheVariants.{Less, Equal}
-use Rattle.std.proofs.lemmas.Int.{ints}
-use Rattle.integers.proofs.Ring.{var, con, ◌⊖◌, ◌⊗◌, ring, by_one, same_of_gap}
-use Rattle.integers.proofs.Signs.{zero_of_mul}
-use Rattle.integers.proofs.Orders.{less_of_cmp}
+use Rattle.integers.proofs.Comparisons.{twice_positive, at_most_of_less}
+use Rattle.integers.proofs.Ring.{var, con, ◌⊖◌, ◌⊗◌, ring}
+use Rattle.integers.proofs.Orders.{less_of_cmp, same_of_products}
 use Rattle.integers.proofs.Weighted.{weights_between}
 use Rattle.exact_frac.specs.Frac.{order_of}
 use Rattle.intervals.specs.declared.interval.Interval.{Interval}
@@ -36,16 +35,13 @@ pub less_on_line : (s t : Place) → s.diagonal ≡ t.diagonal → place_order s
 less_on_line s t one e = less_of_cmp _ _ (ap (λ (r : Ordering). ordering_then r (order_of s.across t.across)) (int_cmp_is s.diagonal t.diagonal Equal one) ∙ e)
 
 -- ---- points of hatch lines
-same_factor : (x y w : ℤ) → pos 0 <ℤ w → x *ℤ w ≡ y *ℤ w → x ≡ y
-same_factor x y w h e = same_of_gap x y (zero_of_mul w (x -ℤ y) h (by_one _ _ (x *ℤ w) (y *ℤ w) (pos 1) (ring (x ∷ y ∷ w ∷ []) ((var 2 ⊗ (var 0 ⊖ var 1)) ⊖ con (pos 0)) (((var 0 ⊗ var 2) ⊖ (var 1 ⊗ var 2)) ⊗ con (pos 1)) refl) e))
-
 -- a point is on one hatch line
 pub one_diagonal : (d : Triple) (p : Point) (diagonal other : ℤ) → IsPoint p → IsAt d diagonal p → IsAt d other p → diagonal ≡ other
-one_diagonal d p diagonal other there at at' = same_factor diagonal other p.w there (sym at ∙ at')
+one_diagonal d p diagonal other there at at' = same_of_products diagonal other p.w there (sym at ∙ at')
 
 -- what is seen with a point of a hatch line is on it
 pub at_of_sight : (d : Triple) (r p : Point) (diagonal : ℤ) → IsPoint r → IsAt d diagonal r → OnOneSight d r p → IsAt d diagonal p
-at_of_sight d r p diagonal there at sight = same_factor (diagonal_of d p) (diagonal *ℤ p.w) r.w there (sym (gap (across_of d r) (upward_of d r) r.w (across_of d p) (upward_of d p) p.w sight.across sight.upward) ∙ ap (λ (z : ℤ). z *ℤ p.w) at ∙ ring (diagonal ∷ r.w ∷ p.w ∷ []) ((var 0 ⊗ var 1) ⊗ var 2) ((var 0 ⊗ var 2) ⊗ var 1) refl)
+at_of_sight d r p diagonal there at sight = same_of_products (diagonal_of d p) (diagonal *ℤ p.w) r.w there (sym (gap (across_of d r) (upward_of d r) r.w (across_of d p) (upward_of d p) p.w sight.across sight.upward) ∙ ap (λ (z : ℤ). z *ℤ p.w) at ∙ ring (diagonal ∷ r.w ∷ p.w ∷ []) ((var 0 ⊗ var 1) ⊗ var 2) ((var 0 ⊗ var 2) ⊗ var 1) refl)
   where
     gap : (u v w u' v' w' : ℤ) → u *ℤ w' ≡ u' *ℤ w → v *ℤ w' ≡ v' *ℤ w → (u -ℤ v) *ℤ w' ≡ (u' -ℤ v') *ℤ w
     gap u v w u' v' w' e f = ring (u ∷ v ∷ w' ∷ []) ((var 0 ⊖ var 1) ⊗ var 2) ((var 0 ⊗ var 2) ⊖ (var 1 ⊗ var 2)) refl ∙ (λ i. e i -ℤ f i) ∙ ring (u' ∷ v' ∷ w ∷ []) ((var 0 ⊗ var 2) ⊖ (var 1 ⊗ var 2)) ((var 0 ⊖ var 1) ⊗ var 2) refl
@@ -124,21 +120,15 @@ module _ (c : Plane) (i : Interval Place) (one : i.from.diagonal ≡ i.to.diagon
   pub from_to : (p : Point) → IsPoint p → LiesOnHatch (toward_of c) x p → IsFromTo p
   from_to p there (g, h, some, sight) = record {
     at = at_of_sight d (spot_sum x.a x.b g h) p D (sum_is_point x.a x.b g h some) (sum_at d (pos g) (pos h) D (of_spot x.a) (of_spot x.b) first_at second_at) sight;
-    from = halved_first i.from.across.num i.from.across.den (across_of d p) p.w (from_first _ _ _ _ (across_of d p) p.w g h (two i.from) (two i.to) some (less _ _ (doubled_both i.from.across.num i.from.across.den i.to.across.num i.to.across.den ascends)) same there);
-    to = halved_second i.to.across.num i.to.across.den (across_of d p) p.w (until_second _ _ _ _ (across_of d p) p.w g h (two i.from) (two i.to) some (less _ _ (doubled_both i.from.across.num i.from.across.den i.to.across.num i.to.across.den ascends)) same there);
+    from = halved_first i.from.across.num i.from.across.den (across_of d p) p.w (from_first _ _ _ _ (across_of d p) p.w g h (two i.from) (two i.to) some (at_most_of_less _ _ (doubled_both i.from.across.num i.from.across.den i.to.across.num i.to.across.den ascends)) same there);
+    to = halved_second i.to.across.num i.to.across.den (across_of d p) p.w (until_second _ _ _ _ (across_of d p) p.w g h (two i.from) (two i.to) some (at_most_of_less _ _ (doubled_both i.from.across.num i.from.across.den i.to.across.num i.to.across.den ascends)) same there);
   }
     where
       d : Triple
       d = toward_of c
 
       two : (t : Place) → pos 0 <ℤ (pos 2 *ℤ t.across.den)
-      two t = by t.across.den t.across.positive
-        where
-          by : (m : ℤ) → pos 0 <ℤ m → pos 0 <ℤ (pos 2 *ℤ m)
-          by m h = omega (arith, ints)
-
-      less : (a b : ℤ) → a <ℤ b → a ≤ℤ b
-      less a b h = omega (arith, ints)
+      two t = twice_positive t.across.den t.across.positive
 
       same : ((pos g *ℤ (pos 2 *ℤ i.from.across.num)) +ℤ (pos h *ℤ (pos 2 *ℤ i.to.across.num))) *ℤ p.w ≡ across_of d p *ℤ ((pos g *ℤ (pos 2 *ℤ i.from.across.den)) +ℤ (pos h *ℤ (pos 2 *ℤ i.to.across.den)))
       same =

@@ -10,6 +10,7 @@ use Rattle.std.specs.declared.cmp.Ordering.TheVariants.{Less, Equal, Greater}
 use Rattle.std.proofs.lemmas.Int.{ints}
 use Rattle.std.proofs.lemmas.List.Elements.{All-contains}
 use Rattle.std.proofs.lemmas.List.Sorted.{ranks_by, sorted_far, Contains-permutation, IsPermutation-sym}
+use Rattle.integers.proofs.Comparisons.{at_most_of_same, at_most_of_less}
 use Rattle.lattice.specs.declared.soup.Tri.{Tri}
 use Rattle.lattice.specs.Triangles.{IsBelow}
 use Rattle.lattice.specs.Triple.{Triple}
@@ -111,21 +112,15 @@ module _ (c : Plane) (s : Part) (closed : IsClosed s) (below : All (IsBelow (len
     off_borders : ¬ IsUnderBorder c s far
     off_borders (f, (q, on, sight)) =
         let (there, near) = border_near c s segments starts borders f q on in
-        too_near (across_of d q) q.w there near (equal _ _ (sym (sight.across ∙ (λ i. far_across i *ℤ q.w))))
-      where
-        equal : (a b : ℤ) → a ≡ b → a ≤ℤ b
-        equal a b e = omega (arith, ints)
+        too_near (across_of d q) q.w there near (at_most_of_same _ _ (sym (sight.across ∙ (λ i. far_across i *ℤ q.w))))
 
     outside : ¬ IsInSection c s far
     outside (n, count, odd) = by (counted_some s.triangles n count odd)
       where
-        less : (a b : ℤ) → a <ℤ b → a ≤ℤ b
-        less a b h = omega (arith, ints)
-
         by : (t : Tri) × HasBorderRightOf c s far t → ⊥
         by (t, (f, is, left)) =
             let (there, near) = border_near c s segments starts borders f left.right left.right_on in
-            too_near (across_of d left.right) left.right.w there near (less _ _ (subst (λ (z : ℤ). (z *ℤ left.right.w) <ℤ (across_of d left.right *ℤ pos 1)) far_across left.more_across))
+            too_near (across_of d left.right) left.right.w there near (at_most_of_less _ _ (subst (λ (z : ℤ). (z *ℤ left.right.w) <ℤ (across_of d left.right *ℤ pos 1)) far_across left.more_across))
 
     -- each place is left of it
     all_left : (t : Place) → is_left D (across_of d far) (pos 1) t ≡ is_on D t

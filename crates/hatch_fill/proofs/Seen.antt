@@ -2,6 +2,7 @@
 use Rattle.std.proofs.Common.{◌≡◌, ℕ, ◌+◌, ◌*◌, ◌<◌, ◌≤◌, ◌^◌, Bool, true, false, sym, ap, subst, ◌∙◌, arith, unsigned_abs, mul_comm, mul_assoc}
 use Rattle.std.specs.Prelude.{if◌then◌else◌, ℤ, pos, neg_ℤ, ◌+ℤ◌, ◌-ℤ◌, ◌*ℤ◌, ◌<ℤ◌, ◌≤ℤ◌}
 use Rattle.std.proofs.lemmas.Int.{ints, unsigned_abs-mul}
+use Rattle.integers.proofs.Comparisons.{not_negative_of_positive}
 use Rattle.integers.proofs.Signs.{mul_nonneg}
 use Rattle.integers.proofs.Sizes.{abs_times}
 use Rattle.lattice.specs.declared.points.Axis.{Axis}
@@ -99,10 +100,7 @@ near_times i u x h = subst (λ (n : ℕ). unsigned_abs (pos i *ℤ u) ≤ n) (si
     sizes i n = sym (mul_assoc i (2 ^ 21) n) ∙ ap (λ (m : ℕ). m * n) (mul_comm i (2 ^ 21)) ∙ mul_assoc (2 ^ 21) i n
 
 pub near_sum : (i j : ℕ) (u v x y : ℤ) → pos 0 <ℤ x → pos 0 <ℤ y → IsNear u x → IsNear v y → IsNear ((pos i *ℤ u) +ℤ (pos j *ℤ v)) ((pos i *ℤ x) +ℤ (pos j *ℤ y))
-near_sum i j u v x y hx hy h k = both (pos i *ℤ u) (pos j *ℤ v) (pos i *ℤ x) (pos j *ℤ y) (mul_nonneg (pos i) x (omega (arith, ints)) (least x hx)) (mul_nonneg (pos j) y (omega (arith, ints)) (least y hy)) (near_times i u x h) (near_times j v y k)
+near_sum i j u v x y hx hy h k = both (pos i *ℤ u) (pos j *ℤ v) (pos i *ℤ x) (pos j *ℤ y) (mul_nonneg (pos i) x (omega (arith, ints)) (not_negative_of_positive x hx)) (mul_nonneg (pos j) y (omega (arith, ints)) (not_negative_of_positive y hy)) (near_times i u x h) (near_times j v y k)
   where
-    least : (a : ℤ) → pos 0 <ℤ a → pos 0 ≤ℤ a
-    least a h = omega (arith, ints)
-
     both : (a b c d : ℤ) → pos 0 ≤ℤ c → pos 0 ≤ℤ d → unsigned_abs a ≤ 2 ^ 21 * unsigned_abs c → unsigned_abs b ≤ 2 ^ 21 * unsigned_abs d → unsigned_abs (a +ℤ b) ≤ 2 ^ 21 * unsigned_abs (c +ℤ d)
     both a b c d p q f g = omega (arith, ints, f, g)

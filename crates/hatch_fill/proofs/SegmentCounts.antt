@@ -4,6 +4,7 @@ use Rattle.std.specs.Prelude.{ℤ, pos, ◌*ℤ◌, ◌<ℤ◌, ◌≤ℤ◌}
 use Rattle.std.specs.List.{AllPairs}
 use Rattle.std.proofs.lemmas.Int.{ints, by_lt_z}
 use Rattle.std.proofs.lemmas.List.Elements.{All-contains}
+use Rattle.integers.proofs.Comparisons.{less_not_same, less_not_at_most}
 use Rattle.lattice.specs.declared.lines.Line.{Line}
 use Rattle.lattice.specs.declared.points.Spot.{Spot}
 use Rattle.lattice.specs.Triple.{Triple}
@@ -22,7 +23,6 @@ use Rattle.hatch_fill.proofs.Counts.{passing, passing_append, some_passes, one_p
 use Rattle.hatch_fill.proofs.Crossed.{has_meeting}
 use Rattle.hatch_fill.proofs.MeetingLists.{numbers_apart}
 use Rattle.hatch_fill.proofs.Paired.{is_left, left_line, left_less, left_of}
-use Rattle.hatch_fill.proofs.Ratios.{less_not_same}
 use Rattle.hatch_fill.proofs.Turns.{IsAt, IsAcross, across_of_goes, less_of_goes, goes_of_less}
 
 -- one hatch line has one number
@@ -32,9 +32,6 @@ one_number i j spacing some e =
   where
     same : j ≤ℤ i → i ≤ℤ j → i ≡ j
     same h k = omega (arith, ints)
-
-most_not_less : (x y : ℤ) → x ≤ℤ y → y <ℤ x → ⊥
-most_not_less x y h k = omega (arith, ints)
 
 module _ (c : Plane) (l : Line) (k m : Spot) (on_k : IsOnLine (toward_of c) l (of_spot k)) (on_m : IsOnLine (toward_of c) l (of_spot m)) (spacing : ℕ) (some : 1 ≤ spacing) (a b : ℤ)
     (first : IsFirstNumber (diagonal_of (toward_of c) (of_spot k)) k.w spacing a) (second : IsFirstNumber (diagonal_of (toward_of c) (of_spot m)) m.w spacing b) (number : ℤ) where
@@ -47,14 +44,14 @@ module _ (c : Plane) (l : Line) (k m : Spot) (on_k : IsOnLine (toward_of c) l (o
   pub is_across : a ≤ℤ number → number <ℤ b → IsAcross D (sight_of d (of_spot k)) (sight_of d (of_spot m))
   is_across h below = record {
     from = (first number).0 h;
-    to = by_lt_z (D *ℤ m.w) (diagonal_of d (of_spot m)) (λ l. l) (λ l. absurd (most_not_less b number ((second number).1 l) below));
+    to = by_lt_z (D *ℤ m.w) (diagonal_of d (of_spot m)) (λ l. l) (λ l. absurd (less_not_at_most number b below ((second number).1 l)));
   }
 
   pub from_first : IsAcross D (sight_of d (of_spot k)) (sight_of d (of_spot m)) → a ≤ℤ number
   from_first h = (first number).1 h.from
 
   pub before_second : IsAcross D (sight_of d (of_spot k)) (sight_of d (of_spot m)) → number <ℤ b
-  before_second h = by_lt_z number b (λ l. l) (λ l. absurd (most_not_less _ _ ((second number).0 l) h.to))
+  before_second h = by_lt_z number b (λ l. l) (λ l. absurd (less_not_at_most _ _ h.to ((second number).0 l)))
 
   module _ (p : Point) (positive : IsPoint p) (at : IsAt d D p) (places : List Place) (are : AreMeetings l spacing a b places) where
     among : (t : Place) → Contains places t → t.diagonal ≡ D → (a ≤ℤ number) × (number <ℤ b) × IsMeeting l D t
@@ -105,4 +102,4 @@ crosses_once c x on_a on_b spacing some number p positive at places h =
     left = is_left (number *ℤ pos spacing) (across_of d p) p.w
 
     apart : GoesOver d (of_spot x.a) (of_spot x.b) p → GoesOver d (of_spot x.b) (of_spot x.a) p → ⊥
-    apart g h = most_not_less _ _ g.from h.to
+    apart g h = less_not_at_most _ _ h.to g.from

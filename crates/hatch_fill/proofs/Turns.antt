@@ -2,7 +2,8 @@
 use Rattle.std.proofs.Common.{◌≡◌, ◌≢◌, ◌↔◌, List, [], ◌∷◌, refl, sym, subst, ◌∙◌, arith}
 use Rattle.std.specs.Prelude.{ℤ, pos, ◌+ℤ◌, ◌-ℤ◌, ◌*ℤ◌, ◌<ℤ◌, ◌≤ℤ◌}
 use Rattle.std.proofs.lemmas.Int.{ints}
-use Rattle.integers.proofs.Ring.{var, con, ◌⊕◌, ◌⊖◌, ◌⊗◌, ring, by_one, by_two, same_of_gap}
+use Rattle.integers.proofs.Comparisons.{gap_of_at_most, not_negative_of_positive, less_of_gap}
+use Rattle.integers.proofs.Ring.{var, con, ◌⊕◌, ◌⊖◌, ◌⊗◌, ring, by_one, by_two, same_of_gap, gap_of_less}
 use Rattle.integers.proofs.Signs.{mul_pos, mul_nonneg, zero_of_times, pos_of_mul, nonneg_of_mul}
 use Rattle.lattice.specs.declared.lines.Line.{Line}
 use Rattle.lattice.specs.Triple.{Triple}
@@ -73,57 +74,33 @@ rise_positive d k l hk hl h =
     (ring (k.u ∷ k.v ∷ k.w ∷ l.u ∷ l.v ∷ l.w ∷ d ∷ [])
     (((var 3 ⊖ var 4) ⊗ var 2) ⊖ ((var 0 ⊖ var 1) ⊗ var 5))
     ((((var 3 ⊖ var 4) ⊖ (var 6 ⊗ var 5)) ⊗ var 2) ⊕ (((var 6 ⊗ var 2) ⊖ (var 0 ⊖ var 1)) ⊗ var 5)) refl)
-    (mul_pos _ k.w (gap _ _ h.to) hk) (mul_nonneg _ l.w (gap_least _ _ h.from) (least l.w hl))
+    (mul_pos _ k.w (gap_of_less _ _ h.to) hk) (mul_nonneg _ l.w (gap_of_at_most _ _ h.from) (not_negative_of_positive l.w hl))
   where
-    gap : (a b : ℤ) → a <ℤ b → pos 0 <ℤ (b -ℤ a)
-    gap a b h = omega (arith, ints)
-
-    gap_least : (a b : ℤ) → a ≤ℤ b → pos 0 ≤ℤ (b -ℤ a)
-    gap_least a b h = omega (arith, ints)
-
-    least : (a : ℤ) → pos 0 <ℤ a → pos 0 ≤ℤ a
-    least a h = omega (arith, ints)
-
     sum : (r x y : ℤ) → r ≡ x +ℤ y → pos 0 <ℤ x → pos 0 ≤ℤ y → pos 0 <ℤ r
     sum r x y e h k = omega (arith, ints)
 
 -- the diagonal's number, without the point's divisor
 scaled_most : (x d w k : ℤ) → pos 0 <ℤ w → (x *ℤ w) ≤ℤ ((d *ℤ w) *ℤ k) → x ≤ℤ (d *ℤ k)
-scaled_most x d w k h l = back (nonneg_of_mul w ((d *ℤ k) -ℤ x) h (subst (λ (z : ℤ). pos 0 ≤ℤ z) (ring (x ∷ d ∷ w ∷ k ∷ []) (((var 1 ⊗ var 2) ⊗ var 3) ⊖ (var 0 ⊗ var 2)) (var 2 ⊗ ((var 1 ⊗ var 3) ⊖ var 0)) refl) (gap _ _ l)))
+scaled_most x d w k h l = back (nonneg_of_mul w ((d *ℤ k) -ℤ x) h (subst (λ (z : ℤ). pos 0 ≤ℤ z) (ring (x ∷ d ∷ w ∷ k ∷ []) (((var 1 ⊗ var 2) ⊗ var 3) ⊖ (var 0 ⊗ var 2)) (var 2 ⊗ ((var 1 ⊗ var 3) ⊖ var 0)) refl) (gap_of_at_most _ _ l)))
   where
-    gap : (a b : ℤ) → a ≤ℤ b → pos 0 ≤ℤ (b -ℤ a)
-    gap a b h = omega (arith, ints)
-
     back : pos 0 ≤ℤ ((d *ℤ k) -ℤ x) → x ≤ℤ (d *ℤ k)
     back h = omega (arith, ints)
 
 scaled_less : (x d w k : ℤ) → pos 0 <ℤ w → ((d *ℤ w) *ℤ k) <ℤ (x *ℤ w) → (d *ℤ k) <ℤ x
-scaled_less x d w k h l = back (pos_of_mul w (x -ℤ (d *ℤ k)) h (subst (λ (z : ℤ). pos 0 <ℤ z) (ring (x ∷ d ∷ w ∷ k ∷ []) ((var 0 ⊗ var 2) ⊖ ((var 1 ⊗ var 2) ⊗ var 3)) (var 2 ⊗ (var 0 ⊖ (var 1 ⊗ var 3))) refl) (gap _ _ l)))
+scaled_less x d w k h l = back (pos_of_mul w (x -ℤ (d *ℤ k)) h (subst (λ (z : ℤ). pos 0 <ℤ z) (ring (x ∷ d ∷ w ∷ k ∷ []) ((var 0 ⊗ var 2) ⊖ ((var 1 ⊗ var 2) ⊗ var 3)) (var 2 ⊗ (var 0 ⊖ (var 1 ⊗ var 3))) refl) (gap_of_less _ _ l)))
   where
-    gap : (a b : ℤ) → a <ℤ b → pos 0 <ℤ (b -ℤ a)
-    gap a b h = omega (arith, ints)
-
     back : pos 0 <ℤ (x -ℤ (d *ℤ k)) → (d *ℤ k) <ℤ x
     back h = omega (arith, ints)
 
 most_scaled : (x d w k : ℤ) → pos 0 <ℤ w → x ≤ℤ (d *ℤ k) → (x *ℤ w) ≤ℤ ((d *ℤ w) *ℤ k)
-most_scaled x d w k h l = back (subst (λ (z : ℤ). pos 0 ≤ℤ z) (ring (x ∷ d ∷ w ∷ k ∷ []) (((var 1 ⊗ var 3) ⊖ var 0) ⊗ var 2) (((var 1 ⊗ var 2) ⊗ var 3) ⊖ (var 0 ⊗ var 2)) refl) (mul_nonneg ((d *ℤ k) -ℤ x) w (gap _ _ l) (least w h)))
+most_scaled x d w k h l = back (subst (λ (z : ℤ). pos 0 ≤ℤ z) (ring (x ∷ d ∷ w ∷ k ∷ []) (((var 1 ⊗ var 3) ⊖ var 0) ⊗ var 2) (((var 1 ⊗ var 2) ⊗ var 3) ⊖ (var 0 ⊗ var 2)) refl) (mul_nonneg ((d *ℤ k) -ℤ x) w (gap_of_at_most _ _ l) (not_negative_of_positive w h)))
   where
-    gap : (a b : ℤ) → a ≤ℤ b → pos 0 ≤ℤ (b -ℤ a)
-    gap a b h = omega (arith, ints)
-
-    least : (a : ℤ) → pos 0 <ℤ a → pos 0 ≤ℤ a
-    least a h = omega (arith, ints)
-
     back : pos 0 ≤ℤ (((d *ℤ w) *ℤ k) -ℤ (x *ℤ w)) → (x *ℤ w) ≤ℤ ((d *ℤ w) *ℤ k)
     back h = omega (arith, ints)
 
 less_scaled : (x d w k : ℤ) → pos 0 <ℤ w → (d *ℤ k) <ℤ x → ((d *ℤ w) *ℤ k) <ℤ (x *ℤ w)
-less_scaled x d w k h l = back (subst (λ (z : ℤ). pos 0 <ℤ z) (ring (x ∷ d ∷ w ∷ k ∷ []) ((var 0 ⊖ (var 1 ⊗ var 3)) ⊗ var 2) ((var 0 ⊗ var 2) ⊖ ((var 1 ⊗ var 2) ⊗ var 3)) refl) (mul_pos (x -ℤ (d *ℤ k)) w (gap _ _ l) h))
+less_scaled x d w k h l = back (subst (λ (z : ℤ). pos 0 <ℤ z) (ring (x ∷ d ∷ w ∷ k ∷ []) ((var 0 ⊖ (var 1 ⊗ var 3)) ⊗ var 2) ((var 0 ⊗ var 2) ⊖ ((var 1 ⊗ var 2) ⊗ var 3)) refl) (mul_pos (x -ℤ (d *ℤ k)) w (gap_of_less _ _ l) h))
   where
-    gap : (a b : ℤ) → a <ℤ b → pos 0 <ℤ (b -ℤ a)
-    gap a b h = omega (arith, ints)
-
     back : pos 0 <ℤ ((x *ℤ w) -ℤ ((d *ℤ w) *ℤ k)) → ((d *ℤ w) *ℤ k) <ℤ (x *ℤ w)
     back h = omega (arith, ints)
 
@@ -147,17 +124,11 @@ module _ (d : Triple) (l : Line) (k m p : Point) (k_there : IsPoint k) (m_there 
         (turn_by_place (sight_of d k) (sight_of d m) (sight_of d p) l.a l.b l.c diagonal n q crosses on_k on_m at meets)
 
     pub less_of_goes : GoesOver d k m p → (n *ℤ p.w) <ℤ (across_of d p *ℤ q)
-    less_of_goes g = back (n *ℤ p.w) (across_of d p *ℤ q) (sides.0 g.left)
-      where
-        back : (a b : ℤ) → pos 0 <ℤ (b -ℤ a) → a <ℤ b
-        back a b h = omega (arith, ints)
+    less_of_goes g = less_of_gap (n *ℤ p.w) (across_of d p *ℤ q) (sides.0 g.left)
 
     pub goes_of_less : (n *ℤ p.w) <ℤ (across_of d p *ℤ q) → GoesOver d k m p
     goes_of_less less = record {
       from = subst (λ (z : ℤ). (diagonal_of d k *ℤ p.w) ≤ℤ (z *ℤ k.w)) (sym at) (most_scaled (diagonal_of d k) diagonal p.w k.w p_there h.from);
       to = subst (λ (z : ℤ). (z *ℤ m.w) <ℤ (diagonal_of d m *ℤ p.w)) (sym at) (less_scaled (diagonal_of d m) diagonal p.w m.w p_there h.to);
-      left = sides.1 (gap (n *ℤ p.w) (across_of d p *ℤ q) less);
+      left = sides.1 (gap_of_less (n *ℤ p.w) (across_of d p *ℤ q) less);
     }
-      where
-        gap : (a b : ℤ) → a <ℤ b → pos 0 <ℤ (b -ℤ a)
-        gap a b h = omega (arith, ints)

@@ -2,6 +2,9 @@
 use Rattle.std.proofs.Common.{◌≡◌, ◌⊎◌, inl, inr, ℕ, ◌+◌, ◌*◌, ◌<◌, List, [], ◌∷◌, refl, sym, ap, subst, ◌∙◌, arith}
 use Rattle.std.specs.Prelude.{◌↔◌, ℤ, pos, negsuc, ◌+ℤ◌, ◌-ℤ◌, ◌*ℤ◌, ◌<ℤ◌, ◌≤ℤ◌}
 use Rattle.std.proofs.lemmas.Int.{ints, by_lt_z}
+use Rattle.integers.proofs.Absolutes.{natural_positive}
+use Rattle.integers.proofs.Comparisons.{negation_not_negative, not_negative_of_positive, times_zero, sum_positive_first}
+use Rattle.geometry.proofs.FacePoints.{face_point-round, face_point-of_side, dot-face_sum, dot-edge_sum}
 use Rattle.integers.proofs.Ring.{var, con, ◌⊕◌, ◌⊖◌, ◌⊗◌, ring, by_two, less_by, gap_of_less}
 use Rattle.integers.proofs.Signs.{mul_pos, mul_nonneg, mul_nonpos, pos_of_mul}
 use Rattle.lattice.specs.declared.points.Corner.{Corner}
@@ -16,9 +19,9 @@ use Rattle.hiding.specs.inner.CutValues.{below_of, HidesInCut, SideReaches, Wide
 use Rattle.hiding.proofs.Screens.{Screen, Covers, SideCovers}
 use Rattle.hiding.proofs.ScreenScale.{area_scale}
 use Rattle.hiding.proofs.EdgeOn.{edge_on}
-use Rattle.hiding.proofs.OnScreens.{seen, unpack, dot_sum, dot_edge_sum}
+use Rattle.hiding.proofs.OnScreens.{seen, covers_of_sum, sum_of_side_covers}
 use Rattle.hiding.proofs.Flatness.{together_flat}
-use Rattle.hiding.proofs.Hiding.{side-point, face-around, wide, wide-side-hides}
+use Rattle.hiding.proofs.Hiding.{wide, wide-side-hides}
 use Rattle.hiding.proofs.CutPlanes.{cut-somewhere, below-beyond}
 
 -- ---- what is beyond the plane, as it is seen from below
@@ -35,9 +38,6 @@ module _ (c : Plane) (p : Point) (point : IsPoint p) where
 
   abbrev at : Corner → Screen
   at k = lowered (seen d (point_of k))
-
-  natural : (i : ℕ) → pos 0 ≤ℤ pos i
-  natural i = omega (arith, ints)
 
   -- the sum h of heights with weights t is below the plane, all times w
   beyond_down : (h t l w : ℤ) → pos 0 <ℤ w → (pos 2 *ℤ h) <ℤ (l *ℤ t) → ((pos 0 -ℤ (l *ℤ w)) *ℤ t) <ℤ ((pos 0 -ℤ (pos 2 *ℤ h)) *ℤ w)
@@ -57,27 +57,12 @@ module _ (c : Plane) (p : Point) (point : IsPoint p) where
         (((var 0 ⊗ (con (pos 0) ⊖ (con (pos 2) ⊗ var 3))) ⊕ (var 1 ⊗ (con (pos 0) ⊖ (con (pos 2) ⊗ var 4)))) ⊕ (var 2 ⊗ (con (pos 0) ⊖ (con (pos 2) ⊗ var 5))))
         (con (pos 0) ⊖ (con (pos 2) ⊗ (((var 0 ⊗ var 3) ⊕ (var 1 ⊗ var 4)) ⊕ (var 2 ⊗ var 5)))) refl
 
-    covers_of : (i j k : ℕ) → 0 < i + j + k → OnOneSight d (face_sum a b e i j k) p → IsBeyond c (face_sum a b e i j k) → Covers (at a) (at b) (at e) (on_plane c p)
-    covers_of i j k some same beyond = record {
-      i = pos i;
-      j = pos j;
-      k = pos k;
-      i_least = natural i;
-      j_least = natural j;
-      k_least = natural k;
-      some = is_some i j k some;
-      same_u = ap (λ v. v *ℤ p.w) (sym (dot_sum (right_axis d) a b e i j k)) ∙ same.across;
-      same_v = ap (λ v. v *ℤ p.w) (sym (dot_sum (up_axis d) a b e i j k)) ∙ same.upward;
-      nearer = subst (λ v. ((pos 0 -ℤ (plane_height c *ℤ p.w)) *ℤ pos (i + j + k)) <ℤ (v *ℤ p.w))
-          (ap (λ v. pos 0 -ℤ (pos 2 *ℤ v)) (dot_sum d a b e i j k) ∙ sym (lowered_three (pos i) (pos j) (pos k) _ _ _))
-          (beyond_down (height_of d (face_sum a b e i j k)) (pos (i + j + k)) (plane_height c) p.w point beyond);
-    }
-      where
-        is_some : (i j k : ℕ) → 0 < i + j + k → pos 0 <ℤ ((pos i +ℤ pos j) +ℤ pos k)
-        is_some i j k h = omega (arith, ints)
-
     covers_of_point : (q : Point) → IsPointOfFace a b e q → OnOneSight d q p → IsBeyond c q → Covers (at a) (at b) (at e) (on_plane c p)
-    covers_of_point q f same beyond = covers_of f.0 f.1 f.2 f.3 (subst (λ s. OnOneSight d s p) f.4 same) (subst (λ s. IsBeyond c s) f.4 beyond)
+    covers_of_point q (i, j, k, some, is) same beyond =
+        covers_of_sum d a b e p (at a).h (at b).h (at e).h (on_plane c p).h i j k some (subst (λ s. OnOneSight d s p) is same)
+        (subst (λ v. ((pos 0 -ℤ (plane_height c *ℤ p.w)) *ℤ pos (i + j + k)) <ℤ (v *ℤ p.w))
+        (ap (λ v. pos 0 -ℤ (pos 2 *ℤ v)) (dot-face_sum d a b e i j k) ∙ sym (lowered_three (pos i) (pos j) (pos k) _ _ _))
+        (beyond_down (height_of d (face_sum a b e i j k)) (pos (i + j + k)) (plane_height c) p.w point (subst (λ s. IsBeyond c s) is beyond)))
 
   module _ (k l : Corner) where
     lowered_two : (i j x y : ℤ) → (i *ℤ (pos 0 -ℤ (pos 2 *ℤ x))) +ℤ (j *ℤ (pos 0 -ℤ (pos 2 *ℤ y))) ≡ pos 0 -ℤ (pos 2 *ℤ ((i *ℤ x) +ℤ (j *ℤ y)))
@@ -91,34 +76,17 @@ module _ (c : Plane) (p : Point) (point : IsPoint p) where
     abbrev L : Screen
     L = seen d (point_of l)
 
-    reaches_of : (i j : ℕ) → 0 < i + j
-        → ((pos i *ℤ K.u) +ℤ (pos j *ℤ L.u)) *ℤ p.w ≡ across_of d p *ℤ pos (i + j)
-        → ((pos i *ℤ K.v) +ℤ (pos j *ℤ L.v)) *ℤ p.w ≡ upward_of d p *ℤ pos (i + j)
-        → ((pos 0 -ℤ (plane_height c *ℤ p.w)) *ℤ pos (i + j)) <ℤ (((pos i *ℤ (pos 0 -ℤ (pos 2 *ℤ K.h))) +ℤ (pos j *ℤ (pos 0 -ℤ (pos 2 *ℤ L.h)))) *ℤ p.w)
-        → SideReaches c k l p
-    reaches_of i j some same_u same_v less = record {
-      point = edge_sum k l i j;
-      on_side = (i, j, some, refl);
-      beyond = beyond_up (height_of d (edge_sum k l i j)) (pos (i + j)) (plane_height c) p.w point
-          (subst (λ v. ((pos 0 -ℤ (plane_height c *ℤ p.w)) *ℤ pos (i + j)) <ℤ (v *ℤ p.w)) (lowered_two (pos i) (pos j) K.h L.h ∙ ap (λ v. pos 0 -ℤ (pos 2 *ℤ v)) (sym (dot_edge_sum d k l i j))) less);
-      same_sight = record {
-        across = ap (λ v. v *ℤ p.w) (dot_edge_sum (right_axis d) k l i j) ∙ same_u;
-        upward = ap (λ v. v *ℤ p.w) (dot_edge_sum (up_axis d) k l i j) ∙ same_v;
-      };
-    }
-
     reaches_of_covers : SideCovers (at k) (at l) (on_plane c p) → SideReaches c k l p
     reaches_of_covers q =
-        let e = unpack
-        (λ i j n. (pos 0 <ℤ (i +ℤ j))
-        × (((i *ℤ K.u) +ℤ (j *ℤ L.u)) *ℤ p.w ≡ across_of d p *ℤ (i +ℤ j))
-        × (((i *ℤ K.v) +ℤ (j *ℤ L.v)) *ℤ p.w ≡ upward_of d p *ℤ (i +ℤ j))
-        × (((pos 0 -ℤ (plane_height c *ℤ p.w)) *ℤ (i +ℤ j)) <ℤ (((i *ℤ (pos 0 -ℤ (pos 2 *ℤ K.h))) +ℤ (j *ℤ (pos 0 -ℤ (pos 2 *ℤ L.h)))) *ℤ p.w)))
-        q.i q.j (pos 0) q.i_least q.j_least (natural 0) (q.some, q.same_u, q.same_v, q.nearer) in
-        reaches_of e.0 e.1 (some_of e.0 e.1 e.3.0) e.3.1 e.3.2 e.3.3
-      where
-        some_of : (i j : ℕ) → pos 0 <ℤ pos (i + j) → 0 < i + j
-        some_of i j h = omega (arith, ints)
+        let w = sum_of_side_covers d k l p (at k).h (at l).h (on_plane c p).h q in
+        record {
+          point = edge_sum k l w.0 w.1;
+          on_side = (w.0, w.1, w.2, refl);
+          beyond = beyond_up (height_of d (edge_sum k l w.0 w.1)) (pos (w.0 + w.1)) (plane_height c) p.w point
+              (subst (λ v. ((pos 0 -ℤ (plane_height c *ℤ p.w)) *ℤ pos (w.0 + w.1)) <ℤ (v *ℤ p.w))
+              (lowered_two (pos w.0) (pos w.1) K.h L.h ∙ ap (λ v. pos 0 -ℤ (pos 2 *ℤ v)) (sym (dot-edge_sum d k l w.0 w.1))) w.4);
+          same_sight = w.3;
+        }
 
   -- a face that is edge-on and has a point beyond the plane on the line of sight has a side that does
   module _ (a b e : Corner) (solid : ¬ IsFlat a b e) (flat : facing_of d a b e ≡ pos 0) where
@@ -132,9 +100,6 @@ module _ (c : Plane) (p : Point) (point : IsPoint p) where
             | inr x ↦ inl (wide d a b x.0, reaches_of_covers a b x.1)
           ]
         ]
-      where
-        times_zero : (x : ℤ) → x *ℤ pos 0 ≡ pos 0
-        times_zero x = omega (arith, ints)
 
 -- ---- between a nearer point and a point beyond the plane
 -- how much nearer q is than p, times both divisors
@@ -197,18 +162,9 @@ module _ (n1 b1 v1 n2 b2 v2 w b : ℤ) (first : (pos 2 *ℤ n1) +ℤ (w *ℤ b1)
   abbrev here : List ℤ
   here = n1 ∷ b1 ∷ v1 ∷ n2 ∷ b2 ∷ v2 ∷ w ∷ b ∷ []
 
-  turn_least : (x : ℤ) → x ≤ℤ pos 0 → pos 0 ≤ℤ (pos 0 -ℤ x)
-  turn_least x h = omega (arith, ints)
-
-  at_least : (x : ℤ) → pos 0 <ℤ x → pos 0 ≤ℤ x
-  at_least x h = omega (arith, ints)
-
-  sum_pos : (x y : ℤ) → pos 0 <ℤ x → pos 0 ≤ℤ y → pos 0 <ℤ (x +ℤ y)
-  sum_pos x y h k = omega (arith, ints)
-
   mix_positive : pos 0 <ℤ ((n1 *ℤ b2) -ℤ (n2 *ℤ b1))
   mix_positive = pos_of_mul w _ w_positive (subst (λ (v : ℤ). pos 0 <ℤ v) (sym is)
-      (mul_pos b _ b_positive (sum_pos _ _ (mul_pos n1 v2 near v2_positive) (mul_nonneg _ _ (turn_least n2 level) (at_least v1 v1_positive)))))
+      (mul_pos b _ b_positive (sum_positive_first _ _ (mul_pos n1 v2 near v2_positive) (mul_nonneg _ _ (negation_not_negative n2 level) (not_negative_of_positive v1 v1_positive)))))
     where
       is : w *ℤ ((n1 *ℤ b2) -ℤ (n2 *ℤ b1)) ≡ b *ℤ ((n1 *ℤ v2) +ℤ ((pos 0 -ℤ n2) *ℤ v1))
       is = by_two _ _ _ _ n1 _ _ (pos 0 -ℤ n2)
@@ -290,11 +246,8 @@ module _ (c : Plane) (a b e : Corner) (p : Point) (point : IsPoint p) (here_beyo
       counted : (x : ℕ) (y z : ℤ) → y +ℤ z ≡ pos x → pos 0 <ℤ y → pos 0 <ℤ z → 0 < x
       counted x y z h p q = omega (arith, ints)
 
-      sum : (x : ℕ) → 0 < x → pos 0 <ℤ pos x
-      sum x h = omega (arith, ints)
-
       total : 0 < (m * i + n * u) + (m * j + n * v) + (m * k + n * w)
-      total = counted _ _ _ (λ t. (mixed-face a b e i j k u v w m n t).w) (mul_pos _ _ hm (sum (i + j + k) some)) (mul_pos _ _ hn (sum (u + v + w) more))
+      total = counted _ _ _ (λ t. (mixed-face a b e i j k u v w m n t).w) (mul_pos _ _ hm (natural_positive (i + j + k) some)) (mul_pos _ _ hn (natural_positive (u + v + w) more))
   mixed-point q r f g (negsuc m) n hm hn = absurd (omega (arith, ints))
   mixed-point q r f g (pos m) (negsuc n) hm hn = absurd (omega (arith, ints))
 
@@ -324,13 +277,13 @@ module _ (c : Plane) (a b e : Corner) (p : Point) (point : IsPoint p) (here_beyo
   SomeSideReaches = WideSideReaches c a b p ⊎ WideSideReaches c b e p ⊎ WideSideReaches c e a p
 
   first-on : (q : Point) → IsPointOfEdge a b q → IsPointOfFace a b e q
-  first-on q h = side-point a b e q h
+  first-on q h = face_point-of_side a b e q h
 
   second-on : (q : Point) → IsPointOfEdge b e q → IsPointOfFace a b e q
-  second-on q h = face-around e a b q (face-around b e a q (side-point b e a q h))
+  second-on q h = face_point-round e a b q (face_point-round b e a q (face_point-of_side b e a q h))
 
   third-on : (q : Point) → IsPointOfEdge e a q → IsPointOfFace a b e q
-  third-on q h = face-around e a b q (side-point e a b q h)
+  third-on q h = face_point-round e a b q (face_point-of_side e a b q h)
 
   hides_with : SomeSideHides → (r : Point) → IsPointOfFace a b e r → OnOneSight toward r p → pos 0 <ℤ below_of c r → HidesInCut c a b e p
   hides_with (inl (wide, h)) r g second low = hides_between h.point r (first-on h.point h.on_side) g h.same_sight second ((nearer-gap h.point).0 h.nearer) low

@@ -14,14 +14,14 @@ use Rattle.geometry.specs.Faces.{normal, facing_of, face_sum, share_point, FaceH
 use Rattle.geometry.specs.Parts.{Part, Face, Edge}
 use Rattle.geometry.specs.Cuts.{edge, border, IsSeenOverInCut, IsOrdinaryInCut}
 use Rattle.geometry.proofs.BorderSteps.{along_normal}
+use Rattle.geometry.proofs.FacePoints.{face_point-turned, edge_point-at_share}
 use Rattle.hiding.specs.inner.Values.{value_at, side_of, depth_of, IsBehind, AreCornersOf}
 use Rattle.hiding.specs.inner.CutValues.{below_of, under_of, HidesInCut}
 use Rattle.hiding.proofs.Names.{corner_letters, ways, offsets, normals}
 use Rattle.hiding.proofs.Values.{depth-share}
 use Rattle.hiding.proofs.Weights.{natural, sides-sum, weigh_x, weigh_y, weigh_z}
-use Rattle.hiding.proofs.Hiding.{face-turned, hides-front}
+use Rattle.hiding.proofs.Hiding.{hides-front}
 use Rattle.hiding.proofs.FrontEnds.{IsRoot}
-use Rattle.hiding.proofs.SidePoints.{share-of-edge}
 use Rattle.hiding.proofs.CutPlanes.{square-one, cut-somewhere, below-beyond, below-on, below-share}
 
 -- ---- heights on the line of sight
@@ -231,7 +231,7 @@ module _ (c : Plane) (s : Part) (e : Edge s) (n m : ℤ) (positive : pos 0 <ℤ 
   border-parallel ordinary q on_face on same = by corners
     where
       under : IsSeenOverInCut c (edge e) here
-      under = (here, share-of-edge e.a e.b n m positive least most, record { across = refl; upward = refl })
+      under = (here, edge_point-at_share e.a e.b n m positive least most, record { across = refl; upward = refl })
 
       by : AreCornersOf f i j k → det (toward_of c) (difference e.a e.b) (cross (toward_of c) (normal i j k)) ≡ pos 0
       by (inl (x, y, z)) =
@@ -243,7 +243,7 @@ module _ (c : Plane) (s : Part) (e : Edge s) (n m : ℤ) (positive : pos 0 <ℤ 
       by (inr (x, y, z)) =
           turned-border (toward_of c) (difference e.a e.b) i j k
           (subst (λ (t : Triple). det (toward_of c) (difference e.a e.b) (cross (toward_of c) t) ≡ pos 0) (λ t. normal (x t) (y t) (z t))
-          (ordinary.off_crossings (edge e) (border f) under (q, (by_corners (face-turned i j k q on_face), on), same)))
+          (ordinary.off_crossings (edge e) (border f) under (q, (by_corners (face_point-turned i j k q on_face), on), same)))
         where
           by_corners : IsPointOfFace i k j q → IsPointOfFace f.a f.b f.c q
           by_corners (u, v, w, some, is) = (u, v, w, some, is ∙ sym (λ t. face_sum (x t) (y t) (z t) u v w))

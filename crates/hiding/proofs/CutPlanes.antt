@@ -2,6 +2,7 @@
 use Rattle.std.proofs.Common.{◌≡◌, ℕ, ◌+◌, [], ◌∷◌, refl, sym, ◌∙◌, arith, Bool, true, false}
 use Rattle.std.specs.Prelude.{◌↔◌, ℤ, pos, ◌+ℤ◌, ◌-ℤ◌, ◌*ℤ◌, ◌<ℤ◌}
 use Rattle.std.proofs.lemmas.Int.{ints}
+use Rattle.integers.proofs.Comparisons.{same_of_gap_back}
 use Rattle.integers.proofs.Ring.{Expr, var, con, ◌⊕◌, ◌⊖◌, ◌⊗◌, ring}
 use Rattle.lattice.specs.declared.points.Axis.{Axis}
 use Rattle.lattice.specs.declared.points.Axis.TheVariants.{X, Y, Z}
@@ -46,10 +47,7 @@ module _ (c : Plane) where
       go x y = ((λ h. omega (arith, ints)), (λ h. omega (arith, ints)))
 
   pub below-on : (p : Point) → below_of c p ≡ pos 0 → IsOnPlane c p
-  below-on p h = go (pos 2 *ℤ height_of (toward_of c) p) (plane_height c *ℤ p.w) h
-    where
-      go : (x y : ℤ) → y -ℤ x ≡ pos 0 → x ≡ y
-      go x y h = omega (arith, ints)
+  below-on p h = same_of_gap_back (pos 2 *ℤ height_of (toward_of c) p) (plane_height c *ℤ p.w) h
 
   pub corner-not-level : (k : Corner) → ¬ (below_of c (point_of k) ≡ pos 0)
   corner-not-level k h = corner_off_plane c k (below-on (point_of k) h)

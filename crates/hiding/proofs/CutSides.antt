@@ -1,7 +1,8 @@
 -- Where a side of an edge-on face is beyond the plane over an edge that is seen in line with it, and that where it meets the plane there is no ordinary point.
-use Rattle.std.proofs.Common.{◌≡◌, ℕ, ◌+◌, ◌<◌, All, length, [], ◌∷◌, refl, sym, subst, ◌∙◌, arith}
+use Rattle.std.proofs.Common.{◌≡◌, ℕ, ◌+◌, ◌<◌, All, length, [], ◌∷◌, refl, sym, subst, ◌∙◌}
 use Rattle.std.specs.Prelude.{◌↔◌, ℤ, pos, ◌+ℤ◌, ◌-ℤ◌, ◌*ℤ◌, ◌<ℤ◌, ◌≤ℤ◌}
-use Rattle.std.proofs.lemmas.Int.{ints}
+use Rattle.integers.proofs.Absolutes.{natural_positive}
+use Rattle.geometry.proofs.FacePoints.{edge_point-turned}
 use Rattle.integers.proofs.Ring.{Expr, var, ◌⊕◌, ◌⊖◌, ◌⊗◌, ring, by_one}
 use Rattle.integers.proofs.Signs.{mul_pos, pos_of_mul}
 use Rattle.lattice.specs.declared.points.Corner.{Corner}
@@ -17,7 +18,7 @@ use Rattle.hiding.specs.inner.CutValues.{below_of, reach_of, SideReaches, IsOver
 use Rattle.hiding.proofs.Values.{past-share, short-share}
 use Rattle.hiding.proofs.Ordinary.{side-edge}
 use Rattle.hiding.proofs.Readings.{dot-offset, dot-difference, short-is}
-use Rattle.hiding.proofs.SidePoints.{natural, edge-turned}
+use Rattle.hiding.proofs.SidePoints.{natural}
 use Rattle.hiding.proofs.SideEnds.{sum-meets, sum-past, sum-short, there-sight, some-there}
 use Rattle.hiding.proofs.CutPlanes.{cut-somewhere, below-beyond, below-on, below-sum}
 
@@ -25,7 +26,7 @@ use Rattle.hiding.proofs.CutPlanes.{cut-somewhere, below-beyond, below-on, below
 pub side-reaches-turned : (c : Plane) (k l : Corner) (p : Point) → SideReaches c k l p → SideReaches c l k p
 side-reaches-turned c k l p h = record {
   point = h.point;
-  on_side = edge-turned k l h.point h.on_side;
+  on_side = edge_point-turned k l h.point h.on_side;
   beyond = h.beyond;
   same_sight = h.same_sight;
 }
@@ -57,13 +58,10 @@ module _ (c : Plane) (axis : Triple) (p q k l : Corner) (n m : ℤ) (positive : 
       let meets = sum-meets d axis k l here (cut-somewhere c) positive ahead.level forward i j some same in
       let is : reach_of c axis k l here ≡ (((m *ℤ dot axis (of_corner l)) -ℤ dot axis (scaled here)) *ℤ bk) +ℤ ((dot axis (scaled here) -ℤ (m *ℤ dot axis (of_corner k))) *ℤ bl) =
       (λ t. (short-is axis l here t *ℤ bk) +ℤ (dot-offset axis k here t *ℤ bl)) in
-      subst (λ (v : ℤ). pos 0 <ℤ v) (sym is) (pos_of_mul (pos i +ℤ pos j) _ (counted i j some)
+      subst (λ (v : ℤ). pos 0 <ℤ v) (sym is) (pos_of_mul (pos i +ℤ pos j) _ (natural_positive (i + j) some)
       (subst (λ (v : ℤ). pos 0 <ℤ v) (sym (weighed m (dot axis (of_corner k)) (dot axis (of_corner l)) (dot axis (scaled here)) (pos i) (pos j) bk bl meets))
       (mul_pos _ _ (mul_pos m _ positive along) (subst (λ (v : ℤ). pos 0 <ℤ v) (below-sum c k l i j) low))))
     where
-      counted : (i j : ℕ) → 0 < i + j → pos 0 <ℤ (pos i +ℤ pos j)
-      counted i j h = omega (arith, ints)
-
       weighed : (w ak al at i j bk bl : ℤ) → (i *ℤ ak +ℤ j *ℤ al) *ℤ w ≡ at *ℤ (i +ℤ j)
           → (i +ℤ j) *ℤ ((((w *ℤ al) -ℤ at) *ℤ bk) +ℤ ((at -ℤ (w *ℤ ak)) *ℤ bl)) ≡ (w *ℤ (al -ℤ ak)) *ℤ ((i *ℤ bk) +ℤ (j *ℤ bl))
       weighed w ak al at i j bk bl meets =

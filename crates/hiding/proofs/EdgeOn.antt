@@ -2,11 +2,11 @@
 use Rattle.std.proofs.Common.{◌≡◌, List, [], ◌∷◌, refl, ◌∙◌, arith, ◌⊎◌, inl, inr, ⊎_elim}
 use Rattle.std.specs.Prelude.{ℤ, pos, ◌+ℤ◌, ◌-ℤ◌, ◌*ℤ◌, ◌≤ℤ◌, ◌<ℤ◌}
 use Rattle.std.proofs.lemmas.Int.{ints, by_lt_z}
+use Rattle.integers.proofs.Comparisons.{positive_at, not_negative_at}
 use Rattle.integers.proofs.Ring.{var, con, ◌⊕◌, ◌⊖◌, ◌⊗◌, ring, by_one, by_three, less_by, gap_of_less}
 use Rattle.integers.proofs.Signs.{mul_nonneg, mul_pos}
 use Rattle.hiding.proofs.Decisions.{same_or}
 use Rattle.hiding.proofs.ScreenLetters.{A, B, C, P, I, J, K, area, weighed, values, X, Y, Z, values_falling}
-use Rattle.hiding.proofs.ScreenSides.{pos_at, nonneg_at}
 use Rattle.hiding.proofs.Screens.{Screen, area_of, Covers, SideCovers, AreApart, SomeSideCovers}
 
 -- ---- which weight to use up: one that falls, and that is used up before the others
@@ -20,7 +20,7 @@ fall_least x j i y p q r s =
     let n = mul_nonneg i (pos 0 -ℤ y) r (omega (arith, ints)) in
     let X = var 0 in let N = var 1 in let M = var 2 in let Y = var 3 in
     let e = ring (x ∷ j ∷ i ∷ y ∷ []) ((X ⊗ N) ⊖ (M ⊗ Y)) ((X ⊗ N) ⊕ (M ⊗ (con (pos 0) ⊖ Y))) refl in
-    nonneg_at _ _ e (sum_least _ _ m n)
+    not_negative_at _ _ e (sum_least _ _ m n)
   where
     sum_least : (a b : ℤ) → pos 0 ≤ℤ a → pos 0 ≤ℤ b → pos 0 ≤ℤ (a +ℤ b)
     sum_least a b p q = omega (arith, ints)
@@ -39,7 +39,7 @@ first_of_two x y z i j k hx hy hz hi hj hk =
     turned n =
         let X = var 0 in let Y = var 1 in let M = var 2 in let N = var 3 in
         let e = ring (x ∷ y ∷ i ∷ j ∷ []) ((Y ⊗ M) ⊖ (N ⊗ X)) (con (pos 0) ⊖ ((X ⊗ N) ⊖ (M ⊗ Y))) refl in
-        nonneg_at _ _ e (flip _ n)
+        not_negative_at _ _ e (flip _ n)
       where
         flip : (a : ℤ) → a <ℤ pos 0 → pos 0 ≤ℤ (pos 0 -ℤ a)
         flip a h = omega (arith, ints)
@@ -72,7 +72,7 @@ turned a b c p q =
       i_least = q.j_least;
       j_least = q.k_least;
       k_least = q.i_least;
-      some = pos_at _ _ (ring here ((J ⊕ K) ⊕ I) ((I ⊕ J) ⊕ K) refl) q.some;
+      some = positive_at _ _ (ring here ((J ⊕ K) ⊕ I) ((I ⊕ J) ⊕ K) refl) q.some;
       same_u = ring here (weighed J K I B.u C.u A.u ⊗ P.w) (weighed I J K A.u B.u C.u ⊗ P.w) refl ∙ q.same_u ∙ ring here (P.u ⊗ ((I ⊕ J) ⊕ K)) (P.u ⊗ ((J ⊕ K) ⊕ I)) refl;
       same_v = ring here (weighed J K I B.v C.v A.v ⊗ P.w) (weighed I J K A.v B.v C.v ⊗ P.w) refl ∙ q.same_v ∙ ring here (P.v ⊗ ((I ⊕ J) ⊕ K)) (P.v ⊗ ((J ⊕ K) ⊕ I)) refl;
       nearer = less_by _ _ _
@@ -102,7 +102,7 @@ drop_first a b c p q x y z w whole flat_u flat_v behind d =
       j = (x *ℤ q.k) -ℤ (q.i *ℤ z);
       i_least = d.1;
       j_least = d.2;
-      some = pos_at _ _
+      some = positive_at _ _
           (by_one _ _ _ _ (pos 0 -ℤ q.i) (ring here ((j' ⊕ k') ⊖ (X ⊗ s)) ((xyz ⊖ O) ⊗ (O ⊖ I)) refl) whole)
           (mul_pos x _ d.0 q.some);
       same_u = by_three _ _ _ _ x _ _ (pos 0 -ℤ (q.i *ℤ p.w)) _ _ (p.u *ℤ q.i)

@@ -63,7 +63,7 @@ module _ (d : Triple) where
   along : (a b : Corner) → (at a).u ≡ (at b).u → (at a).v ≡ (at b).v → IsZero (cross (difference a b) d)
   along a b u v =
       let axis = right_axis-is d in
-      alike (right_axis d) (difference a b) d axis.square axis.level (no_way (right_axis d) a b u) (no_way (up_axis d) a b v)
+      alike (right_axis d) (right_axis d) (difference a b) d axis.square axis.level (no_way (right_axis d) a b u) (no_way (up_axis d) a b v)
 
   pub together_flat : (a b c : Corner) → pos 0 <ℤ dot d d → facing_of d a b c ≡ pos 0
       → ((at a).u ≡ (at b).u) × ((at a).v ≡ (at b).v) × ((at b).u ≡ (at c).u) × ((at b).v ≡ (at c).v) → IsFlat a b c

@@ -3,6 +3,8 @@ use Rattle.std.proofs.Common.{◌≡◌, ◌⊎◌, inl, inr, ℕ, zero, suc, �
 use Rattle.std.specs.Prelude.{◌≢◌, ℤ, pos, ◌+ℤ◌, ◌-ℤ◌, ◌*ℤ◌, ◌<ℤ◌, ◌≤ℤ◌}
 use Rattle.std.proofs.lemmas.Int.{ints}
 use Rattle.std.proofs.lemmas.Option.{slice_get_within, get_or_from_slice_get}
+use Rattle.integers.proofs.Absolutes.{natural_of_positive}
+use Rattle.integers.proofs.Comparisons.{not_negative_of_positive, last_two_exchanged}
 use Rattle.integers.proofs.Ring.{var, con, ◌⊕◌, ◌⊖◌, ◌⊗◌, ring, by_one}
 use Rattle.integers.proofs.Signs.{mul_pos}
 use Rattle.lattice.specs.declared.points.Corner.{Corner}
@@ -79,24 +81,18 @@ module _ (s : Part) (f : Face s) where
     sum-of-corners (inl (x, y, z)) q i j k some h = (i, j, k, some, h ∙ sym (λ t. face_sum (x t) (y t) (z t) i j k))
     sum-of-corners (inr (x, y, z)) q i j k some h = (i, k, j, omega arith, h ∙ turned ∙ sym (λ t. face_sum (x t) (y t) (z t) i k j))
       where
-        swap : (x y z : ℤ) → (x +ℤ y) +ℤ z ≡ (x +ℤ z) +ℤ y
-        swap x y z = omega (arith, ints)
-
         weights : pos (i + j + k) ≡ pos (i + k + j)
         weights = omega (arith, ints)
 
         turned : face_sum a b c i j k ≡ face_sum a c b i k j
         turned = λ t. record {
-          x = swap (pos i *ℤ a.x) (pos j *ℤ b.x) (pos k *ℤ c.x) t;
-          y = swap (pos i *ℤ a.y) (pos j *ℤ b.y) (pos k *ℤ c.y) t;
-          z = swap (pos i *ℤ a.z) (pos j *ℤ b.z) (pos k *ℤ c.z) t;
+          x = last_two_exchanged (pos i *ℤ a.x) (pos j *ℤ b.x) (pos k *ℤ c.x) t;
+          y = last_two_exchanged (pos i *ℤ a.y) (pos j *ℤ b.y) (pos k *ℤ c.y) t;
+          z = last_two_exchanged (pos i *ℤ a.z) (pos j *ℤ b.z) (pos k *ℤ c.z) t;
           w = weights t;
         }
 
 -- ---- a point of an edge
-positive-weight : (k : ℕ) (z : ℤ) → pos k ≡ z → pos 0 <ℤ z → 0 < k
-positive-weight k z e h = omega (arith, ints)
-
 positive-divisor : (k : ℕ) (z : ℤ) → z ≡ pos k → 0 < k → pos 0 <ℤ z
 positive-divisor k z e h = omega (arith, ints)
 
@@ -106,9 +102,6 @@ same-weight k l e h = omega (arith, ints)
 scaled-weight : (w u v : ℕ) → 0 < w → 0 < u + v → 0 < w * u + w * v
 scaled-weight zero u v h k = absurd (omega arith)
 scaled-weight (suc w) u v h k = omega arith
-
-at-least : (z : ℤ) → pos 0 <ℤ z → pos 0 ≤ℤ z
-at-least z h = omega (arith, ints)
 
 module _ (d : Triple) (s : Part) (sound : IsSound s) (in_range : All (IsBelow (length s.corners)) s.triangles) (e : Edge s) (p : Point) (u v : ℕ) (some : 0 < u + v) (at : p ≡ edge_sum e.a e.b u v) where
   divisor : pos 0 <ℤ p.w
@@ -120,7 +113,7 @@ module _ (d : Triple) (s : Part) (sound : IsSound s) (in_range : All (IsBelow (l
   not-over-side f a b c side front bc ca (changes, here) =
       let (i, hi) = natural (side_of d b c p) bc in
       let (j, hj) = natural (side_of d c a p) ca in
-      let weight : 0 < i + j = positive-weight (i + j) _ (side-total d a b c p i j hi hj here) (mul_pos p.w (facing_of d a b c) divisor front) in
+      let weight : 0 < i + j = natural_of_positive (i + j) _ (side-total d a b c p i j hi hj here) (mul_pos p.w (facing_of d a b c) divisor front) in
       not-at-crossing d s p sound.closed in_range e (p, (u, v, some, at), record { across = refl; upward = refl }) f a b side (edge_sum a b i j) (i, j, weight, refl)
       (side-sight d a b c p i j hi hj here) (λ parallel. changes (parallel-side d a b e.a e.b parallel))
 
@@ -132,10 +125,10 @@ module _ (d : Triple) (s : Part) (sound : IsSound s) (in_range : All (IsBelow (l
         let (i, hi) = natural (side_of d b c p) bc in
         let (j, hj) = natural (side_of d c a p) ca in
         let (k, hk) = natural (side_of d a b p) ab in
-        let (w, hw) = natural (facing_of d a b c) (at-least _ front) in
+        let (w, hw) = natural (facing_of d a b c) (not_negative_of_positive _ front) in
         let q = edge_sum e.a e.b (w * u) (w * v) in
         let same : q ≡ face_sum a b c i j k = meeting-point d a b c p i j hi hj k hk level w hw e.a e.b u v at in
-        let weight : 0 < w * u + w * v = scaled-weight w u v (positive-weight w _ (sym hw) front) some in
+        let weight : 0 < w * u + w * v = scaled-weight w u v (natural_of_positive w _ (sym hw) front) some in
         not-at-meeting d s p sound.apart e f q (record {
           not_left = not_left;
           not_right = not_right;
@@ -199,7 +192,7 @@ module _ (d : Triple) (s : Part) (e : Edge s) (n m : ℤ) (positive : pos 0 <ℤ
         let (u, hu) = natural (m -ℤ n) (omega (arith, ints)) in
         let (v, hv) = natural n least in
         let divisor : m ≡ pos (u + v) = whole n m u v hu hv in
-        let some : 0 < u + v = positive-weight (u + v) m (sym divisor) positive in
+        let some : 0 < u + v = natural_of_positive (u + v) m (sym divisor) positive in
         let at : here ≡ edge_sum e.a e.b u v = λ t. record {
           x = (hu t *ℤ e.a.x) +ℤ (hv t *ℤ e.b.x);
           y = (hu t *ℤ e.a.y) +ℤ (hv t *ℤ e.b.y);

@@ -1,9 +1,10 @@
 -- When a face hides a point, and that this is decided.
-use Rattle.std.proofs.Common.{◌≡◌, ◌⊎◌, ℕ, ◌+◌, ◌<◌, zero, suc, [], ◌∷◌, length, slice_get, Some, inl, inr, refl, sym, ap, subst, ◌∙◌, arith}
-use Rattle.std.specs.Prelude.{ℤ, pos, ◌+ℤ◌, ◌-ℤ◌, ◌*ℤ◌, ◌<ℤ◌, ◌≤ℤ◌, ◌↔◌}
+use Rattle.std.proofs.Common.{◌≡◌, ◌⊎◌, ℕ, ◌<◌, zero, suc, length, slice_get, Some, inl, inr, refl, sym, ap, subst, ◌∙◌, arith}
+use Rattle.std.specs.Prelude.{ℤ, pos, ◌+ℤ◌, ◌*ℤ◌, ◌<ℤ◌, ◌≤ℤ◌, ◌↔◌}
 use Rattle.std.proofs.lemmas.Int.{ints, by_lt_z}
 use Rattle.std.proofs.lemmas.Option.{slice_get_within}
-use Rattle.integers.proofs.Ring.{var, con, ◌⊕◌, ◌⊗◌, ring}
+use Rattle.geometry.proofs.FacePoints.{face_point-round, face_point-turned, face_point-of_side}
+use Rattle.integers.proofs.Comparisons.{positive_not_zero, not_negative_of_positive, not_negative_at, positive_at, negation_positive, times_zero, zero_between}
 use Rattle.integers.proofs.Signs.{mul_nonneg, mul_pos, nonneg_of_mul, pos_of_mul}
 use Rattle.lattice.specs.declared.points.Corner.{Corner}
 use Rattle.lattice.specs.declared.soup.Tri.{Tri}
@@ -11,7 +12,7 @@ use Rattle.lattice.specs.Triple.{Triple, dot, right_axis, IsZero}
 use Rattle.lattice.specs.Points.{Point, IsPoint, point_of, OnOneSight}
 use Rattle.lattice.proofs.Vectors.{dot_somewhere}
 use Rattle.lattice.proofs.SightLines.{right_axis-is}
-use Rattle.geometry.specs.Faces.{normal, face_sum, edge_sum, IsPointOfEdge, IsPointOfFace, FaceHides, IsFlat, facing_of}
+use Rattle.geometry.specs.Faces.{normal, FaceHides, IsFlat, facing_of}
 use Rattle.geometry.specs.Parts.{Part, Face, HasNoFlatTriangle}
 use Rattle.geometry.specs.Views.{IsHidden}
 use Rattle.hiding.specs.inner.Values.{side_of, depth_of, IsBehind, SideHides, WideSideHides}
@@ -21,42 +22,23 @@ use Rattle.hiding.proofs.Decisions.{same_or, less_or, at_most_or, four_or, eithe
 use Rattle.hiding.proofs.Values.{facing-turned}
 use Rattle.hiding.proofs.ScreenFaces.{covers_from, covers_to}
 use Rattle.hiding.proofs.ScreenScale.{area_scale, turn_scale, lead_scale}
-use Rattle.hiding.proofs.ScreenSides.{pos_at, nonneg_at, at_least, side_from, side_to, length_least, length_zero, length_none}
+use Rattle.hiding.proofs.ScreenSides.{side_from, side_to, length_least, length_zero, length_none}
 use Rattle.hiding.proofs.EdgeOn.{edge_on}
 use Rattle.hiding.proofs.OnScreens.{seen, covers_of_hides, hides_of_covers, side_hides_of_covers, side_covers_of_hides}
 use Rattle.hiding.proofs.Flatness.{together_flat}
 
--- the order of the corners does not count
-pub face-turned : (a b c : Corner) (q : Point) → IsPointOfFace a b c q → IsPointOfFace a c b q
-face-turned a b c q f = (f.0, f.2, f.1, some f.0 f.1 f.2 f.3, f.4 ∙ turned f.0 f.1 f.2)
-  where
-    some : (i j k : ℕ) → 0 < i + j + k → 0 < i + k + j
-    some i j k h = omega arith
-
-    exchanged : (i j k : ℕ) (x y z : ℤ) → ((pos i *ℤ x) +ℤ (pos j *ℤ y)) +ℤ (pos k *ℤ z) ≡ ((pos i *ℤ x) +ℤ (pos k *ℤ z)) +ℤ (pos j *ℤ y)
-    exchanged i j k x y z = ring (pos i ∷ pos j ∷ pos k ∷ x ∷ y ∷ z ∷ []) (((var 0 ⊗ var 3) ⊕ (var 1 ⊗ var 4)) ⊕ (var 2 ⊗ var 5)) (((var 0 ⊗ var 3) ⊕ (var 2 ⊗ var 5)) ⊕ (var 1 ⊗ var 4)) refl
-
-    sums : (i j k : ℕ) → i + j + k ≡ i + k + j
-    sums i j k = omega arith
-
-    turned : (i j k : ℕ) → face_sum a b c i j k ≡ face_sum a c b i k j
-    turned i j k = λ t. record { x = exchanged i j k a.x b.x c.x t; y = exchanged i j k a.y b.y c.y t; z = exchanged i j k a.z b.z c.z t; w = pos (sums i j k t) }
-
 pub hides-turned : (d : Triple) (a b c : Corner) (p : Point) → FaceHides d a b c p → FaceHides d a c b p
 hides-turned d a b c p h = record {
   point = h.point;
-  on_face = face-turned a b c h.point h.on_face;
+  on_face = face_point-turned a b c h.point h.on_face;
   same_sight = h.same_sight;
   nearer = h.nearer;
 }
 
-less_none : (x : ℤ) → x ≡ pos 0 → pos 0 <ℤ x → ⊥
-less_none x e h = omega (arith, ints)
-
 -- ---- a face that is turned to the viewer
 -- the direction is not 0, since the face has a sign
 front_somewhere : (d : Triple) (a b c : Corner) → pos 0 <ℤ facing_of d a b c → ¬ IsZero d
-front_somewhere d a b c front none = less_none _ ((λ t. (none.x t *ℤ (normal a b c).x) +ℤ (none.y t *ℤ (normal a b c).y) +ℤ (none.z t *ℤ (normal a b c).z)) ∙ no_sum (normal a b c).x (normal a b c).y (normal a b c).z) front
+front_somewhere d a b c front none = positive_not_zero _ front ((λ t. (none.x t *ℤ (normal a b c).x) +ℤ (none.y t *ℤ (normal a b c).y) +ℤ (none.z t *ℤ (normal a b c).z)) ∙ no_sum (normal a b c).x (normal a b c).y (normal a b c).z)
   where
     no_sum : (x y z : ℤ) → ((pos 0 *ℤ x) +ℤ (pos 0 *ℤ y)) +ℤ (pos 0 *ℤ z) ≡ pos 0
     no_sum x y z = omega (arith, ints)
@@ -75,13 +57,13 @@ module _ (d : Triple) (a b c : Corner) (p : Point) (point : IsPoint p) (front : 
   square = dot_somewhere d (front_somewhere d a b c front)
 
   seen_front : pos 0 <ℤ area_of (at a) (at b) (at c)
-  seen_front = pos_at _ _ (area_scale d (right_axis d) level a b c) (mul_pos _ _ factor front)
+  seen_front = positive_at _ _ (area_scale d (right_axis d) level a b c) (mul_pos _ _ factor front)
 
   turn_to : (k l : Corner) → pos 0 ≤ℤ turn_of (seen d p) (at k) (at l) → pos 0 ≤ℤ side_of d k l p
-  turn_to k l h = nonneg_of_mul _ _ factor (nonneg_at _ _ (sym (turn_scale d (right_axis d) level k l p)) h)
+  turn_to k l h = nonneg_of_mul _ _ factor (not_negative_at _ _ (sym (turn_scale d (right_axis d) level k l p)) h)
 
   turn_from : (k l : Corner) → pos 0 ≤ℤ side_of d k l p → pos 0 ≤ℤ turn_of (seen d p) (at k) (at l)
-  turn_from k l h = nonneg_at _ _ (turn_scale d (right_axis d) level k l p) (mul_nonneg _ _ (at_least _ factor) h)
+  turn_from k l h = not_negative_at _ _ (turn_scale d (right_axis d) level k l p) (mul_nonneg _ _ (not_negative_of_positive _ factor) h)
 
   behind_of : FaceHides d a b c p → IsBehind d a b c p
   behind_of h =
@@ -90,12 +72,12 @@ module _ (d : Triple) (a b c : Corner) (p : Point) (point : IsPoint p) (front : 
         ab = turn_to a b t.2;
         bc = turn_to b c t.0;
         ca = turn_to c a t.1;
-        depth = pos_of_mul _ _ square (pos_of_mul _ _ factor (pos_at _ _ (sym (lead_scale d (right_axis d) level a b c p)) t.3));
+        depth = pos_of_mul _ _ square (pos_of_mul _ _ factor (positive_at _ _ (sym (lead_scale d (right_axis d) level a b c p)) t.3));
       }
 
   hides_of : IsBehind d a b c p → FaceHides d a b c p
   hides_of h = hides_of_covers d a b c p (covers_from (at a) (at b) (at c) (seen d p) point seen_front (turn_from b c h.bc) (turn_from c a h.ca) (turn_from a b h.ab)
-      (pos_at _ _ (lead_scale d (right_axis d) level a b c p) (mul_pos _ _ factor (mul_pos _ _ square h.depth))))
+      (positive_at _ _ (lead_scale d (right_axis d) level a b c p) (mul_pos _ _ factor (mul_pos _ _ square h.depth))))
 
 pub hides-front : (d : Triple) (a b c : Corner) (p : Point) → IsPoint p → pos 0 <ℤ facing_of d a b c → FaceHides d a b c p ↔ IsBehind d a b c p
 hides-front d a b c p point front = (behind_of d a b c p point front, hides_of d a b c p point front)
@@ -121,49 +103,14 @@ wide-side-hides d a b c p point somewhere solid flat h =
         | inr q ↦ inl (wide d a b q.0, side_hides_of_covers d a b p q.1)
       ]
     ]
-  where
-    times_zero : (x : ℤ) → x *ℤ pos 0 ≡ pos 0
-    times_zero x = omega (arith, ints)
-
--- a point of the side is a point of the face
-pub side-point : (a b c : Corner) (q : Point) → IsPointOfEdge a b q → IsPointOfFace a b c q
-side-point a b c q f = (f.0, f.1, 0, some f.0 f.1 f.2, f.3 ∙ last_left f.0 f.1)
-  where
-    some : (i j : ℕ) → 0 < i + j → 0 < i + j + 0
-    some i j h = omega arith
-
-    left_out : (i j : ℕ) (x y z : ℤ) → (pos i *ℤ x) +ℤ (pos j *ℤ y) ≡ ((pos i *ℤ x) +ℤ (pos j *ℤ y)) +ℤ (pos 0 *ℤ z)
-    left_out i j x y z = ring (pos i ∷ pos j ∷ x ∷ y ∷ z ∷ []) ((var 0 ⊗ var 2) ⊕ (var 1 ⊗ var 3)) (((var 0 ⊗ var 2) ⊕ (var 1 ⊗ var 3)) ⊕ (con (pos 0) ⊗ var 4)) refl
-
-    sums : (i j : ℕ) → i + j ≡ i + j + 0
-    sums i j = omega arith
-
-    last_left : (i j : ℕ) → edge_sum a b i j ≡ face_sum a b c i j 0
-    last_left i j = λ t. record { x = left_out i j a.x b.x c.x t; y = left_out i j a.y b.y c.y t; z = left_out i j a.z b.z c.z t; w = pos (sums i j t) }
 
 first_side : (d : Triple) (a b c : Corner) (p : Point) → SideHides d a b p → FaceHides d a b c p
-first_side d a b c p h = record { point = h.point; on_face = side-point a b c h.point h.on_side; same_sight = h.same_sight; nearer = h.nearer }
-
--- the corners in turn
-pub face-around : (a b c : Corner) (q : Point) → IsPointOfFace a b c q → IsPointOfFace b c a q
-face-around a b c q f = (f.1, f.2, f.0, some f.0 f.1 f.2 f.3, f.4 ∙ around f.0 f.1 f.2)
-  where
-    some : (i j k : ℕ) → 0 < i + j + k → 0 < j + k + i
-    some i j k h = omega arith
-
-    moved : (i j k : ℕ) (x y z : ℤ) → ((pos i *ℤ x) +ℤ (pos j *ℤ y)) +ℤ (pos k *ℤ z) ≡ ((pos j *ℤ y) +ℤ (pos k *ℤ z)) +ℤ (pos i *ℤ x)
-    moved i j k x y z = ring (pos i ∷ pos j ∷ pos k ∷ x ∷ y ∷ z ∷ []) (((var 0 ⊗ var 3) ⊕ (var 1 ⊗ var 4)) ⊕ (var 2 ⊗ var 5)) (((var 1 ⊗ var 4) ⊕ (var 2 ⊗ var 5)) ⊕ (var 0 ⊗ var 3)) refl
-
-    sums : (i j k : ℕ) → i + j + k ≡ j + k + i
-    sums i j k = omega arith
-
-    around : (i j k : ℕ) → face_sum a b c i j k ≡ face_sum b c a j k i
-    around i j k = λ t. record { x = moved i j k a.x b.x c.x t; y = moved i j k a.y b.y c.y t; z = moved i j k a.z b.z c.z t; w = pos (sums i j k t) }
+first_side d a b c p h = record { point = h.point; on_face = face_point-of_side a b c h.point h.on_side; same_sight = h.same_sight; nearer = h.nearer }
 
 pub hides_around : (d : Triple) (a b c : Corner) (p : Point) → FaceHides d a b c p → FaceHides d b c a p
 hides_around d a b c p h = record {
   point = h.point;
-  on_face = face-around a b c h.point h.on_face;
+  on_face = face_point-round a b c h.point h.on_face;
   same_sight = h.same_sight;
   nearer = h.nearer;
 }
@@ -181,16 +128,13 @@ face-hides d a b c p h = elim h [
 module _ (d : Triple) (p : Point) (point : IsPoint p) where
   -- whether a side that is not seen end-on hides it
   wide_or : (k l : Corner) → WideSideHides d k l p ⊎ ¬ WideSideHides d k l p
-  wide_or k l = by_lt_z (pos 0) (length_of K L) long (λ h. inr (λ q. q.0 (one_sight (length_zero K L (none _ h (length_least K L))))))
+  wide_or k l = by_lt_z (pos 0) (length_of K L) long (λ h. inr (λ q. q.0 (one_sight (length_zero K L (zero_between _ (length_least K L) h)))))
     where
       K : Screen
       K = seen d (point_of k)
 
       L : Screen
       L = seen d (point_of l)
-
-      none : (x : ℤ) → x ≤ℤ pos 0 → pos 0 ≤ℤ x → x ≡ pos 0
-      none x h g = omega (arith, ints)
 
       one_sight : (K.u ≡ L.u) × (K.v ≡ L.v) → OnOneSight d (point_of k) (point_of l)
       one_sight e = record { across = ap (λ v. v *ℤ pos 1) e.0; upward = ap (λ v. v *ℤ pos 1) e.1 }
@@ -200,7 +144,7 @@ module _ (d : Triple) (p : Point) (point : IsPoint p) where
 
       long : pos 0 <ℤ length_of K L → WideSideHides d k l p ⊎ ¬ WideSideHides d k l p
       long h = alike_or Four (WideSideHides d k l p)
-          (λ f. (wide d k l (λ e. less_none _ (length_none K L e) h), side_hides_of_covers d k l p (side_from K L (seen d p) point h f.0 f.1 f.2 f.3)))
+          (λ f. (wide d k l (λ e. positive_not_zero _ h (length_none K L e)), side_hides_of_covers d k l p (side_from K L (seen d p) point h f.0 f.1 f.2 f.3)))
           (λ q. side_to K L (seen d p) (side_covers_of_hides d k l p q.1) point h)
           (four_or (turn_of (seen d p) K L ≡ pos 0) (pos 0 ≤ℤ along_of K L (seen d p)) (pos 0 ≤ℤ rest_of K L (seen d p)) (pos 0 <ℤ side_lead_of K L (seen d p)) (same_or _ _) (at_most_or _ _) (at_most_or _ _) (less_or _ _))
 
@@ -224,14 +168,8 @@ module _ (d : Triple) (p : Point) (point : IsPoint p) where
   face_or a b c somewhere solid =
       by_lt_z (pos 0) (facing_of d a b c) (front_or a b c)
       (λ h. by_lt_z (facing_of d a b c) (pos 0)
-      (λ back. alike_or (FaceHides d a c b p) (FaceHides d a b c p) (hides-turned d a c b p) (hides-turned d a b c p) (front_or a c b (pos_at _ _ (facing-turned d a b c) (turned_round _ back))))
-      (λ g. edge_on_or a b c somewhere solid (none _ h g)))
-    where
-      turned_round : (x : ℤ) → x <ℤ pos 0 → pos 0 <ℤ (pos 0 -ℤ x)
-      turned_round x h = omega (arith, ints)
-
-      none : (x : ℤ) → x ≤ℤ pos 0 → pos 0 ≤ℤ x → x ≡ pos 0
-      none x h g = omega (arith, ints)
+      (λ back. alike_or (FaceHides d a c b p) (FaceHides d a b c p) (hides-turned d a c b p) (hides-turned d a b c p) (front_or a c b (positive_at _ _ (facing-turned d a b c) (negation_positive _ back))))
+      (λ g. edge_on_or a b c somewhere solid (zero_between _ g h)))
 
 module _ (d : Triple) (somewhere : ¬ IsZero d) (s : Part) (solid : HasNoFlatTriangle s) (p : Point) (point : IsPoint p) where
   -- a face with this number hides it

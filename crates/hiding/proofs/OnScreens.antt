@@ -1,12 +1,12 @@
 -- A face hides a point where it covers it as they are seen.
-use Rattle.std.proofs.Common.{◌≡◌, ℕ, ◌+◌, ◌<◌, [], ◌∷◌, refl, sym, ap, subst, ◌∙◌, arith}
+use Rattle.std.proofs.Common.{◌≡◌, ℕ, ◌+◌, ◌<◌, refl, sym, ap, subst, ◌∙◌, arith}
 use Rattle.std.specs.Prelude.{ℤ, pos, negsuc, ◌+ℤ◌, ◌*ℤ◌, ◌≤ℤ◌, ◌<ℤ◌}
 use Rattle.std.proofs.lemmas.Int.{ints}
-use Rattle.integers.proofs.Ring.{Expr, var, ◌⊕◌, ◌⊗◌, ring}
+use Rattle.geometry.proofs.FacePoints.{dot-face_sum, dot-edge_sum}
+use Rattle.integers.proofs.Absolutes.{natural_not_negative, natural_positive}
 use Rattle.lattice.specs.declared.points.Corner.{Corner}
-use Rattle.lattice.specs.Triple.{Triple, dot, right_axis, up_axis}
-use Rattle.lattice.specs.Points.{Point, point_of, scaled, across_of, upward_of, height_of, OnOneSight, IsNearer}
-use Rattle.lattice.proofs.Vectors.{letters, dots}
+use Rattle.lattice.specs.Triple.{Triple, right_axis, up_axis}
+use Rattle.lattice.specs.Points.{Point, point_of, across_of, upward_of, height_of, OnOneSight, IsNearer}
 use Rattle.geometry.specs.Faces.{face_sum, edge_sum, FaceHides}
 use Rattle.hiding.specs.inner.Values.{SideHides}
 use Rattle.hiding.proofs.Screens.{Screen, screen_of, Covers, SideCovers}
@@ -22,27 +22,52 @@ unpack P (negsuc i) j k p q r h = absurd (omega (arith, ints))
 unpack P (pos i) (negsuc j) k p q r h = absurd (omega (arith, ints))
 unpack P (pos i) (pos j) (negsuc k) p q r h = absurd (omega (arith, ints))
 
--- a product with an axis is a sum with the same weights
-pub dot_sum : (s : Triple) (a b c : Corner) (i j k : ℕ)
-    → dot s (scaled (face_sum a b c i j k)) ≡ ((pos i *ℤ dot s (scaled (point_of a))) +ℤ (pos j *ℤ dot s (scaled (point_of b)))) +ℤ (pos k *ℤ dot s (scaled (point_of c)))
-dot_sum s a b c i j k =
-    let sum = λ (x y z : Expr). ((var 0 ⊗ x) ⊕ (var 1 ⊗ y)) ⊕ (var 2 ⊗ z) in
-    let on = dots (letters 3) in
-    ring (pos i ∷ pos j ∷ pos k ∷ s.x ∷ s.y ∷ s.z ∷ a.x ∷ a.y ∷ a.z ∷ b.x ∷ b.y ∷ b.z ∷ c.x ∷ c.y ∷ c.z ∷ [])
-    (on (record { x = sum (var 6) (var 9) (var 12); y = sum (var 7) (var 10) (var 13); z = sum (var 8) (var 11) (var 14) }))
-    (sum (on (letters 6)) (on (letters 9)) (on (letters 12))) refl
+-- a point as it is seen, with another height
+abbrev pub raised : Screen → ℤ → Screen
+raised a h = record { u = a.u; v = a.v; h = h; w = a.w }
 
-pub dot_edge_sum : (s : Triple) (a b : Corner) (i j : ℕ)
-    → dot s (scaled (edge_sum a b i j)) ≡ (pos i *ℤ dot s (scaled (point_of a))) +ℤ (pos j *ℤ dot s (scaled (point_of b)))
-dot_edge_sum s a b i j =
-    let sum = λ (x y : Expr). (var 0 ⊗ x) ⊕ (var 1 ⊗ y) in
-    let on = dots (letters 2) in
-    ring (pos i ∷ pos j ∷ s.x ∷ s.y ∷ s.z ∷ a.x ∷ a.y ∷ a.z ∷ b.x ∷ b.y ∷ b.z ∷ [])
-    (on (record { x = sum (var 5) (var 8); y = sum (var 6) (var 9); z = sum (var 7) (var 10) }))
-    (sum (on (letters 5)) (on (letters 8))) refl
+-- a sum of corners on the line of sight covers, whatever the heights are
+pub covers_of_sum : (d : Triple) (a b c : Corner) (p : Point) (x y z h : ℤ) (i j k : ℕ) → 0 < i + j + k → OnOneSight d (face_sum a b c i j k) p
+    → (h *ℤ pos (i + j + k)) <ℤ ((((pos i *ℤ x) +ℤ (pos j *ℤ y)) +ℤ (pos k *ℤ z)) *ℤ p.w)
+    → Covers (raised (seen d (point_of a)) x) (raised (seen d (point_of b)) y) (raised (seen d (point_of c)) z) (raised (seen d p) h)
+covers_of_sum d a b c p x y z h i j k some same near = record {
+  i = pos i;
+  j = pos j;
+  k = pos k;
+  i_least = natural_not_negative i;
+  j_least = natural_not_negative j;
+  k_least = natural_not_negative k;
+  some = is_some i j k some;
+  same_u = ap (λ v. v *ℤ p.w) (sym (dot-face_sum (right_axis d) a b c i j k)) ∙ same.across;
+  same_v = ap (λ v. v *ℤ p.w) (sym (dot-face_sum (up_axis d) a b c i j k)) ∙ same.upward;
+  nearer = near;
+}
+  where
+    is_some : (i j k : ℕ) → 0 < i + j + k → pos 0 <ℤ ((pos i +ℤ pos j) +ℤ pos k)
+    is_some i j k h = omega (arith, ints)
 
-natural : (i : ℕ) → pos 0 ≤ℤ pos i
-natural i = omega (arith, ints)
+-- a side that covers has a point on the line of sight, with natural weights
+pub sum_of_side_covers : (d : Triple) (a b : Corner) (p : Point) (x y h : ℤ) → SideCovers (raised (seen d (point_of a)) x) (raised (seen d (point_of b)) y) (raised (seen d p) h)
+    → (i : ℕ) × (j : ℕ) × (0 < i + j) × OnOneSight d (edge_sum a b i j) p × ((h *ℤ pos (i + j)) <ℤ (((pos i *ℤ x) +ℤ (pos j *ℤ y)) *ℤ p.w))
+sum_of_side_covers d a b p x y h q =
+    let e = unpack
+    (λ i j k. (pos 0 <ℤ (i +ℤ j))
+    × (((i *ℤ (seen d (point_of a)).u) +ℤ (j *ℤ (seen d (point_of b)).u)) *ℤ p.w ≡ across_of d p *ℤ (i +ℤ j))
+    × (((i *ℤ (seen d (point_of a)).v) +ℤ (j *ℤ (seen d (point_of b)).v)) *ℤ p.w ≡ upward_of d p *ℤ (i +ℤ j))
+    × ((h *ℤ (i +ℤ j)) <ℤ (((i *ℤ x) +ℤ (j *ℤ y)) *ℤ p.w)))
+    q.i q.j (pos 0) q.i_least q.j_least (natural_not_negative 0) (q.some, q.same_u, q.same_v, q.nearer) in (
+      e.0,
+      e.1,
+      some_of e.0 e.1 e.3.0,
+      record {
+        across = ap (λ v. v *ℤ p.w) (dot-edge_sum (right_axis d) a b e.0 e.1) ∙ e.3.1;
+        upward = ap (λ v. v *ℤ p.w) (dot-edge_sum (up_axis d) a b e.0 e.1) ∙ e.3.2;
+      },
+      e.3.3,
+    )
+  where
+    some_of : (i j : ℕ) → pos 0 <ℤ pos (i + j) → 0 < i + j
+    some_of i j h = omega (arith, ints)
 
 module _ (d : Triple) (a b c : Corner) (p : Point) where
   abbrev A : Screen
@@ -54,27 +79,11 @@ module _ (d : Triple) (a b c : Corner) (p : Point) where
   abbrev C : Screen
   C = seen d (point_of c)
 
-  covers_of : (i j k : ℕ) → 0 < i + j + k → OnOneSight d (face_sum a b c i j k) p → IsNearer d (face_sum a b c i j k) p → Covers A B C (seen d p)
-  covers_of i j k some same near = record {
-    i = pos i;
-    j = pos j;
-    k = pos k;
-    i_least = natural i;
-    j_least = natural j;
-    k_least = natural k;
-    some = is_some i j k some;
-    same_u = ap (λ v. v *ℤ p.w) (sym (dot_sum (right_axis d) a b c i j k)) ∙ same.across;
-    same_v = ap (λ v. v *ℤ p.w) (sym (dot_sum (up_axis d) a b c i j k)) ∙ same.upward;
-    nearer = subst (λ v. (height_of d p *ℤ pos (i + j + k)) <ℤ (v *ℤ p.w)) (dot_sum d a b c i j k) near;
-  }
-    where
-      is_some : (i j k : ℕ) → 0 < i + j + k → pos 0 <ℤ ((pos i +ℤ pos j) +ℤ pos k)
-      is_some i j k h = omega (arith, ints)
-
   pub covers_of_hides : FaceHides d a b c p → Covers A B C (seen d p)
   covers_of_hides q =
       let f = q.on_face in
-      covers_of f.0 f.1 f.2 f.3 (subst (λ s. OnOneSight d s p) f.4 q.same_sight) (subst (λ s. IsNearer d s p) f.4 q.nearer)
+      covers_of_sum d a b c p A.h B.h C.h (height_of d p) f.0 f.1 f.2 f.3 (subst (λ s. OnOneSight d s p) f.4 q.same_sight)
+      (subst (λ v. (height_of d p *ℤ pos (f.0 + f.1 + f.2)) <ℤ (v *ℤ p.w)) (dot-face_sum d a b c f.0 f.1 f.2) (subst (λ s. IsNearer d s p) f.4 q.nearer))
 
   hides_of : (i j k : ℕ) → 0 < i + j + k
       → (((pos i *ℤ A.u) +ℤ (pos j *ℤ B.u)) +ℤ (pos k *ℤ C.u)) *ℤ p.w ≡ across_of d p *ℤ pos (i + j + k)
@@ -85,10 +94,10 @@ module _ (d : Triple) (a b c : Corner) (p : Point) where
     point = face_sum a b c i j k;
     on_face = (i, j, k, some, refl);
     same_sight = record {
-      across = ap (λ v. v *ℤ p.w) (dot_sum (right_axis d) a b c i j k) ∙ same_u;
-      upward = ap (λ v. v *ℤ p.w) (dot_sum (up_axis d) a b c i j k) ∙ same_v;
+      across = ap (λ v. v *ℤ p.w) (dot-face_sum (right_axis d) a b c i j k) ∙ same_u;
+      upward = ap (λ v. v *ℤ p.w) (dot-face_sum (up_axis d) a b c i j k) ∙ same_v;
     };
-    nearer = subst (λ v. (height_of d p *ℤ pos (i + j + k)) <ℤ (v *ℤ p.w)) (sym (dot_sum d a b c i j k)) near;
+    nearer = subst (λ v. (height_of d p *ℤ pos (i + j + k)) <ℤ (v *ℤ p.w)) (sym (dot-face_sum d a b c i j k)) near;
   }
 
   pub hides_of_covers : Covers A B C (seen d p) → FaceHides d a b c p
@@ -116,46 +125,25 @@ module _ (d : Triple) (a b : Corner) (p : Point) where
   side_covers_of i j some same near = record {
     i = pos i;
     j = pos j;
-    i_least = natural i;
-    j_least = natural j;
-    some = is_some i j some;
-    same_u = ap (λ v. v *ℤ p.w) (sym (dot_edge_sum (right_axis d) a b i j)) ∙ same.across;
-    same_v = ap (λ v. v *ℤ p.w) (sym (dot_edge_sum (up_axis d) a b i j)) ∙ same.upward;
-    nearer = subst (λ v. (height_of d p *ℤ pos (i + j)) <ℤ (v *ℤ p.w)) (dot_edge_sum d a b i j) near;
+    i_least = natural_not_negative i;
+    j_least = natural_not_negative j;
+    some = natural_positive (i + j) some;
+    same_u = ap (λ v. v *ℤ p.w) (sym (dot-edge_sum (right_axis d) a b i j)) ∙ same.across;
+    same_v = ap (λ v. v *ℤ p.w) (sym (dot-edge_sum (up_axis d) a b i j)) ∙ same.upward;
+    nearer = subst (λ v. (height_of d p *ℤ pos (i + j)) <ℤ (v *ℤ p.w)) (dot-edge_sum d a b i j) near;
   }
-    where
-      is_some : (i j : ℕ) → 0 < i + j → pos 0 <ℤ (pos i +ℤ pos j)
-      is_some i j h = omega (arith, ints)
 
   pub side_covers_of_hides : SideHides d a b p → SideCovers K L (seen d p)
   side_covers_of_hides q =
       let f = q.on_side in
       side_covers_of f.0 f.1 f.2 (subst (λ s. OnOneSight d s p) f.3 q.same_sight) (subst (λ s. IsNearer d s p) f.3 q.nearer)
 
-  side_hides_of : (i j : ℕ) → 0 < i + j
-      → ((pos i *ℤ K.u) +ℤ (pos j *ℤ L.u)) *ℤ p.w ≡ across_of d p *ℤ pos (i + j)
-      → ((pos i *ℤ K.v) +ℤ (pos j *ℤ L.v)) *ℤ p.w ≡ upward_of d p *ℤ pos (i + j)
-      → (height_of d p *ℤ pos (i + j)) <ℤ (((pos i *ℤ K.h) +ℤ (pos j *ℤ L.h)) *ℤ p.w)
-      → SideHides d a b p
-  side_hides_of i j some same_u same_v near = record {
-    point = edge_sum a b i j;
-    on_side = (i, j, some, refl);
-    same_sight = record {
-      across = ap (λ v. v *ℤ p.w) (dot_edge_sum (right_axis d) a b i j) ∙ same_u;
-      upward = ap (λ v. v *ℤ p.w) (dot_edge_sum (up_axis d) a b i j) ∙ same_v;
-    };
-    nearer = subst (λ v. (height_of d p *ℤ pos (i + j)) <ℤ (v *ℤ p.w)) (sym (dot_edge_sum d a b i j)) near;
-  }
-
   pub side_hides_of_covers : SideCovers K L (seen d p) → SideHides d a b p
   side_hides_of_covers q =
-      let e = unpack
-      (λ i j k. (pos 0 <ℤ (i +ℤ j))
-      × (((i *ℤ K.u) +ℤ (j *ℤ L.u)) *ℤ p.w ≡ across_of d p *ℤ (i +ℤ j))
-      × (((i *ℤ K.v) +ℤ (j *ℤ L.v)) *ℤ p.w ≡ upward_of d p *ℤ (i +ℤ j))
-      × ((height_of d p *ℤ (i +ℤ j)) <ℤ (((i *ℤ K.h) +ℤ (j *ℤ L.h)) *ℤ p.w)))
-      q.i q.j (pos 0) q.i_least q.j_least (natural 0) (q.some, q.same_u, q.same_v, q.nearer) in
-      side_hides_of e.0 e.1 (some_of e.0 e.1 e.3.0) e.3.1 e.3.2 e.3.3
-    where
-      some_of : (i j : ℕ) → pos 0 <ℤ pos (i + j) → 0 < i + j
-      some_of i j h = omega (arith, ints)
+      let w = sum_of_side_covers d a b p K.h L.h (height_of d p) q in
+      record {
+        point = edge_sum a b w.0 w.1;
+        on_side = (w.0, w.1, w.2, refl);
+        same_sight = w.3;
+        nearer = subst (λ v. (height_of d p *ℤ pos (w.0 + w.1)) <ℤ (v *ℤ p.w)) (sym (dot-edge_sum d a b w.0 w.1)) w.4;
+      }

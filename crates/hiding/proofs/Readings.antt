@@ -1,8 +1,9 @@
 -- What points, edges and sides read along a vector, and what a side's ends and the weights of its points say of the point that the side hides.
-use Rattle.std.proofs.Common.{◌≡◌, ◌≢◌, ℕ, ◌+◌, List, [], ◌∷◌, refl, sym, ap, ◌∙◌, subst, arith}
+use Rattle.std.proofs.Common.{◌≡◌, ◌≢◌, ℕ, List, [], ◌∷◌, refl, sym, ap, ◌∙◌, subst, arith}
 use Rattle.std.specs.Prelude.{ℤ, pos, negsuc, ◌+ℤ◌, ◌-ℤ◌, ◌*ℤ◌, ◌<ℤ◌, ◌≤ℤ◌}
 use Rattle.std.proofs.lemmas.Int.{ints, by_lt_z}
-use Rattle.integers.proofs.Ring.{Expr, var, con, ◌⊕◌, ◌⊖◌, ◌⊗◌, ring, by_one, by_two, by_three, gap_of_less}
+use Rattle.integers.proofs.Comparisons.{not_negative_of_positive, zero_between, same_of_both}
+use Rattle.integers.proofs.Ring.{Expr, var, con, ◌⊕◌, ◌⊖◌, ◌⊗◌, ring, by_one, by_two, by_three, gap_of_less, same_of_gap}
 use Rattle.integers.proofs.Signs.{mul_nonneg, mul_pos, nonneg_of_mul, pos_of_mul, zero_of_mul}
 use Rattle.lattice.specs.declared.points.Corner.{Corner}
 use Rattle.lattice.specs.Triple.{Triple, dot, cross, det}
@@ -61,14 +62,8 @@ three d s e = d.x ∷ d.y ∷ d.z ∷ s.x ∷ s.y ∷ s.z ∷ e.x ∷ e.y ∷ e.
 pub det-reads : (d s e : Triple) → det d s e ≡ dot (cross d s) e
 det-reads d s e = ring (three d s e) (dots T (crosses (letters 3) (letters 6))) (dots (crosses T (letters 3)) (letters 6)) refl
 
-pub cross-first : (d s : Triple) → dot (cross d s) d ≡ pos 0
-cross-first d s = ring (three d s s) (dots (crosses T (letters 3)) T) (con (pos 0)) refl
-
 pub cross-second : (d s : Triple) → dot (cross d s) s ≡ pos 0
 cross-second d s = ring (three d s s) (dots (crosses T (letters 3)) (letters 3)) (con (pos 0)) refl
-
-pub pos-sum : (i j : ℕ) → pos (i + j) ≡ pos i +ℤ pos j
-pos-sum i j = omega (arith, ints)
 
 -- ---- past, short and behind
 pub short-is : (axis : Triple) (l : Corner) (p : Point) → short_of axis l p ≡ p.w *ℤ dot axis (of_corner l) -ℤ dot axis (scaled p)
@@ -106,9 +101,6 @@ rises = ((var 7 ⊖ var 6) ⊗ (var 3 ⊖ (var 0 ⊗ var 1))) ⊖ ((var 2 ⊖ va
 abbrev gaps : Expr
 gaps = (((var 4 ⊗ var 6) ⊕ (var 5 ⊗ var 7)) ⊗ var 0) ⊖ (var 8 ⊗ (var 4 ⊕ var 5))
 
-as_least : (a : ℤ) → pos 0 <ℤ a → pos 0 ≤ℤ a
-as_least a h = omega (arith, ints)
-
 module _ (m ak al at i j : ℤ) (positive : pos 0 <ℤ m) (some : pos 0 <ℤ (i +ℤ j)) (forward : pos 0 <ℤ (al -ℤ ak)) (meets : (i *ℤ ak +ℤ j *ℤ al) *ℤ m ≡ at *ℤ (i +ℤ j)) where
   pub past-nonneg : pos 0 ≤ℤ j → pos 0 ≤ℤ (at -ℤ m *ℤ ak)
   past-nonneg least =
@@ -116,7 +108,7 @@ module _ (m ak al at i j : ℤ) (positive : pos 0 <ℤ m) (some : pos 0 <ℤ (i 
       by_one _ _ ((i *ℤ ak +ℤ j *ℤ al) *ℤ m) (at *ℤ (i +ℤ j)) (negsuc 0)
       (ring (numbers m ak al at i j) (((var 4 ⊕ var 5) ⊗ (var 3 ⊖ (var 0 ⊗ var 1))) ⊖ ((var 5 ⊗ var 0) ⊗ (var 2 ⊖ var 1))) (meeting ⊗ con (negsuc 0)) refl) meets in
       nonneg_of_mul (i +ℤ j) (at -ℤ m *ℤ ak) some
-      (subst (λ (v : ℤ). pos 0 ≤ℤ v) (sym same) (mul_nonneg (j *ℤ m) (al -ℤ ak) (mul_nonneg j m least (as_least m positive)) (as_least (al -ℤ ak) forward)))
+      (subst (λ (v : ℤ). pos 0 ≤ℤ v) (sym same) (mul_nonneg (j *ℤ m) (al -ℤ ak) (mul_nonneg j m least (not_negative_of_positive m positive)) (not_negative_of_positive (al -ℤ ak) forward)))
 
   pub short-nonneg : pos 0 ≤ℤ i → pos 0 ≤ℤ (m *ℤ al -ℤ at)
   short-nonneg least =
@@ -124,7 +116,7 @@ module _ (m ak al at i j : ℤ) (positive : pos 0 <ℤ m) (some : pos 0 <ℤ (i 
       by_one _ _ ((i *ℤ ak +ℤ j *ℤ al) *ℤ m) (at *ℤ (i +ℤ j)) (pos 1)
       (ring (numbers m ak al at i j) (((var 4 ⊕ var 5) ⊗ ((var 0 ⊗ var 2) ⊖ var 3)) ⊖ ((var 4 ⊗ var 0) ⊗ (var 2 ⊖ var 1))) (meeting ⊗ con (pos 1)) refl) meets in
       nonneg_of_mul (i +ℤ j) (m *ℤ al -ℤ at) some
-      (subst (λ (v : ℤ). pos 0 ≤ℤ v) (sym same) (mul_nonneg (i *ℤ m) (al -ℤ ak) (mul_nonneg i m least (as_least m positive)) (as_least (al -ℤ ak) forward)))
+      (subst (λ (v : ℤ). pos 0 ≤ℤ v) (sym same) (mul_nonneg (i *ℤ m) (al -ℤ ak) (mul_nonneg i m least (not_negative_of_positive m positive)) (not_negative_of_positive (al -ℤ ak) forward)))
 
   pub behind-positive : (hk hl high : ℤ) → (high *ℤ (i +ℤ j)) <ℤ ((i *ℤ hk +ℤ j *ℤ hl) *ℤ m) → pos 0 <ℤ behind_by m ak al at hk hl high
   behind-positive hk hl high nearer =
@@ -177,13 +169,10 @@ level-end m gk g at =
 -- ends that read the same read as the point that some sum of them meets
 pub level-by-meeting : (m gk gl g i j : ℤ) → pos 0 <ℤ m → pos 0 <ℤ (i +ℤ j) → gl -ℤ gk ≡ pos 0 → (i *ℤ gk +ℤ j *ℤ gl) *ℤ m ≡ (m *ℤ g) *ℤ (i +ℤ j) → gk ≡ g
 level-by-meeting m gk gl g i j positive some same meets =
-    from_zero gk g (zero_of_mul (m *ℤ (i +ℤ j)) (gk -ℤ g) (mul_pos m (i +ℤ j) positive some)
+    same_of_gap gk g (zero_of_mul (m *ℤ (i +ℤ j)) (gk -ℤ g) (mul_pos m (i +ℤ j) positive some)
     (by_two ((m *ℤ (i +ℤ j)) *ℤ (gk -ℤ g)) (pos 0) ((i *ℤ gk +ℤ j *ℤ gl) *ℤ m) ((m *ℤ g) *ℤ (i +ℤ j)) (pos 1) (gl -ℤ gk) (pos 0) (pos 0 -ℤ j *ℤ m)
     (ring (m ∷ gk ∷ gl ∷ g ∷ i ∷ j ∷ []) (((var 0 ⊗ (var 4 ⊕ var 5)) ⊗ (var 1 ⊖ var 3)) ⊖ con (pos 0))
     ((((((var 4 ⊗ var 1) ⊕ (var 5 ⊗ var 2)) ⊗ var 0) ⊖ ((var 0 ⊗ var 3) ⊗ (var 4 ⊕ var 5))) ⊗ con (pos 1)) ⊕ (((var 2 ⊖ var 1) ⊖ con (pos 0)) ⊗ (con (pos 0) ⊖ (var 5 ⊗ var 0)))) refl) meets same))
-  where
-    from_zero : (a b : ℤ) → a -ℤ b ≡ pos 0 → a ≡ b
-    from_zero a b h = omega (arith, ints)
 
 -- ---- the behind at the ends of the side
 none-at-first : (ak al hk hl : ℤ) → behind_by (pos 1) ak al ak hk hl hk ≡ pos 0
@@ -207,10 +196,7 @@ only-at-start f g n m differ none here least =
     by_two (n *ℤ g) (pos 0) (value_at f g n m) (pos 0) (pos 1) f (pos 0) (pos 0 -ℤ (m -ℤ n))
     (ring (f ∷ g ∷ n ∷ m ∷ []) ((var 2 ⊗ var 1) ⊖ con (pos 0))
     ((((((var 3 ⊖ var 2) ⊗ var 0) ⊕ (var 2 ⊗ var 1)) ⊖ con (pos 0)) ⊗ con (pos 1)) ⊕ ((var 0 ⊖ con (pos 0)) ⊗ (con (pos 0) ⊖ (var 3 ⊖ var 2)))) refl) here none in
-    by_lt_z (pos 0) n (λ positive. absurd (differ (none ∙ sym (zero_of_mul n g positive rest)))) (λ most. between n least most)
-  where
-    between : (n : ℤ) → pos 0 ≤ℤ n → n ≤ℤ pos 0 → n ≡ pos 0
-    between n p q = omega (arith, ints)
+    by_lt_z (pos 0) n (λ positive. absurd (differ (none ∙ sym (zero_of_mul n g positive rest)))) (λ most. zero_between n least most)
 
 pub only-at-finish : (f g n m : ℤ) → f ≢ g → g ≡ pos 0 → value_at f g n m ≡ pos 0 → n ≤ℤ m → n ≡ m
 only-at-finish f g n m differ none here most =
@@ -218,7 +204,4 @@ only-at-finish f g n m differ none here most =
     by_two ((m -ℤ n) *ℤ f) (pos 0) (value_at f g n m) (pos 0) (pos 1) g (pos 0) (pos 0 -ℤ n)
     (ring (f ∷ g ∷ n ∷ m ∷ []) (((var 3 ⊖ var 2) ⊗ var 0) ⊖ con (pos 0))
     ((((((var 3 ⊖ var 2) ⊗ var 0) ⊕ (var 2 ⊗ var 1)) ⊖ con (pos 0)) ⊗ con (pos 1)) ⊕ ((var 1 ⊖ con (pos 0)) ⊗ (con (pos 0) ⊖ var 2))) refl) here none in
-    by_lt_z n m (λ short. absurd (differ (zero_of_mul (m -ℤ n) f (gap_of_less n m short) rest ∙ sym none))) (λ least. between n m least most)
-  where
-    between : (n m : ℤ) → m ≤ℤ n → n ≤ℤ m → n ≡ m
-    between n m p q = omega (arith, ints)
+    by_lt_z n m (λ short. absurd (differ (zero_of_mul (m -ℤ n) f (gap_of_less n m short) rest ∙ sym none))) (λ least. same_of_both n m most least)

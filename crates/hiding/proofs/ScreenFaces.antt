@@ -2,6 +2,7 @@
 use Rattle.std.proofs.Common.{◌≡◌, List, refl, arith}
 use Rattle.std.specs.Prelude.{ℤ, pos, ◌+ℤ◌, ◌-ℤ◌, ◌*ℤ◌, ◌≤ℤ◌, ◌<ℤ◌}
 use Rattle.std.proofs.lemmas.Int.{ints}
+use Rattle.integers.proofs.Comparisons.{positive_at, not_negative_at}
 use Rattle.integers.proofs.Ring.{Expr, ◌⊕◌, ◌⊖◌, ◌⊗◌, ring, by_two, by_three, less_by, gap_of_less}
 use Rattle.integers.proofs.Signs.{mul_nonneg, mul_pos, nonneg_of_mul, pos_of_mul}
 use Rattle.hiding.proofs.ScreenLetters.{A, B, C, P, I, J, K, area, turn, weighed, values}
@@ -28,15 +29,12 @@ module _ (a b c p : Screen) where
         i_least = i_least;
         j_least = j_least;
         k_least = k_least;
-        some = at_sum _ _ whole size;
+        some = positive_at _ _ whole size;
         same_u = ring none (weighed i j k A.u B.u C.u ⊗ P.w) (P.u ⊗ s) refl;
         same_v = ring none (weighed i j k A.v B.v C.v ⊗ P.w) (P.v ⊗ s) refl;
         nearer = less_by _ _ _
             (ring none ((weighed i j k A.h B.h C.h ⊗ P.w) ⊖ (P.h ⊗ s)) (P.w ⊗ (weighed i j k A.h B.h C.h ⊖ (P.h ⊗ area A B C))) refl) high;
       }
-    where
-      at_sum : (x y : ℤ) → x ≡ y → pos 0 <ℤ y → pos 0 <ℤ x
-      at_sum x y e h = omega (arith, ints)
 
   -- the other way: the weights of a cover are in proportion to the determinants
   module _ (q : Covers a b c p) where
@@ -79,17 +77,14 @@ module _ (a b c p : Screen) where
       not_behind : (k t : ℤ) → pos 0 ≤ℤ k → sum *ℤ t ≡ p.w *ℤ (k *ℤ area_of a b c) → pos 0 ≤ℤ t
       not_behind k t h e =
           let m = mul_nonneg p.w (k *ℤ area_of a b c) (omega (arith, ints)) (mul_nonneg k (area_of a b c) h (omega (arith, ints))) in
-          nonneg_of_mul sum t q.some (along_equal _ _ e m)
-        where
-          along_equal : (x y : ℤ) → x ≡ y → pos 0 ≤ℤ y → pos 0 ≤ℤ x
-          along_equal x y e h = omega (arith, ints)
+          nonneg_of_mul sum t q.some (not_negative_at _ _ e m)
 
       pub covers_to : (pos 0 ≤ℤ turn_of p b c) × (pos 0 ≤ℤ turn_of p c a) × (pos 0 ≤ℤ turn_of p a b) × (pos 0 <ℤ lead_of a b c p)
       covers_to = (
         not_behind q.i _ q.i_least first,
         not_behind q.j _ q.j_least second,
         not_behind q.k _ q.k_least third,
-        pos_of_mul sum (lead_of a b c p) q.some (along_equal _ _
+        pos_of_mul sum (lead_of a b c p) q.some (positive_at _ _
             (by_three _ _ _ _ a.h _ _ b.h _ _ c.h
             (ring here
             ((((I ⊕ J) ⊕ K) ⊗ (weighed (turn P B C) (turn P C A) (turn P A B) A.h B.h C.h ⊖ (P.h ⊗ area A B C)))
@@ -100,6 +95,3 @@ module _ (a b c p : Screen) where
             first second third)
             (mul_pos (area_of a b c) _ area_up (gap_of_less _ _ q.nearer))),
       )
-        where
-          along_equal : (x y : ℤ) → x ≡ y → pos 0 <ℤ y → pos 0 <ℤ x
-          along_equal x y e h = omega (arith, ints)

@@ -2,6 +2,7 @@
 use Rattle.std.proofs.Common.{◌≡◌, List, [], ◌∷◌, refl, sym, ◌∙◌, arith}
 use Rattle.std.specs.Prelude.{ℤ, pos, ◌+ℤ◌, ◌-ℤ◌, ◌*ℤ◌, ◌≤ℤ◌, ◌<ℤ◌}
 use Rattle.std.proofs.lemmas.Int.{ints}
+use Rattle.integers.proofs.Comparisons.{not_negative_of_positive, not_negative_at, positive_at, sum_not_negative, same_of_gap_back}
 use Rattle.integers.proofs.Ring.{Expr, var, con, ◌⊕◌, ◌⊖◌, ◌⊗◌, ring, by_one, by_two, less_by, gap_of_less}
 use Rattle.integers.proofs.Signs.{mul_nonneg, mul_pos, nonneg_of_mul, pos_of_mul, zero_of_mul, square_nonneg, square_zero}
 use Rattle.hiding.proofs.ScreenLetters.{A, B, P, I, J, turn, values}
@@ -26,15 +27,6 @@ R = (P.w ⊗ L) ⊖ T
 abbrev Zero : Expr
 Zero = con (pos 0)
 
-pub pos_at : (x y : ℤ) → x ≡ y → pos 0 <ℤ y → pos 0 <ℤ x
-pos_at x y e h = omega (arith, ints)
-
-pub at_least : (x : ℤ) → pos 0 <ℤ x → pos 0 ≤ℤ x
-at_least x h = omega (arith, ints)
-
-pub nonneg_at : (x y : ℤ) → x ≡ y → pos 0 ≤ℤ y → pos 0 ≤ℤ x
-nonneg_at x y e h = omega (arith, ints)
-
 module _ (a b p : Screen) where
   abbrev none : List ℤ
   none = values a b a p (pos 0) (pos 0) (pos 0)
@@ -45,7 +37,7 @@ module _ (a b p : Screen) where
     j = along_of a b p;
     i_least = r_least;
     j_least = t_least;
-    some = pos_at _ _ (ring none (R ⊕ T) (P.w ⊗ L) refl) (mul_pos p.w (length_of a b) w long);
+    some = positive_at _ _ (ring none (R ⊕ T) (P.w ⊗ L) refl) (mul_pos p.w (length_of a b) w long);
     same_u = by_one _ _ _ _ (p.w *ℤ (b.v -ℤ a.v))
         (ring none ((((R ⊗ A.u) ⊕ (T ⊗ B.u)) ⊗ P.w) ⊖ (P.u ⊗ (R ⊕ T))) ((turn P A B ⊖ Zero) ⊗ (P.w ⊗ F)) refl) on;
     same_v = by_one _ _ _ _ (p.w *ℤ (a.u -ℤ b.u))
@@ -87,11 +79,11 @@ module _ (a b p : Screen) where
         → (turn_of p a b ≡ pos 0) × (pos 0 ≤ℤ along_of a b p) × (pos 0 ≤ℤ rest_of a b p) × (pos 0 <ℤ side_lead_of a b p)
     side_to w long =
         let w_least : pos 0 ≤ℤ p.w = omega (arith, ints) in
-        let l_least : pos 0 ≤ℤ length_of a b = at_least _ long in (
+        let l_least : pos 0 ≤ℤ length_of a b = not_negative_of_positive _ long in (
           zero_of_mul sum _ q.some on_line,
-          nonneg_of_mul sum _ q.some (nonneg_at _ _ way (mul_nonneg p.w _ w_least (mul_nonneg q.j _ q.j_least l_least))),
-          nonneg_of_mul sum _ q.some (nonneg_at _ _ left (mul_nonneg p.w _ w_least (mul_nonneg q.i _ q.i_least l_least))),
-          pos_of_mul sum _ q.some (pos_at _ _
+          nonneg_of_mul sum _ q.some (not_negative_at _ _ way (mul_nonneg p.w _ w_least (mul_nonneg q.j _ q.j_least l_least))),
+          nonneg_of_mul sum _ q.some (not_negative_at _ _ left (mul_nonneg p.w _ w_least (mul_nonneg q.i _ q.i_least l_least))),
+          pos_of_mul sum _ q.some (positive_at _ _
               (by_two _ _ _ _ a.h _ _ b.h
               (ring here ((S ⊗ (((R ⊗ A.h) ⊕ (T ⊗ B.h)) ⊖ (P.h ⊗ L))) ⊖ (L ⊗ ((((I ⊗ A.h) ⊕ (J ⊗ B.h)) ⊗ P.w) ⊖ (P.h ⊗ S))))
               ((((S ⊗ R) ⊖ (P.w ⊗ (I ⊗ L))) ⊗ A.h) ⊕ (((S ⊗ T) ⊖ (P.w ⊗ (J ⊗ L))) ⊗ B.h)) refl)
@@ -101,25 +93,19 @@ module _ (a b p : Screen) where
 
 -- ---- the length of a side
 pub length_least : (a b : Screen) → pos 0 ≤ℤ length_of a b
-length_least a b = sum_least _ _ (square_nonneg (b.u -ℤ a.u)) (square_nonneg (b.v -ℤ a.v))
-  where
-    sum_least : (x y : ℤ) → pos 0 ≤ℤ x → pos 0 ≤ℤ y → pos 0 ≤ℤ (x +ℤ y)
-    sum_least x y p q = omega (arith, ints)
+length_least a b = sum_not_negative _ _ (square_nonneg (b.u -ℤ a.u)) (square_nonneg (b.v -ℤ a.v))
 
 pub length_zero : (a b : Screen) → length_of a b ≡ pos 0 → (a.u ≡ b.u) × (a.v ≡ b.v)
 length_zero a b e =
     let p = square_nonneg (b.u -ℤ a.u) in
     let q = square_nonneg (b.v -ℤ a.v) in
-    (same _ _ (square_zero _ (left _ _ e q)), same _ _ (square_zero _ (right _ _ e p)))
+    (same_of_gap_back _ _ (square_zero _ (left _ _ e q)), same_of_gap_back _ _ (square_zero _ (right _ _ e p)))
   where
     left : (x y : ℤ) → x +ℤ y ≡ pos 0 → pos 0 ≤ℤ y → x ≤ℤ pos 0
     left x y e h = omega (arith, ints)
 
     right : (x y : ℤ) → x +ℤ y ≡ pos 0 → pos 0 ≤ℤ x → y ≤ℤ pos 0
     right x y e h = omega (arith, ints)
-
-    same : (x y : ℤ) → y -ℤ x ≡ pos 0 → x ≡ y
-    same x y e = omega (arith, ints)
 
 pub length_none : (a b : Screen) → (a.u ≡ b.u) × (a.v ≡ b.v) → length_of a b ≡ pos 0
 length_none a b e =

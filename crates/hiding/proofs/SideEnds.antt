@@ -3,13 +3,17 @@ use Rattle.std.proofs.Common.{◌≡◌, ◌⊎◌, inl, inr, ℕ, ◌+◌, ◌*
 use Rattle.std.specs.Prelude.{◌≢◌, ℤ, pos, ◌+ℤ◌, ◌-ℤ◌, ◌*ℤ◌, ◌<ℤ◌, ◌≤ℤ◌, ◌↔◌}
 use Rattle.std.proofs.lemmas.Int.{ints, by_lt_z}
 use Rattle.std.proofs.lemmas.Bool.Decides.{eqb_tells}
-use Rattle.integers.proofs.Ring.{var, con, ◌⊕◌, ◌⊖◌, ◌⊗◌, ring, by_one, less_by}
+use Rattle.geometry.proofs.FacePoints.{edge_point-turned, edge_point-at_share}
+use Rattle.integers.proofs.Absolutes.{pos-sum, natural_not_negative, natural_positive}
+use Rattle.integers.proofs.Comparisons.{times_zero}
+use Rattle.integers.proofs.Ring.{var, con, ◌⊕◌, ◌⊖◌, ◌⊗◌, ring, by_one, less_by, same_of_gap}
 use Rattle.integers.proofs.Signs.{mul_pos}
 use Rattle.lattice.specs.declared.points.Corner.{Corner}
 use Rattle.lattice.specs.Triangles.{IsBelow}
 use Rattle.lattice.specs.Triple.{Triple, dot, cross, det, IsZero}
 use Rattle.lattice.specs.Points.{Point, point_of, of_corner, scaled, difference, OnOneSight, IsNearer, AreOnePoint}
 use Rattle.lattice.proofs.SightAxes.{agree_of_sight, sight_of_agreement, one_point_of_agreement, sight_of_one_point}
+use Rattle.lattice.proofs.SightLines.{up_axis-level}
 use Rattle.geometry.specs.Faces.{share_point, edge_sum, IsPointOfEdge}
 use Rattle.geometry.specs.Parts.{Part, Face, Edge}
 use Rattle.geometry.specs.Views.{IsOrdinary, IsSeenOver}
@@ -18,8 +22,8 @@ use Rattle.hiding.specs.inner.Values.{SideHides, IsSideOf, IsAhead, IsInLine, Is
 use Rattle.hiding.proofs.Values.{behind-share}
 use Rattle.hiding.proofs.Ordinary.{not-at-corner, not-at-crossing, not-at-meeting}
 use Rattle.hiding.proofs.FrontEnds.{not-at-start, not-at-finish}
-use Rattle.hiding.proofs.Readings.{dot-offset, dot-difference, dot-share, dot-sum, det-reads, cross-first, cross-second, pos-sum, short-is, behind-is, past-nonneg, short-nonneg, behind-positive, weights-sum, weights-meet, weights-behind, level-meet, end-meets, level-end, level-by-meeting, behind-at-first, behind-at-second, only-at-start, only-at-finish}
-use Rattle.hiding.proofs.SidePoints.{natural, edge-turned, share-of-edge, one-sum, scaled-one, face-of-side, side-listed, HaveCommonEnd, common-end, own-side}
+use Rattle.hiding.proofs.Readings.{dot-offset, dot-difference, dot-share, dot-sum, det-reads, cross-second, short-is, behind-is, past-nonneg, short-nonneg, behind-positive, weights-sum, weights-meet, weights-behind, level-meet, end-meets, level-end, level-by-meeting, behind-at-first, behind-at-second, only-at-start, only-at-finish}
+use Rattle.hiding.proofs.SidePoints.{natural, one-sum, scaled-one, face-of-side, side-listed, HaveCommonEnd, common-end, own-side}
 
 -- ---- along the product of d and the edge's way an edge reads the same all along
 module _ (d : Triple) (p q : Corner) where
@@ -73,10 +77,7 @@ module _ (d axis : Triple) (k l : Corner) (p : Point) (somewhere : ¬ IsZero d) 
     at = dot axis (scaled p)
 
     whole : pos 0 <ℤ (pos i +ℤ pos j)
-    whole = some-sum i j some
-      where
-        some-sum : (i j : ℕ) → 0 < i + j → pos 0 <ℤ (pos i +ℤ pos j)
-        some-sum i j h = omega (arith, ints)
+    whole = natural_positive (i + j) some
 
     ahead : pos 0 <ℤ (al -ℤ ak)
     ahead = subst (λ (v : ℤ). pos 0 <ℤ v) (dot-difference axis k l) forward
@@ -84,14 +85,11 @@ module _ (d axis : Triple) (k l : Corner) (p : Point) (somewhere : ¬ IsZero d) 
     pub sum-meets : (pos i *ℤ dot axis (of_corner k) +ℤ pos j *ℤ dot axis (of_corner l)) *ℤ p.w ≡ dot axis (scaled p) *ℤ (pos i +ℤ pos j)
     sum-meets = ap (λ (v : ℤ). v *ℤ p.w) (sym (dot-sum axis k l i j)) ∙ agree_of_sight d axis (edge_sum k l i j) p somewhere level same ∙ ap (λ (v : ℤ). at *ℤ v) (pos-sum i j)
 
-    counted : (i : ℕ) → pos 0 ≤ℤ pos i
-    counted i = omega (arith, ints)
-
     pub sum-past : pos 0 ≤ℤ past_of axis k p
-    sum-past = subst (λ (v : ℤ). pos 0 ≤ℤ v) (sym (dot-offset axis k p)) (past-nonneg p.w ak al at (pos i) (pos j) positive whole ahead sum-meets (counted j))
+    sum-past = subst (λ (v : ℤ). pos 0 ≤ℤ v) (sym (dot-offset axis k p)) (past-nonneg p.w ak al at (pos i) (pos j) positive whole ahead sum-meets (natural_not_negative j))
 
     pub sum-short : pos 0 ≤ℤ short_of axis l p
-    sum-short = subst (λ (v : ℤ). pos 0 ≤ℤ v) (sym (short-is axis l p)) (short-nonneg p.w ak al at (pos i) (pos j) positive whole ahead sum-meets (counted i))
+    sum-short = subst (λ (v : ℤ). pos 0 ≤ℤ v) (sym (short-is axis l p)) (short-nonneg p.w ak al at (pos i) (pos j) positive whole ahead sum-meets (natural_not_negative i))
 
     sum-under : IsNearer d (edge_sum k l i j) p → IsBehindSide d axis k l p
     sum-under nearer =
@@ -174,13 +172,7 @@ module _ (d axis : Triple) (p q k l : Corner) (n m : ℤ) (somewhere : ¬ IsZero
     there-is-here : behind_of d axis k l here ≡ pos 0 → AreOnePoint there here
     there-is-here none =
         one_point_of_agreement d axis (difference p q) there here somewhere ahead.level ahead.forward along level
-        (equal _ _ (gap ∙ ap (λ (v : ℤ). m *ℤ v) none ∙ times_zero m))
-      where
-        times_zero : (a : ℤ) → a *ℤ pos 0 ≡ pos 0
-        times_zero a = omega (arith, ints)
-
-        equal : (a b : ℤ) → a -ℤ b ≡ pos 0 → a ≡ b
-        equal a b h = omega (arith, ints)
+        (same_of_gap _ _ (gap ∙ ap (λ (v : ℤ). m *ℤ v) none ∙ times_zero m))
 
 -- a side in line with the edge, which goes forward as the edge does
 pub side-hides : (d axis : Triple) (p q k l : Corner) (n m : ℤ) → ¬ IsZero d → pos 0 <ℤ m → IsAhead d axis p q → IsInLine d p q k l → pos 0 <ℤ dot axis (difference k l)
@@ -197,7 +189,7 @@ side-hides d axis p q k l n m somewhere positive ahead in_line forward = (
 pub side-hides-turned : (d : Triple) (k l : Corner) (p : Point) → SideHides d k l p → SideHides d l k p
 side-hides-turned d k l p h = record {
   point = h.point;
-  on_side = edge-turned k l h.point h.on_side;
+  on_side = edge_point-turned k l h.point h.on_side;
   same_sight = h.same_sight;
   nearer = h.nearer;
 }
@@ -215,10 +207,10 @@ module _ (d axis : Triple) (somewhere : ¬ IsZero d) (s : Part) (sound : IsSound
     same : place ≡ edge_sum e.a e.b u v
 
   weights : Weights
-  weights = let w = share-of-edge e.a e.b n m positive least most in record { u = w.0; v = w.1; some = w.2; same = w.3 }
+  weights = let w = edge_point-at_share e.a e.b n m positive least most in record { u = w.0; v = w.1; some = w.2; same = w.3 }
 
   over : IsSeenOver d e place
-  over = (place, share-of-edge e.a e.b n m positive least most, record { across = refl; upward = refl })
+  over = (place, edge_point-at_share e.a e.b n m positive least most, record { across = refl; upward = refl })
 
   -- a side with parallel projection that has a point on the share's line of sight is in line with the edge
   parallel-in-line : det d (difference e.a e.b) (difference k l) ≡ pos 0 → (i j : ℕ) → 0 < i + j → OnOneSight d (edge_sum k l i j) place → IsInLine d e.a e.b k l
@@ -228,17 +220,11 @@ module _ (d axis : Triple) (somewhere : ¬ IsZero d) (s : Part) (sound : IsSound
       let gl = dot g (of_corner l) in
       let ge = dot g (of_corner e.a) in
       let alike : gl -ℤ gk ≡ pos 0 = sym (dot-difference g k l) ∙ sym (det-reads d (difference e.a e.b) (difference k l)) ∙ parallel in
-      let agree = agree_of_sight d g (edge_sum k l i j) place somewhere (cross-first d (difference e.a e.b)) same in
+      let agree = agree_of_sight d g (edge_sum k l i j) place somewhere (up_axis-level d (difference e.a e.b)) same in
       let meets : (pos i *ℤ gk +ℤ pos j *ℤ gl) *ℤ m ≡ (m *ℤ ge) *ℤ (pos i +ℤ pos j) =
       ap (λ (v : ℤ). v *ℤ m) (sym (dot-sum g k l i j)) ∙ agree ∙ (let level = share-level d e.a e.b n m in let whole = pos-sum i j in λ t. level t *ℤ whole t) in
-      let first = level-by-meeting m gk gl ge (pos i) (pos j) positive (counted i j some) alike meets in
-      (level-end-of d e.a e.b k first, level-end-of d e.a e.b l (equal gk gl alike ∙ first))
-    where
-      counted : (i j : ℕ) → 0 < i + j → pos 0 <ℤ (pos i +ℤ pos j)
-      counted i j h = omega (arith, ints)
-
-      equal : (a b : ℤ) → b -ℤ a ≡ pos 0 → b ≡ a
-      equal a b h = omega (arith, ints)
+      let first = level-by-meeting m gk gl ge (pos i) (pos j) positive (natural_positive (i + j) some) alike meets in
+      (level-end-of d e.a e.b k first, level-end-of d e.a e.b l (same_of_gap gl gk alike ∙ first))
 
   -- at an ordinary point a side that has a point on the line of sight is in line with the edge
   pub in-line-over : IsOrdinary d s (share_point e.a e.b n m) → (q : Point) → IsPointOfEdge k l q → OnOneSight d q (share_point e.a e.b n m) → IsInLine d e.a e.b k l

@@ -1,27 +1,23 @@
 -- Points of edges and of sides by whole weights: they are points of the face, and a side of a face that has the edge too shares a corner with it.
-use Rattle.std.proofs.Common.{◌≡◌, ◌⊎◌, inl, inr, ℕ, zero, suc, ◌+◌, ◌*◌, ◌/◌, ◌%◌, ◌<◌, List, [], ◌∷◌, Some, slice_get, Contains, refl, sym, ap, ◌∙◌, subst, arith}
-use Rattle.std.specs.Prelude.{ℤ, pos, negsuc, ◌+ℤ◌, ◌-ℤ◌, ◌*ℤ◌, ◌<ℤ◌, ◌≤ℤ◌}
+use Rattle.std.proofs.Common.{◌≡◌, ◌⊎◌, inl, inr, ℕ, zero, suc, ◌+◌, ◌*◌, ◌/◌, ◌%◌, List, [], ◌∷◌, Some, slice_get, Contains, refl, sym, ap, ◌∙◌, subst, arith}
+use Rattle.std.specs.Prelude.{ℤ, pos, negsuc, ◌+ℤ◌, ◌-ℤ◌, ◌*ℤ◌, ◌≤ℤ◌}
 use Rattle.std.proofs.lemmas.Int.{ints}
 use Rattle.std.proofs.lemmas.Option.{same_Some, slice_get_within, get_or_from_slice_get}
 use Rattle.std.proofs.lemmas.List.Elements.{Contains-get_or}
 use Rattle.std.proofs.Math.IntN.{pos-*ℤ-pos}
+use Rattle.geometry.proofs.FacePoints.{edge_point-turned}
 use Rattle.integers.proofs.Ring.{var, ◌⊕◌, ◌⊗◌, ring}
 use Rattle.lattice.specs.declared.points.Corner.{Corner}
 use Rattle.lattice.specs.declared.soup.Tri.{Tri}
 use Rattle.lattice.specs.Points.{Point, AreOnePoint}
 use Rattle.geometry.specs.Faces.{edge_sum, face_sum, share_point, IsPointOfEdge, IsPointOfFace}
 use Rattle.geometry.specs.Parts.{Part, Face, Edge, IsHalf, start_of, end_of}
-use Rattle.geometry.proofs.Shares.{edge_turned}
 use Rattle.hiding.specs.inner.Values.{IsSideOf}
 
 -- ---- weights
 pub natural : (z : ℤ) → pos 0 ≤ℤ z → (n : ℕ) × (pos n ≡ z)
 natural (pos n) h = (n, refl)
 natural (negsuc n) h = absurd (omega (arith, ints))
-
--- the order of the two ends does not count
-pub edge-turned : (k l : Corner) (p : Point) → IsPointOfEdge k l p → IsPointOfEdge l k p
-edge-turned k l p h = (h.1, h.0, let some = h.2 in omega arith, h.3 ∙ edge_turned k l h.0 h.1)
 
 pub share-sum : (a b : Corner) (n m : ℤ) (u v : ℕ) → pos u ≡ m -ℤ n → pos v ≡ n → share_point a b n m ≡ edge_sum a b u v
 share-sum a b n m u v is_u is_v =
@@ -35,19 +31,6 @@ share-sum a b n m u v is_u is_v =
   where
     sum-is : (u v : ℕ) (n m : ℤ) → pos u ≡ m -ℤ n → pos v ≡ n → m ≡ pos (u + v)
     sum-is u v n m e f = omega (arith, ints)
-
--- a share from 0 to 1 is a point of the edge
-pub share-of-edge : (a b : Corner) (n m : ℤ) → pos 0 <ℤ m → pos 0 ≤ℤ n → n ≤ℤ m → IsPointOfEdge a b (share_point a b n m)
-share-of-edge a b n m positive least most =
-    let u = natural (m -ℤ n) (rest n m most) in
-    let v = natural n least in
-    (u.0, v.0, counted u.0 v.0 n m positive u.1 v.1, share-sum a b n m u.0 v.0 u.1 v.1)
-  where
-    rest : (n m : ℤ) → n ≤ℤ m → pos 0 ≤ℤ (m -ℤ n)
-    rest n m h = omega (arith, ints)
-
-    counted : (u v : ℕ) (n m : ℤ) → pos 0 <ℤ m → pos u ≡ m -ℤ n → pos v ≡ n → 0 < u + v
-    counted u v n m p e f = omega (arith, ints)
 
 -- weights that are all times one number
 scaled-part : (a b : ℤ) (u v w : ℕ) → pos (u * w) *ℤ a +ℤ pos (v * w) *ℤ b ≡ (pos u *ℤ a +ℤ pos v *ℤ b) *ℤ pos w
@@ -120,7 +103,7 @@ AreEnds k l m n = ((k ≡ m) × (l ≡ n)) ⊎ ((k ≡ n) × (l ≡ m))
 
 renamed : (k l m n : Corner) (p : Point) → AreEnds k l m n → IsPointOfEdge k l p → IsPointOfEdge m n p
 renamed k l m n p (inl e) h = (h.0, h.1, h.2, h.3 ∙ (λ t. edge_sum (e.0 t) (e.1 t) h.0 h.1))
-renamed k l m n p (inr e) h = edge-turned n m p (h.0, h.1, h.2, h.3 ∙ (λ t. edge_sum (e.0 t) (e.1 t) h.0 h.1))
+renamed k l m n p (inr e) h = edge_point-turned n m p (h.0, h.1, h.2, h.3 ∙ (λ t. edge_sum (e.0 t) (e.1 t) h.0 h.1))
 
 -- one end of a side is an end of the other
 abbrev pub HaveCommonEnd : Corner → Corner → Corner → Corner → Type 0

@@ -9,6 +9,9 @@ natural_not_negative n = omega (arith, ints)
 pub natural_positive : (n : ℕ) → 0 < n → pos 0 <ℤ pos n
 natural_positive n h = omega (arith, ints)
 
+pub natural_of_positive : (n : ℕ) (a : ℤ) → pos n ≡ a → pos 0 <ℤ a → 0 < n
+natural_of_positive n a e h = omega (arith, ints)
+
 pub pos-sum : (m n : ℕ) → pos (m + n) ≡ pos m +ℤ pos n
 pos-sum m n = omega (arith, ints)
 

@@ -3,6 +3,7 @@ use Rattle.std.proofs.Common.{◌≡◌, [], ◌∷◌, zero, suc, ◌<◌, ◌+
 use Rattle.std.specs.Prelude.{ℤ, pos, negsuc, ◌+ℤ◌, ◌-ℤ◌, ◌*ℤ◌, ◌<ℤ◌}
 use Rattle.std.proofs.lemmas.Int.{ints}
 use Rattle.std.proofs.lemmas.Grind.{merely}
+use Rattle.integers.proofs.Comparisons.{times_one}
 use Rattle.integers.proofs.Ring.{var, con, ◌⊕◌, ◌⊖◌, ◌⊗◌, ring, by_one, by_two, by_three, same_of_gap}
 use Rattle.integers.proofs.Signs.{zero_of_mul, zero_of_times}
 use Rattle.lattice.specs.Triple.{Triple, dot, right_axis, up_axis}
@@ -74,7 +75,7 @@ on_line_of d l x y z p t e = divided l.a l.b l.c t.n (across_of d p) (upward_of 
         ((var 3 ⊗ (((var 0 ⊗ var 4) ⊕ (var 1 ⊗ var 5)) ⊖ (var 2 ⊗ var 6))) ⊖ con (pos 0))
         (((((var 0 ⊗ var 3) ⊗ var 4) ⊕ ((var 1 ⊗ var 3) ⊗ var 5)) ⊖ ((var 2 ⊗ var 3) ⊗ var 6)) ⊗ con (pos 1)) refl) e))
 
-dot_difference : (s : Triple) (p q : Corner) → dot s (difference p q) ≡ dot s (scaled (point_of q)) -ℤ dot s (scaled (point_of p))
+pub dot_difference : (s : Triple) (p q : Corner) → dot s (difference p q) ≡ dot s (scaled (point_of q)) -ℤ dot s (scaled (point_of p))
 dot_difference s p q =
     ring (s.x ∷ s.y ∷ s.z ∷ p.x ∷ p.y ∷ p.z ∷ q.x ∷ q.y ∷ q.z ∷ [])
     (dots (letters 0) (record { x = var 6 ⊖ var 3; y = var 7 ⊖ var 4; z = var 8 ⊖ var 5 }))
@@ -107,9 +108,6 @@ module _ (d : Triple) (p q : Corner) (a b : ℤ) (ea : a ≡ dot (up_axis d) (di
   module _ (l : Line) (c : ℤ) (ec : c ≡ (a *ℤ across_of d (point_of p)) +ℤ (b *ℤ upward_of d (point_of p))) (t : IsLineOf l a b c) where
     pub first_on : IsOnLine d l (point_of p)
     first_on = on_line_of d l a b c (point_of p) t (sym ec ∙ times_one c)
-      where
-        times_one : (c : ℤ) → c ≡ c *ℤ pos 1
-        times_one c = omega (arith, ints)
 
     pub second_on : IsOnLine d l (point_of q)
     second_on = on_line_of d l a b c (point_of q) t (crossed a b c (across_of d (point_of p)) (upward_of d (point_of p)) (across_of d (point_of q)) (upward_of d (point_of q)) step_up step_back ec)

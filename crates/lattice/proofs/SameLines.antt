@@ -4,6 +4,7 @@ use Rattle.std.specs.Prelude.{ℤ, pos, negsuc, ◌+ℤ◌, ◌-ℤ◌, ◌*ℤ�
 use Rattle.std.specs.Int.{◌∣◌}
 use Rattle.std.proofs.Math.Nat.{dvd-mul_right, dvd_antisymm}
 use Rattle.std.proofs.lemmas.Int.{ints, unsigned_abs-mul}
+use Rattle.integers.proofs.Comparisons.{zero_times}
 use Rattle.integers.proofs.Divisors.{divides_factor}
 use Rattle.integers.proofs.Ring.{var, con, ◌⊕◌, ◌⊖◌, ◌⊗◌, ring, mul_comm, by_two, by_three, same_of_gap}
 use Rattle.integers.proofs.Signs.{zero_of_mul, zero_of_either}
@@ -27,9 +28,6 @@ record AreCrossed (x y a b c e f g : ℤ) : Type 0 where
   first : x *ℤ e ≡ y *ℤ a
   second : x *ℤ f ≡ y *ℤ b
   third : x *ℤ g ≡ y *ℤ c
-
-zero_times : (a : ℤ) → pos 0 *ℤ a ≡ pos 0
-zero_times a = omega (arith, ints)
 
 by_leading : (a b c e f g : ℤ) → pos 0 <ℤ leading_of a b → pos 0 <ℤ leading_of e f → a *ℤ f ≡ e *ℤ b → a *ℤ g ≡ e *ℤ c → b *ℤ g ≡ f *ℤ c → AreCrossed (leading_of a b) (leading_of e f) a b c e f g
 by_leading (pos zero) b c (pos zero) f g h k ab ac bc = record { first = nothing b f; second = mul_comm b f; third = bc }

@@ -5,15 +5,16 @@ use Rattle.std.specs.Ordering.{int_eq}
 use Rattle.std.specs.Bool.{Decides}
 use Rattle.std.specs.Cmp.{signed_Decides}
 use Rattle.std.proofs.lemmas.Int.{ints}
+use Rattle.integers.proofs.Comparisons.{times_zero}
 use Rattle.integers.proofs.Ring.{Expr, var, con, ◌⊕◌, ◌⊖◌, ◌⊗◌, ring, by_two, by_three}
 use Rattle.integers.proofs.Signs.{zero_of_mul}
 use Rattle.lattice.specs.Triple.{Triple, dot, cross, right_axis, up_axis, IsZero}
 use Rattle.lattice.specs.Points.{Point, scaled, OnOneSight, DifferAlong}
 use Rattle.lattice.proofs.Vectors.{Letters, letters, dots, crosses, dot_itself}
 
--- ---- a vector with no part along r and none along d cross r is along d
-abbrev values : Triple → Triple → Triple → List ℤ
-values r e d = r.x ∷ r.y ∷ r.z ∷ e.x ∷ e.y ∷ e.z ∷ d.x ∷ d.y ∷ d.z ∷ []
+-- ---- a vector with no part along an axis square to d, and none along d cross s, is along d, where s goes forward along the axis
+abbrev values : Triple → Triple → Triple → Triple → List ℤ
+values r e d s = r.x ∷ r.y ∷ r.z ∷ e.x ∷ e.y ∷ e.z ∷ d.x ∷ d.y ∷ d.z ∷ s.x ∷ s.y ∷ s.z ∷ []
 
 abbrev R : Letters
 R = letters 0
@@ -24,24 +25,27 @@ E = letters 3
 abbrev D : Letters
 D = letters 6
 
--- one component of r (r . (e x d)) - (r x e) (r . d) + (r x d) (r . e), which is (r . r) (e x d)
+abbrev S : Letters
+S = letters 9
+
+-- one component of r (e . (d x s)) - (d x s) (r . e) - (s x e) (r . d), which is (r . s) (e x d)
 abbrev parts : Expr → Expr → Expr → Expr
 parts a b c =
-    (((dots (crosses D R) E ⊖ con (pos 0)) ⊗ a) ⊕ ((dots R D ⊖ con (pos 0)) ⊗ (con (pos 0) ⊖ b))) ⊕ ((dots R E ⊖ con (pos 0)) ⊗ c)
+    (((dots (crosses D S) E ⊖ con (pos 0)) ⊗ a) ⊕ ((dots R E ⊖ con (pos 0)) ⊗ (con (pos 0) ⊖ b))) ⊕ ((dots R D ⊖ con (pos 0)) ⊗ (con (pos 0) ⊖ c))
 
--- dot r r times a component of e cross d
-abbrev squares : Expr → Expr
-squares a = (dots R R ⊗ a) ⊖ con (pos 0)
+-- dot r s times a component of e cross d
+abbrev products : Expr → Expr
+products a = (dots R S ⊗ a) ⊖ con (pos 0)
 
-module _ (r e d : Triple) (square : pos 0 <ℤ dot r r) (level : dot r d ≡ pos 0) (across : dot r e ≡ pos 0) (upward : dot (cross d r) e ≡ pos 0) where
+module _ (r s e d : Triple) (forward : pos 0 <ℤ dot r s) (level : dot r d ≡ pos 0) (along : dot r e ≡ pos 0) (across : dot (cross d s) e ≡ pos 0) where
   pub alike : IsZero (cross e d)
   alike = record {
-    x = zero_of_mul (dot r r) (cross e d).x square (by_three (dot r r *ℤ (cross e d).x) (pos 0) (dot (cross d r) e) (pos 0) r.x (dot r d) (pos 0) (pos 0 -ℤ (cross r e).x) (dot r e) (pos 0) (cross r d).x
-        (ring (values r e d) (squares (crosses E D).x) (parts R.x (crosses R E).x (crosses R D).x) refl) upward level across);
-    y = zero_of_mul (dot r r) (cross e d).y square (by_three (dot r r *ℤ (cross e d).y) (pos 0) (dot (cross d r) e) (pos 0) r.y (dot r d) (pos 0) (pos 0 -ℤ (cross r e).y) (dot r e) (pos 0) (cross r d).y
-        (ring (values r e d) (squares (crosses E D).y) (parts R.y (crosses R E).y (crosses R D).y) refl) upward level across);
-    z = zero_of_mul (dot r r) (cross e d).z square (by_three (dot r r *ℤ (cross e d).z) (pos 0) (dot (cross d r) e) (pos 0) r.z (dot r d) (pos 0) (pos 0 -ℤ (cross r e).z) (dot r e) (pos 0) (cross r d).z
-        (ring (values r e d) (squares (crosses E D).z) (parts R.z (crosses R E).z (crosses R D).z) refl) upward level across);
+    x = zero_of_mul (dot r s) (cross e d).x forward (by_three (dot r s *ℤ (cross e d).x) (pos 0) (dot (cross d s) e) (pos 0) r.x (dot r e) (pos 0) (pos 0 -ℤ (cross d s).x) (dot r d) (pos 0) (pos 0 -ℤ (cross s e).x)
+        (ring (values r e d s) (products (crosses E D).x) (parts R.x (crosses D S).x (crosses S E).x) refl) across along level);
+    y = zero_of_mul (dot r s) (cross e d).y forward (by_three (dot r s *ℤ (cross e d).y) (pos 0) (dot (cross d s) e) (pos 0) r.y (dot r e) (pos 0) (pos 0 -ℤ (cross d s).y) (dot r d) (pos 0) (pos 0 -ℤ (cross s e).y)
+        (ring (values r e d s) (products (crosses E D).y) (parts R.y (crosses D S).y (crosses S E).y) refl) across along level);
+    z = zero_of_mul (dot r s) (cross e d).z forward (by_three (dot r s *ℤ (cross e d).z) (pos 0) (dot (cross d s) e) (pos 0) r.z (dot r e) (pos 0) (pos 0 -ℤ (cross d s).z) (dot r d) (pos 0) (pos 0 -ℤ (cross s e).z)
+        (ring (values r e d s) (products (crosses E D).z) (parts R.z (crosses D S).z (crosses S E).z) refl) across along level);
   }
 
 -- ---- the difference of two points, times both divisors
@@ -110,22 +114,22 @@ right_axis-is d = go (int_eq d.x (pos 0)) (int_eq d.y (pos 0)) (signed_Decides d
 
 -- the up axis is square to the direction
 pub up_axis-level : (d r : Triple) → dot (cross d r) d ≡ pos 0
-up_axis-level d r = ring (values r d d) (dots (crosses E R) E) (con (pos 0)) refl
+up_axis-level d r = ring (values r d d d) (dots (crosses E R) E) (con (pos 0)) refl
 
 -- ---- multiples of a direction
 -- d . d times e is d . e times d, where e cross d is 0: their difference is d x (e x d)
 module _ (d e : Triple) (f : IsZero (cross e d)) where
   pub multiple_x : dot d d *ℤ e.x ≡ dot d e *ℤ d.x
   multiple_x = by_two (dot d d *ℤ e.x) (dot d e *ℤ d.x) (cross e d).z (pos 0) d.y (cross e d).y (pos 0) (pos 0 -ℤ d.z)
-      (ring (values d e d) ((dots D D ⊗ E.x) ⊖ (dots D E ⊗ D.x)) ((((crosses E D).z ⊖ con (pos 0)) ⊗ D.y) ⊕ (((crosses E D).y ⊖ con (pos 0)) ⊗ (con (pos 0) ⊖ D.z))) refl) f.z f.y
+      (ring (values d e d d) ((dots D D ⊗ E.x) ⊖ (dots D E ⊗ D.x)) ((((crosses E D).z ⊖ con (pos 0)) ⊗ D.y) ⊕ (((crosses E D).y ⊖ con (pos 0)) ⊗ (con (pos 0) ⊖ D.z))) refl) f.z f.y
 
   pub multiple_y : dot d d *ℤ e.y ≡ dot d e *ℤ d.y
   multiple_y = by_two (dot d d *ℤ e.y) (dot d e *ℤ d.y) (cross e d).x (pos 0) d.z (cross e d).z (pos 0) (pos 0 -ℤ d.x)
-      (ring (values d e d) ((dots D D ⊗ E.y) ⊖ (dots D E ⊗ D.y)) ((((crosses E D).x ⊖ con (pos 0)) ⊗ D.z) ⊕ (((crosses E D).z ⊖ con (pos 0)) ⊗ (con (pos 0) ⊖ D.x))) refl) f.x f.z
+      (ring (values d e d d) ((dots D D ⊗ E.y) ⊖ (dots D E ⊗ D.y)) ((((crosses E D).x ⊖ con (pos 0)) ⊗ D.z) ⊕ (((crosses E D).z ⊖ con (pos 0)) ⊗ (con (pos 0) ⊖ D.x))) refl) f.x f.z
 
   pub multiple_z : dot d d *ℤ e.z ≡ dot d e *ℤ d.z
   multiple_z = by_two (dot d d *ℤ e.z) (dot d e *ℤ d.z) (cross e d).y (pos 0) d.x (cross e d).x (pos 0) (pos 0 -ℤ d.y)
-      (ring (values d e d) ((dots D D ⊗ E.z) ⊖ (dots D E ⊗ D.z)) ((((crosses E D).y ⊖ con (pos 0)) ⊗ D.x) ⊕ (((crosses E D).x ⊖ con (pos 0)) ⊗ (con (pos 0) ⊖ D.y))) refl) f.y f.x
+      (ring (values d e d d) ((dots D D ⊗ E.z) ⊖ (dots D E ⊗ D.z)) ((((crosses E D).y ⊖ con (pos 0)) ⊗ D.x) ⊕ (((crosses E D).x ⊖ con (pos 0)) ⊗ (con (pos 0) ⊖ D.y))) refl) f.y f.x
 
 -- a multiple of d has no part along r where d has none
 pub no_part : (r e d : Triple) (n m : ℤ) → pos 0 <ℤ m → m *ℤ e.x ≡ n *ℤ d.x → m *ℤ e.y ≡ n *ℤ d.y → m *ℤ e.z ≡ n *ℤ d.z → dot r d ≡ pos 0 → dot r e ≡ pos 0
@@ -136,16 +140,13 @@ no_part r e d n m positive x y z level =
     ((var 10 ⊗ dots R E) ⊖ (var 9 ⊗ dots R D))
     (((((var 10 ⊗ E.x) ⊖ (var 9 ⊗ D.x)) ⊗ R.x) ⊕ (((var 10 ⊗ E.y) ⊖ (var 9 ⊗ D.y)) ⊗ R.y)) ⊕ (((var 10 ⊗ E.z) ⊖ (var 9 ⊗ D.z)) ⊗ R.z)) refl) x y z
     ∙ ap (λ (a : ℤ). n *ℤ a) level ∙ times_zero n)
-  where
-    times_zero : (n : ℤ) → n *ℤ pos 0 ≡ pos 0
-    times_zero n = omega (arith, ints)
 
 -- ---- both ways
 module _ (d : Triple) (p q : Point) where
   pub along_of_sight : pos 0 <ℤ dot d d → OnOneSight d p q → DifferAlong d p q
   along_of_sight h s =
       let axis = right_axis-is d in
-      let zero = alike (right_axis d) (offset p q) d axis.square axis.level (nothing_along (right_axis d) p q s.across) (nothing_along (up_axis d) p q s.upward) in
+      let zero = alike (right_axis d) (right_axis d) (offset p q) d axis.square axis.level (nothing_along (right_axis d) p q s.across) (nothing_along (up_axis d) p q s.upward) in
       record {
         n = dot d (offset p q);
         m = dot d d;

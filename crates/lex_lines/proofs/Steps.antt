@@ -1,5 +1,6 @@
 -- One byte of the pass over a text.
 use Rattle.std.proofs.Common.{◌≡◌, ℕ, ◌+◌, Bool, true, false, not, ◌&&◌, ◌||◌, cond, List, [], ◌∷◌, refl, sym, ◌∙◌}
+use Rattle.std.proofs.lemmas.Bool.{not-false}
 use Rattle.lex_lines.specs.declared.token.Token.{Token}
 use Rattle.lex_lines.specs.Bytes.{is_blank, is_feed, is_gap, is_hash}
 use Rattle.lex_lines.specs.Scan.{between, comment, inside, ends_run, comment_after, line_after, outside, tokens_from}
@@ -44,13 +45,9 @@ between_step comments byte bytes place line e = rw e refl
 pub comment_step : (comments : Bool) (byte : ℕ) (bytes : List ℕ) (place line : ℕ) → tokens_from comments (byte ∷ bytes) place line comment ≡ tokens_from comments bytes (place + 1) (line_after line byte) (outside (comment_after comments true byte))
 comment_step comments byte bytes place line = rw (same_cond (ends_run comments byte) []) refl
 
-not_both : (b : Bool) → not b ≡ false → b ≡ true
-not_both true e = refl
-not_both false e = sym e
-
 pub outside_step : (comments k : Bool) (byte : ℕ) (bytes : List ℕ) (place line : ℕ) → (not k && not (ends_run comments byte)) ≡ false → tokens_from comments (byte ∷ bytes) place line (outside k) ≡ tokens_from comments bytes (place + 1) (line_after line byte) (outside (comment_after comments k byte))
 outside_step comments true byte bytes place line e = comment_step comments byte bytes place line
-outside_step comments false byte bytes place line e = between_step comments byte bytes place line (not_both (ends_run comments byte) e)
+outside_step comments false byte bytes place line e = between_step comments byte bytes place line (not-false (ends_run comments byte) e)
 
 -- ---- within a token
 pub begin_step : (comments : Bool) (byte : ℕ) (bytes : List ℕ) (place line : ℕ) → ends_run comments byte ≡ false → tokens_from comments (byte ∷ bytes) place line between ≡ tokens_from comments bytes (place + 1) line (inside place)

@@ -1,6 +1,6 @@
 -- Which bytes are a token's, and which runs of them are tokens.
 use Rattle.std.proofs.Common.{◌≡◌, ℕ, ◌+◌, ◌-◌, ◌<◌, ◌≤◌, Bool, true, false, ◌&&◌, ◌||◌, ◌⊎◌, inl, inr, List, length, refl, sym, ◌∙◌, subst, arith}
-use Rattle.std.proofs.lemmas.Bool.{cases_lt}
+use Rattle.std.proofs.lemmas.Bool.{cases_lt, or_parts}
 use Rattle.std.proofs.lemmas.Option.{slice_get_within}
 use Rattle.std.specs.Prelude.{Some, slice_get}
 use Rattle.lex_lines.specs.declared.token.Token.{Token}
@@ -11,10 +11,6 @@ use Rattle.lex_lines.proofs.Comments.{Commented, one_byte, false_true, in_cases,
 use Rattle.lex_lines.proofs.Steps.{token}
 
 -- ---- one byte
-or_parts : (a b : Bool) → (a || b) ≡ false → (a ≡ false) × (b ≡ false)
-or_parts true b e = false_true true refl e
-or_parts false b e = (refl, e)
-
 and_second : (a b : Bool) → a ≡ true → (a && b) ≡ false → b ≡ false
 and_second true b e f = f
 and_second false b e f = false_true false e refl

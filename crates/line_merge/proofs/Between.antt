@@ -1,7 +1,8 @@
 -- A point of a line lies between two others exactly where it is seen after the one and before the other.
 use Rattle.std.proofs.Common.{◌≡◌, ◌⊎◌, inl, inr, ℕ, zero, suc, [], ◌∷◌, refl, sym, ap, subst, ◌∙◌, arith}
-use Rattle.std.specs.Prelude.{ℤ, pos, negsuc, ◌+ℤ◌, ◌-ℤ◌, ◌*ℤ◌, ◌<ℤ◌}
+use Rattle.std.specs.Prelude.{ℤ, pos, negsuc, ◌+ℤ◌, ◌*ℤ◌, ◌<ℤ◌}
 use Rattle.std.proofs.lemmas.Int.{ints}
+use Rattle.integers.proofs.Comparisons.{gap_of_same, less_not_same}
 use Rattle.integers.proofs.Ring.{var, con, ◌⊕◌, ◌⊗◌, ring, same_of_gap}
 use Rattle.integers.proofs.Signs.{zero_of_either}
 use Rattle.integers.proofs.Weighted.{HasWeights, weights_between, after_first, before_second, with_first, with_second, at_first, at_second}
@@ -26,14 +27,11 @@ rest_of a b u v h e some = let k = (λ i. (a *ℤ sym e i) +ℤ (b *ℤ v)) ∙ 
     alone : (a *ℤ pos 0) +ℤ (b *ℤ v) ≡ pos 0 → b *ℤ v ≡ pos 0
     alone k = ring (a ∷ b ∷ v ∷ []) (var 1 ⊗ var 2) ((var 0 ⊗ con (pos 0)) ⊕ (var 1 ⊗ var 2)) refl ∙ k
 
-gap_of_same : (x y : ℤ) → x ≡ y → y -ℤ x ≡ pos 0
-gap_of_same x y e = omega (arith, ints)
-
 module _ (d : Triple) (l : Line) (p q : Point) (on_p : IsOnLine d l p) (on_q : IsOnLine d l q) where
   same_upward : (l.b ≡ pos 0 → ⊥) → across_of d p *ℤ q.w ≡ across_of d q *ℤ p.w → upward_of d p *ℤ q.w ≡ upward_of d q *ℤ p.w
   same_upward some e =
       sym (same_of_gap (upward_of d q *ℤ p.w) (upward_of d p *ℤ q.w)
-      (rest_of l.a l.b _ _ (along_line d l p q on_p on_q) (gap_of_same (across_of d p *ℤ q.w) (across_of d q *ℤ p.w) e) some))
+      (rest_of l.a l.b _ _ (along_line d l p q on_p on_q) (gap_of_same (across_of d q *ℤ p.w) (across_of d p *ℤ q.w) (sym e)) some))
 
   same_across : l.b ≡ pos 0 → across_of d p *ℤ q.w ≡ across_of d q *ℤ p.w
   same_across flat =
@@ -56,9 +54,6 @@ zero_or_not : (b : ℤ) → (b ≡ pos 0) ⊎ (b ≡ pos 0 → ⊥)
 zero_or_not (pos zero) = inl refl
 zero_or_not (pos (suc n)) = inr (λ e. omega (arith, ints))
 zero_or_not (negsuc n) = inr (λ e. omega (arith, ints))
-
-less_not_same : (x y : ℤ) → x <ℤ y → x ≡ y → ⊥
-less_not_same x y h e = omega (arith, ints)
 
 -- the strict order on a line is that of U, or of V where the line is upright
 module _ (d : Triple) (l : Line) (p q : Point) (on_p : IsOnLine d l p) (on_q : IsOnLine d l q) (h : IsBefore d p q) where

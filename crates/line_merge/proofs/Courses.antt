@@ -23,6 +23,7 @@ use Rattle.line_merge.specs.inner.Ends.{seen_order, end_order, IsSeenEnd}
 use Rattle.line_merge.specs.Merging.{AreStrips}
 use Rattle.line_merge.specs.inner.Numbering.{IsNumbering}
 use Rattle.integers.proofs.Chains.{chained, chained_total, chained_ratios, before_less}
+use Rattle.integers.proofs.Orders.{less_of_is_lt}
 use Rattle.line_merge.proofs.Sights.{view_order, before, order_of_before, order_back, sight}
 use Rattle.line_merge.proofs.EndOrders.{order_on_line}
 use Rattle.line_merge.proofs.Between.{between, seen_between}
@@ -121,11 +122,6 @@ pub record IsCourse (d : Triple) (strips : List Strip) (number : Line → ℕ) (
   pub one_line : u.from.line ≡ u.to.line
   pub before : IsBefore d (of_spot u.from.spot) (of_spot u.to.spot)
 
-less_of_test : (r : Ordering) → is_lt r ≡ true → r ≡ Less
-less_of_test Less h = refl
-less_of_test Equal h = cc
-less_of_test Greater h = cc
-
 back_less : (r : Ordering) → is_lt r ≡ false → ¬ (r ≡ Equal) → ordering_reverse r ≡ Less
 back_less Less h k = cc
 back_less Equal h k = absurd (k refl)
@@ -159,7 +155,7 @@ module _ (d : Triple) (strips : List Strip) (number : Line → ℕ) (are : AreNu
     crossed n (is, not) = by (nat_cmp u.from.line n) refl is (ap (λ (o : Ordering). is_lt (ordering_then o (point_order d n p u.to))) (one_order n) ∙ not)
       where
         after : is_lt (point_order d n p u.from) ≡ true → IsBefore d (of_spot u.from.spot) p
-        after e = before d (of_spot u.from.spot) p (sym (point_order_is d n p u.from h.from.seen) ∙ less_of_test (point_order d n p u.from) e)
+        after e = before d (of_spot u.from.spot) p (sym (point_order_is d n p u.from h.from.seen) ∙ less_of_is_lt (point_order d n p u.from) e)
 
         earlier : is_lt (point_order d n p u.to) ≡ false → IsBefore d p (of_spot u.to.spot)
         earlier e =

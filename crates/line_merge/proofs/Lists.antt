@@ -7,9 +7,7 @@ use Rattle.std.proofs.lemmas.List.Edits.{Swapped, length-swap, swapped_from_swap
 use Rattle.std.proofs.lemmas.List.Elements.{All-map, Contains-get_or}
 use Rattle.std.proofs.lemmas.List.Kept.{AllPairs-cons}
 use Rattle.std.proofs.lemmas.List.Sorted.{IsPermutation-keeps}
-
-pub contains_rest : {A : Type 0} (w : A) (xs : List A) (x : A) → Contains xs x → Contains (w ∷ xs) x
-contains_rest w xs x (k, less, is) = (suc k, omega arith, is)
+use Rattle.integers.proofs.Lists.{Contains-later}
 
 pub contains_first : {A : Type 0} (xs : List A) (x : A) → Contains (x ∷ xs) x
 contains_first xs x = (zero, omega arith, refl)
@@ -19,12 +17,12 @@ module _ {A B : Type 0} (f : A → B) where
   pub map_contains : (xs : List A) (x : A) → Contains xs x → Contains (map f xs) (f x)
   map_contains [] x (k, less, is) = absurd (omega arith)
   map_contains (w ∷ xs) x (zero, less, is) = (zero, omega arith, ap f is)
-  map_contains (w ∷ xs) x (suc k, less, is) = contains_rest (f w) (map f xs) (f x) (map_contains xs x (k, omega arith, is))
+  map_contains (w ∷ xs) x (suc k, less, is) = Contains-later (f w) (map f xs) (f x) (map_contains xs x (k, omega arith, is))
 
   pub contains_map : (xs : List A) (y : B) → Contains (map f xs) y → (x : A) × Contains xs x × (f x ≡ y)
   contains_map [] y (k, less, is) = absurd (omega arith)
   contains_map (w ∷ xs) y (zero, less, is) = (w, contains_first xs w, is)
-  contains_map (w ∷ xs) y (suc k, less, is) = let (x, there, same) = contains_map xs y (k, omega arith, is) in (x, contains_rest w xs x there, same)
+  contains_map (w ∷ xs) y (suc k, less, is) = let (x, there, same) = contains_map xs y (k, omega arith, is) in (x, Contains-later w xs x there, same)
 
 -- ---- filter
 pub filter_map : {A B : Type 0} (f : A → B) (test : B → Bool) (xs : List A) → filter test (map f xs) ≡ map f (filter (λ x. test (f x)) xs)
@@ -44,7 +42,7 @@ module _ {A : Type 0} (test : A → Bool) where
   filter_contains (w ∷ xs) x (suc k, less, is) e = by (test w) (filter_contains xs x (k, omega arith, is) e)
     where
       by : (b : Bool) → Contains (filter test xs) x → Contains (cond b (w ∷ filter test xs) (filter test xs)) x
-      by true there = contains_rest w (filter test xs) x there
+      by true there = Contains-later w (filter test xs) x there
       by false there = there
 
   pub contains_filter : (xs : List A) (x : A) → Contains (filter test xs) x → Contains xs x × (test x ≡ true)
@@ -53,8 +51,8 @@ module _ {A : Type 0} (test : A → Bool) where
     where
       by : (Contains (filter test xs) x → Contains xs x × (test x ≡ true)) → (b : Bool) → test w ≡ b → Contains (cond b (w ∷ filter test xs) (filter test xs)) x → Contains (w ∷ xs) x × (test x ≡ true)
       by rest true e (zero, less, is) = (subst (λ (v : A). Contains (w ∷ xs) v) is (contains_first xs w), sym (ap test is) ∙ e)
-      by rest true e (suc k, less, is) = let h = rest (k, omega arith, is) in (contains_rest w xs x h.0, h.1)
-      by rest false e c = let h = rest c in (contains_rest w xs x h.0, h.1)
+      by rest true e (suc k, less, is) = let h = rest (k, omega arith, is) in (Contains-later w xs x h.0, h.1)
+      by rest false e c = let h = rest c in (Contains-later w xs x h.0, h.1)
 
 -- ---- pairs
 module _ {A : Type 0} where

@@ -2,6 +2,7 @@
 use Rattle.std.proofs.Common.{◌≡◌, List, [], ◌∷◌, refl, ◌∙◌, arith}
 use Rattle.std.specs.Prelude.{ℤ, pos, ◌+ℤ◌, ◌-ℤ◌, ◌*ℤ◌, ◌≤ℤ◌, ◌<ℤ◌}
 use Rattle.std.proofs.lemmas.Int.{ints, by_lt_z}
+use Rattle.integers.proofs.Comparisons.{positive_not_zero, negation_not_negative, not_negative_of_positive}
 use Rattle.integers.proofs.Ring.{var, con, ◌⊕◌, ◌⊖◌, ◌⊗◌, ring, by_two}
 use Rattle.integers.proofs.Signs.{square_nonneg, square_zero}
 use Rattle.lattice.specs.Triple.{Triple, dot, cross, IsZero}
@@ -34,11 +35,8 @@ module _ (r s : Triple) where
 
   -- a vector with a positive product isn't 0
   pub square-of-product : pos 0 <ℤ dot r s → pos 0 <ℤ dot r r
-  square-of-product h = by_lt_z (pos 0) (dot r r) (λ k. k) (λ k. absurd (not_so _ (none (zero-of-square r k)) h))
+  square-of-product h = by_lt_z (pos 0) (dot r r) (λ k. k) (λ k. absurd (positive_not_zero _ h (none (zero-of-square r k))))
     where
-      not_so : (z : ℤ) → z ≡ pos 0 → pos 0 <ℤ z → ⊥
-      not_so z e h = omega (arith, ints)
-
       none : IsZero r → dot r s ≡ pos 0
       none z = (λ t. ((z.x t *ℤ s.x) +ℤ (z.y t *ℤ s.y)) +ℤ (z.z t *ℤ s.z)) ∙ sum s.x s.y s.z
         where
@@ -76,14 +74,8 @@ pub record Balance (r s : Triple) : Type 0 where
 pub balance : (r s : Triple) → IsZero (cross r s) → dot r s ≤ℤ pos 0 → Balance r s
 balance r s line opposed = by_lt_z (pos 0) (dot r r) apart (λ h. here (zero-of-square r h))
   where
-    back : (m : ℤ) → m ≤ℤ pos 0 → pos 0 ≤ℤ (pos 0 -ℤ m)
-    back m h = omega (arith, ints)
-
     most : (k m : ℤ) → pos 0 <ℤ k → m ≤ℤ pos 0 → pos 0 <ℤ ((pos 0 -ℤ m) +ℤ k)
     most k m p h = omega (arith, ints)
-
-    least : (k : ℤ) → pos 0 <ℤ k → pos 0 ≤ℤ k
-    least k h = omega (arith, ints)
 
     level : (f g h : ℤ) → g ≡ f *ℤ h → ((pos 0 -ℤ f) *ℤ h) +ℤ g ≡ pos 0
     level f g h e = (λ t. ((pos 0 -ℤ f) *ℤ h) +ℤ e t) ∙ ring (f ∷ h ∷ []) (((con (pos 0) ⊖ var 0) ⊗ var 1) ⊕ (var 0 ⊗ var 1)) (con (pos 0)) refl
@@ -92,8 +84,8 @@ balance r s line opposed = by_lt_z (pos 0) (dot r r) apart (λ h. here (zero-of-
     apart h = record {
       i = pos 0 -ℤ dot r s;
       j = dot r r;
-      i_least = back (dot r s) opposed;
-      j_least = least (dot r r) h;
+      i_least = negation_not_negative (dot r s) opposed;
+      j_least = not_negative_of_positive (dot r r) h;
       some = most (dot r r) (dot r s) h opposed;
       x = level (dot r s) (dot r r *ℤ s.x) r.x (along_x r s line);
       y = level (dot r s) (dot r r *ℤ s.y) r.y (along_y r s line);

@@ -2,7 +2,9 @@
 use Rattle.std.proofs.Common.{◌≡◌, ℕ, zero, suc, ◌+◌, ◌<◌, [], ◌∷◌, refl, sym, subst, ◌∙◌, arith}
 use Rattle.std.specs.Prelude.{◌↔◌, ℤ, pos, ◌+ℤ◌, ◌-ℤ◌, ◌*ℤ◌, ◌≤ℤ◌, ◌<ℤ◌, unsigned_abs}
 use Rattle.std.proofs.lemmas.Int.{ints, by_lt_z}
-use Rattle.integers.proofs.Ring.{var, con, ◌⊕◌, ◌⊖◌, ◌⊗◌, ring, by_one, by_two}
+use Rattle.integers.proofs.Absolutes.{natural_not_negative, natural_positive, abs_of_not_negative, natural_of_positive}
+use Rattle.integers.proofs.Comparisons.{not_negative_of_positive, not_negative_at, positive_not_zero}
+use Rattle.integers.proofs.Ring.{var, con, ◌⊕◌, ◌⊖◌, ◌⊗◌, ring, by_one, by_two, same_of_gap}
 use Rattle.integers.proofs.Signs.{mul_nonneg, nonneg_of_mul, zero_of_mul}
 use Rattle.lattice.specs.declared.points.Corner.{Corner}
 use Rattle.lattice.specs.Triple.{Triple, det}
@@ -12,7 +14,7 @@ use Rattle.meeting.specs.Touching.{TouchBeyond}
 use Rattle.meeting.specs.inner.Heights.{height_of}
 use Rattle.meeting.proofs.Letters.{A, B, C, heights, facings, values}
 use Rattle.meeting.proofs.Weights.{weights-sum, weigh_x, weigh_y, weigh_z, level-at}
-use Rattle.meeting.proofs.CommonPoints.{nonneg_at, nonneg_of_pos, natural, is_natural, weight-ca, weight-ab}
+use Rattle.meeting.proofs.CommonPoints.{weight-ca, weight-ab}
 
 -- ---- an edge whose two ends are one corner has one point
 pub record AreAlike (a q : Corner) : Type 0 where
@@ -33,11 +35,8 @@ alike-point a q i j same = record { x = one a.x q.x same.x; y = one a.y q.y same
 pub alike-of-point : (a q : Corner) (i j : ℕ) → 0 < j → AreOnePoint (point_of a) (edge_sum a q i j) → AreAlike a q
 alike-of-point a q i j some h = record { x = one a.x q.x h.x; y = one a.y q.y h.y; z = one a.z q.z h.z }
   where
-    close : (f g : ℤ) → g -ℤ f ≡ pos 0 → g ≡ f
-    close f g e = omega (arith, ints)
-
     one : (f g : ℤ) → f *ℤ (pos i +ℤ pos j) ≡ ((pos i *ℤ f) +ℤ (pos j *ℤ g)) *ℤ pos 1 → g ≡ f
-    one f g e = close f g (zero_of_mul (pos j) (g -ℤ f) (omega (arith, ints))
+    one f g e = same_of_gap g f (zero_of_mul (pos j) (g -ℤ f) (omega (arith, ints))
         (by_one _ _ (((pos i *ℤ f) +ℤ (pos j *ℤ g)) *ℤ pos 1) (f *ℤ (pos i +ℤ pos j)) (pos 1)
         (ring (pos i ∷ pos j ∷ f ∷ g ∷ [])
         ((var 1 ⊗ (var 3 ⊖ var 2)) ⊖ con (pos 0))
@@ -55,9 +54,6 @@ off-start a q i (suc j) off = omega arith
 off-sum : (a q : Corner) (i j : ℕ) (s : Point) → s ≡ edge_sum a q i j → ¬ AreOnePoint (point_of a) s → ¬ AreOnePoint (point_of a) (edge_sum a q i j)
 off-sum a q i j s is off = subst (λ (k : Point). ¬ AreOnePoint (point_of a) k) is off
 
-ahead : (j : ℕ) → 0 < j → pos 0 <ℤ pos j
-ahead j h = omega (arith, ints)
-
 -- what is linear along it and 0 at its start
 last : (i j : ℕ) (f g n : ℤ) → f ≡ pos 0 → (pos i *ℤ f) +ℤ (pos j *ℤ g) ≡ n → pos j *ℤ g ≡ n
 last i j f g n e h = by_two _ _ ((pos i *ℤ f) +ℤ (pos j *ℤ g)) n (pos 1) f (pos 0) (pos 0 -ℤ pos i)
@@ -70,7 +66,7 @@ pub beyond-level : (a b c q : Corner) → TouchBeyond a b c q → height_of a b 
 beyond-level a b c q t =
     let (i, j, some, is) = t.on_edge in
     let (k, l, m, some_face, on_face) = t.on_face in
-    zero_of_mul (pos j) (height_of a b c q) (ahead j (off-start a q i j (off-sum a q i j t.point is t.off)))
+    zero_of_mul (pos j) (height_of a b c q) (natural_positive j (off-start a q i j (off-sum a q i j t.point is t.off)))
     (last i j _ _ _ at_start (level-at a b c a q i j k l m (sym is ∙ on_face)))
   where
     at_start : height_of a b c a ≡ pos 0
@@ -113,14 +109,11 @@ module _ (d : Triple) (a b c q : Corner) where
       z = one a.z b.z c.z q.z d.z (weigh_z d a b c q);
     }
       where
-        close : (f g : ℤ) → g -ℤ f ≡ pos 0 → g ≡ f
-        close f g e = omega (arith, ints)
-
         sum : (bc +ℤ pos 0) +ℤ pos 0 ≡ F
         sum = sym (λ t. (bc +ℤ on_ca t) +ℤ on_ab t) ∙ weights-sum d a b c q
 
         one : (f g h k r : ℤ) → ((bc *ℤ f) +ℤ (ca *ℤ g)) +ℤ (ab *ℤ h) ≡ (F *ℤ k) -ℤ (height_of a b c q *ℤ r) → k ≡ f
-        one f g h k r e = close f k (zero_of_mul F (k -ℤ f) front
+        one f g h k r e = same_of_gap k f (zero_of_mul F (k -ℤ f) front
             (by_two _ _ (((bc *ℤ f) +ℤ (pos 0 *ℤ g)) +ℤ (pos 0 *ℤ h)) ((F *ℤ k) -ℤ (pos 0 *ℤ r)) (pos 0 -ℤ pos 1) ((bc +ℤ pos 0) +ℤ pos 0) F f
             (ring (bc ∷ F ∷ f ∷ g ∷ h ∷ k ∷ r ∷ [])
             ((var 1 ⊗ (var 5 ⊖ var 2)) ⊖ con (pos 0))
@@ -135,16 +128,16 @@ module _ (d : Triple) (a b c q : Corner) where
         off = off-sum a q i j t.point is t.off
 
         more : pos 0 <ℤ pos j
-        more = ahead j (off-start a q i j off)
+        more = natural_positive j (off-start a q i j off)
 
         same : edge_sum a q i j ≡ face_sum a b c k l m
         same = sym is ∙ on_face
 
         ca-least : pos 0 ≤ℤ ca
-        ca-least = nonneg_of_mul (pos j) ca more (nonneg_at _ _ (last i j _ _ _ ca-at-a (weight-ca d a b c a q i j k l m same)) (mul_nonneg (pos l) F (natural l) (nonneg_of_pos F front)))
+        ca-least = nonneg_of_mul (pos j) ca more (not_negative_at _ _ (last i j _ _ _ ca-at-a (weight-ca d a b c a q i j k l m same)) (mul_nonneg (pos l) F (natural_not_negative l) (not_negative_of_positive F front)))
 
         ab-least : pos 0 ≤ℤ ab
-        ab-least = nonneg_of_mul (pos j) ab more (nonneg_at _ _ (last i j _ _ _ ab-at-a (weight-ab d a b c a q i j k l m same)) (mul_nonneg (pos m) F (natural m) (nonneg_of_pos F front)))
+        ab-least = nonneg_of_mul (pos j) ab more (not_negative_at _ _ (last i j _ _ _ ab-at-a (weight-ab d a b c a q i j k l m same)) (mul_nonneg (pos m) F (natural_not_negative m) (not_negative_of_positive F front)))
 
         some : pos 0 <ℤ (ca +ℤ ab)
         some = by_lt_z (pos 0) (ca +ℤ ab) (λ h. h)
@@ -171,13 +164,13 @@ module _ (d : Triple) (a b c q : Corner) where
       m = unsigned_abs ab
 
       is_k : pos k ≡ F
-      is_k = is_natural F (nonneg_of_pos F front)
+      is_k = abs_of_not_negative F (not_negative_of_positive F front)
 
       is_l : pos l ≡ ca
-      is_l = is_natural ca ca_least
+      is_l = abs_of_not_negative ca ca_least
 
       is_m : pos m ≡ ab
-      is_m = is_natural ab ab_least
+      is_m = abs_of_not_negative ab ab_least
 
       coordinate : (f g h y r : ℤ) → ((bc *ℤ f) +ℤ (ca *ℤ g)) +ℤ (ab *ℤ h) ≡ (F *ℤ y) -ℤ (height_of a b c q *ℤ r)
           → ((pos l +ℤ pos m) *ℤ f) +ℤ (pos k *ℤ y) ≡ ((pos k *ℤ f) +ℤ (pos l *ℤ g)) +ℤ (pos m *ℤ h)
@@ -195,10 +188,7 @@ module _ (d : Triple) (a b c q : Corner) where
       weights = omega arith
 
       positive : 0 < k
-      positive = count k F is_k front
-        where
-          count : (n : ℕ) (z : ℤ) → pos n ≡ z → pos 0 <ℤ z → 0 < n
-          count n z e h = omega (arith, ints)
+      positive = natural_of_positive k F is_k front
 
       pub beyond-of-sides : TouchBeyond a b c q
       beyond-of-sides =
@@ -209,11 +199,8 @@ module _ (d : Triple) (a b c q : Corner) where
             point = edge_sum a q (l + m) k;
             on_edge = (l + m, k, omega (arith, positive), refl);
             on_face = (k, l, m, omega (arith, positive), λ t. record { x = on_x t; y = on_y t; z = on_z t; w = pos (weights t) });
-            off = λ h. not_so _ some (on-sides (alike-of-point a q (l + m) k positive h));
+            off = λ h. positive_not_zero _ some (on-sides (alike-of-point a q (l + m) k positive h));
           }
-        where
-          not_so : (z : ℤ) → pos 0 <ℤ z → z ≡ pos 0 → ⊥
-          not_so z h e = omega (arith, ints)
 
     pub beyond : height_of a b c q ≡ pos 0 → TouchBeyond a b c q ↔ ((pos 0 ≤ℤ ca) × (pos 0 ≤ℤ ab) × (pos 0 <ℤ (ca +ℤ ab)))
     beyond level = (beyond-sides, λ (p, r, s). beyond-of-sides level p r s)

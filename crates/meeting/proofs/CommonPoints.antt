@@ -1,7 +1,10 @@
 -- An edge and a triangle touch where the edge has a place in the plane that is to the right of no side.
 use Rattle.std.proofs.Common.{◌≡◌, ℕ, ◌+◌, ◌<◌, [], ◌∷◌, refl, sym, ap, ◌∙◌, arith}
-use Rattle.std.specs.Prelude.{ℤ, pos, ◌+ℤ◌, ◌-ℤ◌, ◌*ℤ◌, ◌≤ℤ◌, ◌<ℤ◌, unsigned_abs}
+use Rattle.std.specs.Prelude.{ℤ, pos, ◌+ℤ◌, ◌-ℤ◌, ◌*ℤ◌, ◌<ℤ◌, unsigned_abs}
 use Rattle.std.proofs.lemmas.Int.{ints}
+use Rattle.geometry.proofs.FacePoints.{face-round}
+use Rattle.integers.proofs.Absolutes.{natural_not_negative, abs_of_not_negative, natural_positive}
+use Rattle.integers.proofs.Comparisons.{not_negative_of_positive, not_negative_at}
 use Rattle.integers.proofs.Ring.{var, con, ◌⊕◌, ◌⊖◌, ◌⊗◌, ring, by_two, by_three}
 use Rattle.integers.proofs.Signs.{mul_nonneg, mul_pos}
 use Rattle.lattice.specs.declared.points.Corner.{Corner}
@@ -12,20 +15,7 @@ use Rattle.meeting.specs.Touching.{Touch}
 use Rattle.meeting.specs.inner.Heights.{height_of}
 use Rattle.meeting.specs.inner.Courses.{IsCourseOf}
 use Rattle.meeting.specs.inner.Places.{Place}
-use Rattle.meeting.proofs.Weights.{facing-round, weights-sum, weigh_x, weigh_y, weigh_z, level-at, weight-at, face-round}
-
-pub nonneg_at : (x y : ℤ) → x ≡ y → pos 0 ≤ℤ y → pos 0 ≤ℤ x
-nonneg_at x y e h = omega (arith, ints)
-
-pub nonneg_of_pos : (x : ℤ) → pos 0 <ℤ x → pos 0 ≤ℤ x
-nonneg_of_pos x h = omega (arith, ints)
-
-pub natural : (k : ℕ) → pos 0 ≤ℤ pos k
-natural k = omega (arith, ints)
-
--- a number of at least 0 is a natural number
-pub is_natural : (z : ℤ) → pos 0 ≤ℤ z → pos (unsigned_abs z) ≡ z
-is_natural z h = omega (arith, ints)
+use Rattle.meeting.proofs.Weights.{facing-round, weights-sum, weigh_x, weigh_y, weigh_z, level-at, weight-at}
 
 module _ (d : Triple) (a b c p q : Corner) (i j k l m : ℕ) (same : edge_sum p q i j ≡ face_sum a b c k l m) where
   pub weight-bc : (pos i *ℤ facing_of d b c p) +ℤ (pos j *ℤ facing_of d b c q) ≡ pos k *ℤ facing_of d a b c
@@ -67,21 +57,18 @@ module _ (d : Triple) (a b c p q : Corner) (x : Course) (is : IsCourseOf d a b c
       let (i, j, some, e) = t.on_edge in
       let (k, l, m, some_face, f) = t.on_face in
       let same = sym e ∙ f in
-      let least = λ (n : ℕ). mul_nonneg (pos n) (facing_of d a b c) (natural n) (nonneg_of_pos _ front) in
+      let least = λ (n : ℕ). mul_nonneg (pos n) (facing_of d a b c) (natural_not_negative n) (not_negative_of_positive _ front) in
       record {
         i = pos i;
         j = pos j;
-        i_least = natural i;
-        j_least = natural j;
-        some = positive i j some;
+        i_least = natural_not_negative i;
+        j_least = natural_not_negative j;
+        some = natural_positive (i + j) some;
         level = (λ s. (pos i *ℤ is.above.start s) +ℤ (pos j *ℤ is.above.end s)) ∙ level-at a b c p q i j k l m same;
-        bc = nonneg_at _ _ ((λ s. (pos i *ℤ is.bc.start s) +ℤ (pos j *ℤ is.bc.end s)) ∙ weight-bc d a b c p q i j k l m same) (least k);
-        ca = nonneg_at _ _ ((λ s. (pos i *ℤ is.ca.start s) +ℤ (pos j *ℤ is.ca.end s)) ∙ weight-ca d a b c p q i j k l m same) (least l);
-        ab = nonneg_at _ _ ((λ s. (pos i *ℤ is.ab.start s) +ℤ (pos j *ℤ is.ab.end s)) ∙ weight-ab d a b c p q i j k l m same) (least m);
+        bc = not_negative_at _ _ ((λ s. (pos i *ℤ is.bc.start s) +ℤ (pos j *ℤ is.bc.end s)) ∙ weight-bc d a b c p q i j k l m same) (least k);
+        ca = not_negative_at _ _ ((λ s. (pos i *ℤ is.ca.start s) +ℤ (pos j *ℤ is.ca.end s)) ∙ weight-ca d a b c p q i j k l m same) (least l);
+        ab = not_negative_at _ _ ((λ s. (pos i *ℤ is.ab.start s) +ℤ (pos j *ℤ is.ab.end s)) ∙ weight-ab d a b c p q i j k l m same) (least m);
       }
-    where
-      positive : (i j : ℕ) → 0 < i + j → pos 0 <ℤ (pos i +ℤ pos j)
-      positive i j h = omega (arith, ints)
 
   module _ (r : Place x) where
     abbrev F : ℤ
@@ -97,10 +84,10 @@ module _ (d : Triple) (a b c p q : Corner) (x : Course) (is : IsCourseOf d a b c
     ab = (r.i *ℤ x.ab.start) +ℤ (r.j *ℤ x.ab.end)
 
     first : pos (unsigned_abs (F *ℤ r.i)) ≡ F *ℤ r.i
-    first = is_natural (F *ℤ r.i) (mul_nonneg F r.i (nonneg_of_pos F front) r.i_least)
+    first = abs_of_not_negative (F *ℤ r.i) (mul_nonneg F r.i (not_negative_of_positive F front) r.i_least)
 
     second : pos (unsigned_abs (F *ℤ r.j)) ≡ F *ℤ r.j
-    second = is_natural (F *ℤ r.j) (mul_nonneg F r.j (nonneg_of_pos F front) r.j_least)
+    second = abs_of_not_negative (F *ℤ r.j) (mul_nonneg F r.j (not_negative_of_positive F front) r.j_least)
 
     -- one coordinate of the point, as a sum of the edge's ends and of the triangle's corners
     coordinate : (f : Corner → ℤ) (n : ℤ)
@@ -114,7 +101,7 @@ module _ (d : Triple) (a b c p q : Corner) (x : Course) (is : IsCourseOf d a b c
         ((λ s. ((is.bc.start s *ℤ f a) +ℤ (is.ca.start s *ℤ f b)) +ℤ (is.ab.start s *ℤ f c)) ∙ hp ∙ sym (λ s. (F *ℤ f p) -ℤ (is.above.start s *ℤ n)))
         ((λ s. ((is.bc.end s *ℤ f a) +ℤ (is.ca.end s *ℤ f b)) +ℤ (is.ab.end s *ℤ f c)) ∙ hq ∙ sym (λ s. (F *ℤ f q) -ℤ (is.above.end s *ℤ n)))
         r.level
-        ∙ sym (λ s. ((is_natural bc r.bc s *ℤ f a) +ℤ (is_natural ca r.ca s *ℤ f b)) +ℤ (is_natural ab r.ab s *ℤ f c))
+        ∙ sym (λ s. ((abs_of_not_negative bc r.bc s *ℤ f a) +ℤ (abs_of_not_negative ca r.ca s *ℤ f b)) +ℤ (abs_of_not_negative ab r.ab s *ℤ f c))
 
     weight : pos (unsigned_abs (F *ℤ r.i)) +ℤ pos (unsigned_abs (F *ℤ r.j)) ≡ (pos (unsigned_abs bc) +ℤ pos (unsigned_abs ca)) +ℤ pos (unsigned_abs ab)
     weight =
@@ -122,7 +109,7 @@ module _ (d : Triple) (a b c p q : Corner) (x : Course) (is : IsCourseOf d a b c
         ∙ total r.i r.j F x.bc.start x.ca.start x.ab.start x.bc.end x.ca.end x.ab.end
         ((λ s. (is.bc.start s +ℤ is.ca.start s) +ℤ is.ab.start s) ∙ weights-sum d a b c p)
         ((λ s. (is.bc.end s +ℤ is.ca.end s) +ℤ is.ab.end s) ∙ weights-sum d a b c q)
-        ∙ sym (λ s. (is_natural bc r.bc s +ℤ is_natural ca r.ca s) +ℤ is_natural ab r.ab s)
+        ∙ sym (λ s. (abs_of_not_negative bc r.bc s +ℤ abs_of_not_negative ca r.ca s) +ℤ abs_of_not_negative ab r.ab s)
 
     some_edge : 0 < unsigned_abs (F *ℤ r.i) + unsigned_abs (F *ℤ r.j)
     some_edge = count _ _ (F *ℤ (r.i +ℤ r.j))

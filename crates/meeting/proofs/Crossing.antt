@@ -2,6 +2,8 @@
 use Rattle.std.proofs.Common.{◌≡◌, ℕ, ◌+◌, ◌<◌, List, [], ◌∷◌, refl, sym, subst, ap, ◌∙◌, arith}
 use Rattle.std.specs.Prelude.{◌↔◌, ℤ, pos, ◌+ℤ◌, ◌-ℤ◌, ◌*ℤ◌, ◌≤ℤ◌, ◌<ℤ◌}
 use Rattle.std.proofs.lemmas.Int.{ints}
+use Rattle.integers.proofs.Absolutes.{natural_not_negative, natural_positive}
+use Rattle.integers.proofs.Comparisons.{not_negative_at, at_most_of_gap, gap_of_at_most}
 use Rattle.integers.proofs.Ring.{Expr, var, con, ◌⊕◌, ◌⊖◌, ◌⊗◌, ring, by_one, by_two, by_three}
 use Rattle.integers.proofs.Signs.{mul_nonneg, nonneg_of_mul, zero_of_mul}
 use Rattle.lattice.specs.declared.points.Corner.{Corner}
@@ -10,7 +12,6 @@ use Rattle.lattice.specs.Points.{Point, difference}
 use Rattle.lattice.proofs.Vectors.{Letters, letters, dots, crosses, dot_somewhere}
 use Rattle.geometry.specs.Faces.{edge_sum}
 use Rattle.meeting.specs.inner.Edges.{EdgesTouch, IsShare, IsCrossing}
-use Rattle.meeting.proofs.CommonPoints.{nonneg_at, natural}
 use Rattle.meeting.proofs.Balance.{square-least}
 use Rattle.meeting.proofs.EdgeWeights.{touch-of-sum}
 
@@ -84,18 +85,12 @@ module _ (e g w : Triple) where
 
     share : (f k : ℤ) → pos 0 ≤ℤ k → k ≤ℤ m → m *ℤ f ≡ k *ℤ dot n n → IsShare f (dot n n)
     share f k least most is = record {
-      least = nonneg_of_mul m f some (nonneg_at _ _ is (mul_nonneg k _ least (square-least n)));
-      most = rest _ _ (nonneg_of_mul m _ some (nonneg_at _ _
+      least = nonneg_of_mul m f some (not_negative_at _ _ is (mul_nonneg k _ least (square-least n)));
+      most = at_most_of_gap _ _ (nonneg_of_mul m _ some (not_negative_at _ _
           (by_one (m *ℤ (dot n n -ℤ f)) ((m -ℤ k) *ℤ dot n n) (m *ℤ f) (k *ℤ dot n n) (pos 0 -ℤ pos 1)
           (ring (m ∷ k ∷ f ∷ dot n n ∷ []) ((var 0 ⊗ (var 3 ⊖ var 2)) ⊖ ((var 0 ⊖ var 1) ⊗ var 3)) (((var 0 ⊗ var 2) ⊖ (var 1 ⊗ var 3)) ⊗ (con (pos 0) ⊖ con (pos 1))) refl) is)
-          (mul_nonneg _ _ (gap-least _ _ most) (square-least n))));
+          (mul_nonneg _ _ (gap_of_at_most _ _ most) (square-least n))));
     }
-      where
-        rest : (f s : ℤ) → pos 0 ≤ℤ (s -ℤ f) → f ≤ℤ s
-        rest f s h = omega (arith, ints)
-
-        gap-least : (k m : ℤ) → k ≤ℤ m → pos 0 ≤ℤ (m -ℤ k)
-        gap-least k m h = omega (arith, ints)
 
     crossing-at : IsCrossing e g w
     crossing-at = record { level = level; first = share _ l l_least l_most on_e; second = share _ j j_least j_most on_g }
@@ -133,9 +128,6 @@ module _ (a b p q : Corner) where
           (((((var 0 ⊗ var 4) ⊕ (var 1 ⊗ var 5)) ⊖ ((var 2 ⊗ var 6) ⊕ (var 3 ⊗ var 7))) ⊗ (con (pos 0) ⊖ con (pos 1)))
           ⊕ (((var 0 ⊕ var 1) ⊖ (var 2 ⊕ var 3)) ⊗ var 4)) refl) s t
 
-      positive : (i j : ℕ) → 0 < i + j → pos 0 <ℤ (pos i +ℤ pos j)
-      positive i j h = omega (arith, ints)
-
       second : (i j : ℕ) → pos j ≤ℤ (pos i +ℤ pos j)
       second i j = omega (arith, ints)
 
@@ -145,7 +137,7 @@ module _ (a b p q : Corner) where
       from : (k l i j : ℕ) → 0 < i + j → edge_sum a b k l ≡ edge_sum p q i j → IsCrossing e g w
       from k l i j some same =
           let weights : pos k +ℤ pos l ≡ pos i +ℤ pos j = ap (λ (s : Point). s.w) same in
-          crossing-at e g w (pos i +ℤ pos j) (pos j) (pos l) (positive i j some) (natural j) (second i j) (natural l) (first k l _ weights)
+          crossing-at e g w (pos i +ℤ pos j) (pos j) (pos l) (natural_positive (i + j) some) (natural_not_negative j) (second i j) (natural_not_negative l) (first k l _ weights)
           (way (pos k) (pos l) (pos i) (pos j) a.x b.x p.x q.x (ap (λ (s : Point). s.x) same) weights)
           (way (pos k) (pos l) (pos i) (pos j) a.y b.y p.y q.y (ap (λ (s : Point). s.y) same) weights)
           (way (pos k) (pos l) (pos i) (pos j) a.z b.z p.z q.z (ap (λ (s : Point). s.z) same) weights)
@@ -161,9 +153,9 @@ module _ (a b p q : Corner) where
         l = l;
         i = s -ℤ j;
         j = j;
-        k_least = rest _ _ h.first.most;
+        k_least = gap_of_at_most _ _ h.first.most;
         l_least = h.first.least;
-        i_least = rest _ _ h.second.most;
+        i_least = gap_of_at_most _ _ h.second.most;
         j_least = h.second.least;
         some = more s j (dot_somewhere n apart);
         whole = both s l j;
@@ -172,9 +164,6 @@ module _ (a b p q : Corner) where
         z = sums s l j (det w e g) n.z a.z b.z p.z q.z (return_z e g w) h.level;
       })
     where
-      rest : (f s : ℤ) → f ≤ℤ s → pos 0 ≤ℤ (s -ℤ f)
-      rest f s h = omega (arith, ints)
-
       more : (s j : ℤ) → pos 0 <ℤ s → pos 0 <ℤ ((s -ℤ j) +ℤ j)
       more s j h = omega (arith, ints)
 

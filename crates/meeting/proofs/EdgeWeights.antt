@@ -2,11 +2,12 @@
 use Rattle.std.proofs.Common.{◌≡◌, ℕ, ◌+◌, ◌<◌, refl, sym, ◌∙◌, arith}
 use Rattle.std.specs.Prelude.{ℤ, pos, ◌+ℤ◌, ◌*ℤ◌, ◌≤ℤ◌, ◌<ℤ◌, unsigned_abs}
 use Rattle.std.proofs.lemmas.Int.{ints}
+use Rattle.integers.proofs.Absolutes.{abs_of_not_negative}
+use Rattle.integers.proofs.Comparisons.{positive_at}
 use Rattle.lattice.specs.declared.points.Corner.{Corner}
 use Rattle.lattice.specs.Points.{Point}
 use Rattle.geometry.specs.Faces.{edge_sum, face_sum, IsPointOfEdge, IsPointOfFace}
 use Rattle.meeting.specs.inner.Edges.{EdgesTouch}
-use Rattle.meeting.proofs.CommonPoints.{is_natural}
 
 -- weights of the ends of two edges that give one point
 pub record CommonSum (a b p q : Corner) : Type 0 where
@@ -27,24 +28,21 @@ pub record CommonSum (a b p q : Corner) : Type 0 where
 pub touch-of-sum : (a b p q : Corner) → CommonSum a b p q → EdgesTouch a b p q
 touch-of-sum a b p q w = record {
   point = edge_sum a b (unsigned_abs w.k) (unsigned_abs w.l);
-  on_first = (unsigned_abs w.k, unsigned_abs w.l, count _ _ _ (λ t. is_k t +ℤ is_l t) (more _ _ w.whole w.some), refl);
+  on_first = (unsigned_abs w.k, unsigned_abs w.l, count _ _ _ (λ t. is_k t +ℤ is_l t) (positive_at _ _ w.whole w.some), refl);
   on_second = (unsigned_abs w.i, unsigned_abs w.j, count _ _ _ (λ t. is_i t +ℤ is_j t) w.some, same);
 }
   where
     is_k : pos (unsigned_abs w.k) ≡ w.k
-    is_k = is_natural w.k w.k_least
+    is_k = abs_of_not_negative w.k w.k_least
 
     is_l : pos (unsigned_abs w.l) ≡ w.l
-    is_l = is_natural w.l w.l_least
+    is_l = abs_of_not_negative w.l w.l_least
 
     is_i : pos (unsigned_abs w.i) ≡ w.i
-    is_i = is_natural w.i w.i_least
+    is_i = abs_of_not_negative w.i w.i_least
 
     is_j : pos (unsigned_abs w.j) ≡ w.j
-    is_j = is_natural w.j w.j_least
-
-    more : (y z : ℤ) → y ≡ z → pos 0 <ℤ z → pos 0 <ℤ y
-    more y z e h = omega (arith, ints)
+    is_j = abs_of_not_negative w.j w.j_least
 
     count : (m n : ℕ) (z : ℤ) → pos m +ℤ pos n ≡ z → pos 0 <ℤ z → 0 < m + n
     count m n z e h = omega (arith, ints)
@@ -64,22 +62,6 @@ touch-of-sum a b p q w = record {
         λ t. record { x = on_x t; y = on_y t; z = on_z t; w = weight t }
 
 -- ---- points of a triangle's sides from its first corner
-pub face-of-first : (a b c : Corner) (s : Point) → IsPointOfEdge a b s → IsPointOfFace a b c s
-face-of-first a b c s (k, l, some, is) = (k, l, 0, omega (arith, some), is ∙ same)
-  where
-    more : (f g : ℤ) → f ≡ f +ℤ (pos 0 *ℤ g)
-    more f g = omega (arith, ints)
-
-    whole : (k l : ℕ) → k + l ≡ k + l + 0
-    whole k l = omega arith
-
-    same : edge_sum a b k l ≡ face_sum a b c k l 0
-    same =
-        let on_x = more ((pos k *ℤ a.x) +ℤ (pos l *ℤ b.x)) c.x in
-        let on_y = more ((pos k *ℤ a.y) +ℤ (pos l *ℤ b.y)) c.y in
-        let on_z = more ((pos k *ℤ a.z) +ℤ (pos l *ℤ b.z)) c.z in
-        λ t. record { x = on_x t; y = on_y t; z = on_z t; w = pos (whole k l t) }
-
 pub face-of-second : (a b c : Corner) (s : Point) → IsPointOfEdge a c s → IsPointOfFace a b c s
 face-of-second a b c s (k, m, some, is) = (k, 0, m, omega (arith, some), is ∙ same)
   where

@@ -2,7 +2,10 @@
 use Rattle.std.proofs.Common.{◌≡◌, ℕ, zero, suc, ◌+◌, ◌<◌, ◌⊎◌, inl, inr, [], ◌∷◌, refl, sym, subst, ap, ◌∙◌, arith}
 use Rattle.std.specs.Prelude.{◌↔◌, ℤ, pos, ◌+ℤ◌, ◌-ℤ◌, ◌*ℤ◌, ◌≤ℤ◌, ◌<ℤ◌, unsigned_abs}
 use Rattle.std.proofs.lemmas.Int.{ints, by_lt_z}
-use Rattle.integers.proofs.Ring.{Expr, var, con, ◌⊕◌, ◌⊖◌, ◌⊗◌, ring, by_one, by_two, by_three}
+use Rattle.geometry.proofs.FacePoints.{face_point-of_side}
+use Rattle.integers.proofs.Absolutes.{abs_of_not_negative, natural_of_positive}
+use Rattle.integers.proofs.Comparisons.{not_negative_of_positive, positive_not_zero}
+use Rattle.integers.proofs.Ring.{Expr, var, con, ◌⊕◌, ◌⊖◌, ◌⊗◌, ring, by_one, by_two, by_three, same_of_gap}
 use Rattle.integers.proofs.Signs.{mul_pos, mul_nonpos, zero_of_mul}
 use Rattle.lattice.specs.declared.points.Corner.{Corner}
 use Rattle.lattice.specs.Triple.{Triple, dot}
@@ -12,9 +15,8 @@ use Rattle.geometry.specs.Faces.{IsFlat, edge_sum, face_sum, IsPointOfEdge, IsPo
 use Rattle.meeting.specs.inner.Edges.{IsOneWay}
 use Rattle.meeting.specs.Touching.{TouchBeyond}
 use Rattle.meeting.proofs.Letters.{ways}
-use Rattle.meeting.proofs.CommonPoints.{is_natural}
 use Rattle.meeting.proofs.Balance.{zero-of-square, square-of-product, along_x, along_y, along_z}
-use Rattle.meeting.proofs.EdgeWeights.{face-of-first, face-of-second}
+use Rattle.meeting.proofs.EdgeWeights.{face-of-second}
 use Rattle.meeting.proofs.Beyond.{alike-point, alike-of-point, off-start}
 
 abbrev U : Letters
@@ -112,12 +114,9 @@ module _ (a b c q : Corner) where
           (((var 9 ⊗ dots U T) ⊕ (var 10 ⊗ dots V T)) ⊖ (var 11 ⊗ dots T T))
           (((gap U.x V.x T.x ⊗ (con (pos 0) ⊖ T.x)) ⊕ (gap U.y V.y T.y ⊗ (con (pos 0) ⊖ T.y))) ⊕ (gap U.z V.z T.z ⊗ (con (pos 0) ⊖ T.z))) refl) x y z
 
-      close : (f g : ℤ) → g -ℤ f ≡ pos 0 → g ≡ f
-      close f g e = omega (arith, ints)
-
       apart : pos 0 <ℤ dot w w
       apart = by_lt_z (pos 0) (dot w w) (λ h. h)
-          (λ h. let none = zero-of-square w h in absurd (off (alike-point a q i j (record { x = close a.x q.x none.x; y = close a.y q.y none.y; z = close a.z q.z none.z }))))
+          (λ h. let none = zero-of-square w h in absurd (off (alike-point a q i j (record { x = same_of_gap q.x a.x none.x; y = same_of_gap q.y a.y none.y; z = same_of_gap q.z a.z none.z }))))
 
       one-way : IsOneWay a b q ⊎ IsOneWay a c q
       one-way = by_lt_z (pos 0) (dot u w) (λ h. inl (record { in_line = line-b; ahead = h }))
@@ -154,14 +153,11 @@ module _ (a e q : Corner) (h : IsOneWay a e q) where
   positive : pos 0 <ℤ square
   positive = square-of-product (difference a e) (difference a q) h.ahead
 
-  least : (z : ℤ) → pos 0 <ℤ z → pos 0 ≤ℤ z
-  least z h = omega (arith, ints)
-
   is_square : pos (unsigned_abs square) ≡ square
-  is_square = is_natural square (least square positive)
+  is_square = abs_of_not_negative square (not_negative_of_positive square positive)
 
   is_product : pos (unsigned_abs product) ≡ product
-  is_product = is_natural product (least product h.ahead)
+  is_product = abs_of_not_negative product (not_negative_of_positive product h.ahead)
 
   sums : (a e q : ℤ) → square *ℤ (q -ℤ a) ≡ product *ℤ (e -ℤ a)
       → (pos (unsigned_abs product) *ℤ a) +ℤ (pos (unsigned_abs square) *ℤ q) ≡ (pos (unsigned_abs square) *ℤ a) +ℤ (pos (unsigned_abs product) *ℤ e)
@@ -184,19 +180,13 @@ module _ (a e q : Corner) (h : IsOneWay a e q) where
       λ t. record { x = on_x t; y = on_y t; z = on_z t; w = pos (whole (unsigned_abs product) (unsigned_abs square) t) }
 
   some-square : 0 < unsigned_abs square
-  some-square = count _ _ is_square positive
-    where
-      count : (n : ℕ) (z : ℤ) → pos n ≡ z → pos 0 <ℤ z → 0 < n
-      count n z e h = omega (arith, ints)
+  some-square = natural_of_positive _ _ is_square positive
 
   off-side : ¬ AreOnePoint (point_of a) (edge_sum a q (unsigned_abs product) (unsigned_abs square))
   off-side one =
       let alike = alike-of-point a q (unsigned_abs product) (unsigned_abs square) some-square one in
-      not_so _ ((λ t. dot (difference a e) (record { x = alike.x t -ℤ a.x; y = alike.y t -ℤ a.y; z = alike.z t -ℤ a.z })) ∙ still) h.ahead
+      positive_not_zero _ h.ahead ((λ t. dot (difference a e) (record { x = alike.x t -ℤ a.x; y = alike.y t -ℤ a.y; z = alike.z t -ℤ a.z })) ∙ still)
     where
-      not_so : (z : ℤ) → z ≡ pos 0 → pos 0 <ℤ z → ⊥
-      not_so z e h = omega (arith, ints)
-
       still : dot (difference a e) (difference a a) ≡ pos 0
       still = ring (a.x ∷ a.y ∷ a.z ∷ e.x ∷ e.y ∷ e.z ∷ []) (dots (ways U V) (ways U U)) (con (pos 0)) refl
 
@@ -214,7 +204,7 @@ pub beyond-of-flat : (a b c q : Corner) → IsFlat a b c → TouchBeyond a b c q
 beyond-of-flat a b c q flat = (
   to a b c q flat,
   λ h. elim h [
-    | inl w ↦ let (s, on_edge, on_face, off) = point-beyond a b q w (IsPointOfFace a b c) (face-of-first a b c) in record { point = s; on_edge = on_edge; on_face = on_face; off = off }
+    | inl w ↦ let (s, on_edge, on_face, off) = point-beyond a b q w (IsPointOfFace a b c) (face_point-of_side a b c) in record { point = s; on_edge = on_edge; on_face = on_face; off = off }
     | inr w ↦ let (s, on_edge, on_face, off) = point-beyond a c q w (IsPointOfFace a b c) (face-of-second a b c) in record { point = s; on_edge = on_edge; on_face = on_face; off = off }
   ],
 )

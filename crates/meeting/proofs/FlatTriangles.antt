@@ -2,6 +2,9 @@
 use Rattle.std.proofs.Common.{◌≡◌, ℕ, ◌+◌, ◌<◌, ◌⊎◌, inl, inr, List, [], ◌∷◌, refl, sym, subst, ap, ◌∙◌, arith}
 use Rattle.std.specs.Prelude.{◌↔◌, ℤ, pos, ◌+ℤ◌, ◌-ℤ◌, ◌*ℤ◌, ◌≤ℤ◌, ◌<ℤ◌}
 use Rattle.std.proofs.lemmas.Int.{ints, by_lt_z}
+use Rattle.geometry.proofs.FacePoints.{face_point-of_side}
+use Rattle.integers.proofs.Absolutes.{natural_not_negative}
+use Rattle.integers.proofs.Comparisons.{not_negative_of_positive, sum_not_negative, positive_at}
 use Rattle.integers.proofs.Ring.{Expr, var, con, ◌⊕◌, ◌⊖◌, ◌⊗◌, ring, by_one, by_two}
 use Rattle.integers.proofs.Signs.{mul_nonneg, mul_pos}
 use Rattle.lattice.specs.declared.points.Corner.{Corner}
@@ -11,10 +14,9 @@ use Rattle.lattice.proofs.Vectors.{Letters, letters, dots, crosses}
 use Rattle.geometry.specs.Faces.{IsFlat, edge_sum, face_sum}
 use Rattle.meeting.specs.inner.Edges.{EdgesTouch}
 use Rattle.meeting.specs.Touching.{Touch}
-use Rattle.meeting.proofs.CommonPoints.{natural}
 use Rattle.meeting.proofs.InPlane.{sum_pos}
 use Rattle.meeting.proofs.Balance.{Balance, balance, square-of-product}
-use Rattle.meeting.proofs.EdgeWeights.{touch-of-sum, face-of-first, face-of-second}
+use Rattle.meeting.proofs.EdgeWeights.{touch-of-sum, face-of-second}
 
 -- the sides from the first corner, the weights of the three, and their sum
 abbrev U : Letters
@@ -92,14 +94,8 @@ module _ (u v : Triple) (k l m : ℤ) where
         regroup : (k l m : ℤ) → pos 0 <ℤ ((k +ℤ l) +ℤ m) → pos 0 <ℤ (k +ℤ (l +ℤ m))
         regroup k l m h = omega (arith, ints)
 
-        weak : (z : ℤ) → pos 0 <ℤ z → pos 0 ≤ℤ z
-        weak z h = omega (arith, ints)
-
-        add : (y z : ℤ) → pos 0 ≤ℤ y → pos 0 ≤ℤ z → pos 0 ≤ℤ (y +ℤ z)
-        add y z p q = omega (arith, ints)
-
         least : (l m f g : ℤ) → pos 0 ≤ℤ l → pos 0 ≤ℤ m → pos 0 <ℤ f → pos 0 <ℤ g → pos 0 ≤ℤ ((l *ℤ f) +ℤ (m *ℤ g))
-        least l m f g p q h k = add (l *ℤ f) (m *ℤ g) (mul_nonneg l f p (weak f h)) (mul_nonneg m g q (weak g k))
+        least l m f g p q h k = sum_not_negative (l *ℤ f) (m *ℤ g) (mul_nonneg l f p (not_negative_of_positive f h)) (mul_nonneg m g q (not_negative_of_positive g k))
 
         none : (y z : ℤ) → y +ℤ z ≡ pos 0 → pos 0 <ℤ y → pos 0 ≤ℤ z → ⊥
         none y z e p q = omega (arith, ints)
@@ -113,7 +109,7 @@ module _ (u v : Triple) (k l m : ℤ) where
         sum : (k n : ℤ) → pos 0 ≤ℤ k → pos 0 <ℤ (k +ℤ n) → (f g : ℤ) → (k *ℤ f) +ℤ g ≡ pos 0 → pos 0 <ℤ f → (pos 0 <ℤ n → pos 0 <ℤ g) → pos 0 ≤ℤ g → ⊥
         sum k n kl some f g e hf hg gl = by_lt_z (pos 0) k
             (λ p. none (k *ℤ f) g e (mul_pos k f p hf) gl)
-            (λ p. none-last (k *ℤ f) g e (mul_nonneg k f kl (weak f hf)) (hg (rest k n some p)))
+            (λ p. none-last (k *ℤ f) g e (mul_nonneg k f kl (not_negative_of_positive f hf)) (hg (rest k n some p)))
 
 -- ---- edges
 module _ (a b c p q : Corner) (flat : IsFlat a b c) where
@@ -136,17 +132,11 @@ module _ (a b c p q : Corner) (flat : IsFlat a b c) where
     abbrev v : Triple
     v = difference a c
 
-    least : (z : ℤ) → pos 0 <ℤ z → pos 0 ≤ℤ z
-    least z h = omega (arith, ints)
-
     -- weights of a side's ends, where those of the ways to them are x and y
     module _ (x y : ℤ) (x_least : pos 0 ≤ℤ x) (y_least : pos 0 ≤ℤ y) (more : pos 0 <ℤ (x +ℤ y)) where
       edge-some : pos 0 <ℤ (((x +ℤ y) *ℤ pos i) +ℤ ((x +ℤ y) *ℤ pos j))
-      edge-some = at _ _ (ring (x ∷ y ∷ pos i ∷ pos j ∷ []) (((var 0 ⊕ var 1) ⊗ var 2) ⊕ ((var 0 ⊕ var 1) ⊗ var 3)) ((var 0 ⊕ var 1) ⊗ (var 2 ⊕ var 3)) refl)
+      edge-some = positive_at _ _ (ring (x ∷ y ∷ pos i ∷ pos j ∷ []) (((var 0 ⊕ var 1) ⊗ var 2) ⊕ ((var 0 ⊕ var 1) ⊗ var 3)) ((var 0 ⊕ var 1) ⊗ (var 2 ⊕ var 3)) refl)
           (mul_pos (x +ℤ y) (pos i +ℤ pos j) more (subst (λ (z : ℤ). pos 0 <ℤ z) (sym whole) positive))
-        where
-          at : (f g : ℤ) → f ≡ g → pos 0 <ℤ g → pos 0 <ℤ f
-          at f g e h = omega (arith, ints)
 
       edge-whole : (x *ℤ all) +ℤ (y *ℤ all) ≡ ((x +ℤ y) *ℤ pos i) +ℤ ((x +ℤ y) *ℤ pos j)
       edge-whole = by_one _ _ (pos i +ℤ pos j) all (pos 0 -ℤ (x +ℤ y))
@@ -174,10 +164,10 @@ module _ (a b c p q : Corner) (flat : IsFlat a b c) where
       l = w.j *ℤ all;
       i = (w.i +ℤ w.j) *ℤ pos i;
       j = (w.i +ℤ w.j) *ℤ pos j;
-      k_least = mul_nonneg w.i all w.i_least (least all positive);
-      l_least = mul_nonneg w.j all w.j_least (least all positive);
-      i_least = mul_nonneg (w.i +ℤ w.j) (pos i) (least _ w.some) (natural i);
-      j_least = mul_nonneg (w.i +ℤ w.j) (pos j) (least _ w.some) (natural j);
+      k_least = mul_nonneg w.i all w.i_least (not_negative_of_positive all positive);
+      l_least = mul_nonneg w.j all w.j_least (not_negative_of_positive all positive);
+      i_least = mul_nonneg (w.i +ℤ w.j) (pos i) (not_negative_of_positive _ w.some) (natural_not_negative i);
+      j_least = mul_nonneg (w.i +ℤ w.j) (pos j) (not_negative_of_positive _ w.some) (natural_not_negative j);
       some = edge-some w.i w.j w.i_least w.j_least w.some;
       whole = edge-whole w.i w.j w.i_least w.j_least w.some;
       x = side w.i w.j w.i_least w.j_least w.some e.x a.x b.x c.x p.x q.x (ap (λ (s : Point). s.x) same) w.x;
@@ -192,7 +182,7 @@ module _ (a b c p q : Corner) (flat : IsFlat a b c) where
         let t = end u v (pos k) (pos l) (pos m) v in
         by_lt_z (pos 0) (dot r s)
         (λ ahead. by_lt_z (pos 0) (dot r t)
-        (λ further. absurd (not-ahead u v (pos k) (pos l) (pos m) (natural k) (natural l) (natural m) positive ahead further))
+        (λ further. absurd (not-ahead u v (pos k) (pos l) (pos m) (natural_not_negative k) (natural_not_negative l) (natural_not_negative m) positive ahead further))
         (λ opposed. inr (on-side c (balance r t (line-v u v (pos k) (pos l) (pos m) flat) opposed))))
         (λ opposed. inl (on-side b (balance r s (line-u u v (pos k) (pos l) (pos m) flat) opposed)))
 
@@ -200,7 +190,7 @@ module _ (a b c p q : Corner) (flat : IsFlat a b c) where
   touch-of-flat = (
     to,
     λ h. elim h [
-      | inl t ↦ record { point = t.point; on_edge = t.on_second; on_face = face-of-first a b c t.point t.on_first }
+      | inl t ↦ record { point = t.point; on_edge = t.on_second; on_face = face_point-of_side a b c t.point t.on_first }
       | inr t ↦ record { point = t.point; on_edge = t.on_second; on_face = face-of-second a b c t.point t.on_first }
     ],
   )

@@ -2,43 +2,28 @@
 use Rattle.std.proofs.Common.{◌≡◌, [], ◌∷◌, refl, sym, ap, ◌∙◌, arith}
 use Rattle.std.specs.Prelude.{◌↔◌, ℤ, pos, ◌+ℤ◌, ◌-ℤ◌, ◌*ℤ◌, ◌≤ℤ◌, ◌<ℤ◌}
 use Rattle.std.proofs.lemmas.Int.{ints, by_lt_z}
+use Rattle.integers.proofs.Comparisons.{negation_positive, not_negative_at, sum_not_negative, not_negative_of_positive, sum_positive_first, sum_positive_last, gap_of_at_most, at_most_of_gap, positive_not_zero}
 use Rattle.integers.proofs.Ring.{Expr, var, con, ◌⊕◌, ◌⊖◌, ◌⊗◌, ring}
 use Rattle.integers.proofs.Signs.{mul_nonneg, mul_pos, nonneg_of_mul}
 use Rattle.meeting.specs.declared.course.Offset.{Offset}
 use Rattle.meeting.specs.declared.course.Course.{Course}
 use Rattle.meeting.specs.inner.Places.{Place, IsLeftSomewhere, IsInOrder, Agree}
-use Rattle.meeting.proofs.CommonPoints.{nonneg_at}
 
 abbrev O : Expr
 O = con (pos 0)
 
 -- ---- sums with weights
 sum_nonneg : (i j f g : ℤ) → pos 0 ≤ℤ i → pos 0 ≤ℤ j → pos 0 ≤ℤ f → pos 0 ≤ℤ g → pos 0 ≤ℤ ((i *ℤ f) +ℤ (j *ℤ g))
-sum_nonneg i j f g p q r s = add _ _ (mul_nonneg i f p r) (mul_nonneg j g q s)
-  where
-    add : (x y : ℤ) → pos 0 ≤ℤ x → pos 0 ≤ℤ y → pos 0 ≤ℤ (x +ℤ y)
-    add x y p q = omega (arith, ints)
+sum_nonneg i j f g p q r s = sum_not_negative _ _ (mul_nonneg i f p r) (mul_nonneg j g q s)
 
 pub sum_pos : (i j f g : ℤ) → pos 0 ≤ℤ i → pos 0 ≤ℤ j → pos 0 <ℤ (i +ℤ j) → pos 0 <ℤ f → pos 0 <ℤ g → pos 0 <ℤ ((i *ℤ f) +ℤ (j *ℤ g))
 sum_pos i j f g p q some r s =
     by_lt_z (pos 0) i
-    (λ h. left _ _ (mul_pos i f h r) (mul_nonneg j g q (least g s)))
-    (λ h. right _ _ (mul_nonneg i f p (least f r)) (mul_pos j g (rest i j h some) s))
+    (λ h. sum_positive_first _ _ (mul_pos i f h r) (mul_nonneg j g q (not_negative_of_positive g s)))
+    (λ h. sum_positive_last _ _ (mul_nonneg i f p (not_negative_of_positive f r)) (mul_pos j g (rest i j h some) s))
   where
-    least : (x : ℤ) → pos 0 <ℤ x → pos 0 ≤ℤ x
-    least x h = omega (arith, ints)
-
     rest : (i j : ℤ) → i ≤ℤ pos 0 → pos 0 <ℤ (i +ℤ j) → pos 0 <ℤ j
     rest i j h s = omega (arith, ints)
-
-    left : (x y : ℤ) → pos 0 <ℤ x → pos 0 ≤ℤ y → pos 0 <ℤ (x +ℤ y)
-    left x y p q = omega (arith, ints)
-
-    right : (x y : ℤ) → pos 0 ≤ℤ x → pos 0 <ℤ y → pos 0 <ℤ (x +ℤ y)
-    right x y p q = omega (arith, ints)
-
-turned_pos : (z : ℤ) → z <ℤ pos 0 → pos 0 <ℤ (pos 0 -ℤ z)
-turned_pos z h = omega (arith, ints)
 
 turned_nonneg : (z : ℤ) → z <ℤ pos 0 → pos 0 ≤ℤ (pos 0 -ℤ z)
 turned_nonneg z h = omega (arith, ints)
@@ -49,7 +34,7 @@ clash z p q = absurd (omega (arith, ints))
 sum_neg : (i j f g : ℤ) → pos 0 ≤ℤ i → pos 0 ≤ℤ j → pos 0 <ℤ (i +ℤ j) → f <ℤ pos 0 → g <ℤ pos 0 → ((i *ℤ f) +ℤ (j *ℤ g)) <ℤ pos 0
 sum_neg i j f g p q some r s = back _ _
     (ring (i ∷ j ∷ f ∷ g ∷ []) ((var 0 ⊗ (O ⊖ var 2)) ⊕ (var 1 ⊗ (O ⊖ var 3))) (O ⊖ ((var 0 ⊗ var 2) ⊕ (var 1 ⊗ var 3))) refl)
-    (sum_pos i j _ _ p q some (turned_pos f r) (turned_pos g s))
+    (sum_pos i j _ _ p q some (negation_positive f r) (negation_positive g s))
   where
     back : (m n : ℤ) → n ≡ pos 0 -ℤ m → pos 0 <ℤ n → m <ℤ pos 0
     back m n e h = omega (arith, ints)
@@ -100,7 +85,7 @@ step x P somewhere h move =
     (λ met. record { i = h.i; j = h.j; i_least = h.i_least; j_least = h.j_least; some = h.some; holds = (h.holds.0, met) })
   where
     own : IsMet x x.end (pos 0 -ℤ x.start)
-    own = nonneg_at _ _ (ring (x.start ∷ x.end ∷ []) ((var 1 ⊗ var 0) ⊕ ((O ⊖ var 0) ⊗ var 1)) O refl) (omega (arith, ints))
+    own = not_negative_at _ _ (ring (x.start ∷ x.end ∷ []) ((var 1 ⊗ var 0) ⊕ ((O ⊖ var 0) ⊗ var 1)) O refl) (omega (arith, ints))
 
     some_there : (f g : ℤ) → f <ℤ pos 0 → pos 0 ≤ℤ g → pos 0 <ℤ (g +ℤ (pos 0 -ℤ f))
     some_there f g h k = omega (arith, ints)
@@ -111,18 +96,15 @@ module _ (x y : Offset) where
   root-value : value y x.end (pos 0 -ℤ x.start) ≡ (x.end *ℤ y.start) -ℤ (x.start *ℤ y.end)
   root-value = ring (x.start ∷ x.end ∷ y.start ∷ y.end ∷ []) ((var 1 ⊗ var 2) ⊕ ((O ⊖ var 0) ⊗ var 3)) ((var 1 ⊗ var 2) ⊖ (var 0 ⊗ var 3)) refl
 
-  gap : (m n : ℤ) → m ≤ℤ n → pos 0 ≤ℤ (n -ℤ m)
-  gap m n h = omega (arith, ints)
-
   safe-there : IsInOrder x y → x.start <ℤ pos 0 → IsSafe y x.end (pos 0 -ℤ x.start)
-  safe-there order neg falls = nonneg_at _ _ root-value (gap _ _ (order neg falls))
+  safe-there order neg falls = not_negative_at _ _ root-value (gap_of_at_most _ _ (order neg falls))
 
   -- what was met at a place is met there too, where that comes later
   met-there : IsInOrder x y → IsLeftSomewhere x → (i j : ℤ) → pos 0 ≤ℤ j → pos 0 <ℤ (i +ℤ j) → IsMet y i j → x.start <ℤ pos 0 → value x i j <ℤ pos 0 → IsMet y x.end (pos 0 -ℤ x.start)
   met-there order somewhere i j j_least some met neg below =
       by_lt_z y.start (pos 0)
       (λ low. nonneg_of_mul j _ (forward low)
-      (nonneg_at _ _
+      (not_negative_at _ _
       (ring (x.start ∷ x.end ∷ y.start ∷ y.end ∷ i ∷ j ∷ [])
       (var 5 ⊗ ((var 1 ⊗ var 2) ⊕ ((O ⊖ var 0) ⊗ var 3)))
       (((O ⊖ var 2) ⊗ (O ⊖ ((var 4 ⊗ var 0) ⊕ (var 5 ⊗ var 1)))) ⊕ ((O ⊖ var 0) ⊗ ((var 4 ⊗ var 2) ⊕ (var 5 ⊗ var 3)))) refl)
@@ -144,8 +126,8 @@ module _ (x y : Offset) where
       forward low = by_lt_z (pos 0) j (λ h. h)
           (λ h.
           let e = only i j j_least h some in
-          let down = less_of _ _ (ring (i ∷ y.start ∷ []) (var 0 ⊗ (O ⊖ var 1)) (O ⊖ (var 0 ⊗ var 1)) refl) (mul_pos i _ e.1 (turned_pos y.start low)) in
-          clash _ down (nonneg_at _ _ (sym (ap (λ v. (i *ℤ y.start) +ℤ (v *ℤ y.end)) e.0 ∙ no_second (i *ℤ y.start) y.end)) met))
+          let down = less_of _ _ (ring (i ∷ y.start ∷ []) (var 0 ⊗ (O ⊖ var 1)) (O ⊖ (var 0 ⊗ var 1)) refl) (mul_pos i _ e.1 (negation_positive y.start low)) in
+          clash _ down (not_negative_at _ _ (sym (ap (λ v. (i *ℤ y.start) +ℤ (v *ℤ y.end)) e.0 ∙ no_second (i *ℤ y.start) y.end)) met))
 
   -- from a place where both are met
   module _ (i j : ℤ) (i_least : pos 0 ≤ℤ i) (j_least : pos 0 ≤ℤ j) (some : pos 0 <ℤ (i +ℤ j)) (met_x : IsMet x i j) where
@@ -153,17 +135,14 @@ module _ (x y : Offset) where
     somewhere-of neg = by_lt_z x.end (pos 0) (λ h. clash _ (sum_neg i j x.start x.end i_least j_least some neg h) met_x) (λ h. h)
 
     order-of : IsMet y i j → IsInOrder x y
-    order-of met_y neg falls = back _ _
+    order-of met_y neg falls = at_most_of_gap _ _
         (nonneg_of_mul i _ forward
-        (nonneg_at _ _
+        (not_negative_at _ _
         (ring (x.start ∷ x.end ∷ y.start ∷ y.end ∷ i ∷ j ∷ [])
         (var 4 ⊗ ((var 1 ⊗ var 2) ⊖ (var 0 ⊗ var 3)))
         (((O ⊖ var 3) ⊗ ((var 4 ⊗ var 0) ⊕ (var 5 ⊗ var 1))) ⊕ (var 1 ⊗ ((var 4 ⊗ var 2) ⊕ (var 5 ⊗ var 3)))) refl)
         (sum_nonneg _ _ _ _ (turned_nonneg y.end falls) (somewhere-of neg) met_x met_y)))
       where
-        back : (m n : ℤ) → pos 0 ≤ℤ (n -ℤ m) → m ≤ℤ n
-        back m n h = omega (arith, ints)
-
         only : (i j : ℤ) → pos 0 ≤ℤ i → i ≤ℤ pos 0 → pos 0 <ℤ (i +ℤ j) → (i ≡ pos 0) × (pos 0 <ℤ j)
         only i j p q r = (omega (arith, ints), omega (arith, ints))
 
@@ -177,8 +156,8 @@ module _ (x y : Offset) where
         forward = by_lt_z (pos 0) i (λ h. h)
             (λ h.
             let e = only i j i_least h some in
-            let down = less_of _ _ (ring (j ∷ y.end ∷ []) (var 0 ⊗ (O ⊖ var 1)) (O ⊖ (var 0 ⊗ var 1)) refl) (mul_pos j _ e.1 (turned_pos y.end falls)) in
-            clash _ down (nonneg_at _ _ (sym (ap (λ v. (v *ℤ y.start) +ℤ (j *ℤ y.end)) e.0 ∙ no_first (j *ℤ y.end) y.start)) met_y))
+            let down = less_of _ _ (ring (j ∷ y.end ∷ []) (var 0 ⊗ (O ⊖ var 1)) (O ⊖ (var 0 ⊗ var 1)) refl) (mul_pos j _ e.1 (negation_positive y.end falls)) in
+            clash _ down (not_negative_at _ _ (sym (ap (λ v. (v *ℤ y.start) +ℤ (j *ℤ y.end)) e.0 ∙ no_first (j *ℤ y.end) y.start)) met_y))
 
 agree_of : (x y : Offset) (i j : ℤ) → pos 0 ≤ℤ i → pos 0 ≤ℤ j → pos 0 <ℤ (i +ℤ j) → IsMet x i j → IsMet y i j → Agree x y
 agree_of x y i j il jl some met_x met_y = record {
@@ -246,7 +225,4 @@ flat-place x e f = (to, from)
 
 -- an edge above the plane
 pub not-above : (x : Course) → pos 0 <ℤ x.above.start → pos 0 <ℤ x.above.end → ¬ Place x
-not-above x h k r = none _ (sum_pos r.i r.j x.above.start x.above.end r.i_least r.j_least r.some h k) r.level
-  where
-    none : (z : ℤ) → pos 0 <ℤ z → z ≡ pos 0 → ⊥
-    none z p e = omega (arith, ints)
+not-above x h k r = positive_not_zero _ (sum_pos r.i r.j x.above.start x.above.end r.i_least r.j_least r.some h k) r.level

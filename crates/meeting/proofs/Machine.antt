@@ -37,9 +37,6 @@ module _ {A B C P : Type 0} (all : P ↔ (A × B × C)) where
   pub first_failed : {x v : Bool} → IsTrue x ↔ A → x ≡ false → v ≡ false → IsTrue v ↔ P
   first_failed a e f = (λ h. cc, λ p. let h = a.1 ((all.0 p).0) in cc)
 
-pub both_ways : {X Y Z : Type 0} → X ↔ Y → Y ↔ Z → X ↔ Z
-both_ways f g = (λ x. g.0 (f.0 x), λ z. f.1 (g.1 z))
-
 pub swapped : {X Y : Type 0} → X ↔ Y → Y ↔ X
 swapped f = (f.1, f.0)
 

@@ -2,7 +2,9 @@
 use Rattle.std.proofs.Common.{◌≡◌, ℕ, ◌+◌, ◌<◌, ◌⊎◌, inl, inr, [], ◌∷◌, refl, sym, ap, ◌∙◌, arith}
 use Rattle.std.specs.Prelude.{◌↔◌, ℤ, pos, ◌+ℤ◌, ◌-ℤ◌, ◌*ℤ◌, ◌≤ℤ◌, ◌<ℤ◌}
 use Rattle.std.proofs.lemmas.Int.{ints, by_lt_z}
-use Rattle.integers.proofs.Ring.{Expr, var, con, ◌⊕◌, ◌⊖◌, ◌⊗◌, ring, by_one, by_two, by_three}
+use Rattle.integers.proofs.Absolutes.{natural_not_negative}
+use Rattle.integers.proofs.Comparisons.{gap_of_at_most, not_negative_of_positive, negation_not_negative, plus_zero, zero_plus}
+use Rattle.integers.proofs.Ring.{Expr, var, con, ◌⊕◌, ◌⊖◌, ◌⊗◌, ring, by_one, by_two, by_three, gap_of_less}
 use Rattle.integers.proofs.Signs.{mul_nonneg, mul_pos, zero_of_mul}
 use Rattle.lattice.specs.declared.points.Corner.{Corner}
 use Rattle.lattice.specs.Triple.{Triple, dot, cross, IsZero}
@@ -11,7 +13,6 @@ use Rattle.lattice.proofs.Vectors.{Letters, letters, dots, crosses}
 use Rattle.geometry.specs.Faces.{edge_sum}
 use Rattle.meeting.specs.inner.Edges.{EdgesTouch, IsBetween}
 use Rattle.meeting.proofs.Letters.{ways}
-use Rattle.meeting.proofs.CommonPoints.{natural}
 use Rattle.meeting.proofs.InPlane.{sum_pos}
 use Rattle.meeting.proofs.Balance.{balance, square-least, square-of-product}
 use Rattle.meeting.proofs.EdgeWeights.{touch-of-sum}
@@ -87,12 +88,9 @@ module _ (k l i j : ℤ) (k_least : pos 0 ≤ℤ k) (l_least : pos 0 ≤ℤ l) (
   not-ahead : pos 0 <ℤ dot r s → dot r v <ℤ dot r r → dot s v <ℤ dot s s → ⊥
   not-ahead same far further =
       clash i j (dot r v) i_least j_least _ _ back
-      (sum_pos k l (dot r r -ℤ dot r v) (dot r s -ℤ dot r v) k_least l_least some (gap (dot r v) (dot r r) far) (gap (dot r v) (dot r s) less))
+      (sum_pos k l (dot r r -ℤ dot r v) (dot r s -ℤ dot r v) k_least l_least some (gap_of_less (dot r v) (dot r r) far) (gap_of_less (dot r v) (dot r s) less))
       (sym reached) (sum_pos k l (dot r r) (dot r s) k_least l_least some (square-of-product r s same) same)
     where
-      gap : (f g : ℤ) → f <ℤ g → pos 0 <ℤ (g -ℤ f)
-      gap f g h = omega (arith, ints)
-
       -- the first end is nearer than the second end's share
       less : dot r v <ℤ dot r s
       less = by_lt_z (dot r v) (dot r s) (λ h. h)
@@ -101,11 +99,8 @@ module _ (k l i j : ℤ) (k_least : pos 0 ≤ℤ k) (l_least : pos 0 ≤ℤ l) (
           (ring (dot r s ∷ dot s s ∷ dot s v ∷ dot r v ∷ [])
           ((var 1 ⊗ (var 3 ⊖ var 0)) ⊕ (var 0 ⊗ (var 1 ⊖ var 2)))
           ((var 3 ⊗ var 1) ⊖ (var 2 ⊗ var 0)) refl)
-          products) (mul_nonneg (dot s s) (dot r v -ℤ dot r s) (square-least s) (least (dot r v) (dot r s) h)) (mul_pos (dot r s) (dot s s -ℤ dot s v) same (gap (dot s v) (dot s s) further))))
+          products) (mul_nonneg (dot s s) (dot r v -ℤ dot r s) (square-least s) (gap_of_at_most (dot r s) (dot r v) h)) (mul_pos (dot r s) (dot s s -ℤ dot s v) same (gap_of_less (dot s v) (dot s s) further))))
         where
-          least : (f g : ℤ) → g ≤ℤ f → pos 0 ≤ℤ (f -ℤ g)
-          least f g h = omega (arith, ints)
-
           sum : (f g m n : ℤ) → f +ℤ g ≡ m -ℤ n → m ≡ n → f +ℤ g ≡ pos 0
           sum f g m n e h = omega (arith, ints)
 
@@ -121,15 +116,9 @@ module _ (k l i j : ℤ) (k_least : pos 0 ≤ℤ k) (l_least : pos 0 ≤ℤ l) (
 
       clash : (i j f : ℤ) → pos 0 ≤ℤ i → pos 0 ≤ℤ j → (m n : ℤ) → m ≡ pos 0 -ℤ (i *ℤ f) → pos 0 <ℤ m → j *ℤ f ≡ n → pos 0 <ℤ n → ⊥
       clash i j f p q m n e h g t = by_lt_z (pos 0) f
-          (λ up. none m (i *ℤ f) e h (mul_nonneg i f p (weak f up)))
-          (λ low. lost n (j *ℤ f) _ g t (ring (j ∷ f ∷ []) (var 0 ⊗ (con (pos 0) ⊖ var 1)) (con (pos 0) ⊖ (var 0 ⊗ var 1)) refl) (mul_nonneg j (pos 0 -ℤ f) q (turned f low)))
+          (λ up. none m (i *ℤ f) e h (mul_nonneg i f p (not_negative_of_positive f up)))
+          (λ low. lost n (j *ℤ f) _ g t (ring (j ∷ f ∷ []) (var 0 ⊗ (con (pos 0) ⊖ var 1)) (con (pos 0) ⊖ (var 0 ⊗ var 1)) refl) (mul_nonneg j (pos 0 -ℤ f) q (negation_not_negative f low)))
         where
-          weak : (f : ℤ) → pos 0 <ℤ f → pos 0 ≤ℤ f
-          weak f h = omega (arith, ints)
-
-          turned : (f : ℤ) → f ≤ℤ pos 0 → pos 0 ≤ℤ (pos 0 -ℤ f)
-          turned f h = omega (arith, ints)
-
           none : (m n : ℤ) → m ≡ pos 0 -ℤ n → pos 0 <ℤ m → pos 0 ≤ℤ n → ⊥
           none m n e h k = omega (arith, ints)
 
@@ -229,7 +218,7 @@ module _ (a b p q : Corner) where
           by_lt_z (pos 0) (dot r s)
           (λ ahead. by_lt_z (dot r v) (dot r r)
           (λ far. by_lt_z (dot s v) (dot s s)
-          (λ further. absurd (not-ahead (pos k) (pos l) (pos i) (pos j) (natural k) (natural l) (natural i) (natural j) positive weights r s v x y z line ahead far further))
+          (λ further. absurd (not-ahead (pos k) (pos l) (pos i) (pos j) (natural_not_negative k) (natural_not_negative l) (natural_not_negative i) (natural_not_negative j) positive weights r s v x y z line ahead far further))
           (λ near. inr (inr (record { in_line = line-b; opposed = most _ _ _ (opposed-from b p q) near }))))
           (λ near. inr (inl (record { in_line = line-a; opposed = most _ _ _ (opposed-from a p q) near }))))
           (λ opposed. inl (record { in_line = line; opposed = opposed }))
@@ -248,9 +237,6 @@ module _ (a b p q : Corner) where
       (((var 0 ⊗ var 3) ⊕ (var 1 ⊗ var 4)) ⊖ ((var 0 ⊕ var 1) ⊗ var 2))
       ((((var 0 ⊗ (var 3 ⊖ var 2)) ⊕ (var 1 ⊗ (var 4 ⊖ var 2))) ⊖ con (pos 0)) ⊗ con (pos 1)) refl) h
 
-  least : (z : ℤ) → pos 0 <ℤ z → pos 0 ≤ℤ z
-  least z h = omega (arith, ints)
-
   none : pos 0 ≤ℤ pos 0
   none = omega (arith, ints)
 
@@ -259,12 +245,6 @@ module _ (a b p q : Corner) where
 
   second-alone : (z f g : ℤ) → z *ℤ g ≡ (pos 0 *ℤ f) +ℤ (z *ℤ g)
   second-alone z f g = omega (arith, ints)
-
-  one-whole : (z : ℤ) → z ≡ z +ℤ pos 0
-  one-whole z = omega (arith, ints)
-
-  other-whole : (z : ℤ) → z ≡ pos 0 +ℤ z
-  other-whole z = omega (arith, ints)
 
   start-between : IsBetween p a b → EdgesTouch a b p q
   start-between h =
@@ -277,10 +257,10 @@ module _ (a b p q : Corner) where
         j = pos 0;
         k_least = w.i_least;
         l_least = w.j_least;
-        i_least = least m w.some;
+        i_least = not_negative_of_positive m w.some;
         j_least = none;
         some = more m w.some;
-        whole = one-whole m;
+        whole = plus_zero m;
         x = at-corner w.i w.j p.x a.x b.x w.x ∙ first-alone m p.x q.x;
         y = at-corner w.i w.j p.y a.y b.y w.y ∙ first-alone m p.y q.y;
         z = at-corner w.i w.j p.z a.z b.z w.z ∙ first-alone m p.z q.z;
@@ -298,12 +278,12 @@ module _ (a b p q : Corner) where
         l = pos 0;
         i = w.i;
         j = w.j;
-        k_least = least m w.some;
+        k_least = not_negative_of_positive m w.some;
         l_least = none;
         i_least = w.i_least;
         j_least = w.j_least;
         some = w.some;
-        whole = sym (one-whole m);
+        whole = sym (plus_zero m);
         x = sym (at-corner w.i w.j a.x p.x q.x w.x ∙ first-alone m a.x b.x);
         y = sym (at-corner w.i w.j a.y p.y q.y w.y ∙ first-alone m a.y b.y);
         z = sym (at-corner w.i w.j a.z p.z q.z w.z ∙ first-alone m a.z b.z);
@@ -319,11 +299,11 @@ module _ (a b p q : Corner) where
         i = w.i;
         j = w.j;
         k_least = none;
-        l_least = least m w.some;
+        l_least = not_negative_of_positive m w.some;
         i_least = w.i_least;
         j_least = w.j_least;
         some = w.some;
-        whole = sym (other-whole m);
+        whole = sym (zero_plus m);
         x = sym (at-corner w.i w.j b.x p.x q.x w.x ∙ second-alone m a.x b.x);
         y = sym (at-corner w.i w.j b.y p.y q.y w.y ∙ second-alone m a.y b.y);
         z = sym (at-corner w.i w.j b.z p.z q.z w.z ∙ second-alone m a.z b.z);

@@ -1,8 +1,9 @@
 -- Ranges that have a common number, by their ends, and the ranges of edges and triangles.
 use Rattle.std.proofs.Common.{◌≡◌, ◌⊎◌, inl, inr, sym, subst, arith}
-use Rattle.std.specs.Prelude.{◌↔◌, ℤ, ◌≤ℤ◌, ◌<ℤ◌}
+use Rattle.std.specs.Prelude.{◌↔◌, ℤ, ◌≤ℤ◌}
 use Rattle.std.specs.Int.{int_min, int_max}
 use Rattle.std.proofs.lemmas.Int.{ints, clamps, by_lt_z}
+use Rattle.integers.proofs.Comparisons.{at_most_of_less, at_most_itself}
 use Rattle.meeting.specs.declared.range.Range.{Range}
 use Rattle.meeting.specs.Ranges.{RangesMeet, IsEdgeRange, IsTriangleRange}
 use Rattle.meeting.specs.Boxes.{CoordinatesMeet}
@@ -10,14 +11,8 @@ use Rattle.meeting.specs.Boxes.{CoordinatesMeet}
 pub ends_meet : (r s : Range) → r.from ≤ℤ s.to → s.from ≤ℤ r.to → RangesMeet r s
 ends_meet r s h k =
     by_lt_z r.from s.from
-    (λ less. record { number = s.from; first = record { from = weaker r.from s.from less; to = k }; second = record { from = itself s.from; to = s.ordered } })
-    (λ more. record { number = r.from; first = record { from = itself r.from; to = r.ordered }; second = record { from = more; to = h } })
-  where
-    weaker : (x y : ℤ) → x <ℤ y → x ≤ℤ y
-    weaker x y h = omega (arith, ints)
-
-    itself : (x : ℤ) → x ≤ℤ x
-    itself x = omega (arith, ints)
+    (λ less. record { number = s.from; first = record { from = at_most_of_less r.from s.from less; to = k }; second = record { from = at_most_itself s.from; to = s.ordered } })
+    (λ more. record { number = r.from; first = record { from = at_most_itself r.from; to = r.ordered }; second = record { from = more; to = h } })
 
 pub meeting_ends : (r s : Range) → RangesMeet r s → (r.from ≤ℤ s.to) × (s.from ≤ℤ r.to)
 meeting_ends r s h = (through h.first.from h.second.to, through h.second.from h.first.to)
@@ -68,25 +63,19 @@ pub coordinates-by-ends : (a b c p q : ℤ) → int_min p q ≤ℤ int_max (int_
 coordinates-by-ends a b c p q h k = by_lt_z (int_min p q) (int_min (int_min a b) c)
     (λ less. record {
       number = int_min (int_min a b) c;
-      face_from = from_least a b c _ (itself _);
+      face_from = from_least a b c _ (at_most_itself _);
       face_to = to_greatest a b c _ (least_greatest a b c);
-      edge_from = from_lesser p q _ (weaker _ _ less);
+      edge_from = from_lesser p q _ (at_most_of_less _ _ less);
       edge_to = to_greater p q _ k;
     })
     (λ more. record {
       number = int_min p q;
       face_from = from_least a b c _ more;
       face_to = to_greatest a b c _ h;
-      edge_from = from_lesser p q _ (itself _);
+      edge_from = from_lesser p q _ (at_most_itself _);
       edge_to = to_greater p q _ (lesser_greater p q);
     })
   where
-    weaker : (x y : ℤ) → x <ℤ y → x ≤ℤ y
-    weaker x y h = omega (arith, ints)
-
-    itself : (x : ℤ) → x ≤ℤ x
-    itself x = omega (arith, ints)
-
     lesser_greater : (x y : ℤ) → int_min x y ≤ℤ int_max x y
     lesser_greater x y = omega (arith, ints, clamps)
 

@@ -2,13 +2,13 @@
 use Rattle.std.proofs.Common.{◌≡◌, ◌⊎◌, inl, inr, [], ◌∷◌, refl, sym, subst, arith}
 use Rattle.std.specs.Prelude.{◌↔◌, ℤ, pos, ◌+ℤ◌, ◌-ℤ◌, ◌*ℤ◌, ◌≤ℤ◌, ◌<ℤ◌}
 use Rattle.std.proofs.lemmas.Int.{ints}
-use Rattle.integers.proofs.Ring.{var, con, ◌⊕◌, ◌⊖◌, ◌⊗◌, ring, by_one}
+use Rattle.integers.proofs.Comparisons.{not_negative_of_positive, not_negative_at, positive_at, gap_of_at_most}
+use Rattle.integers.proofs.Ring.{var, con, ◌⊕◌, ◌⊖◌, ◌⊗◌, ring, by_one, gap_of_less}
 use Rattle.integers.proofs.Signs.{mul_nonneg, mul_pos, nonneg_of_mul}
 use Rattle.meeting.specs.declared.course.Course.{Course}
 use Rattle.meeting.specs.declared.course.Heights.{Heights}
 use Rattle.meeting.specs.declared.course.Offset.{Offset}
 use Rattle.meeting.specs.inner.Places.{Place, GoesThrough, IsLeftInPlane}
-use Rattle.meeting.proofs.CommonPoints.{nonneg_at, nonneg_of_pos}
 
 -- k is positive where the edge goes up, and negative where it goes down
 module _ (k : ℤ) (x : Course) (start : pos 0 ≤ℤ (pos 0 -ℤ (k *ℤ x.above.start))) (end : pos 0 ≤ℤ (k *ℤ x.above.end)) (changes : pos 0 <ℤ (k *ℤ (x.above.end -ℤ x.above.start))) where
@@ -26,15 +26,12 @@ module _ (k : ℤ) (x : Course) (start : pos 0 ≤ℤ (pos 0 -ℤ (k *ℤ x.abov
     j = pos 0 -ℤ (k *ℤ x.above.start);
     i_least = end;
     j_least = start;
-    some = positive _ _ (ring (k ∷ x.above.start ∷ x.above.end ∷ []) ((var 0 ⊗ var 2) ⊕ (con (pos 0) ⊖ (var 0 ⊗ var 1))) (var 0 ⊗ (var 2 ⊖ var 1)) refl) changes;
+    some = positive_at _ _ (ring (k ∷ x.above.start ∷ x.above.end ∷ []) ((var 0 ⊗ var 2) ⊕ (con (pos 0) ⊖ (var 0 ⊗ var 1))) (var 0 ⊗ (var 2 ⊖ var 1)) refl) changes;
     level = ring (k ∷ x.above.start ∷ x.above.end ∷ []) (((var 0 ⊗ var 2) ⊗ var 1) ⊕ ((con (pos 0) ⊖ (var 0 ⊗ var 1)) ⊗ var 2)) (con (pos 0)) refl;
-    bc = nonneg_at _ _ (value-is x.bc.start x.bc.end) bc;
-    ca = nonneg_at _ _ (value-is x.ca.start x.ca.end) ca;
-    ab = nonneg_at _ _ (value-is x.ab.start x.ab.end) ab;
+    bc = not_negative_at _ _ (value-is x.bc.start x.bc.end) bc;
+    ca = not_negative_at _ _ (value-is x.ca.start x.ca.end) ca;
+    ab = not_negative_at _ _ (value-is x.ab.start x.ab.end) ab;
   }
-    where
-      positive : (y z : ℤ) → y ≡ z → pos 0 <ℤ z → pos 0 <ℤ y
-      positive y z e h = omega (arith, ints)
 
   -- each place in the plane is that one
   module _ (r : Place x) where
@@ -45,16 +42,10 @@ module _ (k : ℤ) (x : Course) (start : pos 0 ≤ℤ (pos 0 -ℤ (k *ℤ x.abov
         ((((var 5 ⊗ var 1) ⊕ (var 6 ⊗ var 2)) ⊖ con (pos 0)) ⊗ (var 0 ⊗ (var 3 ⊖ var 4))) refl) r.level
 
     nonneg : (f g : ℤ) → pos 0 ≤ℤ ((r.i *ℤ f) +ℤ (r.j *ℤ g)) → pos 0 ≤ℤ value f g
-    nonneg f g h = nonneg_of_mul (r.i +ℤ r.j) (value f g) r.some (nonneg_at _ _ (one-place f g) (mul_nonneg _ _ (nonneg_of_pos _ changes) h))
+    nonneg f g h = nonneg_of_mul (r.i +ℤ r.j) (value f g) r.some (not_negative_at _ _ (one-place f g) (mul_nonneg _ _ (not_negative_of_positive _ changes) h))
 
   pub through : Place x ↔ ((pos 0 ≤ℤ value x.bc.start x.bc.end) × (pos 0 ≤ℤ value x.ca.start x.ca.end) × (pos 0 ≤ℤ value x.ab.start x.ab.end))
   through = (λ r. (nonneg r x.bc.start x.bc.end r.bc, nonneg r x.ca.start x.ca.end r.ca, nonneg r x.ab.start x.ab.end r.ab), from)
-
-less_gap : (m n : ℤ) → m <ℤ n → pos 0 <ℤ (n -ℤ m)
-less_gap m n h = omega (arith, ints)
-
-least_gap : (m n : ℤ) → m ≤ℤ n → pos 0 ≤ℤ (n -ℤ m)
-least_gap m n h = omega (arith, ints)
 
 -- by how much the height changes, for k
 pub in_plane : (x : Course) → GoesThrough x.above → Place x ↔ (IsLeftInPlane x.above x.bc × IsLeftInPlane x.above x.ca × IsLeftInPlane x.above x.ab)
@@ -64,26 +55,26 @@ in_plane x goes = through (x.above.end -ℤ x.above.start) x (start x.above.star
     Between s e = ((s ≤ℤ pos 0) × (pos 0 ≤ℤ e) × (s <ℤ e)) ⊎ ((pos 0 ≤ℤ s) × (e ≤ℤ pos 0) × (e <ℤ s))
 
     up : (s e : ℤ) → s <ℤ e → pos 0 ≤ℤ (e -ℤ s)
-    up s e h = nonneg_of_pos (e -ℤ s) (less_gap s e h)
+    up s e h = not_negative_of_positive (e -ℤ s) (gap_of_less s e h)
 
     start : (s e : ℤ) → Between s e → pos 0 ≤ℤ (pos 0 -ℤ ((e -ℤ s) *ℤ s))
     start s e (inl (low, high, less)) =
-        nonneg_at _ _ (ring (s ∷ e ∷ []) (con (pos 0) ⊖ ((var 1 ⊖ var 0) ⊗ var 0)) ((var 1 ⊖ var 0) ⊗ (con (pos 0) ⊖ var 0)) refl)
-        (mul_nonneg (e -ℤ s) (pos 0 -ℤ s) (up s e less) (least_gap s (pos 0) low))
+        not_negative_at _ _ (ring (s ∷ e ∷ []) (con (pos 0) ⊖ ((var 1 ⊖ var 0) ⊗ var 0)) ((var 1 ⊖ var 0) ⊗ (con (pos 0) ⊖ var 0)) refl)
+        (mul_nonneg (e -ℤ s) (pos 0 -ℤ s) (up s e less) (gap_of_at_most s (pos 0) low))
     start s e (inr (high, low, less)) =
-        nonneg_at _ _ (ring (s ∷ e ∷ []) (con (pos 0) ⊖ ((var 1 ⊖ var 0) ⊗ var 0)) ((var 0 ⊖ var 1) ⊗ var 0) refl) (mul_nonneg (s -ℤ e) s (up e s less) high)
+        not_negative_at _ _ (ring (s ∷ e ∷ []) (con (pos 0) ⊖ ((var 1 ⊖ var 0) ⊗ var 0)) ((var 0 ⊖ var 1) ⊗ var 0) refl) (mul_nonneg (s -ℤ e) s (up e s less) high)
 
     end : (s e : ℤ) → Between s e → pos 0 ≤ℤ ((e -ℤ s) *ℤ e)
     end s e (inl (low, high, less)) = mul_nonneg (e -ℤ s) e (up s e less) high
     end s e (inr (high, low, less)) =
-        nonneg_at _ _ (ring (s ∷ e ∷ []) ((var 1 ⊖ var 0) ⊗ var 1) ((var 0 ⊖ var 1) ⊗ (con (pos 0) ⊖ var 1)) refl)
-        (mul_nonneg (s -ℤ e) (pos 0 -ℤ e) (up e s less) (least_gap e (pos 0) low))
+        not_negative_at _ _ (ring (s ∷ e ∷ []) ((var 1 ⊖ var 0) ⊗ var 1) ((var 0 ⊖ var 1) ⊗ (con (pos 0) ⊖ var 1)) refl)
+        (mul_nonneg (s -ℤ e) (pos 0 -ℤ e) (up e s less) (gap_of_at_most e (pos 0) low))
 
     changes : (s e : ℤ) → Between s e → pos 0 <ℤ ((e -ℤ s) *ℤ (e -ℤ s))
-    changes s e (inl (low, high, less)) = mul_pos (e -ℤ s) (e -ℤ s) (less_gap s e less) (less_gap s e less)
+    changes s e (inl (low, high, less)) = mul_pos (e -ℤ s) (e -ℤ s) (gap_of_less s e less) (gap_of_less s e less)
     changes s e (inr (high, low, less)) =
         subst (λ (z : ℤ). pos 0 <ℤ z) (ring (s ∷ e ∷ []) ((var 0 ⊖ var 1) ⊗ (var 0 ⊖ var 1)) ((var 1 ⊖ var 0) ⊗ (var 1 ⊖ var 0)) refl)
-        (mul_pos (s -ℤ e) (s -ℤ e) (less_gap e s less) (less_gap e s less))
+        (mul_pos (s -ℤ e) (s -ℤ e) (gap_of_less e s less) (gap_of_less e s less))
 
 -- where it doesn't go up, it goes down
 pub falls : (h : Heights) → GoesThrough h → (h.start <ℤ h.end → ⊥) → h.end <ℤ h.start
@@ -92,16 +83,16 @@ falls h (inr (high, low, less)) never = less
 
 -- ---- one side
 compared : (k m n : ℤ) → pos 0 <ℤ k → (n ≤ℤ m) ↔ (pos 0 ≤ℤ (k *ℤ (m -ℤ n)))
-compared k m n positive = (λ h. mul_nonneg k (m -ℤ n) (nonneg_of_pos k positive) (least_gap n m h), λ h. order m n (nonneg_of_mul k (m -ℤ n) positive h))
+compared k m n positive = (λ h. mul_nonneg k (m -ℤ n) (not_negative_of_positive k positive) (gap_of_at_most n m h), λ h. order m n (nonneg_of_mul k (m -ℤ n) positive h))
   where
     order : (m n : ℤ) → pos 0 ≤ℤ (m -ℤ n) → n ≤ℤ m
     order m n h = omega (arith, ints)
 
 pub upward : (h : Heights) (x : Offset) → h.start <ℤ h.end → ((h.start *ℤ x.end) ≤ℤ (h.end *ℤ x.start)) ↔ IsLeftInPlane h x
-upward h x less = compared (h.end -ℤ h.start) (h.end *ℤ x.start) (h.start *ℤ x.end) (less_gap _ _ less)
+upward h x less = compared (h.end -ℤ h.start) (h.end *ℤ x.start) (h.start *ℤ x.end) (gap_of_less _ _ less)
 
 pub downward : (h : Heights) (x : Offset) → h.end <ℤ h.start → ((h.end *ℤ x.start) ≤ℤ (h.start *ℤ x.end)) ↔ IsLeftInPlane h x
 downward h x less =
-    let c = compared (h.start -ℤ h.end) (h.start *ℤ x.end) (h.end *ℤ x.start) (less_gap _ _ less) in
+    let c = compared (h.start -ℤ h.end) (h.start *ℤ x.end) (h.end *ℤ x.start) (gap_of_less _ _ less) in
     let turned = ring (h.start ∷ h.end ∷ x.start ∷ x.end ∷ []) ((var 1 ⊖ var 0) ⊗ ((var 1 ⊗ var 2) ⊖ (var 0 ⊗ var 3))) ((var 0 ⊖ var 1) ⊗ ((var 0 ⊗ var 3) ⊖ (var 1 ⊗ var 2))) refl in
-    (λ h. nonneg_at _ _ turned (c.0 h), λ h. c.1 (nonneg_at _ _ (sym turned) h))
+    (λ h. not_negative_at _ _ turned (c.0 h), λ h. c.1 (not_negative_at _ _ (sym turned) h))

@@ -3,6 +3,7 @@ use Rattle.std.proofs.Common.{◌≡◌, ℕ, ◌+◌, ◌<◌, [], ◌∷◌, r
 use Rattle.std.specs.Prelude.{ℤ, pos, negsuc, ◌+ℤ◌, ◌-ℤ◌, ◌*ℤ◌, ◌≤ℤ◌, ◌<ℤ◌}
 use Rattle.std.specs.Int.{int_min, int_max}
 use Rattle.std.proofs.lemmas.Int.{ints, clamps, by_lt_z}
+use Rattle.integers.proofs.Absolutes.{natural_not_negative, natural_positive}
 use Rattle.integers.proofs.Ring.{var, con, ◌⊕◌, ◌⊖◌, ◌⊗◌, ring, by_two}
 use Rattle.integers.proofs.Signs.{mul_nonneg, mul_pos}
 use Rattle.lattice.specs.declared.points.Corner.{Corner}
@@ -12,7 +13,6 @@ use Rattle.meeting.specs.declared.range.Range.{Range}
 use Rattle.meeting.specs.Touching.{Touch}
 use Rattle.meeting.specs.Ranges.{RangesMeet, IsEdgeRange, IsTriangleRange}
 use Rattle.meeting.specs.Boxes.{CoordinatesMeet, BoxesMeet}
-use Rattle.meeting.proofs.CommonPoints.{natural}
 use Rattle.meeting.proofs.Ranges.{coordinates-by-ends, coordinates-by-ranges}
 
 -- ---- the ends of ranges
@@ -48,13 +48,10 @@ module _ (i j k l m : ℕ) (a b c p q : ℤ) (some : 0 < i + j) (weights : pos i
       → pos 0 ≤ℤ (s *ℤ (far -ℤ a)) → pos 0 ≤ℤ (s *ℤ (far -ℤ b)) → pos 0 ≤ℤ (s *ℤ (far -ℤ c)) → ⊥
   no-gap s near far wide at_p at_q at_a at_b at_c =
       none _ _ _ _ _ _
-      (mul_nonneg (pos i) _ (natural i) at_p) (mul_nonneg (pos j) _ (natural j) at_q)
-      (mul_nonneg (pos k) _ (natural k) at_a) (mul_nonneg (pos l) _ (natural l) at_b) (mul_nonneg (pos m) _ (natural m) at_c)
-      (mul_pos (pos i +ℤ pos j) _ (positive i j some) wide) balance
+      (mul_nonneg (pos i) _ (natural_not_negative i) at_p) (mul_nonneg (pos j) _ (natural_not_negative j) at_q)
+      (mul_nonneg (pos k) _ (natural_not_negative k) at_a) (mul_nonneg (pos l) _ (natural_not_negative l) at_b) (mul_nonneg (pos m) _ (natural_not_negative m) at_c)
+      (mul_pos (pos i +ℤ pos j) _ (natural_positive (i + j) some) wide) balance
     where
-      positive : (i j : ℕ) → 0 < i + j → pos 0 <ℤ (pos i +ℤ pos j)
-      positive i j h = omega (arith, ints)
-
       none : (u v w x y z : ℤ) → pos 0 ≤ℤ u → pos 0 ≤ℤ v → pos 0 ≤ℤ w → pos 0 ≤ℤ x → pos 0 ≤ℤ y → pos 0 <ℤ z → ((((u +ℤ v) +ℤ w) +ℤ x) +ℤ y) +ℤ z ≡ pos 0 → ⊥
       none u v w x y z hu hv hw hx hy hz e = omega (arith, ints)
 

@@ -1,13 +1,12 @@
 -- How far a corner is to the left of a triangle's three sides weighs the triangle's corners to it.
-use Rattle.std.proofs.Common.{◌≡◌, ℕ, ◌+◌, List, [], ◌∷◌, refl, ap, ◌∙◌, arith}
+use Rattle.std.proofs.Common.{◌≡◌, ℕ, List, [], ◌∷◌, refl, ap}
 use Rattle.std.specs.Prelude.{ℤ, pos, ◌+ℤ◌, ◌-ℤ◌, ◌*ℤ◌}
-use Rattle.std.proofs.lemmas.Int.{ints}
 use Rattle.integers.proofs.Ring.{Expr, var, con, ◌⊕◌, ◌⊖◌, ◌⊗◌, ring, by_two, by_three}
 use Rattle.lattice.specs.declared.points.Corner.{Corner}
 use Rattle.lattice.specs.Triple.{Triple, cross}
 use Rattle.lattice.specs.Points.{Point, difference}
 use Rattle.lattice.proofs.Vectors.{Letters, crosses}
-use Rattle.geometry.specs.Faces.{normal, facing_of, edge_sum, face_sum, IsPointOfFace}
+use Rattle.geometry.specs.Faces.{normal, facing_of, edge_sum, face_sum}
 use Rattle.meeting.specs.inner.Heights.{height_of}
 use Rattle.meeting.proofs.Letters.{D, A, B, C, P, Q, ways, normals, heights, facings, values}
 
@@ -101,21 +100,3 @@ module _ (a b c p q : Corner) (i j k l m : ℕ) (same : edge_sum p q i j ≡ fac
       (((I ⊗ facings B C P) ⊕ (J ⊗ facings B C Q)) ⊖ (K ⊗ facings A B C))
       (((gaps (λ r. r.x) B ⊗ U.x) ⊕ (gaps (λ r. r.y) B ⊗ U.y)) ⊕ (gaps (λ r. r.z) B ⊗ U.z)) refl)
       (step_x b) (step_y b) (step_z b)
-
--- the triangle's corners go round
-pub face-round : (a b c : Corner) (i j k : ℕ) → face_sum a b c i j k ≡ face_sum b c a j k i
-face-round a b c i j k = λ t. record {
-  x = round (pos i *ℤ a.x) (pos j *ℤ b.x) (pos k *ℤ c.x) t;
-  y = round (pos i *ℤ a.y) (pos j *ℤ b.y) (pos k *ℤ c.y) t;
-  z = round (pos i *ℤ a.z) (pos j *ℤ b.z) (pos k *ℤ c.z) t;
-  w = pos (whole i j k t);
-}
-  where
-    round : (x y z : ℤ) → (x +ℤ y) +ℤ z ≡ (y +ℤ z) +ℤ x
-    round x y z = omega (arith, ints)
-
-    whole : (i j k : ℕ) → i + j + k ≡ j + k + i
-    whole i j k = omega arith
-
-pub point-round : (a b c : Corner) (s : Point) → IsPointOfFace a b c s → IsPointOfFace b c a s
-point-round a b c s (i, j, k, some, is) = (j, k, i, omega arith, is ∙ face-round a b c i j k)

@@ -2,7 +2,10 @@
 use Rattle.std.proofs.Common.{◌≡◌, ℕ, ◌+◌, ◌<◌, ◌⊎◌, inl, inr, All, length, [], ◌∷◌, refl, sym, subst, ap, ◌∙◌, arith, unsigned_abs}
 use Rattle.std.specs.Prelude.{ℤ, pos, ◌+ℤ◌, ◌-ℤ◌, ◌*ℤ◌, ◌<ℤ◌, ◌≤ℤ◌, ◌↔◌}
 use Rattle.std.proofs.lemmas.Int.{ints, by_lt_z}
-use Rattle.integers.proofs.Ring.{Expr, var, con, ◌⊕◌, ◌⊖◌, ◌⊗◌, ring, by_two}
+use Rattle.geometry.proofs.FacePoints.{face_point-round}
+use Rattle.integers.proofs.Absolutes.{natural_not_negative}
+use Rattle.integers.proofs.Comparisons.{gap_of_at_most, at_most_by, zero_between, less_not_at_most}
+use Rattle.integers.proofs.Ring.{Expr, var, con, ◌⊕◌, ◌⊖◌, ◌⊗◌, ring, by_two, same_of_gap}
 use Rattle.integers.proofs.Signs.{mul_nonneg, mul_pos, mul_neg}
 use Rattle.integers.proofs.Weighted.{sum_pos}
 use Rattle.lattice.specs.declared.points.Corner.{Corner}
@@ -19,7 +22,7 @@ use Rattle.section_parity.specs.Crossings.{CrossesAt}
 use Rattle.section_parity.proofs.Lies.{IsAcross, up, down}
 use Rattle.section_parity.proofs.Planes.{IsClearOf}
 use Rattle.section_parity.proofs.BorderPoints.{IsAlone, before, beyond, border_sum, sum_on_plane, sum_there, above_sum, right_sum}
-use Rattle.section_parity.proofs.FaceBorders.{IsFaceClear, turn_face, crossing_turned}
+use Rattle.section_parity.proofs.FaceBorders.{IsFaceClear, crossing_turned}
 use Rattle.section_parity.proofs.Sections.{section_alike}
 use Rattle.section_parity.proofs.Steps.{normal_turned, same_turns}
 use Rattle.section_parity.proofs.Meetings.{AreAcross, AreOneSum, clear_unless, meeting}
@@ -42,52 +45,34 @@ vanishes i j k l x y u w e g =
     (((var 0 ⊗ ((var 2 ⊗ var 7) ⊖ (var 6 ⊗ var 4))) ⊕ (var 1 ⊗ ((var 3 ⊗ var 7) ⊖ (var 6 ⊗ var 5)))) ⊖ con (pos 0))
     (((((var 0 ⊗ var 2) ⊕ (var 1 ⊗ var 3)) ⊖ var 6) ⊗ var 7) ⊕ ((((var 0 ⊗ var 4) ⊕ (var 1 ⊗ var 5)) ⊖ var 7) ⊗ (con (pos 0) ⊖ var 6))) refl) e g
 
-equal : (x y : ℤ) → x -ℤ y ≡ pos 0 → x ≡ y
-equal x y h = omega (arith, ints)
-
-natural : (i : ℕ) → pos 0 ≤ℤ pos i
-natural i = omega (arith, ints)
-
-room : (x y : ℤ) → x ≤ℤ y → pos 0 ≤ℤ (y -ℤ x)
-room x y h = omega (arith, ints)
-
-most_by : (x y z : ℤ) → y -ℤ x ≡ z → pos 0 ≤ℤ z → x ≤ℤ y
-most_by x y z e h = omega (arith, ints)
-
 after_first : (n m n' m' g h : ℤ) → (n *ℤ m') ≤ℤ (n' *ℤ m) → pos 0 ≤ℤ h → (n *ℤ ((g *ℤ m) +ℤ (h *ℤ m'))) ≤ℤ (((g *ℤ n) +ℤ (h *ℤ n')) *ℤ m)
 after_first n m n' m' g h order least =
-    most_by _ _ (h *ℤ ((n' *ℤ m) -ℤ (n *ℤ m')))
+    at_most_by _ _ (h *ℤ ((n' *ℤ m) -ℤ (n *ℤ m')))
     (ring (n ∷ m ∷ n' ∷ m' ∷ g ∷ h ∷ [])
     ((((var 4 ⊗ var 0) ⊕ (var 5 ⊗ var 2)) ⊗ var 1) ⊖ (var 0 ⊗ ((var 4 ⊗ var 1) ⊕ (var 5 ⊗ var 3)))) (var 5 ⊗ ((var 2 ⊗ var 1) ⊖ (var 0 ⊗ var 3))) refl)
-    (mul_nonneg h _ least (room _ _ order))
+    (mul_nonneg h _ least (gap_of_at_most _ _ order))
 
 before_second : (n m n' m' g h : ℤ) → (n *ℤ m') ≤ℤ (n' *ℤ m) → pos 0 ≤ℤ g → (((g *ℤ n) +ℤ (h *ℤ n')) *ℤ m') ≤ℤ (n' *ℤ ((g *ℤ m) +ℤ (h *ℤ m')))
 before_second n m n' m' g h order least =
-    most_by _ _ (g *ℤ ((n' *ℤ m) -ℤ (n *ℤ m')))
+    at_most_by _ _ (g *ℤ ((n' *ℤ m) -ℤ (n *ℤ m')))
     (ring (n ∷ m ∷ n' ∷ m' ∷ g ∷ h ∷ [])
     ((var 2 ⊗ ((var 4 ⊗ var 1) ⊕ (var 5 ⊗ var 3))) ⊖ (((var 4 ⊗ var 0) ⊕ (var 5 ⊗ var 2)) ⊗ var 3)) (var 4 ⊗ ((var 2 ⊗ var 1) ⊖ (var 0 ⊗ var 3))) refl)
-    (mul_nonneg g _ least (room _ _ order))
+    (mul_nonneg g _ least (gap_of_at_most _ _ order))
 
 -- two sides that are apart and of one value are nothing
 none_apart : (x x' m m' : ℤ) → pos 0 <ℤ m → pos 0 <ℤ m' → x *ℤ m' ≡ x' *ℤ m → IsAcross x x' → 0 < unsigned_abs x' + unsigned_abs x → ⊥
 none_apart x x' m m' m_there m_there' e across some =
     by_lt_z (pos 0) x (λ p. no_up p across) (λ p. by_lt_z x (pos 0) (λ q. no_down q across) (λ q. by_lt_z (pos 0) x'
-    (λ r. less _ _ e (mul_none x m' p q) (more x' m r m_there)) (λ r. by_lt_z x' (pos 0) (λ t. greater _ _ e (mul_none x m' p q) (lower x' m t m_there)) (λ t. nothing x x' p q r t some))))
+    (λ r. less _ _ e (mul_none x m' p q) (mul_pos x' m r m_there)) (λ r. by_lt_z x' (pos 0) (λ t. greater _ _ e (mul_none x m' p q) (lower x' m t m_there)) (λ t. nothing x x' p q r t some))))
   where
     swap : (a b : ℤ) → a *ℤ b ≡ b *ℤ a
     swap a b = ring (a ∷ b ∷ []) (var 0 ⊗ var 1) (var 1 ⊗ var 0) refl
 
-    more : (a b : ℤ) → pos 0 <ℤ a → pos 0 <ℤ b → pos 0 <ℤ (a *ℤ b)
-    more a b p q = mul_pos a b p q
-
     lower : (a b : ℤ) → a <ℤ pos 0 → pos 0 <ℤ b → (a *ℤ b) <ℤ pos 0
     lower a b p q = subst (λ (z : ℤ). z <ℤ pos 0) (swap b a) (mul_neg b a q p)
 
-    is_zero : (a : ℤ) → a ≤ℤ pos 0 → pos 0 ≤ℤ a → a ≡ pos 0
-    is_zero a p q = omega (arith, ints)
-
     mul_none : (a b : ℤ) → a ≤ℤ pos 0 → pos 0 ≤ℤ a → a *ℤ b ≡ pos 0
-    mul_none a b p q = ap (λ z. z *ℤ b) (is_zero a p q) ∙ ring (b ∷ []) (con (pos 0) ⊗ var 0) (con (pos 0)) refl
+    mul_none a b p q = ap (λ z. z *ℤ b) (zero_between a q p) ∙ ring (b ∷ []) (con (pos 0) ⊗ var 0) (con (pos 0)) refl
 
     less : (a b : ℤ) → a ≡ b → a ≡ pos 0 → pos 0 <ℤ b → ⊥
     less a b e g h = omega (arith, ints)
@@ -105,11 +90,8 @@ none_apart x x' m m' m_there m_there' e across some =
     clash_down a b e h g = omega (arith, ints)
 
     no_up : pos 0 <ℤ x → IsAcross x x' → ⊥
-    no_up p (up q r) = contrary x p q
-      where
-        contrary : (x : ℤ) → pos 0 <ℤ x → x ≤ℤ pos 0 → ⊥
-        contrary x p q = omega (arith, ints)
-    no_up p (down q r) = clash_up _ _ e (more x m' p m_there') (weak x' m r m_there)
+    no_up p (up q r) = less_not_at_most (pos 0) x p q
+    no_up p (down q r) = clash_up _ _ e (mul_pos x m' p m_there') (weak x' m r m_there)
       where
         back : (y z : ℤ) → y ≡ pos 0 -ℤ z → pos 0 ≤ℤ y → z ≤ℤ pos 0
         back y z e h = omega (arith, ints)
@@ -119,10 +101,7 @@ none_apart x x' m m' m_there m_there' e across some =
 
     no_down : x <ℤ pos 0 → IsAcross x x' → ⊥
     no_down p (up q r) = clash_down _ _ e (lower x m' p m_there') (mul_nonneg x' m r (omega (arith, ints)))
-    no_down p (down q r) = contrary x p q
-      where
-        contrary : (x : ℤ) → x <ℤ pos 0 → pos 0 ≤ℤ x → ⊥
-        contrary x p q = omega (arith, ints)
+    no_down p (down q r) = less_not_at_most x (pos 0) p q
 
 module _ (c : Plane) (k l t : Corner) where
   pub crossings_there : IsAlone c k l t → (pos 0 <ℤ (crossing_sight c k l).w) × (pos 0 <ℤ (crossing_sight c k t).w)
@@ -177,16 +156,16 @@ module _ (c : Plane) {s : Part} (e : Edge s) (f : Face s) (n m n' m' : ℤ) (m_t
 
       one_sight : OnOneSight d r z
       one_sight = record {
-        across = equal _ _ (right_sum c k l t alone z f of_face on_face one.i one.j
+        across = same_of_gap _ _ (right_sum c k l t alone z f of_face on_face one.i one.j
             ∙ vanishes (pos one.i) (pos one.j) K.u L.u K.w L.w (dot (right_axis d) (scaled z)) whole (one.u ∙ sym (share_sum (right_axis d) e.a e.b n m n' m' (pos g) (pos h))) one.w);
-        upward = equal _ _ (above_sum c k l t alone z f of_face on_face one.i one.j
+        upward = same_of_gap _ _ (above_sum c k l t alone z f of_face on_face one.i one.j
             ∙ vanishes (pos one.i) (pos one.j) K.v L.v K.w L.w (dot (up_axis d) (scaled z)) whole (one.v ∙ sym (share_sum (up_axis d) e.a e.b n m n' m' (pos g) (pos h))) one.w);
       }
 
       never : ⊥
       never = none place whole (sum_pos m m' g h m_there m_there' one.some_sights)
-          (after_first n m n' m' (pos g) (pos h) order (natural h))
-          (before_second n m n' m' (pos g) (pos h) order (natural g))
+          (after_first n m n' m' (pos g) (pos h) order (natural_not_negative h))
+          (before_second n m n' m' (pos g) (pos h) order (natural_not_negative g))
           (record {
             passes = (r, (on_face r (sum_there c k l t alone one.i one.j one.some_ends), sum_on_plane c k l t alone one.i one.j), one_sight);
             turns = λ parallel.
@@ -209,8 +188,8 @@ module _ (c : Plane) {s : Part} (e : Edge s) (f : Face s) (n m n' m' : ℤ) (m_t
   pub face_clear : IsFaceClear c f.a f.b f.c P Q
   face_clear = record {
     first = λ alone. turned_clear f.a f.b f.c alone (λ r h. h) (λ r h. h) refl;
-    second = λ alone. turned_clear f.b f.c f.a alone (turn_face f.a f.b f.c) (λ r h. turn_face f.c f.a f.b r (turn_face f.b f.c f.a r h)) (normal_turned f.a f.b f.c);
-    third = λ alone. turned_clear f.c f.a f.b alone (λ r h. turn_face f.b f.c f.a r (turn_face f.a f.b f.c r h)) (turn_face f.c f.a f.b) (normal_turned f.b f.c f.a ∙ normal_turned f.a f.b f.c);
+    second = λ alone. turned_clear f.b f.c f.a alone (face_point-round f.a f.b f.c) (λ r h. face_point-round f.c f.a f.b r (face_point-round f.b f.c f.a r h)) (normal_turned f.a f.b f.c);
+    third = λ alone. turned_clear f.c f.a f.b alone (λ r h. face_point-round f.b f.c f.a r (face_point-round f.a f.b f.c r h)) (face_point-round f.c f.a f.b) (normal_turned f.b f.c f.a ∙ normal_turned f.a f.b f.c);
   }
 
 -- With no border across the line of sight of any place from the one to the other, both points are in the section or both not.

@@ -3,44 +3,23 @@ use Rattle.std.proofs.Common.{◌≡◌, ℕ, zero, suc, ◌+◌, ◌*◌, ◌<�
 use Rattle.std.specs.Prelude.{ℤ, pos, ◌+ℤ◌, ◌-ℤ◌, ◌*ℤ◌, ◌<ℤ◌}
 use Rattle.std.proofs.lemmas.Int.{ints}
 use Rattle.std.proofs.Math.Nat.{mul-pos}
-use Rattle.integers.proofs.Ring.{Expr, var, con, ◌⊕◌, ◌⊖◌, ◌⊗◌, ring, by_one, by_three, same_of_gap}
+use Rattle.integers.proofs.Absolutes.{abs_of_positive, pos-sum, pos-sum_of_three, abs_of_negative, pos-sum_of_products, pos-product, some_abs_of_positive, some_abs_of_negative, natural_positive}
+use Rattle.integers.proofs.Comparisons.{less_of_gap, positive_not_zero}
+use Rattle.integers.proofs.Ring.{var, con, ◌⊕◌, ◌⊖◌, ◌⊗◌, ring, by_one, by_three, same_of_gap}
 use Rattle.integers.proofs.Signs.{mul_pos, zero_of_mul}
 use Rattle.lattice.specs.declared.points.Corner.{Corner}
 use Rattle.lattice.specs.Triple.{Triple, dot, right_axis, up_axis}
 use Rattle.lattice.specs.Points.{Point, point_of, scaled, across_of, upward_of}
 use Rattle.lattice.specs.Cuts.{Plane, toward_of, IsOnPlane}
-use Rattle.lattice.proofs.Vectors.{letters, dots}
 use Rattle.geometry.specs.Faces.{face_sum, edge_sum, IsPointOfFace}
 use Rattle.geometry.specs.Parts.{Part, Face}
 use Rattle.geometry.specs.Cuts.{over_of, IsLeftOfBorder}
 use Rattle.geometry.proofs.Borders.{face_rise, rise_on, on_of_rise}
+use Rattle.geometry.proofs.FacePoints.{dot-face_sum, dot-edge_sum}
 use Rattle.section_parity.proofs.Sights.{Sight, sight_of, right_by, above_by, crossing_sight}
 use Rattle.section_parity.proofs.Planes.{IsBeside}
 
 -- ---- values of sums
-face_value : (s : Triple) (k l m : Corner) (i j n : ℕ)
-    → dot s (scaled (face_sum k l m i j n)) ≡ ((pos i *ℤ dot s (scaled (point_of k))) +ℤ (pos j *ℤ dot s (scaled (point_of l)))) +ℤ (pos n *ℤ dot s (scaled (point_of m)))
-face_value s k l m i j n =
-    let sum = λ (x y z : Expr). ((var 0 ⊗ x) ⊕ (var 1 ⊗ y)) ⊕ (var 2 ⊗ z) in
-    let on = dots (letters 3) in
-    ring (pos i ∷ pos j ∷ pos n ∷ s.x ∷ s.y ∷ s.z ∷ k.x ∷ k.y ∷ k.z ∷ l.x ∷ l.y ∷ l.z ∷ m.x ∷ m.y ∷ m.z ∷ [])
-    (on (record { x = sum (var 6) (var 9) (var 12); y = sum (var 7) (var 10) (var 13); z = sum (var 8) (var 11) (var 14) }))
-    (sum (on (letters 6)) (on (letters 9)) (on (letters 12))) refl
-
-pub edge_value : (s : Triple) (k l : Corner) (i j : ℕ) → dot s (scaled (edge_sum k l i j)) ≡ (pos i *ℤ dot s (scaled (point_of k))) +ℤ (pos j *ℤ dot s (scaled (point_of l)))
-edge_value s k l i j =
-    let sum = λ (x y : Expr). (var 0 ⊗ x) ⊕ (var 1 ⊗ y) in
-    let on = dots (letters 2) in
-    ring (pos i ∷ pos j ∷ s.x ∷ s.y ∷ s.z ∷ k.x ∷ k.y ∷ k.z ∷ l.x ∷ l.y ∷ l.z ∷ [])
-    (on (record { x = sum (var 5) (var 8); y = sum (var 6) (var 9); z = sum (var 7) (var 10) }))
-    (sum (on (letters 5)) (on (letters 8))) refl
-
-pub two_weights : (i j : ℕ) → pos (i + j) ≡ pos i +ℤ pos j
-two_weights i j = omega (arith, ints)
-
-three_weights : (i j n : ℕ) → pos (i + j + n) ≡ (pos i +ℤ pos j) +ℤ pos n
-three_weights i j n = omega (arith, ints)
-
 -- with values x, y and z at three corners, v at a point of divisor w, and g, h and k the distances of the corners from the plane
 lever : (i j n g h k x y z v w : ℤ) → i *ℤ g ≡ (j *ℤ h) +ℤ (n *ℤ k)
     → g *ℤ (((((i *ℤ x) +ℤ (j *ℤ y)) +ℤ (n *ℤ z)) *ℤ w) -ℤ (v *ℤ ((i +ℤ j) +ℤ n)))
@@ -60,9 +39,9 @@ module _ (s : Triple) (k l m : Corner) (v w : ℤ) (i j n g h t : ℕ) (balance 
   levered : pos g *ℤ ((dot s (scaled (face_sum k l m i j n)) *ℤ w) -ℤ (v *ℤ pos (i + j + n)))
       ≡ (pos j *ℤ ((dot s (scaled (edge_sum k l h g)) *ℤ w) -ℤ (v *ℤ pos (h + g)))) +ℤ (pos n *ℤ ((dot s (scaled (edge_sum k m t g)) *ℤ w) -ℤ (v *ℤ pos (t + g))))
   levered =
-      (λ q. pos g *ℤ ((face_value s k l m i j n q *ℤ w) -ℤ (v *ℤ three_weights i j n q)))
+      (λ q. pos g *ℤ ((dot-face_sum s k l m i j n q *ℤ w) -ℤ (v *ℤ pos-sum_of_three i j n q)))
       ∙ lever (pos i) (pos j) (pos n) (pos g) (pos h) (pos t) (dot s (scaled (point_of k))) (dot s (scaled (point_of l))) (dot s (scaled (point_of m))) v w balance
-      ∙ sym (λ q. (pos j *ℤ ((edge_value s k l h g q *ℤ w) -ℤ (v *ℤ two_weights h g q))) +ℤ (pos n *ℤ ((edge_value s k m t g q *ℤ w) -ℤ (v *ℤ two_weights t g q))))
+      ∙ sym (λ q. (pos j *ℤ ((dot-edge_sum s k l h g q *ℤ w) -ℤ (v *ℤ pos-sum h g q))) +ℤ (pos n *ℤ ((dot-edge_sum s k m t g q *ℤ w) -ℤ (v *ℤ pos-sum t g q))))
 
 cancel : (g x j n a b q r : ℤ) → pos 0 <ℤ g → q ≡ j *ℤ g → r ≡ n *ℤ g → g *ℤ x ≡ (q *ℤ a) +ℤ (r *ℤ b) → x ≡ (j *ℤ a) +ℤ (n *ℤ b)
 cancel g x j n a b q r there e f h =
@@ -75,18 +54,9 @@ cancel g x j n a b q r there e f h =
 
 -- a positive sum has a weight
 some : (j n : ℕ) (a b : ℤ) → pos 0 <ℤ ((pos j *ℤ a) +ℤ (pos n *ℤ b)) → 0 < j + n
-some zero zero a b h = absurd (go _ h (ring (a ∷ b ∷ []) ((con (pos 0) ⊗ var 0) ⊕ (con (pos 0) ⊗ var 1)) (con (pos 0)) refl))
-  where
-    go : (x : ℤ) → pos 0 <ℤ x → x ≡ pos 0 → ⊥
-    go x h e = omega (arith, ints)
+some zero zero a b h = absurd (positive_not_zero _ h (ring (a ∷ b ∷ []) ((con (pos 0) ⊗ var 0) ⊕ (con (pos 0) ⊗ var 1)) (con (pos 0)) refl))
 some (suc j) n a b h = omega arith
 some zero (suc n) a b h = omega arith
-
-level : (x y : ℤ) → x -ℤ y ≡ pos 0 → x ≡ y
-level x y e = omega (arith, ints)
-
-further : (x y : ℤ) → pos 0 <ℤ (x -ℤ y) → y <ℤ x
-further x y h = omega (arith, ints)
 
 -- ---- a corner alone on its side of the plane
 pub data IsAlone (c : Plane) (k l m : Corner) : Type 0 where
@@ -120,18 +90,6 @@ chosen_back x y z j n =
     (((((var 3 ⊗ var 1) ⊕ (var 4 ⊗ var 2)) ⊗ var 0) ⊕ ((var 3 ⊗ (con (pos 0) ⊖ var 0)) ⊗ var 1)) ⊕ ((var 4 ⊗ (con (pos 0) ⊖ var 0)) ⊗ var 2))
     (con (pos 0)) refl
 
-pub size_up : (a : ℤ) → pos 0 <ℤ a → pos (unsigned_abs a) ≡ a
-size_up a h = omega (arith, ints)
-
-pub size_down : (a : ℤ) → a <ℤ pos 0 → pos (unsigned_abs a) ≡ pos 0 -ℤ a
-size_down a h = omega (arith, ints)
-
-two_products : (j h n t : ℕ) → pos (j * h + n * t) ≡ (pos j *ℤ pos h) +ℤ (pos n *ℤ pos t)
-two_products j h n t = omega (arith, ints)
-
-product : (j g : ℕ) → pos (j * g) ≡ pos j *ℤ pos g
-product j g = omega (arith, ints)
-
 module _ (c : Plane) (k l m : Corner) (alone : IsAlone c k l m) where
   -- the distances of the three corners from the plane
   abbrev g : ℕ
@@ -146,26 +104,20 @@ module _ (c : Plane) (k l m : Corner) (alone : IsAlone c k l m) where
   some_distance : 0 < g
   some_distance = by alone
     where
-      up : (a : ℤ) → pos 0 <ℤ a → 0 < unsigned_abs a
-      up a h = omega (arith, ints)
-
-      down : (a : ℤ) → a <ℤ pos 0 → 0 < unsigned_abs a
-      down a h = omega (arith, ints)
-
       by : IsAlone c k l m → 0 < g
-      by (before p q r) = up (over_of c k) p
-      by (beyond p q r) = down (over_of c k) p
+      by (before p q r) = some_abs_of_positive (over_of c k) p
+      by (beyond p q r) = some_abs_of_negative (over_of c k) p
 
   balance_of : (i j n : ℕ) → IsOnPlane c (face_sum k l m i j n) → pos i *ℤ pos g ≡ (pos j *ℤ pos h) +ℤ (pos n *ℤ pos t)
   balance_of i j n on = by alone (sym (face_rise c k l m i j n) ∙ rise_on c (face_sum k l m i j n) on)
     where
       by : IsAlone c k l m → ((pos i *ℤ over_of c k) +ℤ (pos j *ℤ over_of c l)) +ℤ (pos n *ℤ over_of c m) ≡ pos 0 → pos i *ℤ pos g ≡ (pos j *ℤ pos h) +ℤ (pos n *ℤ pos t)
       by (before p q r) e =
-          (λ s. pos i *ℤ size_up (over_of c k) p s) ∙ balanced (over_of c k) (over_of c l) (over_of c m) (pos i) (pos j) (pos n) e
-          ∙ sym (λ s. (pos j *ℤ size_down (over_of c l) q s) +ℤ (pos n *ℤ size_down (over_of c m) r s))
+          (λ s. pos i *ℤ abs_of_positive (over_of c k) p s) ∙ balanced (over_of c k) (over_of c l) (over_of c m) (pos i) (pos j) (pos n) e
+          ∙ sym (λ s. (pos j *ℤ abs_of_negative (over_of c l) q s) +ℤ (pos n *ℤ abs_of_negative (over_of c m) r s))
       by (beyond p q r) e =
-          (λ s. pos i *ℤ size_down (over_of c k) p s) ∙ balanced_back (over_of c k) (over_of c l) (over_of c m) (pos i) (pos j) (pos n) e
-          ∙ sym (λ s. (pos j *ℤ size_up (over_of c l) q s) +ℤ (pos n *ℤ size_up (over_of c m) r s))
+          (λ s. pos i *ℤ abs_of_negative (over_of c k) p s) ∙ balanced_back (over_of c k) (over_of c l) (over_of c m) (pos i) (pos j) (pos n) e
+          ∙ sym (λ s. (pos j *ℤ abs_of_positive (over_of c l) q s) +ℤ (pos n *ℤ abs_of_positive (over_of c m) r s))
 
   -- the sum of the two ends with weights j and n
   abbrev pub border_sum : ℕ → ℕ → Point
@@ -174,15 +126,15 @@ module _ (c : Plane) (k l m : Corner) (alone : IsAlone c k l m) where
   pub sum_on_plane : (j n : ℕ) → IsOnPlane c (border_sum j n)
   sum_on_plane j n = on_of_rise c (border_sum j n)
       (face_rise c k l m (j * h + n * t) (j * g) (n * g)
-      ∙ (λ s. ((two_products j h n t s *ℤ over_of c k) +ℤ (product j g s *ℤ over_of c l)) +ℤ (product n g s *ℤ over_of c m))
+      ∙ (λ s. ((pos-sum_of_products j h n t s *ℤ over_of c k) +ℤ (pos-product j g s *ℤ over_of c l)) +ℤ (pos-product n g s *ℤ over_of c m))
       ∙ by alone)
     where
       by : IsAlone c k l m → (((((pos j *ℤ pos h) +ℤ (pos n *ℤ pos t)) *ℤ over_of c k) +ℤ ((pos j *ℤ pos g) *ℤ over_of c l)) +ℤ ((pos n *ℤ pos g) *ℤ over_of c m)) ≡ pos 0
       by (before p q r) =
-          (λ s. (((((pos j *ℤ size_down (over_of c l) q s) +ℤ (pos n *ℤ size_down (over_of c m) r s)) *ℤ over_of c k) +ℤ ((pos j *ℤ size_up (over_of c k) p s) *ℤ over_of c l)) +ℤ ((pos n *ℤ size_up (over_of c k) p s) *ℤ over_of c m)))
+          (λ s. (((((pos j *ℤ abs_of_negative (over_of c l) q s) +ℤ (pos n *ℤ abs_of_negative (over_of c m) r s)) *ℤ over_of c k) +ℤ ((pos j *ℤ abs_of_positive (over_of c k) p s) *ℤ over_of c l)) +ℤ ((pos n *ℤ abs_of_positive (over_of c k) p s) *ℤ over_of c m)))
           ∙ chosen (over_of c k) (over_of c l) (over_of c m) (pos j) (pos n)
       by (beyond p q r) =
-          (λ s. (((((pos j *ℤ size_up (over_of c l) q s) +ℤ (pos n *ℤ size_up (over_of c m) r s)) *ℤ over_of c k) +ℤ ((pos j *ℤ size_down (over_of c k) p s) *ℤ over_of c l)) +ℤ ((pos n *ℤ size_down (over_of c k) p s) *ℤ over_of c m)))
+          (λ s. (((((pos j *ℤ abs_of_positive (over_of c l) q s) +ℤ (pos n *ℤ abs_of_positive (over_of c m) r s)) *ℤ over_of c k) +ℤ ((pos j *ℤ abs_of_negative (over_of c k) p s) *ℤ over_of c l)) +ℤ ((pos n *ℤ abs_of_negative (over_of c k) p s) *ℤ over_of c m)))
           ∙ chosen_back (over_of c k) (over_of c l) (over_of c m) (pos j) (pos n)
 
   pub sum_there : (j n : ℕ) → 0 < j + n → IsPointOfFace k l m (border_sum j n)
@@ -217,10 +169,7 @@ module _ (c : Plane) (k l m : Corner) (alone : IsAlone c k l m) where
     times_right i j n on = levered (right_axis d) k l m P.u P.w i j n g h t (balance_of i j n on)
 
     positive : pos 0 <ℤ pos g
-    positive = go g some_distance
-      where
-        go : (g : ℕ) → 0 < g → pos 0 <ℤ pos g
-        go g h = omega (arith, ints)
+    positive = natural_positive g some_distance
 
     level_of_border : (r : Point) (i j n : ℕ) → r ≡ face_sum k l m i j n → IsOnPlane c r → upward_of d r *ℤ p.w ≡ upward_of d p *ℤ r.w
         → (pos j *ℤ above_by P first) +ℤ (pos n *ℤ above_by P second) ≡ pos 0
@@ -267,11 +216,11 @@ module _ (c : Plane) (k l m : Corner) (alone : IsAlone c k l m) where
 
       -- by how much a sum of the ends is above, without the first corner's distance
       pub above_sum : (j n : ℕ) → above_by P (sight_of d (border_sum j n)) ≡ (pos j *ℤ above_by P first) +ℤ (pos n *ℤ above_by P second)
-      above_sum j n = cancel (pos g) _ (pos j) (pos n) (above_by P first) (above_by P second) (pos (j * g)) (pos (n * g)) positive (product j g) (product n g)
+      above_sum j n = cancel (pos g) _ (pos j) (pos n) (above_by P first) (above_by P second) (pos (j * g)) (pos (n * g)) positive (pos-product j g) (pos-product n g)
           (times_above (j * h + n * t) (j * g) (n * g) (sum_on_plane j n))
 
       pub right_sum : (j n : ℕ) → right_by P (sight_of d (border_sum j n)) ≡ (pos j *ℤ right_by P first) +ℤ (pos n *ℤ right_by P second)
-      right_sum j n = cancel (pos g) _ (pos j) (pos n) (right_by P first) (right_by P second) (pos (j * g)) (pos (n * g)) positive (product j g) (product n g)
+      right_sum j n = cancel (pos g) _ (pos j) (pos n) (right_by P first) (right_by P second) (pos (j * g)) (pos (n * g)) positive (pos-product j g) (pos-product n g)
           (times_right (j * h + n * t) (j * g) (n * g) (sum_on_plane j n))
 
       pub left_of_beside : IsBeside first second P → IsLeftOfBorder c f p
@@ -280,7 +229,7 @@ module _ (c : Plane) (k l m : Corner) (alone : IsAlone c k l m) where
         above = border_sum beside.m beside.n;
         right_on = (on_face _ (sum_there beside.i beside.j (some beside.i beside.j _ _ beside.right)), sum_on_plane beside.i beside.j);
         above_on = (on_face _ (sum_there beside.m beside.n (some beside.m beside.n _ _ beside.above)), sum_on_plane beside.m beside.n);
-        same_upward = level _ _ (above_sum beside.i beside.j ∙ beside.level);
-        more_across = further _ _ (subst (λ (z : ℤ). pos 0 <ℤ z) (sym (right_sum beside.i beside.j)) beside.right);
-        more_upward = further _ _ (subst (λ (z : ℤ). pos 0 <ℤ z) (sym (above_sum beside.m beside.n)) beside.above);
+        same_upward = same_of_gap _ _ (above_sum beside.i beside.j ∙ beside.level);
+        more_across = less_of_gap _ _ (subst (λ (z : ℤ). pos 0 <ℤ z) (sym (right_sum beside.i beside.j)) beside.right);
+        more_upward = less_of_gap _ _ (subst (λ (z : ℤ). pos 0 <ℤ z) (sym (above_sum beside.m beside.n)) beside.above);
       }

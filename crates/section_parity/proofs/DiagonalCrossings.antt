@@ -4,15 +4,17 @@ use Rattle.std.specs.Prelude.{ℤ, pos, ◌-ℤ◌, ◌*ℤ◌, ◌<ℤ◌, ◌�
 use Rattle.std.specs.Bool.{Decides}
 use Rattle.std.specs.Int.Signed.{lt_z}
 use Rattle.std.proofs.lemmas.Int.{ints, by_lt_z}
+use Rattle.integers.proofs.Comparisons.{at_most_of_less, positive_of_negated}
+use Rattle.integers.proofs.Orders.{lt_z_of_less, lt_z_of_at_most}
 use Rattle.integers.proofs.Ring.{con, var, ◌⊖◌, ◌⊗◌, ring}
-use Rattle.integers.proofs.Signs.{mul_pos, mul_nonneg, nonneg_of_mul, pos_of_mul}
+use Rattle.integers.proofs.Signs.{mul_pos, mul_nonneg, nonneg_of_mul, pos_of_mul, mul_nonpos_first}
 use Rattle.lattice.specs.Triple.{Triple}
 use Rattle.lattice.specs.Points.{Point}
 use Rattle.section_parity.proofs.OverDiagonals.{GoesOver, CrossesLeftOf}
 use Rattle.section_parity.proofs.Sights.{Sight, sight_of, right_by, above_by, turn_of, counts, counts_at}
-use Rattle.section_parity.proofs.Tested.{less_of, most_of, of_less, of_most}
+use Rattle.section_parity.proofs.Tested.{less_of, most_of}
 use Rattle.section_parity.proofs.Xors.{xor, xor-none}
-use Rattle.section_parity.proofs.Lies.{weaker, up_down, down_up, down_down, nonpos_of_mul, neg_of_mul, counts-swapped}
+use Rattle.section_parity.proofs.Lies.{up_down, down_down, nonpos_of_mul, neg_of_mul, counts-swapped}
 use Rattle.section_parity.proofs.Planes.{four, seen, rights, aboves, turns, Counting, rising, falling, counting_of, of_counting}
 
 -- by how much q is beyond the diagonal of p, on the side of greater U - V, times both divisors
@@ -48,13 +50,13 @@ below_zero {y} h n = go y h n
 -- off the line, one side or the other
 other_up : (y : ℤ) → (y ≡ pos 0 → ⊥) → xor (lt_z (pos 0) y) true ≡ lt_z y (pos 0)
 other_up y n = by_lt_z (pos 0) y
-    (λ q. ap (λ v. xor v true) (of_less (pos 0) y q) ∙ sym (of_most y (pos 0) (weaker q)))
-    (λ q. ap (λ v. xor v true) (of_most (pos 0) y q) ∙ sym (of_less y (pos 0) (below_zero q n)))
+    (λ q. ap (λ v. xor v true) (lt_z_of_less (pos 0) y q) ∙ sym (lt_z_of_at_most y (pos 0) (at_most_of_less _ _ q)))
+    (λ q. ap (λ v. xor v true) (lt_z_of_at_most (pos 0) y q) ∙ sym (lt_z_of_less y (pos 0) (below_zero q n)))
 
 other_down : (y : ℤ) → (y ≡ pos 0 → ⊥) → xor (lt_z y (pos 0)) true ≡ lt_z (pos 0) y
 other_down y n = by_lt_z y (pos 0)
-    (λ q. ap (λ v. xor v true) (of_less y (pos 0) q) ∙ sym (of_most (pos 0) y (weaker q)))
-    (λ q. ap (λ v. xor v true) (of_most y (pos 0) q) ∙ sym (of_less (pos 0) y (above_zero q n)))
+    (λ q. ap (λ v. xor v true) (lt_z_of_less y (pos 0) q) ∙ sym (lt_z_of_at_most (pos 0) y (at_most_of_less _ _ q)))
+    (λ q. ap (λ v. xor v true) (lt_z_of_at_most y (pos 0) q) ∙ sym (lt_z_of_less (pos 0) y (above_zero q n)))
 
 -- The two ends are a and b above the sight and f and g beyond its diagonal, and x is the side of their line on which the sight is.
 module _ (w x a b f g : ℤ) (there : pos 0 <ℤ w) (turn : w *ℤ x ≡ (f *ℤ b) -ℤ (a *ℤ g)) where
@@ -77,7 +79,7 @@ module _ (w x a b f g : ℤ) (there : pos 0 <ℤ w) (turn : w *ℤ x ≡ (f *ℤ
       go k l m e h g = omega (arith, ints)
 
   right : (f *ℤ b) ≤ℤ pos 0 → pos 0 <ℤ (a *ℤ g) → x <ℤ pos 0
-  right h k = neg_of_mul w x (weaker there) (go (f *ℤ b) (a *ℤ g) (w *ℤ x) turn h k)
+  right h k = neg_of_mul w x (at_most_of_less _ _ there) (go (f *ℤ b) (a *ℤ g) (w *ℤ x) turn h k)
     where
       go : (k l m : ℤ) → m ≡ k -ℤ l → k ≤ℤ pos 0 → pos 0 <ℤ l → m <ℤ pos 0
       go k l m e h g = omega (arith, ints)
@@ -102,19 +104,19 @@ module _ (w x a b f g : ℤ) (there : pos 0 <ℤ w) (turn : w *ℤ x ≡ (f *ℤ
         by true true false false h k p q = refl
         by true true true true h k p q = refl
         by false false false true h k p q =
-            sym (of_less (pos 0) x (above_zero (not_left (down_down f b (no p) (no k)) (down_up a g (no h) (weaker (yes q)))) (off_up (no p) (yes q))))
+            sym (lt_z_of_less (pos 0) x (above_zero (not_left (down_down f b (no p) (no k)) (mul_nonpos_first a g (no h) (at_most_of_less _ _ (yes q)))) (off_up (no p) (yes q))))
         by false false true false h k p q =
-            sym (of_less x (pos 0) (below_zero (not_right (up_down f b (weaker (yes p)) (no k)) (down_down a g (no h) (no q))) (off_down (yes p) (no q))))
-        by false true false false h k p q = ap (λ v. xor v false) (of_most (pos 0) x (not_right (down_up f b (no p) (weaker (yes k))) (down_down a g (no h) (no q))))
+            sym (lt_z_of_less x (pos 0) (below_zero (not_right (up_down f b (at_most_of_less _ _ (yes p)) (no k)) (down_down a g (no h) (no q))) (off_down (yes p) (no q))))
+        by false true false false h k p q = ap (λ v. xor v false) (lt_z_of_at_most (pos 0) x (not_right (mul_nonpos_first f b (no p) (at_most_of_less _ _ (yes k))) (down_down a g (no h) (no q))))
         by false true false true h k p q = xor-none (lt_z (pos 0) x)
         by false true true false h k p q = other_up x (off_down (yes p) (no q))
-        by false true true true h k p q = ap (λ v. xor v true) (of_less (pos 0) x (left (mul_pos f b (yes p) (yes k)) (down_up a g (no h) (weaker (yes q)))))
-        by true false false false h k p q = ap (λ v. xor v false) (of_most x (pos 0) (not_left (down_down f b (no p) (no k)) (up_down a g (weaker (yes h)) (no q))))
+        by false true true true h k p q = ap (λ v. xor v true) (lt_z_of_less (pos 0) x (left (mul_pos f b (yes p) (yes k)) (mul_nonpos_first a g (no h) (at_most_of_less _ _ (yes q)))))
+        by true false false false h k p q = ap (λ v. xor v false) (lt_z_of_at_most x (pos 0) (not_left (down_down f b (no p) (no k)) (up_down a g (at_most_of_less _ _ (yes h)) (no q))))
         by true false false true h k p q = other_down x (off_up (no p) (yes q))
         by true false true false h k p q = xor-none (lt_z x (pos 0))
-        by true false true true h k p q = ap (λ v. xor v true) (of_less x (pos 0) (right (up_down f b (weaker (yes p)) (no k)) (mul_pos a g (yes h) (yes q))))
-        by true true false true h k p q = sym (of_most (pos 0) x (not_right (down_up f b (no p) (weaker (yes k))) (mul_nonneg a g (weaker (yes h)) (weaker (yes q)))))
-        by true true true false h k p q = sym (of_most x (pos 0) (not_left (mul_nonneg f b (weaker (yes p)) (weaker (yes k))) (up_down a g (weaker (yes h)) (no q))))
+        by true false true true h k p q = ap (λ v. xor v true) (lt_z_of_less x (pos 0) (right (up_down f b (at_most_of_less _ _ (yes p)) (no k)) (mul_pos a g (yes h) (yes q))))
+        by true true false true h k p q = sym (lt_z_of_at_most (pos 0) x (not_right (mul_nonpos_first f b (no p) (at_most_of_less _ _ (yes k))) (mul_nonneg a g (at_most_of_less _ _ (yes h)) (at_most_of_less _ _ (yes q)))))
+        by true true true false h k p q = sym (lt_z_of_at_most x (pos 0) (not_left (mul_nonneg f b (at_most_of_less _ _ (yes p)) (at_most_of_less _ _ (yes k))) (up_down a g (at_most_of_less _ _ (yes h)) (no q))))
 
 -- ---- by sights
 past_is : (k p : Sight) → past_by p k ≡ ((k.u -ℤ k.v) *ℤ p.w) -ℤ ((p.u -ℤ p.v) *ℤ k.w)
@@ -178,12 +180,9 @@ module _ (d : Triple) (k l p : Point) where
 pub crosses_left_decides : (d : Triple) (k l p : Point) → Decides (crosses_left (sight_of d k) (sight_of d l) (sight_of d p)) (CrossesLeftOf d k l p)
 crosses_left_decides d k l p = ((λ e. to (counting_of _ _ _ e)), from)
   where
-    falls : (x y : ℤ) → y ≡ pos 0 -ℤ x → x <ℤ pos 0 → pos 0 <ℤ y
-    falls x y e h = omega (arith, ints)
-
     to : Counting (past_by (sight_of d p) (sight_of d k)) (past_by (sight_of d p) (sight_of d l)) (turn_of (sight_of d k) (sight_of d l) (sight_of d p)) → CrossesLeftOf d k l p
     to (rising h g t) = inl (goes_over d k l p h g t)
-    to (falling h g t) = inr (goes_over d l k p g h (falls _ _ (other_turn (sight_of d k) (sight_of d l) (sight_of d p)) t))
+    to (falling h g t) = inr (goes_over d l k p g h (positive_of_negated _ _ (other_turn (sight_of d k) (sight_of d l) (sight_of d p)) t))
 
     from : CrossesLeftOf d k l p → crosses_left (sight_of d k) (sight_of d l) (sight_of d p) ≡ true
     from (inl h) = of_counting _ _ _ (counting_over d k l p h)

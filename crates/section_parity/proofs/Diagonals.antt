@@ -4,7 +4,9 @@ use Rattle.std.specs.Prelude.{ℤ, pos, negsuc, ◌+ℤ◌, ◌-ℤ◌, ◌*ℤ�
 use Rattle.std.specs.Bool.{Decides}
 use Rattle.std.proofs.lemmas.Bool.{false≢true}
 use Rattle.std.proofs.lemmas.Int.{ints}
-use Rattle.integers.proofs.Ring.{con, var, ◌⊖◌, ◌⊕◌, ◌⊗◌, ring, by_three}
+use Rattle.integers.proofs.Comparisons.{at_most_of_less, times_zero}
+use Rattle.integers.proofs.Orders.{lt_z_of_less, lt_z_of_at_most}
+use Rattle.integers.proofs.Ring.{con, var, ◌⊖◌, ◌⊕◌, ◌⊗◌, ring, by_three, same_of_gap}
 use Rattle.lattice.specs.declared.points.Corner.{Corner}
 use Rattle.lattice.specs.declared.soup.Tri.{Tri}
 use Rattle.lattice.specs.Triangles.{IsBelow}
@@ -15,14 +17,13 @@ use Rattle.geometry.specs.Faces.{IsPointOfFace}
 use Rattle.geometry.specs.Parts.{Part, Face, IsClosed}
 use Rattle.geometry.specs.Cuts.{border, start_corner, end_corner, over_of, GoesBeyond, IsBorderOf, IsCrossed, IsInSection, IsSeenOverInCut}
 use Rattle.geometry.proofs.Borders.{over_before, over_beyond, side_of_corner, not_both_sides, border_of_crossed}
+use Rattle.geometry.proofs.FacePoints.{face_point-round}
 use Rattle.section_parity.proofs.OverDiagonals.{CrossesLeftOf, HasCrossingLeftOf, HasOddLeft}
 use Rattle.section_parity.specs.Diagonals.{IsUnderBorder}
 use Rattle.section_parity.proofs.Sights.{Sight, sight_of, right_by, above_by, turn_of, counts_at, crossing_sight, is_before, left_by, left_of_border, left_of_triangle, if_apart}
-use Rattle.section_parity.proofs.Tested.{of_less, of_most}
 use Rattle.section_parity.proofs.Xors.{xor, xor-none, xor-comm, odd_in, odd_in_decides}
-use Rattle.section_parity.proofs.Lies.{weaker}
 use Rattle.section_parity.proofs.BorderPoints.{IsAlone, before, beyond, border_sum, sum_on_plane, sum_there, above_sum, right_sum}
-use Rattle.section_parity.proofs.FaceBorders.{turn_face, crossing_turned}
+use Rattle.section_parity.proofs.FaceBorders.{crossing_turned}
 use Rattle.section_parity.proofs.Sections.{sides_between, sides_of, sides_at, left_at, face_of, with_sides, section_decides}
 use Rattle.section_parity.proofs.DiagonalCrossings.{AreApart, over, back, past_by, under_way, crosses_left, crosses_left-turned, crosses_left_decides, diagonal_balanced, turn_by_past}
 
@@ -49,10 +50,10 @@ module _ (a b r q i j m : ℤ) (line : ((r -ℤ a) *ℤ b) -ℤ (a *ℤ (q -ℤ 
 -- ---- a face
 -- which side of the plane a corner is on, as a test tells it
 before_test : (c : Plane) (k : Corner) → IsBeforePlane c (point_of k) → is_before c k ≡ true
-before_test c k h = of_less (pos 0) (over_of c k) (over_before c k h)
+before_test c k h = lt_z_of_less (pos 0) (over_of c k) (over_before c k h)
 
 beyond_test : (c : Plane) (k : Corner) → IsBeyond c (point_of k) → is_before c k ≡ false
-beyond_test c k h = of_most (pos 0) (over_of c k) (weaker (over_beyond c k h))
+beyond_test c k h = lt_z_of_at_most (pos 0) (over_of c k) (at_most_of_less _ _ (over_beyond c k h))
 
 -- a corner alone on its side
 alone_before : (c : Plane) (k l m : Corner) → GoesBeyond c k l → GoesBeyond c k m → IsAlone c k l m
@@ -81,23 +82,17 @@ module _ (c : Plane) {s : Part} (f : Face s) (p : Point) (is_point : IsPoint p) 
       border_sum c k l m alone i j,
       (on_face _ (sum_there c k l m alone i j some), sum_on_plane c k l m alone i j),
       record {
-        across = same _ _ (right_sum c k l m alone p f of_face on_face i j ∙ straight);
-        upward = same _ _ (above_sum c k l m alone p f of_face on_face i j ∙ level);
+        across = same_of_gap _ _ (right_sum c k l m alone p f of_face on_face i j ∙ straight);
+        upward = same_of_gap _ _ (above_sum c k l m alone p f of_face on_face i j ∙ level);
       },
     )
-      where
-        same : (x y : ℤ) → x -ℤ y ≡ pos 0 → x ≡ y
-        same x y e = omega (arith, ints)
 
     -- nor is the point on the border's line, where the diagonal goes between the ends
     off_line : AreApart (past_by P K) (past_by P L) → turn_of K L P ≡ pos 0 → ⊥
     off_line apart e = by apart
       where
-        nothing : (w : ℤ) → w *ℤ pos 0 ≡ pos 0
-        nothing w = ring (w ∷ []) (var 0 ⊗ con (pos 0)) (con (pos 0)) refl
-
         line : (past_by P K *ℤ above_by P L) -ℤ (above_by P K *ℤ past_by P L) ≡ pos 0
-        line = sym (turn_by_past K L P) ∙ ap (λ x. p.w *ℤ x) e ∙ nothing p.w
+        line = sym (turn_by_past K L P) ∙ ap (λ x. p.w *ℤ x) e ∙ times_zero p.w
 
         never : (m : ℤ) → pos (unsigned_abs (past_by P L)) ≡ m *ℤ past_by P L → pos (unsigned_abs (past_by P K)) ≡ pos 0 -ℤ (m *ℤ past_by P K)
             → 0 < unsigned_abs (past_by P L) + unsigned_abs (past_by P K) → ⊥
@@ -151,12 +146,12 @@ module _ (c : Plane) {s : Part} (f : Face s) (p : Point) (is_point : IsPoint p) 
   second_alone : IsAlone c f.b f.c f.a → xor (counts_at BC AB P) (xor (xor (under_way P AB) (under_way P BC)) false) ≡ crosses_left BC AB P
   second_alone alone =
       ap (xor (counts_at BC AB P)) (xor-none (xor (under_way P AB) (under_way P BC)) ∙ xor-comm (under_way P AB) (under_way P BC))
-      ∙ alone_balanced f.b f.c f.a alone (turn_face f.a f.b f.c) (λ r h. turn_face f.c f.a f.b r (turn_face f.b f.c f.a r h))
+      ∙ alone_balanced f.b f.c f.a alone (face_point-round f.a f.b f.c) (λ r h. face_point-round f.c f.a f.b r (face_point-round f.b f.c f.a r h))
 
   third_alone : IsAlone c f.c f.a f.b → xor (counts_at CA BC P) (xor (under_way P BC) (under_way P CA)) ≡ crosses_left CA BC P
   third_alone alone =
       ap (xor (counts_at CA BC P)) (xor-comm (under_way P BC) (under_way P CA))
-      ∙ alone_balanced f.c f.a f.b alone (λ r h. turn_face f.b f.c f.a r (turn_face f.a f.b f.c r h)) (turn_face f.c f.a f.b)
+      ∙ alone_balanced f.c f.a f.b alone (λ r h. face_point-round f.b f.c f.a r (face_point-round f.a f.b f.c r h)) (face_point-round f.c f.a f.b)
 
   -- the face's border counts at the point, but for the sides that cross the plane under the way
   abbrev Moved : Bool → Bool → Bool → Bool

@@ -4,6 +4,7 @@ use Rattle.std.specs.Prelude.{ℤ, pos, ◌+ℤ◌, ◌-ℤ◌, ◌*ℤ◌, ◌<
 use Rattle.std.specs.Int.{w128}
 use Rattle.std.specs.Int.Signed.{lt_z}
 use Rattle.std.proofs.lemmas.Int.{ints}
+use Rattle.integers.proofs.Comparisons.{negation_positive}
 use Rattle.integers.proofs.Ring.{var, con, ◌⊕◌, ◌⊖◌, ◌⊗◌, ring}
 use Rattle.exact_frac.specs.declared.Frac.{Frac}
 use Rattle.section_parity.specs.inner.Crossings.{IsRootOf}
@@ -41,11 +42,8 @@ module _ (x k : ℤ) (rise : pos 0 <ℤ k) (i j : ℤ) (over : i ≡ pos 0 -ℤ 
 
 -- that of a falling one is at the value over the turned change
 module _ (x k : ℤ) (fall : k <ℤ pos 0) (i j : ℤ) (over : i ≡ x) (under : j ≡ pos 0 -ℤ k) where
-  back : (k : ℤ) → k <ℤ pos 0 → pos 0 <ℤ (pos 0 -ℤ k)
-  back k h = omega (arith, ints)
-
   pub falling_found : (r : Frac) → IsShort r × (r.num ≡ i) × (r.den ≡ j) → IsShort r × IsRootOf x (x +ℤ k) r.num r.den
   falling_found r (short, num, den) = (short, falling_root x k r.num r.den fall (num ∙ over) (den ∙ under))
 
   pub falling_none : (i <ℤ pos 0) ⊎ (j <ℤ i) → (n m : ℤ) → pos 0 <ℤ m → pos 0 ≤ℤ n → n ≤ℤ m → ¬ IsRootOf x (x +ℤ k) n m
-  falling_none outside n m there least most = no_root x (x +ℤ k) n m i j (subst (λ (z : ℤ). pos 0 <ℤ z) (sym under) (back k fall)) (falling_root x k i j fall over under) outside there least most
+  falling_none outside n m there least most = no_root x (x +ℤ k) n m i j (subst (λ (z : ℤ). pos 0 <ℤ z) (sym under) (negation_positive k fall)) (falling_root x k i j fall over under) outside there least most

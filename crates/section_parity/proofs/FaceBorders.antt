@@ -5,6 +5,8 @@ use Rattle.std.specs.Bool.{Decides}
 use Rattle.std.specs.Int.Signed.{lt_z}
 use Rattle.std.proofs.lemmas.Bool.{false≢true}
 use Rattle.std.proofs.lemmas.Int.{ints}
+use Rattle.integers.proofs.Absolutes.{natural_not_negative}
+use Rattle.integers.proofs.Comparisons.{not_negative_of_positive, not_positive_of_negative, positive_not_zero}
 use Rattle.integers.proofs.Signs.{mul_nonneg, mul_pos, mul_neg}
 use Rattle.lattice.specs.declared.points.Corner.{Corner}
 use Rattle.lattice.specs.Points.{Point, IsPoint, point_of}
@@ -13,6 +15,7 @@ use Rattle.geometry.specs.Faces.{face_sum, IsPointOfFace}
 use Rattle.geometry.specs.Parts.{Part, Face}
 use Rattle.geometry.specs.Cuts.{over_of, IsLeftOfBorder}
 use Rattle.geometry.proofs.Borders.{face_rise, rise_on, over_beyond, over_before, side_of_corner}
+use Rattle.geometry.proofs.FacePoints.{face_point-round}
 use Rattle.geometry.proofs.Shares.{edge_turned}
 use Rattle.section_parity.proofs.Sights.{Sight, sight_of, crossing_sight, counts_at, is_before, left_of_border, left_by, beside_way, if_apart, crosses_beside}
 use Rattle.section_parity.proofs.Tested.{less_of}
@@ -22,23 +25,6 @@ use Rattle.section_parity.proofs.Planes.{IsClearOf, counts_of_beside, beside_of_
 use Rattle.section_parity.proofs.BorderPoints.{IsAlone, before, beyond, beside_of_left, left_of_beside}
 
 -- ---- the corners in another order
-face_turned : (a b c : Corner) (i j k : ℕ) → face_sum a b c i j k ≡ face_sum b c a j k i
-face_turned a b c i j k = λ t. record {
-  x = around (pos i *ℤ a.x) (pos j *ℤ b.x) (pos k *ℤ c.x) t;
-  y = around (pos i *ℤ a.y) (pos j *ℤ b.y) (pos k *ℤ c.y) t;
-  z = around (pos i *ℤ a.z) (pos j *ℤ b.z) (pos k *ℤ c.z) t;
-  w = weight i j k t;
-}
-  where
-    around : (x y z : ℤ) → (x +ℤ y) +ℤ z ≡ (y +ℤ z) +ℤ x
-    around x y z = omega (arith, ints)
-
-    weight : (i j k : ℕ) → pos (i + j + k) ≡ pos (j + k + i)
-    weight i j k = ap pos (omega arith)
-
-pub turn_face : (a b c : Corner) (r : Point) → IsPointOfFace a b c r → IsPointOfFace b c a r
-turn_face a b c r (i, j, k, some, is) = (j, k, i, omega arith, is ∙ face_turned a b c i j k)
-
 pub crossing_turned : (c : Plane) (k l : Corner) → crossing_sight c k l ≡ crossing_sight c l k
 crossing_turned c k l = ap (sight_of (toward_of c)) (edge_turned k l (unsigned_abs (over_of c l)) (unsigned_abs (over_of c k)))
 
@@ -58,53 +44,35 @@ module _ (c : Plane) (k : Corner) where
   before_of e = less_of (pos 0) (over_of c k) e
 
 -- no sum of three corners on one side of the plane is on it
-natural : (i : ℕ) → pos 0 ≤ℤ pos i
-natural i = omega (arith, ints)
-
-weak_up : {x : ℤ} → pos 0 <ℤ x → pos 0 ≤ℤ x
-weak_up {x} h = go x h
-  where
-    go : (x : ℤ) → pos 0 <ℤ x → pos 0 ≤ℤ x
-    go x h = omega (arith, ints)
-
-weak_down : {x : ℤ} → x <ℤ pos 0 → x ≤ℤ pos 0
-weak_down {x} h = go x h
-  where
-    go : (x : ℤ) → x <ℤ pos 0 → x ≤ℤ pos 0
-    go x h = omega (arith, ints)
-
 sum_up : (i j n : ℕ) (x y z : ℤ) → 0 < i + j + n → pos 0 <ℤ x → pos 0 <ℤ y → pos 0 <ℤ z → pos 0 <ℤ (((pos i *ℤ x) +ℤ (pos j *ℤ y)) +ℤ (pos n *ℤ z))
 sum_up zero zero zero x y z some p q r = absurd (omega arith)
-sum_up (suc i) j n x y z some p q r = go _ _ _ (mul_pos (pos (suc i)) x (omega (arith, ints)) p) (mul_nonneg (pos j) y (natural j) (weak_up q)) (mul_nonneg (pos n) z (natural n) (weak_up r))
+sum_up (suc i) j n x y z some p q r = go _ _ _ (mul_pos (pos (suc i)) x (omega (arith, ints)) p) (mul_nonneg (pos j) y (natural_not_negative j) (not_negative_of_positive _ q)) (mul_nonneg (pos n) z (natural_not_negative n) (not_negative_of_positive _ r))
   where
     go : (a b c : ℤ) → pos 0 <ℤ a → pos 0 ≤ℤ b → pos 0 ≤ℤ c → pos 0 <ℤ ((a +ℤ b) +ℤ c)
     go a b c p q r = omega (arith, ints)
-sum_up zero (suc j) n x y z some p q r = go _ _ _ (mul_nonneg (pos zero) x (natural zero) (weak_up p)) (mul_pos (pos (suc j)) y (omega (arith, ints)) q) (mul_nonneg (pos n) z (natural n) (weak_up r))
+sum_up zero (suc j) n x y z some p q r = go _ _ _ (mul_nonneg (pos zero) x (natural_not_negative zero) (not_negative_of_positive _ p)) (mul_pos (pos (suc j)) y (omega (arith, ints)) q) (mul_nonneg (pos n) z (natural_not_negative n) (not_negative_of_positive _ r))
   where
     go : (a b c : ℤ) → pos 0 ≤ℤ a → pos 0 <ℤ b → pos 0 ≤ℤ c → pos 0 <ℤ ((a +ℤ b) +ℤ c)
     go a b c p q r = omega (arith, ints)
-sum_up zero zero (suc n) x y z some p q r = go _ _ _ (mul_nonneg (pos zero) x (natural zero) (weak_up p)) (mul_nonneg (pos zero) y (natural zero) (weak_up q)) (mul_pos (pos (suc n)) z (omega (arith, ints)) r)
+sum_up zero zero (suc n) x y z some p q r = go _ _ _ (mul_nonneg (pos zero) x (natural_not_negative zero) (not_negative_of_positive _ p)) (mul_nonneg (pos zero) y (natural_not_negative zero) (not_negative_of_positive _ q)) (mul_pos (pos (suc n)) z (omega (arith, ints)) r)
   where
     go : (a b c : ℤ) → pos 0 ≤ℤ a → pos 0 ≤ℤ b → pos 0 <ℤ c → pos 0 <ℤ ((a +ℤ b) +ℤ c)
     go a b c p q r = omega (arith, ints)
 
 sum_down : (i j n : ℕ) (x y z : ℤ) → 0 < i + j + n → x <ℤ pos 0 → y <ℤ pos 0 → z <ℤ pos 0 → (((pos i *ℤ x) +ℤ (pos j *ℤ y)) +ℤ (pos n *ℤ z)) <ℤ pos 0
 sum_down zero zero zero x y z some p q r = absurd (omega arith)
-sum_down (suc i) j n x y z some p q r = go _ _ _ (mul_neg (pos (suc i)) x (omega (arith, ints)) p) (up_down (pos j) y (natural j) (weak_down q)) (up_down (pos n) z (natural n) (weak_down r))
+sum_down (suc i) j n x y z some p q r = go _ _ _ (mul_neg (pos (suc i)) x (omega (arith, ints)) p) (up_down (pos j) y (natural_not_negative j) (not_positive_of_negative _ q)) (up_down (pos n) z (natural_not_negative n) (not_positive_of_negative _ r))
   where
     go : (a b c : ℤ) → a <ℤ pos 0 → b ≤ℤ pos 0 → c ≤ℤ pos 0 → ((a +ℤ b) +ℤ c) <ℤ pos 0
     go a b c p q r = omega (arith, ints)
-sum_down zero (suc j) n x y z some p q r = go _ _ _ (up_down (pos zero) x (natural zero) (weak_down p)) (mul_neg (pos (suc j)) y (omega (arith, ints)) q) (up_down (pos n) z (natural n) (weak_down r))
+sum_down zero (suc j) n x y z some p q r = go _ _ _ (up_down (pos zero) x (natural_not_negative zero) (not_positive_of_negative _ p)) (mul_neg (pos (suc j)) y (omega (arith, ints)) q) (up_down (pos n) z (natural_not_negative n) (not_positive_of_negative _ r))
   where
     go : (a b c : ℤ) → a ≤ℤ pos 0 → b <ℤ pos 0 → c ≤ℤ pos 0 → ((a +ℤ b) +ℤ c) <ℤ pos 0
     go a b c p q r = omega (arith, ints)
-sum_down zero zero (suc n) x y z some p q r = go _ _ _ (up_down (pos zero) x (natural zero) (weak_down p)) (up_down (pos zero) y (natural zero) (weak_down q)) (mul_neg (pos (suc n)) z (omega (arith, ints)) r)
+sum_down zero zero (suc n) x y z some p q r = go _ _ _ (up_down (pos zero) x (natural_not_negative zero) (not_positive_of_negative _ p)) (up_down (pos zero) y (natural_not_negative zero) (not_positive_of_negative _ q)) (mul_neg (pos (suc n)) z (omega (arith, ints)) r)
   where
     go : (a b c : ℤ) → a ≤ℤ pos 0 → b ≤ℤ pos 0 → c <ℤ pos 0 → ((a +ℤ b) +ℤ c) <ℤ pos 0
     go a b c p q r = omega (arith, ints)
-
-not_zero_up : (x : ℤ) → x ≡ pos 0 → pos 0 <ℤ x → ⊥
-not_zero_up x e h = omega (arith, ints)
 
 not_zero_down : (x : ℤ) → x ≡ pos 0 → x <ℤ pos 0 → ⊥
 not_zero_down x e h = omega (arith, ints)
@@ -118,7 +86,7 @@ module _ (c : Plane) (a b k : Corner) (r : Point) (there : IsPointOfFace a b k r
   pub not_all_before : pos 0 <ℤ over_of c a → pos 0 <ℤ over_of c b → pos 0 <ℤ over_of c k → ⊥
   not_all_before p q t =
       let (i, j, n, some, e) = over_sum in
-      not_zero_up _ e (sum_up i j n (over_of c a) (over_of c b) (over_of c k) some p q t)
+      positive_not_zero _ (sum_up i j n (over_of c a) (over_of c b) (over_of c k) some p q t) e
 
   pub not_all_beyond : over_of c a <ℤ pos 0 → over_of c b <ℤ pos 0 → over_of c k <ℤ pos 0 → ⊥
   not_all_beyond p q t =
@@ -145,10 +113,10 @@ module _ (c : Plane) {s : Part} (f : Face s) (p : Point) (there : IsPoint p) whe
   first_alone alone = alone_decides f.a f.b f.c alone (λ r h. h) (λ r h. h)
 
   second_alone : IsAlone c f.b f.c f.a → Decides (counts_at (crossing_sight c f.b f.c) (crossing_sight c f.a f.b) P) (IsLeftOfBorder c f p)
-  second_alone alone = alone_decides f.b f.c f.a alone (turn_face f.a f.b f.c) (λ r h. turn_face f.c f.a f.b r (turn_face f.b f.c f.a r h))
+  second_alone alone = alone_decides f.b f.c f.a alone (face_point-round f.a f.b f.c) (λ r h. face_point-round f.c f.a f.b r (face_point-round f.b f.c f.a r h))
 
   third_alone : IsAlone c f.c f.a f.b → Decides (counts_at (crossing_sight c f.c f.a) (crossing_sight c f.b f.c) P) (IsLeftOfBorder c f p)
-  third_alone alone = alone_decides f.c f.a f.b alone (λ r h. turn_face f.b f.c f.a r (turn_face f.a f.b f.c r h)) (turn_face f.c f.a f.b)
+  third_alone alone = alone_decides f.c f.a f.b alone (λ r h. face_point-round f.b f.c f.a r (face_point-round f.a f.b f.c r h)) (face_point-round f.c f.a f.b)
 
   never : ¬ IsLeftOfBorder c f p → Decides false (IsLeftOfBorder c f p)
   never none = ((λ e. absurd (false≢true e)), (λ left. absurd (none left)))

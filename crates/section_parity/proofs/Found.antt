@@ -2,7 +2,8 @@
 use Rattle.std.proofs.Common.{◌≡◌, ◌⊎◌, inl, inr, [], ◌∷◌, refl, ap, ◌∙◌, arith}
 use Rattle.std.specs.Prelude.{ℤ, pos, ◌+ℤ◌, ◌-ℤ◌, ◌*ℤ◌, ◌<ℤ◌, ◌≤ℤ◌, Some, None}
 use Rattle.std.proofs.lemmas.Int.{ints, by_lt_z}
-use Rattle.integers.proofs.Ring.{var, con, ◌⊕◌, ◌⊖◌, ◌⊗◌, ring, by_two, same_of_gap}
+use Rattle.integers.proofs.Comparisons.{negation_positive, gap_of_at_most, not_negative_of_positive, same_of_gap_back, zero_between, positive_not_zero, negative_not_zero}
+use Rattle.integers.proofs.Ring.{var, con, ◌⊕◌, ◌⊖◌, ◌⊗◌, ring, by_two, same_of_gap, gap_of_less}
 use Rattle.integers.proofs.Signs.{mul_nonneg, mul_pos, zero_of_mul}
 use Rattle.exact_frac.specs.declared.Frac.{Frac}
 use Rattle.lattice.specs.declared.lines.Line.{Line}
@@ -25,22 +26,13 @@ crosses_same c f e n m n' m' there same crosses =
     record { passes = (r, on, sight_on (toward_of c) r (share_point e.a e.b n m) (share_point e.a e.b n' m') there sight (one_place (toward_of c) e.a e.b n m n' m' same)); turns = crosses.turns }
 
 not_same : (x y : ℤ) → (x ≡ y → ⊥) → y -ℤ x ≡ pos 0 → ⊥
-not_same x y h e = h (equal x y e)
-  where
-    equal : (x y : ℤ) → y -ℤ x ≡ pos 0 → x ≡ y
-    equal x y e = omega (arith, ints)
+not_same x y h e = h (same_of_gap_back x y e)
 
 -- a product with what is not 0 is 0
 out_of : (k a : ℤ) → (k ≡ pos 0 → ⊥) → k *ℤ a ≡ pos 0 → a ≡ pos 0
 out_of k a some e = by_lt_z (pos 0) k
     (λ p. zero_of_mul k a p e)
-    (λ p. by_lt_z k (pos 0) (λ q. zero_of_mul (pos 0 -ℤ k) a (back k q) (ring (k ∷ a ∷ []) ((con (pos 0) ⊖ var 0) ⊗ var 1) (con (pos 0) ⊖ (var 0 ⊗ var 1)) refl ∙ ap (λ z. pos 0 -ℤ z) e)) (λ q. absurd (some (zero k p q))))
-  where
-    back : (k : ℤ) → k <ℤ pos 0 → pos 0 <ℤ (pos 0 -ℤ k)
-    back k h = omega (arith, ints)
-
-    zero : (k : ℤ) → k ≤ℤ pos 0 → pos 0 ≤ℤ k → k ≡ pos 0
-    zero k p q = omega (arith, ints)
+    (λ p. by_lt_z k (pos 0) (λ q. zero_of_mul (pos 0 -ℤ k) a (negation_positive k q) (ring (k ∷ a ∷ []) ((con (pos 0) ⊖ var 0) ⊗ var 1) (con (pos 0) ⊖ (var 0 ⊗ var 1)) refl ∙ ap (λ z. pos 0 -ℤ z) e)) (λ q. absurd (some (zero_between k q p))))
 
 -- a value has one root
 pub one_root : (x y n m n' m' : ℤ) → IsRootOf x y n m → IsRootOf x y n' m' → n *ℤ m' ≡ n' *ℤ m
@@ -62,20 +54,14 @@ changing x k some e = some (none x k e)
 pub rising_root : (x k n m : ℤ) → pos 0 <ℤ k → n ≡ pos 0 -ℤ x → m ≡ k → IsRootOf x (x +ℤ k) n m
 rising_root x k n m rises e g = record {
   root = (λ i. ((g i -ℤ e i) *ℤ x) +ℤ (e i *ℤ (x +ℤ k))) ∙ ring (x ∷ k ∷ []) (((var 1 ⊖ (con (pos 0) ⊖ var 0)) ⊗ var 0) ⊕ ((con (pos 0) ⊖ var 0) ⊗ (var 0 ⊕ var 1))) (con (pos 0)) refl;
-  changes = changing x k (some k rises);
+  changes = changing x k (positive_not_zero k rises);
 }
-  where
-    some : (k : ℤ) → pos 0 <ℤ k → k ≡ pos 0 → ⊥
-    some k h e = omega (arith, ints)
 
 pub falling_root : (x k n m : ℤ) → k <ℤ pos 0 → n ≡ x → m ≡ pos 0 -ℤ k → IsRootOf x (x +ℤ k) n m
 falling_root x k n m falls e g = record {
   root = (λ i. ((g i -ℤ e i) *ℤ x) +ℤ (e i *ℤ (x +ℤ k))) ∙ ring (x ∷ k ∷ []) ((((con (pos 0) ⊖ var 1) ⊖ var 0) ⊗ var 0) ⊕ (var 0 ⊗ (var 0 ⊕ var 1))) (con (pos 0)) refl;
-  changes = changing x k (some k falls);
+  changes = changing x k (negative_not_zero k falls);
 }
-  where
-    some : (k : ℤ) → k <ℤ pos 0 → k ≡ pos 0 → ⊥
-    some k h e = omega (arith, ints)
 
 -- a value whose root is before 0 or after 1 has none between
 pub no_root : (x y n m i j : ℤ) → pos 0 <ℤ j → IsRootOf x y i j → (i <ℤ pos 0) ⊎ (j <ℤ i) → pos 0 <ℤ m → pos 0 ≤ℤ n → n ≤ℤ m → ¬ IsRootOf x y n m
@@ -85,32 +71,20 @@ no_root x y n m i j there at outside m_there least most root = by outside (one_r
     clash a b e h g = omega (arith, ints)
 
     negative : (i m : ℤ) → i <ℤ pos 0 → pos 0 <ℤ m → (i *ℤ m) <ℤ pos 0
-    negative i m h g = turned (i *ℤ m) _ (ring (i ∷ m ∷ []) ((con (pos 0) ⊖ var 0) ⊗ var 1) (con (pos 0) ⊖ (var 0 ⊗ var 1)) refl) (mul_pos (pos 0 -ℤ i) m (back i h) g)
+    negative i m h g = turned (i *ℤ m) _ (ring (i ∷ m ∷ []) ((con (pos 0) ⊖ var 0) ⊗ var 1) (con (pos 0) ⊖ (var 0 ⊗ var 1)) refl) (mul_pos (pos 0 -ℤ i) m (negation_positive i h) g)
       where
         turned : (a b : ℤ) → b ≡ pos 0 -ℤ a → pos 0 <ℤ b → a <ℤ pos 0
         turned a b e h = omega (arith, ints)
-
-        back : (i : ℤ) → i <ℤ pos 0 → pos 0 <ℤ (pos 0 -ℤ i)
-        back i h = omega (arith, ints)
-
-    room : (a b : ℤ) → a ≤ℤ b → pos 0 ≤ℤ (b -ℤ a)
-    room a b h = omega (arith, ints)
-
-    gap : (a b : ℤ) → a <ℤ b → pos 0 <ℤ (b -ℤ a)
-    gap a b h = omega (arith, ints)
-
-    weak : (a : ℤ) → pos 0 <ℤ a → pos 0 ≤ℤ a
-    weak a h = omega (arith, ints)
 
     -- m (i - j) + j (m - n) is i m - n j
     past : (a b k l : ℤ) → a ≡ b → b -ℤ a ≡ k +ℤ l → pos 0 <ℤ k → pos 0 ≤ℤ l → ⊥
     past a b k l e g h f = omega (arith, ints)
 
     by : (i <ℤ pos 0) ⊎ (j <ℤ i) → n *ℤ j ≡ i *ℤ m → ⊥
-    by (inl under) e = clash _ _ e (mul_nonneg n j least (weak j there)) (negative i m under m_there)
+    by (inl under) e = clash _ _ e (mul_nonneg n j least (not_negative_of_positive j there)) (negative i m under m_there)
     by (inr over) e = past _ _ (m *ℤ (i -ℤ j)) (j *ℤ (m -ℤ n)) e
         (ring (n ∷ m ∷ i ∷ j ∷ []) ((var 2 ⊗ var 1) ⊖ (var 0 ⊗ var 3)) ((var 1 ⊗ (var 2 ⊖ var 3)) ⊕ (var 3 ⊗ (var 1 ⊖ var 0))) refl)
-        (mul_pos m _ m_there (gap j i over)) (mul_nonneg j _ (weak j there) (room n m most))
+        (mul_pos m _ m_there (gap_of_less j i over)) (mul_nonneg j _ (not_negative_of_positive j there) (gap_of_at_most n m most))
 
 -- ---- the crossing of a border
 module _ (c : Plane) {s : Part} (f : Face s) (whole : ¬ IsFlat f.a f.b f.c) (k l : Point) (ends : IsBorderOf c f k l) (line : Line) (on_line : IsBorderLine c f.a f.b f.c line) (e : Edge s) where

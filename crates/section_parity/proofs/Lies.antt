@@ -3,8 +3,9 @@ use Rattle.std.proofs.Common.{◌≡◌, Bool, true, false, [], ◌∷◌, refl,
 use Rattle.std.specs.Prelude.{ℤ, pos, ◌+ℤ◌, ◌-ℤ◌, ◌*ℤ◌, ◌<ℤ◌, ◌≤ℤ◌}
 use Rattle.std.specs.Int.Signed.{lt_z}
 use Rattle.std.proofs.lemmas.Int.{ints, by_lt_z}
+use Rattle.integers.proofs.Comparisons.{negation_positive, negation_not_negative, at_most_of_less, not_positive_of_negative, positive_not_zero, negative_not_zero, positive_not_negative}
 use Rattle.integers.proofs.Ring.{var, con, ◌⊖◌, ◌⊗◌, ring}
-use Rattle.integers.proofs.Signs.{mul_nonneg, mul_pos, mul_neg, nonneg_of_mul}
+use Rattle.integers.proofs.Signs.{mul_nonneg, mul_pos, mul_neg, nonneg_of_mul, mul_nonpos_first, mul_two_neg}
 use Rattle.section_parity.proofs.Sights.{counts}
 use Rattle.section_parity.proofs.Tested.{less_of, most_of, same_test}
 use Rattle.section_parity.proofs.Xors.{xor, xor-twice, xor-comm}
@@ -15,12 +16,6 @@ turned a b = ring (a ∷ b ∷ []) ((con (pos 0) ⊖ var 0) ⊗ var 1) (con (pos
 
 turned_second : (a b : ℤ) → a *ℤ (pos 0 -ℤ b) ≡ pos 0 -ℤ (a *ℤ b)
 turned_second a b = ring (a ∷ b ∷ []) (var 0 ⊗ (con (pos 0) ⊖ var 1)) (con (pos 0) ⊖ (var 0 ⊗ var 1)) refl
-
-pub down_up : (a b : ℤ) → a ≤ℤ pos 0 → pos 0 ≤ℤ b → (a *ℤ b) ≤ℤ pos 0
-down_up a b h g = go (a *ℤ b) ((pos 0 -ℤ a) *ℤ b) (turned a b) (mul_nonneg (pos 0 -ℤ a) b (omega (arith, ints)) g)
-  where
-    go : (x y : ℤ) → y ≡ pos 0 -ℤ x → pos 0 ≤ℤ y → x ≤ℤ pos 0
-    go x y e h = omega (arith, ints)
 
 pub up_down : (a b : ℤ) → pos 0 ≤ℤ a → b ≤ℤ pos 0 → (a *ℤ b) ≤ℤ pos 0
 up_down a b h g = go (a *ℤ b) (a *ℤ (pos 0 -ℤ b)) (turned_second a b) (mul_nonneg a (pos 0 -ℤ b) h (omega (arith, ints)))
@@ -34,12 +29,6 @@ down_down a b h g = go (a *ℤ b) ((pos 0 -ℤ a) *ℤ b) (turned a b) (up_down 
     go : (x y : ℤ) → y ≡ pos 0 -ℤ x → y ≤ℤ pos 0 → pos 0 ≤ℤ x
     go x y e h = omega (arith, ints)
 
-strictly_up : (a b : ℤ) → a <ℤ pos 0 → b <ℤ pos 0 → pos 0 <ℤ (a *ℤ b)
-strictly_up a b h g = go (a *ℤ b) ((pos 0 -ℤ a) *ℤ b) (turned a b) (mul_neg (pos 0 -ℤ a) b (omega (arith, ints)) g)
-  where
-    go : (x y : ℤ) → y ≡ pos 0 -ℤ x → y <ℤ pos 0 → pos 0 <ℤ x
-    go x y e h = omega (arith, ints)
-
 pub nonpos_of_mul : (k a : ℤ) → pos 0 <ℤ k → (k *ℤ a) ≤ℤ pos 0 → a ≤ℤ pos 0
 nonpos_of_mul k a p h = by_lt_z (pos 0) a (λ n. absurd (let m = mul_pos k a p n in omega (arith, ints))) (λ q. q)
 
@@ -50,16 +39,7 @@ pub neg_of_mul : (k a : ℤ) → pos 0 ≤ℤ k → (k *ℤ a) <ℤ pos 0 → a 
 neg_of_mul k a p h = by_lt_z a (pos 0) (λ n. n) (λ q. absurd (let m = mul_nonneg k a p q in omega (arith, ints)))
 
 not_level : (k a : ℤ) → pos 0 ≤ℤ k → (k *ℤ a) <ℤ pos 0 → pos 0 <ℤ k
-not_level k a p h = by_lt_z (pos 0) k (λ n. n) (λ q. absurd (let m = down_down k a q (weak a (neg_of_mul k a p h)) in omega (arith, ints)))
-  where
-    weak : (a : ℤ) → a <ℤ pos 0 → a ≤ℤ pos 0
-    weak a h = omega (arith, ints)
-
-pub weaker : {x y : ℤ} → x <ℤ y → x ≤ℤ y
-weaker {x} {y} h = go x y h
-  where
-    go : (x y : ℤ) → x <ℤ y → x ≤ℤ y
-    go x y h = omega (arith, ints)
+not_level k a p h = by_lt_z (pos 0) k (λ n. n) (λ q. absurd (let m = down_down k a q (not_positive_of_negative a (neg_of_mul k a p h)) in omega (arith, ints)))
 
 -- ---- where two segments do not cross
 -- On which sides of the line of one segment the ends of the other are, x and x', and so the other way, y and y': two ends are
@@ -93,37 +73,31 @@ module _ (a b a' b' c x x' y y' : ℤ) (first : c *ℤ y ≡ (a' *ℤ x) -ℤ (a
     (below : a ≤ℤ pos 0) (below' : a' ≤ℤ pos 0) (above : pos 0 ≤ℤ b) (above' : pos 0 ≤ℤ b') (goes : pos 0 <ℤ c) (clear : IsClear x x' y y') where
   no_fall : pos 0 <ℤ x → x' ≤ℤ pos 0 → ⊥
   no_fall h g =
-      clear_or_across x x' y y' clear (down (weaker h) g)
+      clear_or_across x x' y y' clear (down (at_most_of_less _ _ h) g)
       (up
-      (nonpos_of_mul c y goes (most (a' *ℤ x) (a *ℤ x') (c *ℤ y) first (down_up a' x below' (weaker h)) (down_down a x' below g)))
-      (nonneg_of_mul c y' goes (least (b' *ℤ x) (b *ℤ x') (c *ℤ y') second (mul_nonneg b' x above' (weaker h)) (up_down b x' above g))))
-      (λ e. absurd (go x h e))
+      (nonpos_of_mul c y goes (most (a' *ℤ x) (a *ℤ x') (c *ℤ y) first (mul_nonpos_first a' x below' (at_most_of_less _ _ h)) (down_down a x' below g)))
+      (nonneg_of_mul c y' goes (least (b' *ℤ x) (b *ℤ x') (c *ℤ y') second (mul_nonneg b' x above' (at_most_of_less _ _ h)) (up_down b x' above g))))
+      (λ e. absurd (positive_not_zero x h e))
     where
       most : (k l m : ℤ) → m ≡ k -ℤ l → k ≤ℤ pos 0 → pos 0 ≤ℤ l → m ≤ℤ pos 0
       most k l m e h g = omega (arith, ints)
 
       least : (k l m : ℤ) → m ≡ k -ℤ l → pos 0 ≤ℤ k → l ≤ℤ pos 0 → pos 0 ≤ℤ m
       least k l m e h g = omega (arith, ints)
-
-      go : (x : ℤ) → pos 0 <ℤ x → x ≡ pos 0 → ⊥
-      go x h e = omega (arith, ints)
 
   no_rise : pos 0 <ℤ x' → x ≤ℤ pos 0 → ⊥
   no_rise h g =
-      clear_or_across x x' y y' clear (up g (weaker h))
+      clear_or_across x x' y y' clear (up g (at_most_of_less _ _ h))
       (down
-      (nonneg_of_mul c y goes (least (a' *ℤ x) (a *ℤ x') (c *ℤ y) first (down_down a' x below' g) (down_up a x' below (weaker h))))
-      (nonpos_of_mul c y' goes (most (b' *ℤ x) (b *ℤ x') (c *ℤ y') second (up_down b' x above' g) (mul_nonneg b x' above (weaker h)))))
-      (λ e e'. absurd (go x' h e'))
+      (nonneg_of_mul c y goes (least (a' *ℤ x) (a *ℤ x') (c *ℤ y) first (down_down a' x below' g) (mul_nonpos_first a x' below (at_most_of_less _ _ h))))
+      (nonpos_of_mul c y' goes (most (b' *ℤ x) (b *ℤ x') (c *ℤ y') second (up_down b' x above' g) (mul_nonneg b x' above (at_most_of_less _ _ h)))))
+      (λ e e'. absurd (positive_not_zero x' h e'))
     where
       most : (k l m : ℤ) → m ≡ k -ℤ l → k ≤ℤ pos 0 → pos 0 ≤ℤ l → m ≤ℤ pos 0
       most k l m e h g = omega (arith, ints)
 
       least : (k l m : ℤ) → m ≡ k -ℤ l → pos 0 ≤ℤ k → l ≤ℤ pos 0 → pos 0 ≤ℤ m
       least k l m e h g = omega (arith, ints)
-
-      go : (x : ℤ) → pos 0 <ℤ x → x ≡ pos 0 → ⊥
-      go x h e = omega (arith, ints)
 
   same_side : lt_z (pos 0) x ≡ lt_z (pos 0) x'
   same_side = same_test (pos 0) x (pos 0) x' no_fall no_rise
@@ -133,12 +107,12 @@ module _ (a b a' r c x x' y y' : ℤ) (row : a *ℤ y' ≡ (r *ℤ x) +ℤ (b *�
     (above : pos 0 ≤ℤ a) (below : b ≤ℤ pos 0) (below' : a' ≤ℤ pos 0) (rises : pos 0 <ℤ r) (falls : c <ℤ pos 0) (clear : IsClear x x' y y') where
   no_border : x <ℤ pos 0 → pos 0 ≤ℤ y → ⊥
   no_border h g =
-      let less : (a *ℤ y') <ℤ pos 0 = sum (r *ℤ x) (b *ℤ y) (a *ℤ y') row (mul_neg r x rises h) (down_up b y below g) in
+      let less : (a *ℤ y') <ℤ pos 0 = sum (r *ℤ x) (b *ℤ y) (a *ℤ y') row (mul_neg r x rises h) (mul_nonpos_first b y below g) in
       let positive = not_level a y' above less in
       clear_or_across x x' y y' clear
-      (up (weaker h) (nonneg_of_mul a x' positive (difference (a' *ℤ x) (c *ℤ y) (a *ℤ x') column (down_down a' x below' (weaker h)) (down_up c y (weaker falls) g))))
-      (down g (weaker (neg_of_mul a y' above less)))
-      (λ e. absurd (go x h e))
+      (up (at_most_of_less _ _ h) (nonneg_of_mul a x' positive (difference (a' *ℤ x) (c *ℤ y) (a *ℤ x') column (down_down a' x below' (at_most_of_less _ _ h)) (mul_nonpos_first c y (at_most_of_less _ _ falls) g))))
+      (down g (at_most_of_less _ _ (neg_of_mul a y' above less)))
+      (λ e. absurd (negative_not_zero x h e))
     where
       sum : (k l m : ℤ) → m ≡ k +ℤ l → k <ℤ pos 0 → l ≤ℤ pos 0 → m <ℤ pos 0
       sum k l m e h g = omega (arith, ints)
@@ -146,26 +120,20 @@ module _ (a b a' r c x x' y y' : ℤ) (row : a *ℤ y' ≡ (r *ℤ x) +ℤ (b *�
       difference : (k l m : ℤ) → m ≡ k -ℤ l → pos 0 ≤ℤ k → l ≤ℤ pos 0 → pos 0 ≤ℤ m
       difference k l m e h g = omega (arith, ints)
 
-      go : (x : ℤ) → x <ℤ pos 0 → x ≡ pos 0 → ⊥
-      go x h e = omega (arith, ints)
-
   no_end : y <ℤ pos 0 → pos 0 ≤ℤ x → ⊥
   no_end h g =
-      let less : (a *ℤ x') <ℤ pos 0 = difference (a' *ℤ x) (c *ℤ y) (a *ℤ x') column (down_up a' x below' g) (strictly_up c y falls h) in
+      let less : (a *ℤ x') <ℤ pos 0 = difference (a' *ℤ x) (c *ℤ y) (a *ℤ x') column (mul_nonpos_first a' x below' g) (mul_two_neg c y falls h) in
       let positive = not_level a x' above less in
       clear_or_across x x' y y' clear
-      (down g (weaker (neg_of_mul a x' above less)))
-      (up (weaker h) (nonneg_of_mul a y' positive (sum (r *ℤ x) (b *ℤ y) (a *ℤ y') row (mul_nonneg r x (weaker rises) g) (down_down b y below (weaker h)))))
-      (λ e e' f. absurd (go y h f))
+      (down g (at_most_of_less _ _ (neg_of_mul a x' above less)))
+      (up (at_most_of_less _ _ h) (nonneg_of_mul a y' positive (sum (r *ℤ x) (b *ℤ y) (a *ℤ y') row (mul_nonneg r x (at_most_of_less _ _ rises) g) (down_down b y below (at_most_of_less _ _ h)))))
+      (λ e e' f. absurd (negative_not_zero y h f))
     where
       sum : (k l m : ℤ) → m ≡ k +ℤ l → pos 0 ≤ℤ k → pos 0 ≤ℤ l → pos 0 ≤ℤ m
       sum k l m e h g = omega (arith, ints)
 
       difference : (k l m : ℤ) → m ≡ k -ℤ l → k ≤ℤ pos 0 → pos 0 <ℤ l → m <ℤ pos 0
       difference k l m e h g = omega (arith, ints)
-
-      go : (x : ℤ) → x <ℤ pos 0 → x ≡ pos 0 → ⊥
-      go x h e = omega (arith, ints)
 
   same_fall : lt_z x (pos 0) ≡ lt_z y (pos 0)
   same_fall = same_test x (pos 0) y (pos 0) no_border no_end
@@ -193,22 +161,10 @@ test_up x = same_test x (pos 0) (pos 0) (pos 0 -ℤ x) (λ h g. omega (arith, in
 test_down : (x : ℤ) → lt_z (pos 0) x ≡ lt_z (pos 0 -ℤ x) (pos 0)
 test_down x = same_test (pos 0) x (pos 0 -ℤ x) (pos 0) (λ h g. omega (arith, ints)) (λ h g. omega (arith, ints))
 
-pub up_of : {x : ℤ} → x ≤ℤ pos 0 → pos 0 ≤ℤ (pos 0 -ℤ x)
-up_of {x} h = go x h
-  where
-    go : (x : ℤ) → x ≤ℤ pos 0 → pos 0 ≤ℤ (pos 0 -ℤ x)
-    go x h = omega (arith, ints)
-
 down_of : {x : ℤ} → pos 0 ≤ℤ x → (pos 0 -ℤ x) ≤ℤ pos 0
 down_of {x} h = go x h
   where
     go : (x : ℤ) → pos 0 ≤ℤ x → (pos 0 -ℤ x) ≤ℤ pos 0
-    go x h = omega (arith, ints)
-
-strict_up : {x : ℤ} → x <ℤ pos 0 → pos 0 <ℤ (pos 0 -ℤ x)
-strict_up {x} h = go x h
-  where
-    go : (x : ℤ) → x <ℤ pos 0 → pos 0 <ℤ (pos 0 -ℤ x)
     go x h = omega (arith, ints)
 
 strict_down : {x : ℤ} → pos 0 <ℤ x → (pos 0 -ℤ x) <ℤ pos 0
@@ -275,13 +231,13 @@ exchanged l = record {
   second_row = exchanged_sum l.b' l.x l.b l.y' l.c l.x' l.second_column;
   first_column = exchanged_sum l.a l.y' l.b l.x l.r l.y l.first_row;
   second_column = exchanged_sum l.a' l.y' l.b' l.x' l.r l.y l.second_row;
-  rises = λ h g. strict_up (l.descends h g);
+  rises = λ h g. negation_positive _ (l.descends h g);
   falls = λ h g. strict_down (l.ascends h g);
-  rises' = λ h g. strict_up (l.descends' h g);
+  rises' = λ h g. negation_positive _ (l.descends' h g);
   falls' = λ h g. strict_down (l.ascends' h g);
-  ascends = λ h g. strict_up (l.falls h g);
+  ascends = λ h g. negation_positive _ (l.falls h g);
   descends = λ h g. strict_down (l.rises h g);
-  ascends' = λ h g. strict_up (l.falls' h g);
+  ascends' = λ h g. negation_positive _ (l.falls' h g);
   descends' = λ h g. strict_down (l.rises' h g);
   clear = exchanged_clear l.x l.x' l.y l.y' l.clear;
 }
@@ -322,9 +278,9 @@ swapped l = record {
   second_row = swapped_row l.a l.y' l.r l.x l.b l.y l.first_row;
   first_column = swapped_column l.a' l.x l.c l.y l.a l.x' l.first_column;
   second_column = swapped_column l.b' l.x l.c l.y' l.b l.x' l.second_column;
-  rises = λ h g. strict_up (l.falls g h);
+  rises = λ h g. negation_positive _ (l.falls g h);
   falls = λ h g. strict_down (l.rises g h);
-  rises' = λ h g. strict_up (l.falls' g h);
+  rises' = λ h g. negation_positive _ (l.falls' g h);
   falls' = λ h g. strict_down (l.rises' g h);
   ascends = l.ascends';
   descends = l.descends';
@@ -369,7 +325,7 @@ module _ (l : Lie) where
   both_below : l.a ≤ℤ pos 0 → l.a' ≤ℤ pos 0 → pos 0 <ℤ l.b → pos 0 <ℤ l.b' → Balance l false true false true
   both_below p p' q q' = same_pair _ _
       (same_side l.a l.b l.a' l.b' l.c l.x l.x' l.y l.y' (difference_of (l.a' *ℤ l.x) (l.c *ℤ l.y) (l.a *ℤ l.x') l.first_column) (difference_of (l.b' *ℤ l.x) (l.c *ℤ l.y') (l.b *ℤ l.x') l.second_column)
-      p p' (weaker q) (weaker q') (l.ascends p q) l.clear)
+      p p' (at_most_of_less _ _ q) (at_most_of_less _ _ q') (l.ascends p q) l.clear)
 
   both_above : pos 0 <ℤ l.a → pos 0 <ℤ l.a' → l.b ≤ℤ pos 0 → l.b' ≤ℤ pos 0 → Balance l true false true false
   both_above p p' q q' = same_pair _ _
@@ -377,13 +333,13 @@ module _ (l : Lie) where
       ∙ same_side (pos 0 -ℤ l.a) (pos 0 -ℤ l.b) (pos 0 -ℤ l.a') (pos 0 -ℤ l.b') (pos 0 -ℤ l.c) (pos 0 -ℤ l.x) (pos 0 -ℤ l.x') (pos 0 -ℤ l.y) (pos 0 -ℤ l.y')
       (turned_difference l.c l.y l.a' l.x l.a l.x' (difference_of (l.a' *ℤ l.x) (l.c *ℤ l.y) (l.a *ℤ l.x') l.first_column))
       (turned_difference l.c l.y' l.b' l.x l.b l.x' (difference_of (l.b' *ℤ l.x) (l.c *ℤ l.y') (l.b *ℤ l.x') l.second_column))
-      (down_of (weaker p)) (down_of (weaker p')) (up_of q) (up_of q') (strict_up (l.descends p q)) (turned_clear l.x l.x' l.y l.y' l.clear)
+      (down_of (at_most_of_less _ _ p)) (down_of (at_most_of_less _ _ p')) (negation_not_negative _ q) (negation_not_negative _ q') (negation_positive _ (l.descends p q)) (turned_clear l.x l.x' l.y l.y' l.clear)
       ∙ sym (test_up l.x'))
 
   first_above : pos 0 <ℤ l.a → l.b ≤ℤ pos 0 → l.a' ≤ℤ pos 0 → Balance l true false false false
   first_above p q p' = same_first _ _
       (same_fall l.a l.b l.a' l.r l.c l.x l.x' l.y l.y' l.first_row (second_of (l.a' *ℤ l.x) (l.c *ℤ l.y) (l.a *ℤ l.x') l.first_column)
-      (weaker p) q p' (l.rises p p') (l.descends p q) l.clear)
+      (at_most_of_less _ _ p) q p' (l.rises p p') (l.descends p q) l.clear)
 
   first_below : l.a ≤ℤ pos 0 → pos 0 <ℤ l.b → pos 0 <ℤ l.a' → Balance l false true true true
   first_below p q p' = same_first _ _
@@ -391,7 +347,7 @@ module _ (l : Lie) where
       ∙ same_fall (pos 0 -ℤ l.a) (pos 0 -ℤ l.b) (pos 0 -ℤ l.a') (pos 0 -ℤ l.r) (pos 0 -ℤ l.c) (pos 0 -ℤ l.x) (pos 0 -ℤ l.x') (pos 0 -ℤ l.y) (pos 0 -ℤ l.y')
       (turned_sum l.a l.y' l.r l.x l.b l.y l.first_row)
       (turned_difference l.a l.x' l.a' l.x l.c l.y (second_of (l.a' *ℤ l.x) (l.c *ℤ l.y) (l.a *ℤ l.x') l.first_column))
-      (up_of p) (down_of (weaker q)) (down_of (weaker p')) (strict_up (l.falls p p')) (strict_down (l.ascends p q)) (turned_clear l.x l.x' l.y l.y' l.clear)
+      (negation_not_negative _ p) (down_of (at_most_of_less _ _ q)) (down_of (at_most_of_less _ _ p')) (negation_positive _ (l.falls p p')) (strict_down (l.ascends p q)) (turned_clear l.x l.x' l.y l.y' l.clear)
       ∙ sym (test_down l.y))
 
 -- a border counts at both sights or at neither, but for its ends to the right of the way
@@ -404,14 +360,11 @@ balanced l = by (lt_z (pos 0) l.a) (lt_z (pos 0) l.b) (lt_z (pos 0) l.a') (lt_z 
     no : {a : ℤ} → lt_z (pos 0) a ≡ false → a ≤ℤ pos 0
     no {a} e = most_of (pos 0) a e
 
-    steep : (r : ℤ) → pos 0 <ℤ r → r <ℤ pos 0 → ⊥
-    steep r h g = omega (arith, ints)
-
     by : (v w v' w' : Bool) → lt_z (pos 0) l.a ≡ v → lt_z (pos 0) l.b ≡ w → lt_z (pos 0) l.a' ≡ v' → lt_z (pos 0) l.b' ≡ w' → Balance l v w v' w'
     by false false false false e f g h = refl
     by true true true true e f g h = refl
-    by false true true false e f g h = absurd (steep l.r (l.rises' (yes f) (no h)) (l.falls (no e) (yes g)))
-    by true false false true e f g h = absurd (steep l.r (l.rises (yes e) (no g)) (l.falls' (no f) (yes h)))
+    by false true true false e f g h = absurd (positive_not_negative l.r (l.rises' (yes f) (no h)) (l.falls (no e) (yes g)))
+    by true false false true e f g h = absurd (positive_not_negative l.r (l.rises (yes e) (no g)) (l.falls' (no f) (yes h)))
     by false true false true e f g h = both_below l (no e) (no g) (yes f) (yes h)
     by true false true false e f g h = both_above l (yes e) (yes g) (no f) (no h)
     by false false true true e f g h = of_exchanged l false false true true (both_below (exchanged l) (no e) (no f) (yes g) (yes h))

@@ -3,6 +3,8 @@ use Rattle.std.proofs.Common.{◌≡◌, ℕ, zero, suc, ◌+◌, ◌<◌, ◌�
 use Rattle.std.specs.Prelude.{ℤ, pos, ◌+ℤ◌, ◌-ℤ◌, ◌*ℤ◌, ◌<ℤ◌, ◌≤ℤ◌}
 use Rattle.std.proofs.lemmas.Bool.{cases_lt}
 use Rattle.std.proofs.lemmas.Int.{ints, by_lt_z}
+use Rattle.integers.proofs.Absolutes.{abs_of_not_negative, abs_of_not_positive}
+use Rattle.integers.proofs.Comparisons.{not_negative_of_positive, not_negative_of_zero}
 use Rattle.integers.proofs.Ring.{var, con, ◌⊕◌, ◌⊖◌, ◌⊗◌, ring}
 use Rattle.integers.proofs.Weighted.{sum_pos}
 use Rattle.section_parity.proofs.Sights.{Sight, turn_of}
@@ -63,24 +65,18 @@ module _ (k l p q : Sight) where
   balance_w : (turn_of p q l *ℤ k.w) -ℤ (turn_of p q k *ℤ l.w) ≡ (turn_of k l p *ℤ q.w) -ℤ (turn_of k l q *ℤ p.w)
   balance_w = ring (four k l p q) ((turns (seen 6) (seen 9) (seen 3) ⊗ var 2) ⊖ (turns (seen 6) (seen 9) (seen 0) ⊗ var 5)) ((turns (seen 0) (seen 3) (seen 6) ⊗ var 11) ⊖ (turns (seen 0) (seen 3) (seen 9) ⊗ var 8)) refl
 
-size_up : (a : ℤ) → pos 0 ≤ℤ a → pos (unsigned_abs a) ≡ a
-size_up a h = omega (arith, ints)
-
-size_down : (a : ℤ) → a ≤ℤ pos 0 → pos (unsigned_abs a) ≡ pos 0 -ℤ a
-size_down a h = omega (arith, ints)
-
 -- the two sides of a balance with sizes for weights: as they stand, or turned
 left_up : (y y' k l : ℤ) → y ≤ℤ pos 0 → pos 0 ≤ℤ y' → (pos (unsigned_abs y') *ℤ k) +ℤ (pos (unsigned_abs y) *ℤ l) ≡ (y' *ℤ k) -ℤ (y *ℤ l)
-left_up y y' k l h g = (λ i. (size_up y' g i *ℤ k) +ℤ (size_down y h i *ℤ l)) ∙ ring (y ∷ y' ∷ k ∷ l ∷ []) ((var 1 ⊗ var 2) ⊕ ((con (pos 0) ⊖ var 0) ⊗ var 3)) ((var 1 ⊗ var 2) ⊖ (var 0 ⊗ var 3)) refl
+left_up y y' k l h g = (λ i. (abs_of_not_negative y' g i *ℤ k) +ℤ (abs_of_not_positive y h i *ℤ l)) ∙ ring (y ∷ y' ∷ k ∷ l ∷ []) ((var 1 ⊗ var 2) ⊕ ((con (pos 0) ⊖ var 0) ⊗ var 3)) ((var 1 ⊗ var 2) ⊖ (var 0 ⊗ var 3)) refl
 
 left_down : (y y' k l : ℤ) → pos 0 ≤ℤ y → y' ≤ℤ pos 0 → (pos (unsigned_abs y') *ℤ k) +ℤ (pos (unsigned_abs y) *ℤ l) ≡ pos 0 -ℤ ((y' *ℤ k) -ℤ (y *ℤ l))
-left_down y y' k l h g = (λ i. (size_down y' g i *ℤ k) +ℤ (size_up y h i *ℤ l)) ∙ ring (y ∷ y' ∷ k ∷ l ∷ []) (((con (pos 0) ⊖ var 1) ⊗ var 2) ⊕ (var 0 ⊗ var 3)) (con (pos 0) ⊖ ((var 1 ⊗ var 2) ⊖ (var 0 ⊗ var 3))) refl
+left_down y y' k l h g = (λ i. (abs_of_not_positive y' g i *ℤ k) +ℤ (abs_of_not_negative y h i *ℤ l)) ∙ ring (y ∷ y' ∷ k ∷ l ∷ []) (((con (pos 0) ⊖ var 1) ⊗ var 2) ⊕ (var 0 ⊗ var 3)) (con (pos 0) ⊖ ((var 1 ⊗ var 2) ⊖ (var 0 ⊗ var 3))) refl
 
 right_up : (x x' p q : ℤ) → x ≤ℤ pos 0 → pos 0 ≤ℤ x' → (pos (unsigned_abs x') *ℤ p) +ℤ (pos (unsigned_abs x) *ℤ q) ≡ pos 0 -ℤ ((x *ℤ q) -ℤ (x' *ℤ p))
-right_up x x' p q h g = (λ i. (size_up x' g i *ℤ p) +ℤ (size_down x h i *ℤ q)) ∙ ring (x ∷ x' ∷ p ∷ q ∷ []) ((var 1 ⊗ var 2) ⊕ ((con (pos 0) ⊖ var 0) ⊗ var 3)) (con (pos 0) ⊖ ((var 0 ⊗ var 3) ⊖ (var 1 ⊗ var 2))) refl
+right_up x x' p q h g = (λ i. (abs_of_not_negative x' g i *ℤ p) +ℤ (abs_of_not_positive x h i *ℤ q)) ∙ ring (x ∷ x' ∷ p ∷ q ∷ []) ((var 1 ⊗ var 2) ⊕ ((con (pos 0) ⊖ var 0) ⊗ var 3)) (con (pos 0) ⊖ ((var 0 ⊗ var 3) ⊖ (var 1 ⊗ var 2))) refl
 
 right_down : (x x' p q : ℤ) → pos 0 ≤ℤ x → x' ≤ℤ pos 0 → (pos (unsigned_abs x') *ℤ p) +ℤ (pos (unsigned_abs x) *ℤ q) ≡ (x *ℤ q) -ℤ (x' *ℤ p)
-right_down x x' p q h g = (λ i. (size_down x' g i *ℤ p) +ℤ (size_up x h i *ℤ q)) ∙ ring (x ∷ x' ∷ p ∷ q ∷ []) (((con (pos 0) ⊖ var 1) ⊗ var 2) ⊕ (var 0 ⊗ var 3)) ((var 0 ⊗ var 3) ⊖ (var 1 ⊗ var 2)) refl
+right_down x x' p q h g = (λ i. (abs_of_not_positive x' g i *ℤ p) +ℤ (abs_of_not_negative x h i *ℤ q)) ∙ ring (x ∷ x' ∷ p ∷ q ∷ []) (((con (pos 0) ⊖ var 1) ⊗ var 2) ⊕ (var 0 ⊗ var 3)) ((var 0 ⊗ var 3) ⊖ (var 1 ⊗ var 2)) refl
 
 turned : (l l' r r' : ℤ) → l ≡ pos 0 -ℤ l' → r ≡ pos 0 -ℤ r' → l' ≡ r' → l ≡ r
 turned l l' r r' e g h = omega (arith, ints)
@@ -102,19 +98,13 @@ module _ (k l p q : Sight) (k_there : pos 0 <ℤ k.w) (l_there : pos 0 <ℤ l.w)
       clash_second : (a b : ℤ) → a +ℤ b ≡ pos 0 → pos 0 ≤ℤ a → pos 0 <ℤ b → ⊥
       clash_second a b e h g = omega (arith, ints)
 
-      weak : (a : ℤ) → pos 0 <ℤ a → pos 0 ≤ℤ a
-      weak a h = omega (arith, ints)
-
       none : (i j : ℕ) (a b : ℤ) → i + j ≤ 0 → pos 0 ≤ℤ ((pos i *ℤ a) +ℤ (pos j *ℤ b))
-      none zero zero a b h = least _ (ring (a ∷ b ∷ []) ((con (pos 0) ⊗ var 0) ⊕ (con (pos 0) ⊗ var 1)) (con (pos 0)) refl)
-        where
-          least : (x : ℤ) → x ≡ pos 0 → pos 0 ≤ℤ x
-          least x e = omega (arith, ints)
+      none zero zero a b h = not_negative_of_zero _ (ring (a ∷ b ∷ []) ((con (pos 0) ⊗ var 0) ⊕ (con (pos 0) ⊗ var 1)) (con (pos 0)) refl)
       none zero (suc j) a b h = absurd (omega arith)
       none (suc i) j a b h = absurd (omega arith)
 
       by : (0 < i + j) ⊎ (i + j ≤ 0) → (0 < g + h) ⊎ (g + h ≤ 0) → ⊥
-      by (inl a) (inl b) = clash _ _ e (sum_pos k.w l.w i j k_there l_there a) (weak _ (sum_pos p.w q.w g h p_there q_there b))
+      by (inl a) (inl b) = clash _ _ e (sum_pos k.w l.w i j k_there l_there a) (not_negative_of_positive _ (sum_pos p.w q.w g h p_there q_there b))
       by (inl a) (inr b) = clash _ _ e (sum_pos k.w l.w i j k_there l_there a) (none g h p.w q.w b)
       by (inr a) (inl b) = clash_second _ _ e (none i j k.w l.w a) (sum_pos p.w q.w g h p_there q_there b)
       by (inr a) (inr b) = omega arith

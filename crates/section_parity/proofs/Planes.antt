@@ -4,11 +4,14 @@ use Rattle.std.specs.Prelude.{ℤ, pos, ◌+ℤ◌, ◌-ℤ◌, ◌*ℤ◌, ◌<
 use Rattle.std.specs.Int.Signed.{lt_z}
 use Rattle.std.proofs.lemmas.Bool.{false≢true}
 use Rattle.std.proofs.lemmas.Int.{ints, by_lt_z}
+use Rattle.integers.proofs.Absolutes.{natural_not_negative, abs_of_positive, abs_of_not_positive}
+use Rattle.integers.proofs.Comparisons.{at_most_of_less, positive_at, negation_positive, positive_not_negative}
+use Rattle.integers.proofs.Orders.{lt_z_of_less, lt_z_of_at_most}
 use Rattle.integers.proofs.Ring.{Expr, var, con, ◌⊕◌, ◌⊖◌, ◌⊗◌, ring, by_two}
 use Rattle.integers.proofs.Signs.{mul_pos, mul_neg, mul_nonpos, pos_of_mul}
 use Rattle.section_parity.proofs.Sights.{Sight, right_by, above_by, turn_of, counts, counts_at}
-use Rattle.section_parity.proofs.Tested.{less_of, most_of, of_less, of_most}
-use Rattle.section_parity.proofs.Lies.{Lie, IsClear, weaker, neg_of_mul, pos_of_times, turned, up_down}
+use Rattle.section_parity.proofs.Tested.{less_of, most_of}
+use Rattle.section_parity.proofs.Lies.{Lie, IsClear, neg_of_mul, pos_of_times, turned, up_down}
 
 -- ---- expressions
 pub record Seen : Type 0 where
@@ -51,7 +54,7 @@ lever_up w r m a n b hw hm hn e h g = pos_of_mul w r hw (go (m *ℤ a) (n *ℤ b
     go x y z e h g = omega (arith, ints)
 
 pub lever_down : (w r m a n b : ℤ) → pos 0 <ℤ w → pos 0 <ℤ m → pos 0 <ℤ n → w *ℤ r ≡ (m *ℤ a) -ℤ (n *ℤ b) → a ≤ℤ pos 0 → pos 0 <ℤ b → r <ℤ pos 0
-lever_down w r m a n b hw hm hn e h g = neg_of_mul w r (weaker hw) (go (m *ℤ a) (n *ℤ b) (w *ℤ r) e (mul_nonpos m a hm h) (mul_pos n b hn g))
+lever_down w r m a n b hw hm hn e h g = neg_of_mul w r (at_most_of_less _ _ hw) (go (m *ℤ a) (n *ℤ b) (w *ℤ r) e (mul_nonpos m a hm h) (mul_pos n b hn g))
   where
     go : (x y z : ℤ) → z ≡ x -ℤ y → x ≤ℤ pos 0 → pos 0 <ℤ y → z <ℤ pos 0
     go x y z e h g = omega (arith, ints)
@@ -123,15 +126,12 @@ counting_of a b x h = by (lt_z (pos 0) a) (lt_z (pos 0) b) refl refl h
     by true true e f h = absurd (false≢true h)
 
 pub of_counting : (a b x : ℤ) → Counting a b x → counts (lt_z (pos 0) a) (lt_z (pos 0) b) x ≡ true
-of_counting a b x (rising p q r) = (λ i. counts (of_most (pos 0) a p i) (of_less (pos 0) b q i) x) ∙ of_less (pos 0) x r
-of_counting a b x (falling p q r) = (λ i. counts (of_less (pos 0) a p i) (of_most (pos 0) b q i) x) ∙ of_less x (pos 0) r
+of_counting a b x (rising p q r) = (λ i. counts (lt_z_of_at_most (pos 0) a p i) (lt_z_of_less (pos 0) b q i) x) ∙ lt_z_of_less (pos 0) x r
+of_counting a b x (falling p q r) = (λ i. counts (lt_z_of_less (pos 0) a p i) (lt_z_of_at_most (pos 0) b q i) x) ∙ lt_z_of_less x (pos 0) r
 
 -- ---- one in the words of the other
 sum_is_zero : (k l : ℤ) → pos 0 ≤ℤ k → pos 0 ≤ℤ l → k +ℤ l ≡ pos 0 → (k ≡ pos 0) × (l ≡ pos 0)
 sum_is_zero k l h g e = (omega (arith, ints), omega (arith, ints))
-
-natural : (i : ℕ) → pos 0 ≤ℤ pos i
-natural i = omega (arith, ints)
 
 nothing_of : (i : ℕ) (x : ℤ) → pos i ≡ pos 0 → pos i *ℤ x ≡ pos 0
 nothing_of i x e = (λ t. e t *ℤ x) ∙ ring (x ∷ []) (con (pos 0) ⊗ var 0) (con (pos 0)) refl
@@ -160,14 +160,11 @@ module _ (a b f g x w : ℤ) (there : pos 0 <ℤ w) (turn : w *ℤ x ≡ (f *ℤ
       ((((var 5 ⊗ var 4) ⊖ ((var 2 ⊗ var 1) ⊖ (var 0 ⊗ var 3))) ⊗ var 7) ⊕ ((((var 6 ⊗ var 0) ⊕ (var 7 ⊗ var 1)) ⊖ con (pos 0)) ⊗ var 2)) refl) turn level
 
   rise_of_first : pos 0 <ℤ b → pos 0 <ℤ x
-  rise_of_first h = pos_of_mul w x there (pos_of_times (pos i) (w *ℤ x) (natural i) (more (pos i *ℤ (w *ℤ x)) _ times_first (mul_pos b ((pos i *ℤ f) +ℤ (pos j *ℤ g)) h right)))
-    where
-      more : (k l : ℤ) → k ≡ l → pos 0 <ℤ l → pos 0 <ℤ k
-      more k l e h = omega (arith, ints)
+  rise_of_first h = pos_of_mul w x there (pos_of_times (pos i) (w *ℤ x) (natural_not_negative i) (positive_at (pos i *ℤ (w *ℤ x)) _ times_first (mul_pos b ((pos i *ℤ f) +ℤ (pos j *ℤ g)) h right)))
 
   fall_of_second : pos 0 <ℤ a → x <ℤ pos 0
   fall_of_second h =
-      neg_of_mul w x (weaker there) (neg_of_mul (pos j) (w *ℤ x) (natural j)
+      neg_of_mul w x (at_most_of_less _ _ there) (neg_of_mul (pos j) (w *ℤ x) (natural_not_negative j)
       (less (pos j *ℤ (w *ℤ x)) _ _ times_second (turned a ((pos i *ℤ f) +ℤ (pos j *ℤ g))) (mul_pos a ((pos i *ℤ f) +ℤ (pos j *ℤ g)) h right)))
     where
       less : (k l m : ℤ) → k ≡ l → l ≡ pos 0 -ℤ m → pos 0 <ℤ m → k <ℤ pos 0
@@ -175,14 +172,11 @@ module _ (a b f g x w : ℤ) (there : pos 0 <ℤ w) (turn : w *ℤ x ≡ (f *ℤ
 
   counting_of_weights : (m n : ℕ) → pos 0 <ℤ ((pos m *ℤ a) +ℤ (pos n *ℤ b)) → Counting a b x
   counting_of_weights m n above = by_lt_z (pos 0) b
-      (λ q. by_lt_z (pos 0) a (λ p. absurd (clash x (rise_of_first q) (fall_of_second p))) (λ p. rising p q (rise_of_first q)))
+      (λ q. by_lt_z (pos 0) a (λ p. absurd (positive_not_negative x (rise_of_first q) (fall_of_second p))) (λ p. rising p q (rise_of_first q)))
       (λ q.
-      let p = pos_of_times (pos m) a (natural m) (first (pos m *ℤ a) (pos n *ℤ b) above (up_down (pos n) b (natural n) q)) in
+      let p = pos_of_times (pos m) a (natural_not_negative m) (first (pos m *ℤ a) (pos n *ℤ b) above (up_down (pos n) b (natural_not_negative n) q)) in
       falling p q (fall_of_second p))
     where
-      clash : (x : ℤ) → pos 0 <ℤ x → x <ℤ pos 0 → ⊥
-      clash x h g = omega (arith, ints)
-
       first : (k l : ℤ) → pos 0 <ℤ (k +ℤ l) → l ≤ℤ pos 0 → pos 0 <ℤ k
       first k l h g = omega (arith, ints)
 
@@ -191,20 +185,11 @@ counts_of_beside k l p there h =
     of_counting (above_by p k) (above_by p l) (turn_of k l p)
     (counting_of_weights (above_by p k) (above_by p l) (right_by p k) (right_by p l) (turn_of k l p) p.w there (turn_is k l p) h.i h.j h.level h.right h.m h.n h.above)
 
-size_up : (a : ℤ) → pos 0 <ℤ a → pos (unsigned_abs a) ≡ a
-size_up a h = omega (arith, ints)
-
-size_down : (a : ℤ) → a ≤ℤ pos 0 → pos (unsigned_abs a) ≡ pos 0 -ℤ a
-size_down a h = omega (arith, ints)
-
 first_alone : (a b : ℤ) → (pos 1 *ℤ a) +ℤ (pos 0 *ℤ b) ≡ a
 first_alone a b = ring (a ∷ b ∷ []) ((con (pos 1) ⊗ var 0) ⊕ (con (pos 0) ⊗ var 1)) (var 0) refl
 
 second_alone : (a b : ℤ) → (pos 0 *ℤ a) +ℤ (pos 1 *ℤ b) ≡ b
 second_alone a b = ring (a ∷ b ∷ []) ((con (pos 0) ⊗ var 0) ⊕ (con (pos 1) ⊗ var 1)) (var 1) refl
-
-more : (k l : ℤ) → k ≡ l → pos 0 <ℤ l → pos 0 <ℤ k
-more k l e h = omega (arith, ints)
 
 pub beside_of_counts : (k l p : Sight) → pos 0 <ℤ p.w → counts_at k l p ≡ true → IsBeside k l p
 beside_of_counts k l p there h = by (above_by p k) (above_by p l) (right_by p k) (right_by p l) (turn_of k l p) (turn_is k l p) (counting_of (above_by p k) (above_by p l) (turn_of k l p) h)
@@ -214,20 +199,17 @@ beside_of_counts k l p there h = by (above_by p k) (above_by p l) (right_by p k)
         → ((i j m n : ℕ) → (pos i *ℤ a) +ℤ (pos j *ℤ b) ≡ pos 0 → pos 0 <ℤ ((pos i *ℤ f) +ℤ (pos j *ℤ g)) → pos 0 <ℤ ((pos m *ℤ a) +ℤ (pos n *ℤ b)) → R) → R
     by a b f g x e (rising p' q r) make =
         make (unsigned_abs b) (unsigned_abs a) 0 1
-        ((λ t. (size_up b q t *ℤ a) +ℤ (size_down a p' t *ℤ b)) ∙ ring (a ∷ b ∷ []) ((var 1 ⊗ var 0) ⊕ ((con (pos 0) ⊖ var 0) ⊗ var 1)) (con (pos 0)) refl)
-        (more _ _
-        ((λ t. (size_up b q t *ℤ f) +ℤ (size_down a p' t *ℤ g))
+        ((λ t. (abs_of_positive b q t *ℤ a) +ℤ (abs_of_not_positive a p' t *ℤ b)) ∙ ring (a ∷ b ∷ []) ((var 1 ⊗ var 0) ⊕ ((con (pos 0) ⊖ var 0) ⊗ var 1)) (con (pos 0)) refl)
+        (positive_at _ _
+        ((λ t. (abs_of_positive b q t *ℤ f) +ℤ (abs_of_not_positive a p' t *ℤ g))
         ∙ ring (a ∷ b ∷ f ∷ g ∷ []) ((var 1 ⊗ var 2) ⊕ ((con (pos 0) ⊖ var 0) ⊗ var 3)) ((var 2 ⊗ var 1) ⊖ (var 0 ⊗ var 3)) refl ∙ sym e)
         (mul_pos p.w x there r))
-        (more _ _ (second_alone a b) q)
+        (positive_at _ _ (second_alone a b) q)
     by a b f g x e (falling p' q r) make =
         make (unsigned_abs b) (unsigned_abs a) 1 0
-        ((λ t. (size_down b q t *ℤ a) +ℤ (size_up a p' t *ℤ b)) ∙ ring (a ∷ b ∷ []) (((con (pos 0) ⊖ var 1) ⊗ var 0) ⊕ (var 0 ⊗ var 1)) (con (pos 0)) refl)
-        (more _ _
-        ((λ t. (size_down b q t *ℤ f) +ℤ (size_up a p' t *ℤ g))
+        ((λ t. (abs_of_not_positive b q t *ℤ a) +ℤ (abs_of_positive a p' t *ℤ b)) ∙ ring (a ∷ b ∷ []) (((con (pos 0) ⊖ var 1) ⊗ var 0) ⊕ (var 0 ⊗ var 1)) (con (pos 0)) refl)
+        (positive_at _ _
+        ((λ t. (abs_of_not_positive b q t *ℤ f) +ℤ (abs_of_positive a p' t *ℤ g))
         ∙ ring (a ∷ b ∷ f ∷ g ∷ []) (((con (pos 0) ⊖ var 1) ⊗ var 2) ⊕ (var 0 ⊗ var 3)) (con (pos 0) ⊖ ((var 2 ⊗ var 1) ⊖ (var 0 ⊗ var 3))) refl ∙ sym (λ t. pos 0 -ℤ e t))
-        (back _ (mul_neg p.w x there r)))
-        (more _ _ (first_alone a b) p')
-      where
-        back : (y : ℤ) → y <ℤ pos 0 → pos 0 <ℤ (pos 0 -ℤ y)
-        back y h = omega (arith, ints)
+        (negation_positive _ (mul_neg p.w x there r)))
+        (positive_at _ _ (first_alone a b) p')

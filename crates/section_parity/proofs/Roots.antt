@@ -2,6 +2,9 @@
 use Rattle.std.proofs.Common.{◌≡◌, ℕ, suc, ◌+◌, ◌<◌, ◌⊎◌, inl, inr, Bool, true, false, [], ◌∷◌, List, refl, sym, ap, ◌∙◌, arith, unsigned_abs}
 use Rattle.std.specs.Prelude.{◌≢◌, ℤ, pos, ◌+ℤ◌, ◌-ℤ◌, ◌*ℤ◌, ◌<ℤ◌}
 use Rattle.std.proofs.lemmas.Int.{ints, by_lt_z}
+use Rattle.lattice.proofs.OnLines.{dot_difference}
+use Rattle.integers.proofs.Absolutes.{abs_of_positive, abs_of_negative, some_abs_of_positive, some_abs_of_negative}
+use Rattle.integers.proofs.Comparisons.{positive_not_zero}
 use Rattle.integers.proofs.Ring.{Expr, var, con, ◌⊕◌, ◌⊖◌, ◌⊗◌, ring, by_two}
 use Rattle.integers.proofs.Signs.{zero_of_mul, zero_of_times, zero_of_either}
 use Rattle.lattice.specs.declared.points.Corner.{Corner}
@@ -18,10 +21,11 @@ use Rattle.geometry.specs.Faces.{difference, normal, IsFlat, face_sum, edge_sum,
 use Rattle.geometry.specs.Parts.{Part, Face}
 use Rattle.geometry.specs.Cuts.{over_of, crossing_of, IsOnBorder}
 use Rattle.geometry.proofs.Borders.{edge_rise, on_of_rise}
+use Rattle.geometry.proofs.FacePoints.{face_point-round}
 use Rattle.section_parity.proofs.Sights.{is_before}
 use Rattle.section_parity.specs.inner.Crossings.{line_value}
-use Rattle.section_parity.proofs.BorderPoints.{IsAlone, before, beyond, size_up, size_down}
-use Rattle.section_parity.proofs.FaceBorders.{turn_face, beyond_of, before_of, not_all_before, not_all_beyond}
+use Rattle.section_parity.proofs.BorderPoints.{IsAlone, before, beyond}
+use Rattle.section_parity.proofs.FaceBorders.{beyond_of, before_of, not_all_before, not_all_beyond}
 use Rattle.section_parity.proofs.Steps.{border_gap, seen_det, normal_turned}
 
 -- ---- the corner alone
@@ -40,7 +44,7 @@ module _ (c : Plane) {s : Part} (f : Face s) where
   first_apex alone = record { k = f.a; l = f.b; t = f.c; alone = alone; of_face = λ r h. h; on_face = λ r h. h; same_normal = refl }
 
   second_apex : IsAlone c f.b f.c f.a → Apex c f
-  second_apex alone = record { k = f.b; l = f.c; t = f.a; alone = alone; of_face = turn_face f.a f.b f.c; on_face = λ r h. turn_face f.c f.a f.b r (turn_face f.b f.c f.a r h); same_normal = normal_turned f.a f.b f.c }
+  second_apex alone = record { k = f.b; l = f.c; t = f.a; alone = alone; of_face = face_point-round f.a f.b f.c; on_face = λ r h. face_point-round f.c f.a f.b r (face_point-round f.b f.c f.a r h); same_normal = normal_turned f.a f.b f.c }
 
   third_apex : IsAlone c f.c f.a f.b → Apex c f
   third_apex alone = record {
@@ -48,8 +52,8 @@ module _ (c : Plane) {s : Part} (f : Face s) where
     l = f.a;
     t = f.b;
     alone = alone;
-    of_face = λ r h. turn_face f.b f.c f.a r (turn_face f.a f.b f.c r h);
-    on_face = turn_face f.c f.a f.b;
+    of_face = λ r h. face_point-round f.b f.c f.a r (face_point-round f.a f.b f.c r h);
+    on_face = face_point-round f.c f.a f.b;
     same_normal = normal_turned f.b f.c f.a ∙ normal_turned f.a f.b f.c;
   }
 
@@ -141,7 +145,7 @@ module _ (c : Plane) (k l t : Corner) (alone : IsAlone c k l t) where
   some_border whole across upward = whole (flat_way d k l t (record { x = out B.x d.x (multiple_x d B along); y = out B.y d.y (multiple_y d B along); z = out B.z d.z (multiple_z d B along) }) (rising c k l t alone))
     where
       along : IsZero (cross B d)
-      along = alike R B d (right_axis-is d).square (right_axis-is d).level across upward
+      along = alike R R B d (right_axis-is d).square (right_axis-is d).level across upward
 
       level : dot d B ≡ pos 0
       level = ring (d.x ∷ d.y ∷ d.z ∷ (normal k l t).x ∷ (normal k l t).y ∷ (normal k l t).z ∷ []) (dots (letters 0) (crosses (letters 0) (letters 3))) (con (pos 0)) refl
@@ -174,10 +178,10 @@ module _ (c : Plane) (k l t : Corner) (alone : IsAlone c k l t) where
       by : (over_of c k <ℤ pos 0) × (pos 0 <ℤ over_of c m) ⊎ (pos 0 <ℤ over_of c k) × (over_of c m <ℤ pos 0)
           → (pos (unsigned_abs (over_of c m)) *ℤ over_of c k) +ℤ (pos (unsigned_abs (over_of c k)) *ℤ over_of c m) ≡ pos 0
       by (inl (p, q)) =
-          (λ i. (size_up (over_of c m) q i *ℤ over_of c k) +ℤ (size_down (over_of c k) p i *ℤ over_of c m))
+          (λ i. (abs_of_positive (over_of c m) q i *ℤ over_of c k) +ℤ (abs_of_negative (over_of c k) p i *ℤ over_of c m))
           ∙ ring (over_of c k ∷ over_of c m ∷ []) ((var 1 ⊗ var 0) ⊕ ((con (pos 0) ⊖ var 0) ⊗ var 1)) (con (pos 0)) refl
       by (inr (p, q)) =
-          (λ i. (size_down (over_of c m) q i *ℤ over_of c k) +ℤ (size_up (over_of c k) p i *ℤ over_of c m))
+          (λ i. (abs_of_negative (over_of c m) q i *ℤ over_of c k) +ℤ (abs_of_positive (over_of c k) p i *ℤ over_of c m))
           ∙ ring (over_of c k ∷ over_of c m ∷ []) (((con (pos 0) ⊖ var 1) ⊗ var 0) ⊕ (var 0 ⊗ var 1)) (con (pos 0)) refl
 
   first_apart : (over_of c k <ℤ pos 0) × (pos 0 <ℤ over_of c l) ⊎ (pos 0 <ℤ over_of c k) × (over_of c l <ℤ pos 0)
@@ -197,15 +201,9 @@ module _ (c : Plane) (k l t : Corner) (alone : IsAlone c k l t) where
   some_weight : (m : Corner) → (over_of c k <ℤ pos 0) × (pos 0 <ℤ over_of c m) ⊎ (pos 0 <ℤ over_of c k) × (over_of c m <ℤ pos 0) → 0 < unsigned_abs (over_of c m)
   some_weight m apart = by apart
     where
-      up : (x : ℤ) → pos 0 <ℤ x → 0 < unsigned_abs x
-      up x h = omega (arith, ints)
-
-      down : (x : ℤ) → x <ℤ pos 0 → 0 < unsigned_abs x
-      down x h = omega (arith, ints)
-
       by : (over_of c k <ℤ pos 0) × (pos 0 <ℤ over_of c m) ⊎ (pos 0 <ℤ over_of c k) × (over_of c m <ℤ pos 0) → 0 < unsigned_abs (over_of c m)
-      by (inl (p, q)) = up (over_of c m) q
-      by (inr (p, q)) = down (over_of c m) q
+      by (inl (p, q)) = some_abs_of_positive (over_of c m) q
+      by (inr (p, q)) = some_abs_of_negative (over_of c m) q
 
   pub first_end : IsPointOfFace k l t (crossing_of c k l) × IsOnPlane c (crossing_of c k l)
   first_end = (
@@ -220,12 +218,6 @@ module _ (c : Plane) (k l t : Corner) (alone : IsAlone c k l t) where
   )
 
 -- ---- the value of a line along an edge
-step_is : (s : Triple) (a b : Corner) → dot s (difference a b) ≡ dot s (scaled (point_of b)) -ℤ dot s (scaled (point_of a))
-step_is s a b =
-    ring (s.x ∷ s.y ∷ s.z ∷ a.x ∷ a.y ∷ a.z ∷ b.x ∷ b.y ∷ b.z ∷ [])
-    (dots (letters 0) (record { x = var 6 ⊖ var 3; y = var 7 ⊖ var 4; z = var 8 ⊖ var 5 }))
-    (dots (letters 0) (letters 6) ⊖ dots (letters 0) (letters 3)) refl
-
 share_is : (s : Triple) (a b : Corner) (n m : ℤ) → dot s (scaled (share_point a b n m)) ≡ ((m -ℤ n) *ℤ dot s (scaled (point_of a))) +ℤ (n *ℤ dot s (scaled (point_of b)))
 share_is s a b n m =
     ring (s.x ∷ s.y ∷ s.z ∷ a.x ∷ a.y ∷ a.z ∷ b.x ∷ b.y ∷ b.z ∷ n ∷ m ∷ [])
@@ -237,10 +229,7 @@ share_is s a b n m =
 
 -- a line has a or b
 pub some_number : (a b : ℤ) → pos 0 <ℤ leading_of a b → a ≡ pos 0 → b ≡ pos 0 → ⊥
-some_number a b leads e g = go (leading_of a b) leads ((λ i. leading_of (e i) (g i)))
-  where
-    go : (x : ℤ) → pos 0 <ℤ x → x ≡ pos 0 → ⊥
-    go x h e = omega (arith, ints)
+some_number a b leads e g = positive_not_zero (leading_of a b) leads ((λ i. leading_of (e i) (g i)))
 
 module _ (d : Triple) (line : Line) (a b : Corner) where
   pub value_share : (n m : ℤ) → line_value d line (share_point a b n m) ≡ ((m -ℤ n) *ℤ line_value d line (point_of a)) +ℤ (n *ℤ line_value d line (point_of b))
@@ -255,7 +244,7 @@ module _ (d : Triple) (line : Line) (a b : Corner) where
       ring (line.a ∷ line.b ∷ line.c ∷ across_of d (point_of a) ∷ upward_of d (point_of a) ∷ across_of d (point_of b) ∷ upward_of d (point_of b) ∷ [])
       ((((var 0 ⊗ var 5) ⊕ (var 1 ⊗ var 6)) ⊖ (var 2 ⊗ con (pos 1))) ⊖ (((var 0 ⊗ var 3) ⊕ (var 1 ⊗ var 4)) ⊖ (var 2 ⊗ con (pos 1))))
       ((var 0 ⊗ (var 5 ⊖ var 3)) ⊕ (var 1 ⊗ (var 6 ⊖ var 4))) refl
-      ∙ sym (λ i. (line.a *ℤ step_is (right_axis d) a b i) +ℤ (line.b *ℤ step_is (up_axis d) a b i))
+      ∙ sym (λ i. (line.a *ℤ dot_difference (right_axis d) a b i) +ℤ (line.b *ℤ dot_difference (up_axis d) a b i))
 
 module _ (c : Plane) (k l t : Corner) (alone : IsAlone c k l t) (line : Line) (on_line : (r : Point) → IsPointOfFace k l t r → IsOnPlane c r → IsOnLine (toward_of c) line r) (a b : Corner) where
   abbrev D : Triple
@@ -288,15 +277,9 @@ module _ (c : Plane) (k l t : Corner) (alone : IsAlone c k l t) (line : Line) (o
       some_over : 0 < unsigned_abs (over_of c k)
       some_over = by alone
         where
-          up : (x : ℤ) → pos 0 <ℤ x → 0 < unsigned_abs x
-          up x h = omega (arith, ints)
-
-          down : (x : ℤ) → x <ℤ pos 0 → 0 < unsigned_abs x
-          down x h = omega (arith, ints)
-
           by : IsAlone c k l t → 0 < unsigned_abs (over_of c k)
-          by (before p q r) = up (over_of c k) p
-          by (beyond p q r) = down (over_of c k) p
+          by (before p q r) = some_abs_of_positive (over_of c k) p
+          by (beyond p q r) = some_abs_of_negative (over_of c k) p
 
   -- where the value does not change along the edge, the projections are parallel
   pub parallel_of_same : line_value D line (point_of a) ≡ line_value D line (point_of b) → det D e N ≡ pos 0

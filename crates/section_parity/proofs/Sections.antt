@@ -2,9 +2,10 @@
 use Rattle.std.proofs.Common.{◌≡◌, ℕ, ◌+◌, ◌*◌, ◌/◌, ◌%◌, ◌<◌, ◌==◌, ◌&&◌, Bool, true, false, All, Contains, length, get_or, refl, sym, ap, ◌∙◌, arith}
 use Rattle.std.specs.Prelude.{pos, ◌<ℤ◌, ◌↔◌}
 use Rattle.std.specs.Bool.{Decides}
-use Rattle.std.proofs.lemmas.Bool.{false≢true, false_from_ne_true}
+use Rattle.std.proofs.lemmas.Bool.{false≢true, false_from_ne_true, and_parts}
 use Rattle.std.proofs.lemmas.Bool.Decides.{Decides-eqb}
 use Rattle.std.proofs.lemmas.Option.{get_or_from_slice_get, slice_get_read}
+use Rattle.integers.proofs.Logic.{same_tests}
 use Rattle.lattice.specs.declared.points.Corner.{Corner}
 use Rattle.lattice.specs.declared.soup.Tri.{Tri}
 use Rattle.lattice.specs.Triangles.{IsBelow}
@@ -18,15 +19,6 @@ use Rattle.solid_mesh.proofs.HalfLemmas.{half_between, half_within, start_of_hal
 use Rattle.section_parity.proofs.Sights.{Sight, sight_of, corner_at, left_of_border, left_of_triangle, if_apart, is_before, beside_way, crossing_sight}
 use Rattle.section_parity.proofs.Xors.{xor, xor-none, same_of_xor, odd_below, odd_below-same, odd_below-xor, odd_below-none, odd_below-one, odd_table, odd_below-threes, odd_in, odd_in-places, odd_in-same, odd_in_decides}
 use Rattle.section_parity.proofs.FaceBorders.{IsFaceClear, face_balanced, crossing_turned, left_decides}
-
-both_or_neither : (a b : Bool) → (a ≡ true → b ≡ true) → (b ≡ true → a ≡ true) → a ≡ b
-both_or_neither false false there back = refl
-both_or_neither false true there back = back refl
-both_or_neither true b there back = sym (there refl)
-
-both_true : (a b : Bool) → (a && b) ≡ true → (a ≡ true) × (b ≡ true)
-both_true false b h = absurd (false≢true h)
-both_true true b h = (refl, h)
 
 true_both : (a b : Bool) → a ≡ true → b ≡ true → (a && b) ≡ true
 true_both a b e h = (λ i. e i && h i)
@@ -71,8 +63,8 @@ module _ (c : Plane) (s : Part) (closed : IsClosed s) (o : Corner) (test : Sight
 
   table_true : (half other : ℕ) → table half other ≡ true → (start half ≡ end other) × (end half ≡ start other) × (side half ≡ true)
   table_true half other h =
-      let both = both_true ((start half == end other) && (end half == start other)) (side half) h in
-      let ends = both_true (start half == end other) (end half == start other) both.0 in
+      let both = and_parts ((start half == end other) && (end half == start other)) (side half) h in
+      let ends = and_parts (start half == end other) (end half == start other) both.0 in
       ((Decides-eqb (start half) (end other)).0 ends.0, (Decides-eqb (end half) (start other)).0 ends.1, both.1)
 
   true_table : (half other : ℕ) → start half ≡ end other → end half ≡ start other → side half ≡ true → table half other ≡ true
@@ -85,7 +77,7 @@ module _ (c : Plane) (s : Part) (closed : IsClosed s) (o : Corner) (test : Sight
       ∙ crosses-turned test c (corner_at s o (end other)) (corner_at s o (start other))
 
   alike : (half other : ℕ) → half < N → other < N → table half other ≡ table other half
-  alike half other h g = both_or_neither (table half other) (table other half) (one half other) (one other half)
+  alike half other h g = same_tests (table half other) (table other half) (one half other) (one other half)
     where
       one : (half other : ℕ) → table half other ≡ true → table other half ≡ true
       one half other t =

@@ -1,26 +1,27 @@
 -- A border between two ends crosses an edge at a place exactly where its line's value changes its sign there and the place is seen between the ends.
 use Rattle.std.proofs.Common.{◌≡◌, ℕ, ◌+◌, ◌<◌, ◌≤◌, ◌⊎◌, inl, inr, [], ◌∷◌, refl, sym, subst, ap, ◌∙◌, arith, unsigned_abs}
-use Rattle.std.specs.Prelude.{ℤ, pos, ◌+ℤ◌, ◌-ℤ◌, ◌*ℤ◌, ◌<ℤ◌, ◌≤ℤ◌}
+use Rattle.std.specs.Prelude.{ℤ, pos, ◌+ℤ◌, ◌-ℤ◌, ◌*ℤ◌, ◌≤ℤ◌}
 use Rattle.std.proofs.lemmas.Int.{ints, by_lt_z}
 use Rattle.std.proofs.lemmas.Bool.{cases_lt}
-use Rattle.integers.proofs.Ring.{Expr, var, con, ◌⊕◌, ◌⊖◌, ◌⊗◌, ring, by_one, by_two, by_three}
+use Rattle.integers.proofs.Absolutes.{abs_of_not_negative, abs_of_not_positive, some_abs_of_negative, some_abs_of_positive, natural_positive}
+use Rattle.integers.proofs.Comparisons.{gap_of_same, positive_not_zero, negation_positive, gap_of_at_most, zero_between}
+use Rattle.integers.proofs.Ring.{var, con, ◌⊕◌, ◌⊖◌, ◌⊗◌, ring, by_one, by_two, by_three, same_of_gap}
 use Rattle.integers.proofs.Signs.{zero_of_times}
 use Rattle.integers.proofs.Weighted.{sum_pos}
 use Rattle.lattice.specs.declared.lines.Line.{Line}
 use Rattle.lattice.specs.declared.points.Corner.{Corner}
-use Rattle.lattice.specs.Triple.{Triple, dot, cross, det, right_axis, up_axis, IsZero}
-use Rattle.lattice.specs.Points.{Point, IsPoint, point_of, scaled, across_of, upward_of}
+use Rattle.lattice.specs.Triple.{Triple, cross, det, right_axis, up_axis, IsZero}
+use Rattle.lattice.specs.Points.{Point, IsPoint, point_of, across_of, upward_of}
 use Rattle.lattice.specs.Cuts.{Plane, toward_of}
 use Rattle.lattice.specs.Lines.{IsOnLine}
 use Rattle.lattice.proofs.OnLines.{weighted_sum, product_of_sum, on_line_of_sight}
 use Rattle.lattice.proofs.SameLines.{along_line}
-use Rattle.lattice.proofs.Vectors.{letters, dots}
 use Rattle.geometry.specs.Faces.{difference, IsFlat, share_point, IsPointOfFace}
 use Rattle.geometry.specs.Parts.{Part, Face, Edge}
 use Rattle.geometry.specs.Cuts.{border, IsOnBorder, IsBorderOf, IsSeenOverInCut}
 use Rattle.cut_plane.specs.Loops.{IsBorderLine}
-use Rattle.cut_plane.proofs.RightOf.{first_alone, second_alone}
-use Rattle.cut_plane.proofs.BorderPoints.{IsMixOf, AreEnds, border_ends}
+use Rattle.cut_plane.proofs.RightOf.{first_alone, second_alone, mix_product}
+use Rattle.cut_plane.proofs.BorderPoints.{AreEnds, border_ends}
 use Rattle.section_parity.specs.Crossings.{CrossesAt}
 use Rattle.section_parity.specs.inner.Crossings.{line_value, IsAmid, IsSeenBetween, IsRootOf}
 use Rattle.section_parity.proofs.Lies.{IsAcross, up, down}
@@ -32,18 +33,12 @@ use Rattle.section_parity.proofs.Roots.{Apex, apex_of, value_share, parallel_of_
 apart_of_sum : (i j : ℕ) (x y : ℤ) → 0 < i + j → (pos i *ℤ x) +ℤ (pos j *ℤ y) ≡ pos 0 → IsAcross x y
 apart_of_sum i j x y some e = by (sides x y)
   where
-    nothing : (z : ℤ) → pos 0 <ℤ z → z ≡ pos 0 → ⊥
-    nothing z h e = omega (arith, ints)
-
     turned : (pos i *ℤ (pos 0 -ℤ x)) +ℤ (pos j *ℤ (pos 0 -ℤ y)) ≡ pos 0
     turned = ring (pos i ∷ pos j ∷ x ∷ y ∷ []) ((var 0 ⊗ (con (pos 0) ⊖ var 2)) ⊕ (var 1 ⊗ (con (pos 0) ⊖ var 3))) (con (pos 0) ⊖ ((var 0 ⊗ var 2) ⊕ (var 1 ⊗ var 3))) refl ∙ ap (λ z. pos 0 -ℤ z) e
 
-    back : (x : ℤ) → x <ℤ pos 0 → pos 0 <ℤ (pos 0 -ℤ x)
-    back x h = omega (arith, ints)
-
     by : Sides x y → IsAcross x y
-    by (both_up p q) = absurd (nothing _ (sum_pos x y i j p q some) e)
-    by (both_down p q) = absurd (nothing _ (sum_pos (pos 0 -ℤ x) (pos 0 -ℤ y) i j (back x p) (back y q) some) turned)
+    by (both_up p q) = absurd (positive_not_zero _ (sum_pos x y i j p q some) e)
+    by (both_down p q) = absurd (positive_not_zero _ (sum_pos (pos 0 -ℤ x) (pos 0 -ℤ y) i j (negation_positive x p) (negation_positive y q) some) turned)
     by (apart h) = h
 
 amid_of_across : (n m n' m' k l : ℤ) → IsAcross ((n *ℤ l) -ℤ (k *ℤ m)) ((n' *ℤ l) -ℤ (k *ℤ m')) → IsAmid n m n' m' k l
@@ -63,20 +58,14 @@ amid_of_across n m n' m' k l (down p q) = inr (under (n' *ℤ l) (k *ℤ m') q, 
     over x y h = omega (arith, ints)
 
 across_of_amid : (n m n' m' k l : ℤ) → IsAmid n m n' m' k l → IsAcross ((n *ℤ l) -ℤ (k *ℤ m)) ((n' *ℤ l) -ℤ (k *ℤ m'))
-across_of_amid n m n' m' k l (inl (p, q)) = up (under (n *ℤ l) (k *ℤ m) p) (over (n' *ℤ l) (k *ℤ m') q)
+across_of_amid n m n' m' k l (inl (p, q)) = up (under (n *ℤ l) (k *ℤ m) p) (gap_of_at_most (k *ℤ m') (n' *ℤ l) q)
   where
     under : (x y : ℤ) → x ≤ℤ y → (x -ℤ y) ≤ℤ pos 0
     under x y h = omega (arith, ints)
-
-    over : (x y : ℤ) → y ≤ℤ x → pos 0 ≤ℤ (x -ℤ y)
-    over x y h = omega (arith, ints)
-across_of_amid n m n' m' k l (inr (p, q)) = down (over (n *ℤ l) (k *ℤ m) q) (under (n' *ℤ l) (k *ℤ m') p)
+across_of_amid n m n' m' k l (inr (p, q)) = down (gap_of_at_most (k *ℤ m) (n *ℤ l) q) (under (n' *ℤ l) (k *ℤ m') p)
   where
     under : (x y : ℤ) → x ≤ℤ y → (x -ℤ y) ≤ℤ pos 0
     under x y h = omega (arith, ints)
-
-    over : (x y : ℤ) → y ≤ℤ x → pos 0 ≤ℤ (x -ℤ y)
-    over x y h = omega (arith, ints)
 
 -- ---- both coordinates
 -- weights for which both sums are nothing
@@ -88,20 +77,8 @@ record Weights (x y u v : ℤ) : Type 0 where
   upward : (pos i *ℤ u) +ℤ (pos j *ℤ v) ≡ pos 0
 
 cancels : (x y : ℤ) → IsAcross x y → (pos (unsigned_abs y) *ℤ x) +ℤ (pos (unsigned_abs x) *ℤ y) ≡ pos 0
-cancels x y (up p q) = (λ i. (size_up y q i *ℤ x) +ℤ (size_down x p i *ℤ y)) ∙ ring (x ∷ y ∷ []) ((var 1 ⊗ var 0) ⊕ ((con (pos 0) ⊖ var 0) ⊗ var 1)) (con (pos 0)) refl
-  where
-    size_up : (a : ℤ) → pos 0 ≤ℤ a → pos (unsigned_abs a) ≡ a
-    size_up a h = omega (arith, ints)
-
-    size_down : (a : ℤ) → a ≤ℤ pos 0 → pos (unsigned_abs a) ≡ pos 0 -ℤ a
-    size_down a h = omega (arith, ints)
-cancels x y (down p q) = (λ i. (size_down y q i *ℤ x) +ℤ (size_up x p i *ℤ y)) ∙ ring (x ∷ y ∷ []) (((con (pos 0) ⊖ var 1) ⊗ var 0) ⊕ (var 0 ⊗ var 1)) (con (pos 0)) refl
-  where
-    size_up : (a : ℤ) → pos 0 ≤ℤ a → pos (unsigned_abs a) ≡ a
-    size_up a h = omega (arith, ints)
-
-    size_down : (a : ℤ) → a ≤ℤ pos 0 → pos (unsigned_abs a) ≡ pos 0 -ℤ a
-    size_down a h = omega (arith, ints)
+cancels x y (up p q) = (λ i. (abs_of_not_negative y q i *ℤ x) +ℤ (abs_of_not_positive x p i *ℤ y)) ∙ ring (x ∷ y ∷ []) ((var 1 ⊗ var 0) ⊕ ((con (pos 0) ⊖ var 0) ⊗ var 1)) (con (pos 0)) refl
+cancels x y (down p q) = (λ i. (abs_of_not_positive y q i *ℤ x) +ℤ (abs_of_not_negative x p i *ℤ y)) ∙ ring (x ∷ y ∷ []) (((con (pos 0) ⊖ var 1) ⊗ var 0) ⊕ (var 0 ⊗ var 1)) (con (pos 0)) refl
 
 -- where a sum of multiples with a is nothing, and both values are on one line, so is that with b
 other_sum : (i j a b x y u v : ℤ) → (a *ℤ x) +ℤ (b *ℤ u) ≡ pos 0 → (a *ℤ y) +ℤ (b *ℤ v) ≡ pos 0 → (i *ℤ x) +ℤ (j *ℤ y) ≡ pos 0 → b *ℤ ((i *ℤ u) +ℤ (j *ℤ v)) ≡ pos 0
@@ -121,9 +98,6 @@ module _ (a b x y u v : ℤ) (some_line : a ≡ pos 0 → b ≡ pos 0 → ⊥) (
       nothing : (i j x y : ℤ) → x ≡ pos 0 → y ≡ pos 0 → (i *ℤ x) +ℤ (j *ℤ y) ≡ pos 0
       nothing i j x y e g = (λ t. (i *ℤ e t) +ℤ (j *ℤ g t)) ∙ ring (i ∷ j ∷ []) ((var 0 ⊗ con (pos 0)) ⊕ (var 1 ⊗ con (pos 0))) (con (pos 0)) refl
 
-      swapped : (p q : ℤ) → p +ℤ q ≡ q +ℤ p
-      swapped p q = omega (arith, ints)
-
       -- b is not 0, or else both x and y are
       upward_sum : (i j : ℤ) → 0 < unsigned_abs y + unsigned_abs x → (i *ℤ x) +ℤ (j *ℤ y) ≡ pos 0 → (i *ℤ u) +ℤ (j *ℤ v) ≡ pos 0
       upward_sum i j some e = zero_of_times b _ (some_b (cases_lt 0 (unsigned_abs b))) (other_sum i j a b x y u v first second e)
@@ -133,16 +107,7 @@ module _ (a b x y u v : ℤ) (some_line : a ≡ pos 0 → b ≡ pos 0 → ⊥) (
               (ring (a ∷ b ∷ x ∷ u ∷ []) ((var 0 ⊗ var 2) ⊖ con (pos 0)) (((((var 0 ⊗ var 2) ⊕ (var 1 ⊗ var 3)) ⊖ con (pos 0)) ⊗ con (pos 1)) ⊕ ((var 1 ⊖ con (pos 0)) ⊗ (con (pos 0) ⊖ var 3))) refl) h e
 
           some_a : b ≡ pos 0 → 0 < unsigned_abs a
-          some_a g = by_lt_z a (pos 0) (λ p. size a p) (λ p. by_lt_z (pos 0) a (λ q. size_positive a q) (λ q. absurd (some_line (zero a p q) g)))
-            where
-              size : (a : ℤ) → a <ℤ pos 0 → 0 < unsigned_abs a
-              size a h = omega (arith, ints)
-
-              size_positive : (a : ℤ) → pos 0 <ℤ a → 0 < unsigned_abs a
-              size_positive a h = omega (arith, ints)
-
-              zero : (a : ℤ) → pos 0 ≤ℤ a → a ≤ℤ pos 0 → a ≡ pos 0
-              zero a p q = omega (arith, ints)
+          some_a g = by_lt_z a (pos 0) (λ p. some_abs_of_negative a p) (λ p. by_lt_z (pos 0) a (λ q. some_abs_of_positive a q) (λ q. absurd (some_line (zero_between a p q) g)))
 
           clash : (x y : ℤ) → x ≡ pos 0 → y ≡ pos 0 → 0 < unsigned_abs y + unsigned_abs x → ⊥
           clash x y e g h = omega (arith, ints)
@@ -178,23 +143,7 @@ module _ (a b x y u v : ℤ) (some_line : a ≡ pos 0 → b ≡ pos 0 → ⊥) (
 
 -- ---- points and sums
 point_of_face : (a b k : Corner) (r : Point) → IsPointOfFace a b k r → IsPoint r
-point_of_face a b k r (i, j, n, some, is) = subst IsPoint (sym is) (there (i + j + n) some)
-  where
-    there : (n : ℕ) → 0 < n → pos 0 <ℤ pos n
-    there n h = omega (arith, ints)
-
-mixed_value : (s : Triple) (p q r : Point) (h : IsMixOf p q r) → (pos h.i *ℤ dot s (scaled p)) +ℤ (pos h.j *ℤ dot s (scaled q)) ≡ h.k *ℤ dot s (scaled r)
-mixed_value s p q r h =
-    by_three _ _ ((pos h.i *ℤ p.x) +ℤ (pos h.j *ℤ q.x)) (h.k *ℤ r.x) s.x ((pos h.i *ℤ p.y) +ℤ (pos h.j *ℤ q.y)) (h.k *ℤ r.y) s.y ((pos h.i *ℤ p.z) +ℤ (pos h.j *ℤ q.z)) (h.k *ℤ r.z) s.z
-    (ring (s.x ∷ s.y ∷ s.z ∷ p.x ∷ p.y ∷ p.z ∷ q.x ∷ q.y ∷ q.z ∷ r.x ∷ r.y ∷ r.z ∷ pos h.i ∷ pos h.j ∷ h.k ∷ [])
-    (((var 12 ⊗ on 3) ⊕ (var 13 ⊗ on 6)) ⊖ (var 14 ⊗ on 9))
-    (((part 3 6 9 ⊗ var 0) ⊕ (part 4 7 10 ⊗ var 1)) ⊕ (part 5 8 11 ⊗ var 2)) refl) h.x h.y h.z
-  where
-    on : ℕ → Expr
-    on n = dots (letters 0) (letters n)
-
-    part : ℕ → ℕ → ℕ → Expr
-    part a b c = ((var 12 ⊗ var a) ⊕ (var 13 ⊗ var b)) ⊖ (var 14 ⊗ var c)
+point_of_face a b k r (i, j, n, some, is) = subst IsPoint (sym is) (natural_positive (i + j + n) some)
 
 -- a mix at one place with z has sums of nothing
 mixed_gap : (i j k x y r z v w u t : ℤ) → (i *ℤ x) +ℤ (j *ℤ y) ≡ k *ℤ r → (i *ℤ v) +ℤ (j *ℤ w) ≡ k *ℤ u → r *ℤ t ≡ z *ℤ u → (i *ℤ ((x *ℤ t) -ℤ (z *ℤ v))) +ℤ (j *ℤ ((y *ℤ t) -ℤ (z *ℤ w))) ≡ pos 0
@@ -213,12 +162,6 @@ sum_gap i j x y z v w t e =
     (ring (i ∷ j ∷ x ∷ y ∷ z ∷ v ∷ w ∷ t ∷ [])
     ((((var 0 ⊗ var 2) ⊕ (var 1 ⊗ var 3)) ⊗ var 7) ⊖ (var 4 ⊗ ((var 0 ⊗ var 5) ⊕ (var 1 ⊗ var 6))))
     ((((var 0 ⊗ ((var 2 ⊗ var 7) ⊖ (var 4 ⊗ var 5))) ⊕ (var 1 ⊗ ((var 3 ⊗ var 7) ⊖ (var 4 ⊗ var 6)))) ⊖ con (pos 0)) ⊗ con (pos 1)) refl) e
-
-value_on : (x y : ℤ) → x ≡ y → x -ℤ y ≡ pos 0
-value_on x y e = omega (arith, ints)
-
-on_value : (x y : ℤ) → x -ℤ y ≡ pos 0 → x ≡ y
-on_value x y e = omega (arith, ints)
 
 -- ---- a border and an edge
 module _ (c : Plane) {s : Part} (f : Face s) (whole : ¬ IsFlat f.a f.b f.c) (k l : Point) (ends : IsBorderOf c f k l) (line : Line) (on_line : IsBorderLine c f.a f.b f.c line) (e : Edge s) where
@@ -252,7 +195,7 @@ module _ (c : Plane) {s : Part} (f : Face s) (whole : ¬ IsFlat f.a f.b f.c) (k 
       by : IsSeenOverInCut c (border f) z → IsRootOf start end i j × IsSeenBetween d k l z
       by (r, on, sight) = (
         record {
-          root = sym (value_share d line e.a e.b i j) ∙ value_on _ _ (on_line_of_sight d line r z (point_of_face f.a f.b f.c r on.0) sight (on_line r on.0 on.1));
+          root = sym (value_share d line e.a e.b i j) ∙ gap_of_same _ _ (on_line_of_sight d line r z (point_of_face f.a f.b f.c r on.0) sight (on_line r on.0 on.1));
           changes = λ same. crosses.turns (sym (ap (λ v. det d (difference e.a e.b) (cross d v)) apex.same_normal)
               ∙ parallel_of_same c apex.k apex.l apex.t apex.alone line (λ r there. on_line r (apex.on_face r there)) e.a e.b same);
         },
@@ -260,10 +203,10 @@ module _ (c : Plane) {s : Part} (f : Face s) (whole : ¬ IsFlat f.a f.b f.c) (k 
             record {
               across = amid_of_across (across_of d k) k.w (across_of d l) l.w (across_of d z) j
                   (apart_of_sum mix.i mix.j _ _ mix.some
-                  (mixed_gap (pos mix.i) (pos mix.j) mix.k (across_of d k) (across_of d l) (across_of d r) (across_of d z) k.w l.w r.w j (mixed_value (right_axis d) k l r mix) mix.w sight.across));
+                  (mixed_gap (pos mix.i) (pos mix.j) mix.k (across_of d k) (across_of d l) (across_of d r) (across_of d z) k.w l.w r.w j (mix_product (right_axis d) k l r mix) mix.w sight.across));
               upward = amid_of_across (upward_of d k) k.w (upward_of d l) l.w (upward_of d z) j
                   (apart_of_sum mix.i mix.j _ _ mix.some
-                  (mixed_gap (pos mix.i) (pos mix.j) mix.k (upward_of d k) (upward_of d l) (upward_of d r) (upward_of d z) k.w l.w r.w j (mixed_value (up_axis d) k l r mix) mix.w sight.upward));
+                  (mixed_gap (pos mix.i) (pos mix.j) mix.k (upward_of d k) (upward_of d l) (upward_of d r) (upward_of d z) k.w l.w r.w j (mix_product (up_axis d) k l r mix) mix.w sight.upward));
             }),
       )
 
@@ -285,7 +228,7 @@ module _ (c : Plane) {s : Part} (f : Face s) (whole : ¬ IsFlat f.a f.b f.c) (k 
       z = share_point e.a e.b i j
 
       z_on : IsOnLine d line z
-      z_on = on_value _ _ (value_share d line e.a e.b i j ∙ root.root)
+      z_on = same_of_gap _ _ (value_share d line e.a e.b i j ∙ root.root)
 
       w : Weights ((across_of d k *ℤ j) -ℤ (across_of d z *ℤ k.w)) ((across_of d l *ℤ j) -ℤ (across_of d z *ℤ l.w)) ((upward_of d k *ℤ j) -ℤ (upward_of d z *ℤ k.w)) ((upward_of d l *ℤ j) -ℤ (upward_of d z *ℤ l.w))
       w = weights_of line.a line.b _ _ _ _ (some_number line.a line.b line.leads)

@@ -1,8 +1,9 @@
 -- Along an edge and along a border, as they are seen: a border whose projection is parallel to that of the edge has all points of the edge to one side, equally far.
-use Rattle.std.proofs.Common.{◌≡◌, ℕ, suc, ◌+◌, [], ◌∷◌, List, refl, ap, ◌∙◌, arith, unsigned_abs}
+use Rattle.std.proofs.Common.{◌≡◌, ℕ, suc, ◌+◌, [], ◌∷◌, List, refl, ap, ◌∙◌, unsigned_abs}
 use Rattle.std.specs.Prelude.{ℤ, pos, ◌+ℤ◌, ◌-ℤ◌, ◌*ℤ◌}
-use Rattle.std.proofs.lemmas.Int.{ints}
-use Rattle.integers.proofs.Ring.{Expr, var, con, ◌⊕◌, ◌⊖◌, ◌⊗◌, ring, by_one}
+use Rattle.geometry.proofs.FacePoints.{dot-edge_sum}
+use Rattle.integers.proofs.Absolutes.{abs_of_positive, pos-sum, abs_of_negative}
+use Rattle.integers.proofs.Ring.{Expr, var, con, ◌⊕◌, ◌⊖◌, ◌⊗◌, ring, by_one, same_of_gap}
 use Rattle.lattice.specs.declared.points.Corner.{Corner}
 use Rattle.lattice.specs.Triple.{Triple, dot, cross, det, right_axis, up_axis}
 use Rattle.lattice.specs.Points.{point_of, scaled}
@@ -13,7 +14,7 @@ use Rattle.geometry.specs.Faces.{difference, normal, edge_sum, share_point}
 use Rattle.geometry.specs.Cuts.{over_of}
 use Rattle.section_parity.proofs.Sights.{Sight, sight_of, right_by, above_by, turn_of, crossing_sight}
 use Rattle.section_parity.proofs.Planes.{seen, rights, aboves, turns}
-use Rattle.section_parity.proofs.BorderPoints.{IsAlone, before, beyond, edge_value, two_weights, size_up, size_down}
+use Rattle.section_parity.proofs.BorderPoints.{IsAlone, before, beyond}
 
 -- ---- along an edge
 share_gap : (s : Triple) (a b : Corner) (n m n' m' : ℤ)
@@ -71,8 +72,8 @@ module _ (c : Plane) (k l m : Corner) (alone : IsAlone c k l m) where
       let x = dot s (scaled (point_of k)) in
       let y = dot s (scaled (point_of l)) in
       let z = dot s (scaled (point_of m)) in
-      (λ i. (edge_value s k m (unsigned_abs (over_of c m)) (unsigned_abs u) i *ℤ two_weights (unsigned_abs (over_of c l)) (unsigned_abs u) i)
-      -ℤ (edge_value s k l (unsigned_abs (over_of c l)) (unsigned_abs u) i *ℤ two_weights (unsigned_abs (over_of c m)) (unsigned_abs u) i))
+      (λ i. (dot-edge_sum s k m (unsigned_abs (over_of c m)) (unsigned_abs u) i *ℤ pos-sum (unsigned_abs (over_of c l)) (unsigned_abs u) i)
+      -ℤ (dot-edge_sum s k l (unsigned_abs (over_of c l)) (unsigned_abs u) i *ℤ pos-sum (unsigned_abs (over_of c m)) (unsigned_abs u) i))
       ∙ by alone x y z
       ∙ ap (λ g. u *ℤ g) (normal_gap s (toward_of c) (plane_height c) k l m)
     where
@@ -81,12 +82,12 @@ module _ (c : Plane) (k l m : Corner) (alone : IsAlone c k l m) where
           -ℤ (((pos (unsigned_abs (over_of c l)) *ℤ x) +ℤ (pos (unsigned_abs u) *ℤ y)) *ℤ (pos (unsigned_abs (over_of c m)) +ℤ pos (unsigned_abs u)))
           ≡ u *ℤ (((u -ℤ over_of c l) *ℤ (z -ℤ x)) -ℤ ((u -ℤ over_of c m) *ℤ (y -ℤ x)))
       by (before p q r) x y z =
-          (λ i. (((size_down (over_of c m) r i *ℤ x) +ℤ (size_up u p i *ℤ z)) *ℤ (size_down (over_of c l) q i +ℤ size_up u p i))
-          -ℤ (((size_down (over_of c l) q i *ℤ x) +ℤ (size_up u p i *ℤ y)) *ℤ (size_down (over_of c m) r i +ℤ size_up u p i)))
+          (λ i. (((abs_of_negative (over_of c m) r i *ℤ x) +ℤ (abs_of_positive u p i *ℤ z)) *ℤ (abs_of_negative (over_of c l) q i +ℤ abs_of_positive u p i))
+          -ℤ (((abs_of_negative (over_of c l) q i *ℤ x) +ℤ (abs_of_positive u p i *ℤ y)) *ℤ (abs_of_negative (over_of c m) r i +ℤ abs_of_positive u p i)))
           ∙ crossed_gap u (over_of c l) (over_of c m) x y z
       by (beyond p q r) x y z =
-          (λ i. (((size_up (over_of c m) r i *ℤ x) +ℤ (size_down u p i *ℤ z)) *ℤ (size_up (over_of c l) q i +ℤ size_down u p i))
-          -ℤ (((size_up (over_of c l) q i *ℤ x) +ℤ (size_down u p i *ℤ y)) *ℤ (size_up (over_of c m) r i +ℤ size_down u p i)))
+          (λ i. (((abs_of_positive (over_of c m) r i *ℤ x) +ℤ (abs_of_negative u p i *ℤ z)) *ℤ (abs_of_positive (over_of c l) q i +ℤ abs_of_negative u p i))
+          -ℤ (((abs_of_positive (over_of c l) q i *ℤ x) +ℤ (abs_of_negative u p i *ℤ y)) *ℤ (abs_of_positive (over_of c m) r i +ℤ abs_of_negative u p i)))
           ∙ crossed_gap_back u (over_of c l) (over_of c m) x y z
 
 -- ---- both
@@ -183,10 +184,7 @@ module _ (c : Plane) (k l t : Corner) (alone : IsAlone c k l t) (a b : Corner) (
       ∙ ap (λ x. ((pos 2 *ℤ over_of c k) *ℤ G) *ℤ x) (seen_det d R e B (right_axis-is d).level)
 
   pub same_turns : det d e B ≡ pos 0 → turn_of K L P *ℤ m' ≡ turn_of K L Q *ℤ m
-  same_turns parallel = equal _ _ (turn_change ∙ nothing ((pos 2 *ℤ over_of c k) *ℤ G) (dot R R) (det d e B) parallel)
+  same_turns parallel = same_of_gap _ _ (turn_change ∙ nothing ((pos 2 *ℤ over_of c k) *ℤ G) (dot R R) (det d e B) parallel)
     where
       nothing : (x y z : ℤ) → z ≡ pos 0 → x *ℤ (y *ℤ z) ≡ pos 0
       nothing x y z e = ap (λ z. x *ℤ (y *ℤ z)) e ∙ ring (x ∷ y ∷ []) (var 0 ⊗ (var 1 ⊗ con (pos 0))) (con (pos 0)) refl
-
-      equal : (x y : ℤ) → x -ℤ y ≡ pos 0 → x ≡ y
-      equal x y h = omega (arith, ints)

@@ -3,19 +3,12 @@ use Rattle.std.proofs.Common.{◌≡◌, Bool, true, false, refl, sym, ◌∙◌
 use Rattle.std.specs.Prelude.{ℤ, ◌<ℤ◌, ◌≤ℤ◌}
 use Rattle.std.specs.Int.Signed.{lt_z}
 use Rattle.std.proofs.lemmas.Int.{ints}
-use Rattle.std.proofs.lemmas.Bool.{true_from_ne_false, false_from_ne_true}
 
 pub less_of : (a b : ℤ) → lt_z a b ≡ true → a <ℤ b
 less_of a b e = omega (arith, ints)
 
 pub most_of : (a b : ℤ) → lt_z a b ≡ false → b ≤ℤ a
 most_of a b e = omega (arith, ints)
-
-pub of_less : (a b : ℤ) → a <ℤ b → lt_z a b ≡ true
-of_less a b h = true_from_ne_false (lt_z a b) (λ e. omega (arith, ints))
-
-pub of_most : (a b : ℤ) → b ≤ℤ a → lt_z a b ≡ false
-of_most a b h = false_from_ne_true (lt_z a b) (λ e. omega (arith, ints))
 
 -- two tests that say the same
 pub same_test : (a b k l : ℤ) → (a <ℤ b → l ≤ℤ k → ⊥) → (k <ℤ l → b ≤ℤ a → ⊥) → lt_z a b ≡ lt_z k l

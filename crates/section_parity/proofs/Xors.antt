@@ -2,6 +2,7 @@
 use Rattle.std.proofs.Common.{◌≡◌, ℕ, suc, zero, ◌+◌, ◌*◌, ◌<◌, Bool, true, false, ◌⊎◌, inl, inr, refl, sym, ap, ◌∙◌, arith, List, [], ◌∷◌, length, get_or, Contains, ◌%◌}
 use Rattle.std.specs.Bool.{Decides}
 use Rattle.std.proofs.lemmas.Bool.{cases_eq, false≢true, false_from_ne_true}
+use Rattle.integers.proofs.Lists.{Contains-later}
 use Rattle.geometry.specs.Cuts.{IsCount}
 use Rattle.geometry.specs.Cuts.IsCount.{nothing, counted, skipped}
 
@@ -154,9 +155,6 @@ odd_decides n = by (odd_cases n)
     by : ((is_odd n ≡ true) × (n % 2 ≡ 1)) ⊎ ((is_odd n ≡ false) × (n % 2 ≡ 0)) → Decides (is_odd n) (n % 2 ≡ 1)
     by (inl (e, h)) = ((λ g. h), (λ g. e))
     by (inr (e, h)) = ((λ g. absurd (false≢true (sym e ∙ g))), (λ g. absurd (omega arith)))
-
-Contains-later : {A : Type 0} (x : A) (xs : List A) (y : A) → Contains xs y → Contains (x ∷ xs) y
-Contains-later x xs y (k, h, is) = (suc k, omega arith, is)
 
 -- the count's number is odd exactly if an odd number of the elements pass
 pub odd_count : {A : Type 0} (P : A → Type 0) (b : A → Bool) (xs : List A) (n : ℕ) → ((x : A) → Contains xs x → Decides (b x) (P x)) → IsCount A P xs n → is_odd n ≡ odd_in b xs

@@ -2,7 +2,7 @@
 use Rattle.std.proofs.Common.{◌≡◌, ℕ, ◌+◌, ◌*◌, ◌/◌, ◌%◌, ◌<◌, ◌⊎◌, inl, inr, Bool, true, false, List, All, Contains, length, slice_get, Some, refl, sym, subst, ap, ◌∙◌, arith}
 use Rattle.std.specs.Prelude.{ℤ, ◌*ℤ◌}
 use Rattle.std.specs.Ordering.{int_eq}
-use Rattle.std.proofs.lemmas.Bool.{cases_order, true≢false}
+use Rattle.std.proofs.lemmas.Bool.{cases_order, true≢false, cases_eq}
 use Rattle.std.proofs.lemmas.Bool.Decides.{Decides-int_eq}
 use Rattle.std.proofs.lemmas.Option.{slice_get_read, get_or_from_slice_get}
 use Rattle.lattice.specs.declared.points.Corner.{Corner}
@@ -53,11 +53,8 @@ either_point p q = by (either_number (p.x *ℤ q.w) (q.x *ℤ p.w)) (either_numb
     by (inl x) (inr y) z = inr (λ h. y h.y)
     by (inl x) (inl y) (inr z) = inr (λ h. z h.z)
 
-either_same : (m n : ℕ) → (m ≡ n) ⊎ (m ≡ n → ⊥)
-either_same m n = elim (cases_order m n) [ inl e ↦ inl e | inr (inl less) ↦ inr (λ e. omega arith) | inr (inr less) ↦ inr (λ e. omega arith) ]
-
 either_corner : (t : Tri) (n : ℕ) → IsCornerOf t n ⊎ (IsCornerOf t n → ⊥)
-either_corner t n = by (either_same t.a n) (either_same t.b n) (either_same t.c n)
+either_corner t n = by (cases_eq t.a n) (cases_eq t.b n) (cases_eq t.c n)
   where
     by : (t.a ≡ n) ⊎ (t.a ≡ n → ⊥) → (t.b ≡ n) ⊎ (t.b ≡ n → ⊥) → (t.c ≡ n) ⊎ (t.c ≡ n → ⊥) → IsCornerOf t n ⊎ (IsCornerOf t n → ⊥)
     by (inl e) y z = inl (inl e)

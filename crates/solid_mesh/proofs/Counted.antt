@@ -2,6 +2,7 @@
 use Rattle.std.proofs.Common.{◌≡◌, ℕ, zero, suc, ◌<◌, ◌⊎◌, inl, inr, List, [], ◌∷◌, refl, sym, subst, arith}
 use Rattle.std.specs.Prelude.{AllPairs, Contains}
 use Rattle.std.proofs.lemmas.List.Kept.{AllPairs-from_increasing}
+use Rattle.integers.proofs.Lists.{Contains-later}
 use Rattle.geometry.specs.Parts.{Part, HasNoSideTwice, AreEdges}
 use Rattle.solid_mesh.specs.inner.Halves.{AreTwins, lower_halves_of}
 use Rattle.solid_mesh.specs.Meetings.{IsAtMostPairs}
@@ -24,9 +25,6 @@ first_or_rest x xs q (suc k, within, is) = inr (k, omega arith, is)
 in_first : (x : ℕ) (xs : List ℕ) → Contains (x ∷ xs) x
 in_first x xs = (0, omega arith, refl)
 
-in_rest : (x : ℕ) (xs : List ℕ) (q : ℕ) → Contains xs q → Contains (x ∷ xs) q
-in_rest x xs q (k, within, is) = (suc k, omega arith, is)
-
 -- rising lists of the same numbers are one
 one_list : (xs ys : List ℕ) → Rising xs → Rising ys → ((q : ℕ) → Contains xs q → Contains ys q) → ((q : ℕ) → Contains ys q → Contains xs q) → xs ≡ ys
 one_list [] [] p q to from = refl
@@ -43,14 +41,14 @@ one_list (x ∷ xs) (y ∷ ys) p q to from = λ i. same i ∷ one_list xs ys (re
         by (inr h) (inr k) = absurd (omega (arith, rest_above y ys q x h, rest_above x xs p y k))
 
     rest_to : (n : ℕ) → Contains xs n → Contains ys n
-    rest_to n h = by (first_or_rest y ys n (to n (in_rest x xs n h)))
+    rest_to n h = by (first_or_rest y ys n (to n (Contains-later x xs n h)))
       where
         by : (y ≡ n) ⊎ Contains ys n → Contains ys n
         by (inl e) = absurd (omega (arith, e, same, rest_above x xs p n h))
         by (inr k) = k
 
     rest_from : (n : ℕ) → Contains ys n → Contains xs n
-    rest_from n h = by (first_or_rest x xs n (from n (in_rest y ys n h)))
+    rest_from n h = by (first_or_rest x xs n (from n (Contains-later y ys n h)))
       where
         by : (x ≡ n) ⊎ Contains xs n → Contains xs n
         by (inl e) = absurd (omega (arith, e, same, rest_above y ys q n h))

@@ -2,11 +2,12 @@
 use Rattle.std.proofs.Common.{◌≡◌, ℕ, zero, suc, ◌+◌, ◌*◌, ◌/◌, ◌%◌, ◌<◌, ◌⊎◌, inl, inr, List, All, length, get_or, slice_get, Some, refl, sym, subst, ap, ◌∙◌, arith}
 use Rattle.std.proofs.lemmas.Bool.{cases_order}
 use Rattle.std.proofs.lemmas.Option.{slice_get_within}
+use Rattle.integers.proofs.Lists.{some_element}
 use Rattle.lattice.specs.declared.soup.Tri.{Tri}
 use Rattle.lattice.specs.Triangles.{IsBelow}
 use Rattle.geometry.specs.Parts.{Part, IsHalf, IsClosed, IsCornerOf, AreDouble, HasNoDouble, start_of, end_of}
 use Rattle.geometry.proofs.EachEdge.{flat_face}
-use Rattle.geometry.proofs.Listed.{found, same_element, face_at}
+use Rattle.geometry.proofs.Listed.{same_element, face_at}
 use Rattle.solid_mesh.specs.declared.faults.MeshFault.TheVariants.{Double}
 use Rattle.solid_mesh.specs.Faults.{DoublesEarlier, HasFault}
 use Rattle.solid_mesh.specs.inner.Halves.{AreTwins}
@@ -101,7 +102,7 @@ module _ (s : Part) (in_range : All (IsBelow (length s.corners)) s.triangles) (c
 
   -- two triangles have the same corners, if two sides of one go back on the other
   pub twins_double : (i j : ℕ) → j < length s.triangles → get_or twins (3 * j) 0 / 3 ≡ i → get_or twins (3 * j + 1) 0 / 3 ≡ i → AreDouble s i j
-  twins_double i j within first second = by (found s.triangles j within)
+  twins_double i j within first second = by (some_element s.triangles j within)
     where
       by : (t : Tri) × (slice_get s.triangles j ≡ Some t) → AreDouble s i j
       by (t, at) =

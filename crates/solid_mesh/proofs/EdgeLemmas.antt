@@ -1,11 +1,12 @@
 -- From halves to edges with their two faces.
 use Rattle.std.proofs.Common.{◌≡◌, ℕ, zero, suc, ◌/◌, ◌%◌, ◌<◌, List, All, length, slice_get, Some, refl, sym, subst, ap, ◌∙◌}
 use Rattle.std.proofs.lemmas.Option.{slice_get_within}
+use Rattle.integers.proofs.Lists.{some_element}
 use Rattle.lattice.specs.declared.soup.Tri.{Tri}
 use Rattle.lattice.specs.Triangles.{IsBelow}
 use Rattle.geometry.specs.Parts as parts
 use Rattle.geometry.specs.Parts.{Part, IsHalf, IsNumbered, HasNoSideTwice, start_of, end_of}
-pub use Rattle.geometry.proofs.Listed.{found, same_element, triangle_below, face_at}
+pub use Rattle.geometry.proofs.Listed.{same_element, triangle_below, face_at}
 use Rattle.solid_mesh.specs.declared.solid.Edge.{Edge}
 use Rattle.solid_mesh.specs.inner.Halves.{start_at, end_at}
 use Rattle.solid_mesh.specs.Solids.{HasNumbers, IsEdgeAt, IsWithinPart}
@@ -43,16 +44,16 @@ module _ (s : Part) (in_range : All (IsBelow (length s.corners)) s.triangles) wh
         other = other;
         m = m;
         n = n;
-        a = (found s.corners m first).0;
-        b = (found s.corners n second).0;
+        a = (some_element s.corners m first).0;
+        b = (some_element s.corners n second).0;
         left = face_at s in_range goes.tri (half / 3) goes.at;
         right = face_at s in_range returns.tri (other / 3) returns.at;
         goes = goes;
         returns = returns;
         on_left = refl;
         on_right = refl;
-        at_m = (found s.corners m first).1;
-        at_n = (found s.corners n second).1;
+        at_m = (some_element s.corners m first).1;
+        at_n = (some_element s.corners n second).1;
       }
 
 -- an edge's numbers are in range

@@ -13,9 +13,9 @@ use Rattle.std.proofs.lemmas.List.Elements.{All-push, All-nil}
 use Rattle.std.proofs.lemmas.List.FromFn.{length-range_with_len, get_or-range_with_len, map-range_with_len_more}
 use Rattle.std.proofs.lemmas.List.Sorted.{IsPermutation-map, All-permutation, Contains-permutation, length_permutation}
 use Rattle.std.proofs.lemmas.Map.Keys.{apart_from_distinct, IsDistinct-from_apart, IsDistinct-IsPermutation}
+use Rattle.integers.proofs.Lists.{some_element}
 use Rattle.lattice.specs.declared.points.Corner.{Corner}
 use Rattle.geometry.specs.Parts.{Part}
-use Rattle.geometry.proofs.Listed.{found}
 use Rattle.meeting.specs.declared.range.Range.{Range}
 use Rattle.meeting.specs.Ranges.{IsEdgeRange, IsTriangleRange}
 use Rattle.meeting.proofs.BoxAxes.{read}
@@ -158,7 +158,7 @@ module _ (P : NumberedRange → Type 0) where
         by : Contains (map number_of xs) i → (x : NumberedRange) × Contains xs x × (x.number ≡ i)
         by (k, less, is) =
             let below : k < length xs = omega (arith, length-map xs number_of) in
-            let (x, there) = found xs k below in
+            let (x, there) = some_element xs k below in
             at k below is x (get_or_from_slice_get xs k x x there)
 
 -- what was put in order

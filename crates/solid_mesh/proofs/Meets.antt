@@ -2,6 +2,8 @@
 use Rattle.std.proofs.Common.{◌≡◌, ℕ, ◌*◌, ◌/◌, ◌%◌, ◌<◌, ◌⊎◌, inl, inr, Bool, All, length, get_or, slice_get, Some, refl, sym, subst, ap, ◌∙◌, arith}
 use Rattle.std.specs.Prelude.{◌↔◌, IsTrue}
 use Rattle.std.proofs.lemmas.Option.{slice_get_read}
+use Rattle.geometry.proofs.FacePoints.{face_point-round, edge_point-turned}
+use Rattle.integers.proofs.Logic.{↔-trans}
 use Rattle.lattice.specs.declared.points.Corner.{Corner}
 use Rattle.lattice.specs.declared.soup.Tri.{Tri}
 use Rattle.lattice.specs.Triangles.{IsBelow}
@@ -9,20 +11,12 @@ use Rattle.lattice.specs.Points.{Point, point_of, AreOnePoint}
 use Rattle.geometry.specs.Faces.{IsPointOfEdge, IsPointOfFace}
 use Rattle.geometry.specs.Parts.{Part, Face, IsCornerOf, start_of, end_of}
 use Rattle.geometry.proofs.Listed.{same_element, face_at}
-use Rattle.geometry.proofs.Shares.{edge_turned}
 use Rattle.meeting.specs.Boxes.{CoordinatesMeet, BoxesMeet}
 use Rattle.meeting.specs.Touching.{Touch, TouchBeyond}
-use Rattle.meeting.proofs.Weights.{point-round}
 use Rattle.meeting.proofs.TouchingBoxes.{boxes-of-touch}
 use Rattle.solid_mesh.specs.Meetings.{Side, MeetApart, HaveCommonBox, HaveCommonX}
 use Rattle.solid_mesh.specs.inner.Pairs.{AreAt, MeetBeyond, IsTurn, IsTurnedTo}
 use Rattle.solid_mesh.proofs.Readings.{Reading, reading, same_reading, side_there}
-
-pub through : {A B C : Type 0} → A ↔ B → B ↔ C → A ↔ C
-through f g = (λ a. g.0 (f.0 a), λ c. f.1 (g.1 c))
-
-edge_back : (p q : Corner) (x : Point) → IsPointOfEdge p q x → IsPointOfEdge q p x
-edge_back p q x (i, j, some, e) = (j, i, omega arith, e ∙ edge_turned p q i j)
 
 -- where they meet apart, their boxes meet, and where these do, their ranges of x
 pub box_of_apart : (s : Part) (half tri : ℕ) → MeetApart s half tri → HaveCommonBox s half tri
@@ -108,14 +102,14 @@ module _ (s : Part) (half tri : ℕ) (e : Side s half) (f : Face s) (number : f.
       numbered = number;
       not_side = λ (at_m, at_n). no_m at_m;
       point = t.point;
-      on_side = edge_back e.q e.p t.point t.on_edge;
+      on_side = edge_point-turned e.q e.p t.point t.on_edge;
       on_face = t.on_face;
       apart = λ k c at ends of_face here. elim ends [
         | inl is ↦ no_m (subst (IsCornerOf f.tri) (sym is) of_face)
         | inr is ↦ t.off (subst (λ (x : Corner). AreOnePoint (point_of x) t.point) (same_element s.corners k e.n c e.q (sym is) at e.at_n) here)
       ];
     },
-    λ h. let g = apart_here h in record { point = g.point; on_edge = edge_back e.p e.q g.point g.on_side; on_face = g.on_face; off = g.apart e.n e.q e.at_n (inr refl) has_n },
+    λ h. let g = apart_here h in record { point = g.point; on_edge = edge_point-turned e.p e.q g.point g.on_side; on_face = g.on_face; off = g.apart e.n e.q e.at_n (inr refl) has_n },
   )
 
   -- it has both
@@ -170,13 +164,13 @@ module _ (s : Part) (t u : Tri) (a b c x y z : Corner) (at : AreAt s t a b c) (t
 
       by : ((x ≡ a) × (y ≡ b) × (z ≡ c)) ⊎ ((x ≡ b) × (y ≡ c) × (z ≡ a)) ⊎ ((x ≡ c) × (y ≡ a) × (z ≡ b)) → P a b c ↔ P x y z
       by (inl (e, f, g)) = moved a b c e f g
-      by (inr (inl (e, f, g))) = through (λ h. round a b c h, λ h. round c a b (round b c a h)) (moved b c a e f g)
-      by (inr (inr (e, f, g))) = through (λ h. round b c a (round a b c h), λ h. round c a b h) (moved c a b e f g)
+      by (inr (inl (e, f, g))) = ↔-trans (λ h. round a b c h, λ h. round c a b (round b c a h)) (moved b c a e f g)
+      by (inr (inr (e, f, g))) = ↔-trans (λ h. round b c a (round a b c h), λ h. round c a b h) (moved c a b e f g)
 
   pub turned_beyond : (corner : ℕ) (p q : Corner) → IsTurnedTo t corner u → IsCornerOf t corner → slice_get s.corners corner ≡ Some p → TouchBeyond x y z q ↔ MeetBeyond a b c p q
   turned_beyond corner p q turned has at_p =
       let first : x ≡ p = corner_at u.a corner x p (turned.first has) there.at_a at_p in
-      let faces = λ (k : Point). turned_both (λ l m n. IsPointOfFace l m n k) (λ l m n h. point-round l m n k h) turned.turn in (
+      let faces = λ (k : Point). turned_both (λ l m n. IsPointOfFace l m n k) (λ l m n h. face_point-round l m n k h) turned.turn in (
         λ h. record {
           point = h.point;
           on_edge = subst (λ (v : Corner). IsPointOfEdge v q h.point) first h.on_edge;
@@ -214,15 +208,15 @@ module _ (s : Part) (in_range : All (IsBelow (length s.corners)) s.triangles) (h
 
   pub read-none : (r : Bool) → ((a b c p q : Corner) → AreAt s u a b c → slice_get s.corners m ≡ Some p → slice_get s.corners n ≡ Some q → IsTrue r ↔ Touch a b c p q)
       → (IsCornerOf u m → ⊥) → (IsCornerOf u n → ⊥) → IsTrue r ↔ MeetApart s half tri
-  read-none r is no_m no_n = through (is f.a f.b f.c e.p e.q corners_there e.at_m e.at_n) (apart-none s half tri e f refl no_m no_n)
+  read-none r is no_m no_n = ↔-trans (is f.a f.b f.c e.p e.q corners_there e.at_m e.at_n) (apart-none s half tri e f refl no_m no_n)
 
   pub read-first : (r : Bool) → ((a b c p q : Corner) → AreAt s u a b c → slice_get s.corners m ≡ Some p → slice_get s.corners n ≡ Some q → IsTrue r ↔ MeetBeyond a b c p q)
       → IsCornerOf u m → (IsCornerOf u n → ⊥) → IsTrue r ↔ MeetApart s half tri
-  read-first r is has_m no_n = through (is f.a f.b f.c e.p e.q corners_there e.at_m e.at_n) (apart-first s half tri e f refl has_m no_n)
+  read-first r is has_m no_n = ↔-trans (is f.a f.b f.c e.p e.q corners_there e.at_m e.at_n) (apart-first s half tri e f refl has_m no_n)
 
   pub read-second : (r : Bool) → ((a b c p q : Corner) → AreAt s u a b c → slice_get s.corners n ≡ Some p → slice_get s.corners m ≡ Some q → IsTrue r ↔ MeetBeyond a b c p q)
       → (IsCornerOf u m → ⊥) → IsCornerOf u n → IsTrue r ↔ MeetApart s half tri
-  read-second r is no_m has_n = through (is f.a f.b f.c e.q e.p corners_there e.at_n e.at_m) (apart-second s half tri e f refl no_m has_n)
+  read-second r is no_m has_n = ↔-trans (is f.a f.b f.c e.q e.p corners_there e.at_n e.at_m) (apart-second s half tri e f refl no_m has_n)
 
   pub read-both : IsCornerOf u m → IsCornerOf u n → MeetApart s half tri → ⊥
   read-both has_m has_n = apart-both s half tri e f refl has_m has_n

@@ -1,11 +1,12 @@
 -- A side and a triangle by their numbers determine their corners.
 use Rattle.std.proofs.Common.{◌≡◌, ℕ, ◌/◌, ◌%◌, ◌<◌, All, length, get_or, slice_get, Some, refl, sym, subst, ap, ◌∙◌}
 use Rattle.std.proofs.lemmas.Option.{slice_get_read}
+use Rattle.integers.proofs.Lists.{some_element}
 use Rattle.lattice.specs.declared.points.Corner.{Corner}
 use Rattle.lattice.specs.declared.soup.Tri.{Tri}
 use Rattle.lattice.specs.Triangles.{IsBelow}
 use Rattle.geometry.specs.Parts.{Part, Face, IsHalf, start_of, end_of}
-use Rattle.geometry.proofs.Listed.{found, same_element, triangle_below}
+use Rattle.geometry.proofs.Listed.{same_element, triangle_below}
 use Rattle.solid_mesh.specs.Meetings.{Side}
 use Rattle.solid_mesh.proofs.EdgeLemmas.{start_below, end_below}
 use Rattle.solid_mesh.proofs.HalfLemmas.{start_of_half, end_of_half}
@@ -65,9 +66,9 @@ module _ (s : Part) (in_range : All (IsBelow (length s.corners)) s.triangles) (h
   side_there = record {
     m = m;
     n = n;
-    p = (found s.corners m start_within).0;
-    q = (found s.corners n end_within).0;
+    p = (some_element s.corners m start_within).0;
+    q = (some_element s.corners n end_within).0;
     goes = half_read;
-    at_m = (found s.corners m start_within).1;
-    at_n = (found s.corners n end_within).1;
+    at_m = (some_element s.corners m start_within).1;
+    at_n = (some_element s.corners n end_within).1;
   }

@@ -2,7 +2,7 @@
 use Rattle.std.proofs.Common.{◌≡◌, ℕ, ◌+◌, ◌*◌, ◌/◌, ◌%◌, ◌<◌, ◌≤◌, ◌⊎◌, inl, inr, ◌&&◌, ◌==◌, Bool, true, false, not, if◌then◌else◌, List, [], ◌∷◌, ◌++◌, Contains, length, get_or, slice_get, Some, refl, sym, ap, subst, ◌∙◌, arith, true≢false, position, below_more}
 use Rattle.std.specs.Bool.{Decides}
 use Rattle.std.specs.List.{IsDistinct, list_any}
-use Rattle.std.proofs.lemmas.Bool.{cases_lt, cases_order}
+use Rattle.std.proofs.lemmas.Bool.{cases_lt, cases_order, not-true, not-false}
 use Rattle.std.proofs.lemmas.Bool.Decides.{Decides-eqb, Decides-and, Decides-like}
 use Rattle.std.proofs.lemmas.List.FromFn.{length-map-range_with_len, get_or-map-range_with_len, map-range_with_len_more}
 use Rattle.indexmap.specs.IndexSet.{insert_key}
@@ -30,14 +30,6 @@ pub decides_same : (x y : DirectedSide) → Decides (same_side x y) (x ≡ y)
 decides_same x y =
     Decides-like (same_side x y) (λ (p, q). λ i. record { from = p i; to = q i }) (λ e. (ap (λ (s : DirectedSide). s.from) e, ap (λ (s : DirectedSide). s.to) e))
     (Decides-and (x.from == y.from) (x.to == y.to) (Decides-eqb x.from y.from) (Decides-eqb x.to y.to))
-
-true_of_not : (b : Bool) → not b ≡ false → b ≡ true
-true_of_not true h = refl
-true_of_not false h = cc
-
-false_of_not : (b : Bool) → not b ≡ true → b ≡ false
-false_of_not true h = cc
-false_of_not false h = refl
 
 -- the side back
 abbrev pub reversed : DirectedSide → DirectedSide
@@ -112,7 +104,7 @@ module _ (s : Part) where
 
     -- where it is found, a listed half has it
     pub found_some : not (list_any (same_side v) keys) ≡ false → (other : ℕ) × (other < length keys) × (side_at s.triangles other ≡ side_at s.triangles half)
-    found_some h = by (Contains-list_any same_side (λ x y. (decides_same x y).0) keys v (true_of_not (list_any (same_side v) keys) h))
+    found_some h = by (Contains-list_any same_side (λ x y. (decides_same x y).0) keys v (not-false (list_any (same_side v) keys) h))
       where
         by : Contains keys v → (other : ℕ) × (other < length keys) × (side_at s.triangles other ≡ side_at s.triangles half)
         by (k, within, e) = (k, within, sym (key_here k v within) ∙ e ∙ is)
@@ -121,12 +113,12 @@ module _ (s : Part) where
   pub more_sides : (half : ℕ) (keys : List DirectedSide) (v : DirectedSide) → keys ≡ first_sides s.triangles half → v ≡ side_at s.triangles half
       → (new : List DirectedSide) → new ≡ insert_key same_side keys v → not (list_any (same_side v) keys) ≡ true → new ≡ first_sides s.triangles (half + 1)
   more_sides half keys v in_order is new e h =
-      e ∙ ap (λ (b : Bool). if b then keys else keys ++ v ∷ []) (false_of_not (list_any (same_side v) keys) h)
+      e ∙ ap (λ (b : Bool). if b then keys else keys ++ v ∷ []) (not-true (list_any (same_side v) keys) h)
       ∙ (λ i. in_order i ++ is i ∷ []) ∙ sym (map-range_with_len_more (side_at s.triangles) 0 half half (omega arith))
 
   -- a side that was inserted before changes nothing
   pub same_sides : (half : ℕ) (keys : List DirectedSide) (v : DirectedSide) → keys ≡ first_sides s.triangles half → (new : List DirectedSide) → new ≡ insert_key same_side keys v → not (list_any (same_side v) keys) ≡ false → new ≡ first_sides s.triangles half
-  same_sides half keys v in_order new e h = e ∙ ap (λ (b : Bool). if b then keys else keys ++ v ∷ []) (true_of_not (list_any (same_side v) keys) h) ∙ in_order
+  same_sides half keys v in_order new e h = e ∙ ap (λ (b : Bool). if b then keys else keys ++ v ∷ []) (not-false (list_any (same_side v) keys) h) ∙ in_order
 
   -- a side whose reverse isn't among all sides has none
   pub side_alone : (half : ℕ) → half < 3 * length s.triangles → list_any (same_side (reversed (side_at s.triangles half))) (sides_of s.triangles) ≡ false → IsUnpaired s half

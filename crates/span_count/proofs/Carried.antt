@@ -10,11 +10,12 @@ use Rattle.std.proofs.lemmas.List.{take_all, drop_all, take-append-drop, get_or-
 use Rattle.std.proofs.lemmas.List.Elements.{All-nil, All-push, All-weaker}
 use Rattle.std.proofs.lemmas.List.Sorted.{sorted_far, ranks_by}
 use Rattle.std.specs.Cmp.{int_ranks}
+use Rattle.integers.proofs.Comparisons.{at_most_of_less, less_not_at_most}
 use Rattle.exact_frac.specs.declared.Frac.{Frac}
 use Rattle.exact_frac.specs.Frac.{order_of}
 use Rattle.exact_frac.specs.Laws.{order_of_total}
 use Rattle.geometry.specs.Places.{IsPlace, IsEarlier, IsSame, IsBetween}
-use Rattle.geometry.proofs.PlaceOrder.{clash, weaken, less_most, most_less, IsNotLater, not_later_of_not, not_later_self, not_later_not_later, one_of_not_later}
+use Rattle.geometry.proofs.PlaceOrder.{less_most, most_less, IsNotLater, not_later_of_not, not_later_self, not_later_not_later, one_of_not_later}
 use Rattle.geometry.proofs.SamePlaces.{same, same_back, same_trans, same_between, same_earlier, same_not_later}
 use Rattle.cross_find.specs.declared.meter.Crossing.{Crossing}
 use Rattle.span_count.specs.declared.span.CountSpan.{CountSpan}
@@ -34,13 +35,13 @@ less_true a b h = go (lt_z a b) (λ t. lt_z_no {a = a} {b = b} t)
   where
     go : (v : Bool) → (T (not v) → b ≤ℤ a) → v ≡ true
     go true f = refl
-    go false f = absurd (clash a b h (f tt))
+    go false f = absurd (less_not_at_most a b h (f tt))
 
 less_false : (a b : ℤ) → b ≤ℤ a → lt_z a b ≡ false
 less_false a b h = go (lt_z a b) (λ t. lt_z_yes {a = a} {b = b} t)
   where
     go : (v : Bool) → (T v → a <ℤ b) → v ≡ false
-    go true f = absurd (clash a b (f tt) h)
+    go true f = absurd (less_not_at_most a b (f tt) h)
     go false f = refl
 
 module _ (change : Crossing → ℤ) (n m : ℤ) where
@@ -60,7 +61,7 @@ module _ (change : Crossing → ℤ) (n m : ℤ) where
       (total_same (change_before change n m) change (take k xs) (All-weaker (λ (x : Crossing). IsNotLater x.at from) (λ (x : Crossing). change_before change n m x ≡ change x)
       (λ x h. changed x (most_less x.at.num x.at.den from.num from.den n m x.at.positive from.positive up h between.0)) (take k xs) done))
       (total_none (change_before change n m) (drop k xs) (All-weaker (λ (x : Crossing). IsNotLater to x.at) (λ (x : Crossing). change_before change n m x ≡ pos 0)
-      (λ x h. unchanged x (weaken (n *ℤ x.at.den) (x.at.num *ℤ m) (less_most n m to.num to.den x.at.num x.at.den up to.positive x.at.positive between.1 h))) (drop k xs) rest))
+      (λ x h. unchanged x (at_most_of_less (n *ℤ x.at.den) (x.at.num *ℤ m) (less_most n m to.num to.den x.at.num x.at.den up to.positive x.at.positive between.1 h))) (drop k xs) rest))
     where
       last : (a b c : ℤ) → a ≡ b → c ≡ pos 0 → a +ℤ c ≡ b
       last a b c e f = omega (arith, ints)
@@ -208,7 +209,7 @@ module _ (xs : List Crossing) (left right : ℤ) (k : ℕ) (from : Frac) (left_s
   -- the spans then end at neither of the two or after it
   pub end_after : IsNotLater from end × IsNotLater to end
   end_after = ⊎_elim
-      (λ h. (same_not_later from to from end (same from) (same_back end to h.1) (weaken _ _ h.0), same_not_later to to to end (same to) (same_back end to h.1) (not_later_self to)))
+      (λ h. (same_not_later from to from end (same from) (same_back end to h.1) (at_most_of_less _ _ h.0), same_not_later to to to end (same to) (same_back end to h.1) (not_later_self to)))
       (λ h. (same_not_later from from from end (same from) (same_back end from h.1) (not_later_self from), same_not_later to from to end (same to) (same_back end from h.1) (not_later_of_not from to h.0))) added
 
   pub spans_next : IsPlace end → (j : ℕ) → All (λ x. IsNotLater x.at end) (take j xs) → AreSpansUpTo xs left right j end new

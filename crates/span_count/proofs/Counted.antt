@@ -4,6 +4,7 @@ use Rattle.std.specs.Prelude.{ℤ, pos, ◌+ℤ◌, ◌-ℤ◌, ◌*ℤ◌, ◌<
 use Rattle.std.proofs.lemmas.Int.{ints, by_lt_z}
 use Rattle.std.proofs.lemmas.List.Elements.{All-contains}
 use Rattle.std.proofs.lemmas.List.Sorted.{Contains-permutation, IsPermutation-sym}
+use Rattle.integers.proofs.Comparisons.{less_not_at_most}
 use Rattle.integers.proofs.Ring.{var, ◌⊖◌, ◌⊗◌, ring}
 use Rattle.integers.proofs.Signs.{mul_pos, pos_of_mul}
 use Rattle.exact_frac.specs.declared.Frac.{Frac}
@@ -11,7 +12,7 @@ use Rattle.geometry.specs.Faces.{share_point}
 use Rattle.geometry.specs.Parts.{Edge, IsNumbered}
 use Rattle.geometry.specs.Places.{IsPlace, point_at}
 use Rattle.geometry.specs.Views.{IsOrdinary}
-use Rattle.geometry.proofs.PlaceOrder.{clash, between_inner, between_last}
+use Rattle.geometry.proofs.PlaceOrder.{between_inner, between_last}
 use Rattle.hiding.proofs.Decisions.{same_or, less_or}
 use Rattle.hiding.proofs.FrontEnds.{not-at-start, not-at-finish}
 use Rattle.counting.specs.Counts.{Side, to_left, to_right, AreCounted}
@@ -114,7 +115,7 @@ module _ (x : SightState) (seen : IsSeen x) (edge : ℕ) (on : IsSeenEdge x edge
         (λ h. subst (HasChanged k x.direction e o n m) (sym (changed change n m y h ∙ is o y across))
         (passed p (before_place (numerator_of x.direction e o) (denominator_of x.direction e o) y.at.num y.at.den n m y.at.positive up across.at h)))
         (λ h. subst (HasChanged k x.direction e o n m) (sym (unchanged change n m y h))
-        (not_passed (λ q. clash (y.at.num *ℤ m) (n *ℤ y.at.den) (place_before (numerator_of x.direction e o) (denominator_of x.direction e o) y.at.num y.at.den n m y.at.positive up across.at q.1) h)))
+        (not_passed (λ q. less_not_at_most (y.at.num *ℤ m) (n *ℤ y.at.den) (place_before (numerator_of x.direction e o) (denominator_of x.direction e o) y.at.num y.at.den n m y.at.positive up across.at q.1) h)))
 
     -- what each outline changes along the whole edge
     has_changed_along : (o : Edge x.part) (answer : Option Crossing) → IsAcross x.direction e o answer → HasChangedAlong k x.direction e o (of_option change answer)

@@ -2,6 +2,7 @@
 use Rattle.std.proofs.Common.{◌≡◌, [], ◌∷◌, refl, ap, ◌∙◌, arith}
 use Rattle.std.specs.Prelude.{ℤ, pos, negsuc, neg_ℤ, ◌+ℤ◌, ◌-ℤ◌, ◌*ℤ◌, ◌<ℤ◌}
 use Rattle.std.proofs.lemmas.Int.{ints}
+use Rattle.integers.proofs.Comparisons.{positive_of_negated}
 use Rattle.integers.proofs.Ring.{var, con, ◌⊖◌, ◌⊗◌, ring, by_one}
 use Rattle.lattice.specs.declared.points.Corner.{Corner}
 use Rattle.lattice.specs.declared.points.Dir.{Dir}
@@ -27,10 +28,7 @@ module _ (r s : Triple) (reversed : r ≡ negated s) (t : Triple) where
   dot_reversed = ap (λ (v : Triple). dot v t) reversed ∙ dot_negated s t
 
   pub reversed_forward : dot s t <ℤ pos 0 → pos 0 <ℤ dot r t
-  reversed_forward h = rises (dot r t) (dot s t) dot_reversed h
-    where
-      rises : (a b : ℤ) → a ≡ pos 0 -ℤ b → b <ℤ pos 0 → pos 0 <ℤ a
-      rises a b e h = omega (arith, ints)
+  reversed_forward h = positive_of_negated (dot s t) (dot r t) dot_reversed h
 
   pub reversed_level : dot s t ≡ pos 0 → dot r t ≡ pos 0
   reversed_level h = stays (dot r t) (dot s t) dot_reversed h

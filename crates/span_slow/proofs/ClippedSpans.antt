@@ -3,6 +3,7 @@ use Rattle.std.proofs.Common.{◌≡◌, inl, inr, ℕ, suc, ◌+◌, ◌<◌, �
 use Rattle.std.specs.Prelude.{ℤ, pos, ◌*ℤ◌, ◌<ℤ◌, All, Contains}
 use Rattle.std.proofs.lemmas.List.{append_assoc, append-nil, drop_more, drop_all}
 use Rattle.std.proofs.lemmas.List.Elements.{All-nil, All-cons}
+use Rattle.integers.proofs.Comparisons.{at_most_of_less}
 use Rattle.exact_frac.specs.declared.Frac.{Frac}
 use Rattle.intervals.specs.declared.interval.Interval.{Interval}
 use Rattle.span_slow.specs.declared.span.Span.{Span}
@@ -10,7 +11,7 @@ use Rattle.geometry.specs.Places.{IsSame, IsEarlier, IsBetween}
 use Rattle.span_slow.specs.Spans.{Follow, CoverEdge, Alternate}
 use Rattle.span_slow.specs.Beyond.{IsStretch}
 use Rattle.span_slow.specs.inner.Steps.{IsSpanAdded, IsLaterOf, IsEarlierOf, IsClippedAdded, IsClippedEnd, IsClippedSpan, AreClipped}
-use Rattle.geometry.proofs.PlaceOrder.{weaken, less_most, most_less, IsNotLater, not_later_of_not, earlier_not_later, not_later_earlier, not_later_not_later, not_later_self, not_both, zero_not_later, not_later_one}
+use Rattle.geometry.proofs.PlaceOrder.{less_most, most_less, IsNotLater, not_later_of_not, earlier_not_later, not_later_earlier, not_later_not_later, not_later_self, not_both, zero_not_later, not_later_one}
 use Rattle.geometry.proofs.SamePlaces.{same, same_back, same_trans, same_between, same_earlier, same_not_later}
 
 -- ---- what each of the spans adds, one after another
@@ -42,11 +43,11 @@ module _ (part : Interval Frac) (spans : List Span) (k : ℕ) where
 
 -- ---- the later and the earlier of two places
 later_least : (a b r : Frac) → IsLaterOf a b r → IsNotLater a r × IsNotLater b r
-later_least a b r (inl (less, is)) = (same_not_later a b a r (same a) (same_back r b is) (weaken (a.num *ℤ b.den) (b.num *ℤ a.den) less), same_not_later b b b r (same b) (same_back r b is) (not_later_self b))
+later_least a b r (inl (less, is)) = (same_not_later a b a r (same a) (same_back r b is) (at_most_of_less (a.num *ℤ b.den) (b.num *ℤ a.den) less), same_not_later b b b r (same b) (same_back r b is) (not_later_self b))
 later_least a b r (inr (none, is)) = (same_not_later a a a r (same a) (same_back r a is) (not_later_self a), same_not_later b a b r (same b) (same_back r a is) (not_later_of_not a b none))
 
 earlier_most : (a b r : Frac) → IsEarlierOf a b r → IsNotLater r a × IsNotLater r b
-earlier_most a b r (inl (less, is)) = (same_not_later b a r a (same_back r b is) (same a) (weaken (b.num *ℤ a.den) (a.num *ℤ b.den) less), same_not_later b b r b (same_back r b is) (same b) (not_later_self b))
+earlier_most a b r (inl (less, is)) = (same_not_later b a r a (same_back r b is) (same a) (at_most_of_less (b.num *ℤ a.den) (a.num *ℤ b.den) less), same_not_later b b r b (same_back r b is) (same b) (not_later_self b))
 earlier_most a b r (inr (none, is)) = (same_not_later a a r a (same_back r a is) (same a) (not_later_self a), same_not_later a b r b (same_back r a is) (same b) (not_later_of_not b a none))
 
 -- the later of the same two places is the same
@@ -123,7 +124,7 @@ none_after part (x ∷ xs) from to new (at, inside, follow) late (first, rest, a
     begins = same_not_later part.to from part.to x.from (same part.to) (same_back x.from from at) late
 
     last : IsNotLater part.to x.to
-    last = not_later_not_later part.to x.from x.to begins (weaken (x.from.num *ℤ x.to.den) (x.to.num *ℤ x.from.den) inside)
+    last = not_later_not_later part.to x.from x.to begins (at_most_of_less (x.from.num *ℤ x.to.den) (x.to.num *ℤ x.from.den) inside)
 
     nothing : IsClippedAdded part x [] first → first ≡ []
     nothing (f, t, later, earlier, inl (less, y)) =

@@ -3,6 +3,7 @@ use Rattle.std.proofs.Common.{◌≡◌, true, false, List, [], ◌∷◌, ◌++
 use Rattle.std.specs.Prelude.{ℤ, pos, ◌+ℤ◌, ◌-ℤ◌, ◌*ℤ◌, ◌<ℤ◌, ◌≤ℤ◌}
 use Rattle.std.proofs.lemmas.Int.{ints, by_lt_z}
 use Rattle.std.specs.Int.Signed.{lt_z}
+use Rattle.integers.proofs.Comparisons.{at_most_of_less, gap_of_at_most, sum_not_negative}
 use Rattle.integers.proofs.Ring.{var, con, ◌⊕◌, ◌⊖◌, ◌⊗◌, ring}
 use Rattle.integers.proofs.Signs.{mul_nonneg, mul_pos}
 use Rattle.exact_frac.specs.declared.Frac.{Frac}
@@ -12,7 +13,7 @@ use Rattle.span_slow.specs.declared.linear.Linear.{Linear}
 use Rattle.geometry.specs.Places.{IsPlace, IsSame, IsEarlier}
 use Rattle.span_slow.specs.inner.Hidden.{AreNonnegative, HasRoot, IsRootOrEnd, IsWhereNonnegative}
 use Rattle.span_slow.specs.inner.Steps.{IsClipped}
-use Rattle.geometry.proofs.PlaceOrder.{weaken, room, most_most, not_later_of_not}
+use Rattle.geometry.proofs.PlaceOrder.{most_most, not_later_of_not}
 use Rattle.geometry.proofs.SamePlaces.{same, same_back, same_from_to}
 
 -- ---- the sign of the value about the place where it is 0
@@ -40,17 +41,14 @@ falling_zero f g a b ea eb =
     ∙ ring (f ∷ g ∷ []) ((((var 0 ⊖ var 1) ⊖ var 0) ⊗ var 0) ⊕ (var 0 ⊗ var 1)) (con (pos 0)) refl
 
 both_least : (f g n m : ℤ) → pos 0 ≤ℤ f → pos 0 ≤ℤ g → pos 0 ≤ℤ n → n ≤ℤ m → pos 0 ≤ℤ value_at f g n m
-both_least f g n m hf hg hn hm = sum _ _ (mul_nonneg (m -ℤ n) f (room n m hm) hf) (mul_nonneg n g hn hg)
-  where
-    sum : (x y : ℤ) → pos 0 ≤ℤ x → pos 0 ≤ℤ y → pos 0 ≤ℤ (x +ℤ y)
-    sum x y p q = omega (arith, ints)
+both_least f g n m hf hg hn hm = sum_not_negative _ _ (mul_nonneg (m -ℤ n) f (gap_of_at_most n m hm) hf) (mul_nonneg n g hn hg)
 
 both_below : (f g n m : ℤ) → f <ℤ pos 0 → g <ℤ pos 0 → pos 0 <ℤ m → pos 0 ≤ℤ n → n ≤ℤ m → pos 0 ≤ℤ value_at f g n m → ⊥
 both_below f g n m hf hg up hn hm h =
     no (value_at f g n m) ((m -ℤ n) *ℤ ((pos 0 -ℤ f) -ℤ pos 1)) (n *ℤ ((pos 0 -ℤ g) -ℤ pos 1)) m
     (ring (f ∷ g ∷ n ∷ m ∷ []) (((var 3 ⊖ var 2) ⊗ var 0) ⊕ (var 2 ⊗ var 1))
     (con (pos 0) ⊖ ((((var 3 ⊖ var 2) ⊗ ((con (pos 0) ⊖ var 0) ⊖ con (pos 1))) ⊕ (var 2 ⊗ ((con (pos 0) ⊖ var 1) ⊖ con (pos 1)))) ⊕ var 3)) refl)
-    (mul_nonneg (m -ℤ n) ((pos 0 -ℤ f) -ℤ pos 1) (room n m hm) (below f hf)) (mul_nonneg n ((pos 0 -ℤ g) -ℤ pos 1) hn (below g hg)) up h
+    (mul_nonneg (m -ℤ n) ((pos 0 -ℤ f) -ℤ pos 1) (gap_of_at_most n m hm) (below f hf)) (mul_nonneg n ((pos 0 -ℤ g) -ℤ pos 1) hn (below g hg)) up h
   where
     below : (f : ℤ) → f <ℤ pos 0 → pos 0 ≤ℤ ((pos 0 -ℤ f) -ℤ pos 1)
     below f h = omega (arith, ints)
@@ -110,7 +108,7 @@ module _ (x : Interval Frac) (v : Linear) (from_place : IsPlace x.from) (to_plac
       exactly = λ n m up least most. (
         λ h.
             let r = same_from_to new.from new.to root x.to n m from to h in (
-              (most_most x.from.num x.from.den root.num root.den n m x.from.positive root.positive up (weaken (x.from.num *ℤ root.den) (root.num *ℤ x.from.den) earlier) r.0, r.1),
+              (most_most x.from.num x.from.den root.num root.den n m x.from.positive root.positive up (at_most_of_less (x.from.num *ℤ root.den) (root.num *ℤ x.from.den) earlier) r.0, r.1),
               (rising v.start v.end root.num root.den n m num den).0 r.0,
             ),
         λ h. same_from_to root x.to new.from new.to n m (same_back new.from root from) (same_back new.to x.to to) ((rising v.start v.end root.num root.den n m num den).1 h.1, h.0.1),
@@ -146,7 +144,7 @@ module _ (x : Interval Frac) (v : Linear) (from_place : IsPlace x.from) (to_plac
       exactly = λ n m up least most. (
         λ h.
             let r = same_from_to new.from new.to x.from root n m from to h in (
-              (r.0, most_most n m root.num root.den x.to.num x.to.den up root.positive x.to.positive r.1 (weaken (root.num *ℤ x.to.den) (x.to.num *ℤ root.den) earlier)),
+              (r.0, most_most n m root.num root.den x.to.num x.to.den up root.positive x.to.positive r.1 (at_most_of_less (root.num *ℤ x.to.den) (x.to.num *ℤ root.den) earlier)),
               (falling v.start v.end root.num root.den n m num den).0 r.1,
             ),
         λ h. same_from_to x.from root new.from new.to n m (same_back new.from x.from from) (same_back new.to root to) (h.0.0, (falling v.start v.end root.num root.den n m num den).1 h.1),

@@ -6,7 +6,8 @@ use Rattle.std.specs.Cmp.{int_cmp_is}
 use Rattle.std.specs.declared.cmp.Ordering.TheVariants.{Less, Greater}
 use Rattle.std.proofs.lemmas.Int.{by_lt_z}
 use Rattle.std.proofs.lemmas.List.Elements.{All-contains}
-use Rattle.integers.proofs.Orders.{less_of_cmp}
+use Rattle.integers.proofs.Comparisons.{at_most_of_less, less_not_same, positive_not_zero}
+use Rattle.integers.proofs.Orders.{less_of_cmp, lt_z_of_less, lt_z_of_at_most}
 use Rattle.exact_frac.specs.declared.Frac.{Frac}
 use Rattle.exact_frac.specs.Frac.{order_of}
 use Rattle.intervals.specs.declared.interval.Interval.{Interval}
@@ -14,9 +15,9 @@ use Rattle.intervals.specs.Cuts.{IsCut, IsProper, IsEndOf, Crosses, CrossesAny, 
 use Rattle.intervals.proofs.Lists.{any_of}
 use Rattle.geometry.specs.Places.{IsPlace, IsSame, IsValue}
 use Rattle.geometry.proofs.PlaceFractions.{strict}
-use Rattle.geometry.proofs.PlaceOrder.{weaken, most_less, between_inner, between_last, zero_value, one_value, not_zero, not_self}
+use Rattle.geometry.proofs.PlaceOrder.{most_less, between_inner, between_last, zero_value, one_value}
 use Rattle.geometry.proofs.SamePlaces.{same_value}
-use Rattle.section_parity.proofs.Tested.{less_of, most_of, of_less, of_most}
+use Rattle.section_parity.proofs.Tested.{less_of, most_of}
 use Rattle.span_slow.specs.declared.span.Span.{Span}
 use Rattle.span_slow.specs.Beyond.{IsStretch, IsWithinAny}
 use Rattle.span_slow.specs.inner.Hidden.{IsAtEnd, IsIntervalEnd, TellsWithin, AreSpansOf}
@@ -28,7 +29,7 @@ is_before n m r = lt_z (r.num *ℤ m) (n *ℤ r.den)
 
 before_is_cut : (n m : ℤ) → pos 0 <ℤ m → IsCut order_of (is_before n m)
 before_is_cut n m up x y at forth =
-    of_less (x.num *ℤ m) (n *ℤ x.den) (most_less x.num x.den y.num y.den n m x.positive y.positive up first (less_of (y.num *ℤ m) (n *ℤ y.den) at))
+    lt_z_of_less (x.num *ℤ m) (n *ℤ x.den) (most_less x.num x.den y.num y.den n m x.positive y.positive up first (less_of (y.num *ℤ m) (n *ℤ y.den) at))
   where
     first : (x.num *ℤ y.den) ≤ℤ (y.num *ℤ x.den)
     first = by_lt_z (y.num *ℤ x.den) (x.num *ℤ y.den) (λ less. absurd (forth (sym (int_cmp_is (x.num *ℤ y.den) (y.num *ℤ x.den) Greater less)))) (λ most. most)
@@ -73,8 +74,8 @@ module _ (xs united : List (Interval Frac)) (u : AreUnited order_of xs united) w
   -- a place that is not 0 or 1 is at a known place only where it is at an end
   at_known : (r : Frac) (n m : ℤ) → pos 0 <ℤ n → n <ℤ m → IsIntervalEnd xs r → IsValue r n m → IsAtEnd xs n m
   at_known r n m first last known is = ⊎_elim
-      (λ z. absurd (not_zero n first (zero_value r n m z is)))
-      (λ k. ⊎_elim (λ z. absurd (not_self n m last (one_value r n m z is)))
+      (λ z. absurd (positive_not_zero n first (zero_value r n m z is)))
+      (λ k. ⊎_elim (λ z. absurd (less_not_same n m last (one_value r n m z is)))
       (λ e. (e.0, e.1, ⊎_elim (λ s. inl (same_value r e.0.from n m s is)) (λ s. inr (same_value r e.0.to n m s is)) e.2)) k) known
 
   end_through : (n m : ℤ) → pos 0 <ℤ n → n <ℤ m → IsAtEnd united n m → IsAtEnd xs n m
@@ -86,7 +87,7 @@ module _ (xs united : List (Interval Frac)) (u : AreUnited order_of xs united) w
   module _ (n m : ℤ) (up : pos 0 <ℤ m) where
     through : (ys : List (Interval Frac)) → IsWithinAny ys n m → CrossesAny (is_before n m) ys
     through ys (x, listed, between) =
-        any_of (Crosses (is_before n m)) ys x listed (of_less (x.from.num *ℤ m) (n *ℤ x.from.den) between.0, of_most (x.to.num *ℤ m) (n *ℤ x.to.den) (weaken (n *ℤ x.to.den) (x.to.num *ℤ m) between.1))
+        any_of (Crosses (is_before n m)) ys x listed (lt_z_of_less (x.from.num *ℤ m) (n *ℤ x.from.den) between.0, lt_z_of_at_most (x.to.num *ℤ m) (n *ℤ x.to.den) (at_most_of_less (n *ℤ x.to.den) (x.to.num *ℤ m) between.1))
 
     within : (ys : List (Interval Frac)) → ¬ IsAtEnd ys n m → CrossesAny (is_before n m) ys → IsWithinAny ys n m
     within ys off (k, x, long, at, crosses) = (

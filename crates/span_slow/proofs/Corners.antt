@@ -1,7 +1,7 @@
 -- How a corner lies to a face and to a side, by differences of corners.
-use Rattle.std.proofs.Common.{◌≡◌, [], ◌∷◌, refl, sym, ap, ◌∙◌, arith}
-use Rattle.std.specs.Prelude.{ℤ, pos, ◌-ℤ◌, ◌*ℤ◌, ◌<ℤ◌}
-use Rattle.std.proofs.lemmas.Int.{ints}
+use Rattle.std.proofs.Common.{◌≡◌, [], ◌∷◌, refl, sym, ap, ◌∙◌}
+use Rattle.std.specs.Prelude.{pos, ◌-ℤ◌, ◌*ℤ◌, ◌<ℤ◌}
+use Rattle.integers.proofs.Comparisons.{positive_of_negated}
 use Rattle.integers.proofs.Ring.{var, con, ◌⊖◌, ring}
 use Rattle.lattice.specs.declared.points.Corner.{Corner}
 use Rattle.lattice.specs.Triple.{Triple, dot}
@@ -22,10 +22,7 @@ returned t p q = ring (t.x ∷ t.y ∷ t.z ∷ p.x ∷ p.y ∷ p.z ∷ q.x ∷ q
 
 -- what goes back one way goes forward the other
 pub forward_turned : (t : Triple) (p q : Corner) → dot t (difference p q) <ℤ pos 0 → pos 0 <ℤ dot t (difference q p)
-forward_turned t p q h = turn (dot t (difference p q)) (dot t (difference q p)) (returned t p q) h
-  where
-    turn : (a b : ℤ) → b ≡ pos 0 -ℤ a → a <ℤ pos 0 → pos 0 <ℤ b
-    turn a b e h = omega (arith, ints)
+forward_turned t p q h = positive_of_negated (dot t (difference p q)) (dot t (difference q p)) (returned t p q) h
 
 pub past_at : (axis : Triple) (k p : Corner) → dot axis (difference k p) ≡ past_of axis k (point_of p)
 past_at axis k p = ap (λ (t : Triple). dot axis t) (sym (offset-corner k p))

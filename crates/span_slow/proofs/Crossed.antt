@@ -10,6 +10,7 @@ use Rattle.std.proofs.lemmas.List.{get_or_default}
 use Rattle.std.proofs.lemmas.List.MinMax.{ranks_by}
 use Rattle.std.proofs.lemmas.List.Sorted.{sorted_far, All-permutation, Contains-permutation}
 use Rattle.std.proofs.lemmas.List.Elements.{All-contains}
+use Rattle.integers.proofs.Comparisons.{gap_of_at_most, less_not_at_most, at_most_of_less, at_most_of_same, at_most_of_gap}
 use Rattle.integers.proofs.Ring.{var, ◌⊕◌, ◌⊖◌, ◌⊗◌, ring, less_by, gap_of_less}
 use Rattle.integers.proofs.Signs.{mul_nonneg}
 use Rattle.exact_frac.specs.declared.Frac.{Frac}
@@ -29,8 +30,7 @@ use Rattle.section_parity.proofs.Found.{crosses_same}
 use Rattle.geometry.specs.Places.{IsEarlier, IsBetween}
 use Rattle.span_slow.specs.inner.CutHidden.{IsOrdinaryBeyond}
 use Rattle.span_slow.specs.inner.Sections.{mediant_point, IsApartFrom}
-use Rattle.geometry.proofs.PlaceFractions.{weaker, no_less}
-use Rattle.geometry.proofs.PlaceOrder.{clash, less_most, most_less, IsNotLater, not_later_of_not, between_inner, between_last, zero_value, one_value, zero_not_later, room}
+use Rattle.geometry.proofs.PlaceOrder.{less_most, most_less, IsNotLater, not_later_of_not, between_inner, between_last, zero_value, one_value, zero_not_later}
 
 -- ---- the places in order
 -- no place is strictly between the two
@@ -82,13 +82,10 @@ neighbours_last places k from to all reached r (j, h, is) = inl (subst (λ (y : 
 
 -- a place is at most 1
 pub not_after_finish : (x to : Frac) → x.num ≤ℤ x.den → to.num ≡ to.den → IsNotLater x to
-not_after_finish x to most one = subst (λ v. (x.num *ℤ to.den) ≤ℤ (v *ℤ x.den)) (sym one) (by_den x.num x.den to.den (weaker to.positive) most)
+not_after_finish x to most one = subst (λ v. (x.num *ℤ to.den) ≤ℤ (v *ℤ x.den)) (sym one) (by_den x.num x.den to.den (at_most_of_less _ _ to.positive) most)
   where
     by_den : (n m l : ℤ) → pos 0 ≤ℤ l → n ≤ℤ m → (n *ℤ l) ≤ℤ (l *ℤ m)
-    by_den n m l up h = by_room (n *ℤ l) (l *ℤ m) (subst (λ v. pos 0 ≤ℤ v) (ring (n ∷ m ∷ l ∷ []) (var 2 ⊗ (var 1 ⊖ var 0)) ((var 2 ⊗ var 1) ⊖ (var 0 ⊗ var 2)) refl) (mul_nonneg l (m -ℤ n) up (room n m h)))
-      where
-        by_room : (x y : ℤ) → pos 0 ≤ℤ (y -ℤ x) → x ≤ℤ y
-        by_room x y h = omega (arith, ints)
+    by_den n m l up h = at_most_of_gap (n *ℤ l) (l *ℤ m) (subst (λ v. pos 0 ≤ℤ v) (ring (n ∷ m ∷ l ∷ []) (var 2 ⊗ (var 1 ⊖ var 0)) ((var 2 ⊗ var 1) ⊖ (var 0 ⊗ var 2)) refl) (mul_nonneg l (m -ℤ n) up (gap_of_at_most n m h)))
 
 -- the mediant is strictly between
 pub mediant_between : (a b : Frac) → IsEarlier a b → IsBetween a b (a.num +ℤ b.num) (a.den +ℤ b.den)
@@ -125,10 +122,10 @@ module _ (c : Plane) (s : Part) (e : Edge s) where
     module _ (from to : Frac) (least : pos 0 ≤ℤ from.num) (most : to.num ≤ℤ to.den) (next : AreNeighbours places from to) where
       none_between : (f : Face s) (i j : ℤ) → pos 0 <ℤ j → (from.num *ℤ j) <ℤ (i *ℤ from.den) → (i *ℤ to.den) <ℤ (to.num *ℤ j) → ¬ CrossesAt c f e i j
       none_between f i j up after before crosses =
-          let (r, listed, same) = are.all f i j up (weaker (between_inner from to i j up (after, before) least)) (weaker (between_last from to i j up (after, before) most)) crosses in
+          let (r, listed, same) = are.all f i j up (at_most_of_less _ _ (between_inner from to i j up (after, before) least)) (at_most_of_less _ _ (between_last from to i j up (after, before) most)) crosses in
           ⊎_elim
-          (λ early. clash (from.num *ℤ r.den) (r.num *ℤ from.den) (less_most from.num from.den i j r.num r.den from.positive up r.positive after (no_less same)) early)
-          (λ late. clash (r.num *ℤ to.den) (to.num *ℤ r.den) (most_less r.num r.den i j to.num to.den r.positive up to.positive (no_less (sym same)) before) late)
+          (λ early. less_not_at_most (from.num *ℤ r.den) (r.num *ℤ from.den) (less_most from.num from.den i j r.num r.den from.positive up r.positive after (at_most_of_same _ _ same)) early)
+          (λ late. less_not_at_most (r.num *ℤ to.den) (to.num *ℤ r.den) (most_less r.num r.den i j to.num to.den r.positive up to.positive (at_most_of_same _ _ (sym same)) before) late)
           (next r listed)
 
       -- so all points there are in the section if the mediant's is

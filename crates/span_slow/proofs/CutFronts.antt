@@ -1,7 +1,7 @@
 -- Where what the plane leaves of a face that is not edge-on hides an edge.
-use Rattle.std.proofs.Common.{◌≡◌, ◌⊎◌, inl, inr, List, [], ◌∷◌, Option, sym, subst, arith, All, length}
+use Rattle.std.proofs.Common.{◌≡◌, ◌⊎◌, inl, inr, List, [], ◌∷◌, Option, sym, subst, All, length}
 use Rattle.std.specs.Prelude.{ℤ, pos, ◌<ℤ◌, ◌≤ℤ◌, ◌↔◌, ◌≢◌, IfSome, IfNone, option_to_list}
-use Rattle.std.proofs.lemmas.Int.{ints}
+use Rattle.integers.proofs.Comparisons.{at_most_of_less, less_not_at_most, positive_of_more}
 use Rattle.lattice.specs.declared.points.Corner.{Corner}
 use Rattle.lattice.specs.Triangles.{IsBelow}
 use Rattle.lattice.specs.Triple.{Triple}
@@ -25,7 +25,7 @@ use Rattle.span_slow.specs.inner.Hidden.{AreNonnegative, IsWhereNonnegative, Are
 use Rattle.span_slow.specs.inner.CutHidden.{IsOrdinaryBeyond, AreWhereBeyond}
 use Rattle.span_slow.proofs.CutReads.{cut_hides_by_corners}
 use Rattle.span_slow.proofs.Fronts.{hides_by_corners, changes, rooted, front_none, end_apart, inside}
-use Rattle.geometry.proofs.PlaceFractions.{weaker, positive_of, strict}
+use Rattle.geometry.proofs.PlaceFractions.{strict}
 use Rattle.span_slow.proofs.LinearValues.{at_most_between}
 use Rattle.span_slow.proofs.Where.{Tells, told, IsRootOrEndAt, within_none, where_none, where_proper}
 
@@ -65,10 +65,7 @@ module _ (c : Plane) (s : Part) (sound : IsSound s) (in_range : All (IsBelow (le
     -- the face is before the plane all along
     pub cut_under_none : under.start ≤ℤ pos 0 → under.end ≤ℤ pos 0 → AreWhereBeyond c e (FaceHidesInCut c f) []
     cut_under_none start end = where_none (IsOrdinaryBeyond c s) e (FaceHidesInCut c f) (λ n m hn hm ordinary hides.
-        apart (value_at under.start under.end n m) ((by_under n m (positive_of n m hn hm)).0 hides).1 (at_most_between under.start under.end n m hn hm start end))
-      where
-        apart : (v : ℤ) → pos 0 <ℤ v → v ≤ℤ pos 0 → ⊥
-        apart v h k = omega (arith, ints)
+        less_not_at_most (pos 0) (value_at under.start under.end n m) ((by_under n m (positive_of_more n m hn hm)).0 hides).1 (at_most_between under.start under.end n m hn hm start end))
 
     module _ (ij jk ki : Linear) (tells_ij : Tells e ij (side_of d i j)) (tells_jk : Tells e jk (side_of d j k)) (tells_ki : Tells e ki (side_of d k i)) where
       abbrev plain : List Linear
@@ -94,14 +91,14 @@ module _ (c : Plane) (s : Part) (sound : IsSound s) (in_range : All (IsBelow (le
       module _ (some_depth : (pos 0 <ℤ depth.start) ⊎ (pos 0 <ℤ depth.end)) (some_under : (pos 0 <ℤ under.start) ⊎ (pos 0 <ℤ under.end)) where
         cut_inside : (n m : ℤ) → pos 0 <ℤ n → n <ℤ m → IsOrdinaryBeyond c s (share_point e.a e.b n m) → FaceHidesInCut c f (share_point e.a e.b n m) ↔ AreNonnegative (under ∷ plain) n m
         cut_inside n m hn hm ordinary =
-            let positive = positive_of n m hn hm in
+            let positive = positive_of_more n m hn hm in
             let known = inside d s sound in_range e f i j k corners front depth tells_depth ij jk ki tells_ij tells_jk tells_ki some_depth n m hn hm (ordinary-in-plain c s (share_point e.a e.b n m) ordinary.0) in (
-              (λ hides. let both = (by_under n m positive).0 hides in (weaker both.1, known.0 both.0)),
+              (λ hides. let both = (by_under n m positive).0 hides in (at_most_of_less _ _ both.1, known.0 both.0)),
               (λ all. (by_under n m positive).1 (
                 known.1 all.1,
                 strict all.0 (λ zero.
                     let root : (under.start ≢ under.end) × (value_at under.start under.end n m ≡ pos 0) = (changes under.start under.end n m positive some_under (sym zero), sym zero) in
-                    cut_end_apart n m positive (weaker hn) (weaker hm) all (inr (inr (inl root))) ordinary),
+                    cut_end_apart n m positive (at_most_of_less _ _ hn) (at_most_of_less _ _ hm) all (inr (inr (inl root))) ordinary),
               )),
             )
 

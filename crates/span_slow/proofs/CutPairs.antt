@@ -2,6 +2,7 @@
 use Rattle.std.proofs.Common.{◌≡◌, ◌⊎◌, inl, inr, List, [], ◌∷◌, Option, sym, subst, arith, All, length}
 use Rattle.std.specs.Prelude.{ℤ, pos, ◌<ℤ◌, ◌≤ℤ◌, ◌↔◌, IfSome, IfNone, option_to_list}
 use Rattle.std.proofs.lemmas.Int.{ints}
+use Rattle.integers.proofs.Comparisons.{at_most_of_less, positive_not_zero, positive_of_more}
 use Rattle.lattice.specs.declared.points.Corner.{Corner}
 use Rattle.lattice.specs.Triangles.{IsBelow}
 use Rattle.lattice.specs.Triple.{Triple, dot}
@@ -29,7 +30,7 @@ use Rattle.span_slow.specs.inner.CutHidden.{IsOrdinaryBeyond, AreWhereBeyond, Ar
 use Rattle.span_slow.proofs.Axes.{level_by_sight}
 use Rattle.span_slow.proofs.CutFronts.{none_beyond}
 use Rattle.span_slow.proofs.CutReads.{cut_hides_by_corners}
-use Rattle.geometry.proofs.PlaceFractions.{weaker, positive_of, strict}
+use Rattle.geometry.proofs.PlaceFractions.{strict}
 use Rattle.span_slow.proofs.Sides.{in_line_at, turned, side_turned, side_off_line, side_end_on, side_none, inside, end_apart}
 use Rattle.span_slow.proofs.Where.{Tells, told, IsRootOrEndAt, where_none, where_alike, where_proper, added_then, added_alike}
 
@@ -114,7 +115,7 @@ module _ (c : Plane) (axis : Triple) (s : Part) (sound : IsSound s) (in_range : 
 
   pub pair_second_none : (¬ IsInLine (toward_of c) e.a e.b m n) ⊎ (dot axis (difference m n) ≡ pos 0) → AreWhereBeyond c e (PairHides c k l m n) []
   pair_second_none none = where_none (IsOrdinaryBeyond c s) e (PairHides c k l m n) (λ i j hi hj ordinary h.
-      let here : IsInLine d e.a e.b m n = in-line-over d axis (cut-somewhere c) s sound in_range e i j (positive_of i j hi hj) (weaker hi) (weaker hj) ahead f m n second
+      let here : IsInLine d e.a e.b m n = in-line-over d axis (cut-somewhere c) s sound in_range e i j (positive_of_more i j hi hj) (at_most_of_less _ _ hi) (at_most_of_less _ _ hj) ahead f m n second
       (ordinary-in-plain c s (share_point e.a e.b i j) ordinary.0) h.1.1.point h.1.1.on_side h.1.1.same_sight in
       by none here h.1.0)
     where
@@ -170,19 +171,16 @@ module _ (c : Plane) (axis : Triple) (s : Part) (sound : IsSound s) (in_range : 
 
       -- the second side is not seen end-on
       second_wide : ¬ OnOneSight d (point_of m) (point_of n)
-      second_wide same = apart (dot axis (difference m n)) second_forward (level_by_sight d axis m n square ahead.level same)
-        where
-          apart : (v : ℤ) → pos 0 <ℤ v → v ≡ pos 0 → ⊥
-          apart v h k = omega (arith, ints)
+      second_wide same = positive_not_zero (dot axis (difference m n)) second_forward (level_by_sight d axis m n square ahead.level same)
 
       module _ (some : (pos 0 <ℤ behind.start) ⊎ (pos 0 <ℤ behind.end)) where
         pair_inside : (i j : ℤ) → pos 0 <ℤ i → i <ℤ j → IsOrdinaryBeyond c s (share_point e.a e.b i j) → PairHides c k l m n (share_point e.a e.b i j) ↔ AreNonnegative (reach ∷ second_past ∷ second_short ∷ plain) i j
         pair_inside i j hi hj ordinary =
-            let positive = positive_of i j hi hj in
+            let positive = positive_of_more i j hi hj in
             let known = inside d axis (cut-somewhere c) s sound in_range e ahead f k l first square first_line first_forward behind tells_behind past short tells_past tells_short some i j hi hj (ordinary-in-plain c s (share_point e.a e.b i j) ordinary.0) in
             let over = side-reaches c axis e.a e.b m n i j positive ahead second_line second_forward in (
               (λ h. let o = over.0 h.1.1 in
-                  (moved (sym (at_reach i j)) (weaker o.reach), (moved (sym (at_second_past i j)) o.past, (moved (sym (at_second_short i j)) o.short, known.0 h.0)))),
+                  (moved (sym (at_reach i j)) (at_most_of_less _ _ o.reach), (moved (sym (at_second_past i j)) o.past, (moved (sym (at_second_short i j)) o.short, known.0 h.0)))),
               (λ (h_reach, (h_second_past, (h_second_short, rest))). (
                 known.1 rest,
                 (
@@ -253,5 +251,5 @@ module _ (c : Plane) {s : Part} (closed : IsClosed s) (e : Edge s) (f : Face s) 
       → AreAddedBeyond c e (FaceHidesInCut c f) old new
   edge_on_added old first second new x y z =
       added_alike (IsOrdinaryBeyond c s) e (λ p. (WithSide i j p ⊎ WithSide j g p) ⊎ WithSide g i p) (FaceHidesInCut c f) old new
-      (λ n m hn hm ordinary. by_pairs (share_point e.a e.b n m) (positive_of n m hn hm) ordinary.1)
+      (λ n m hn hm ordinary. by_pairs (share_point e.a e.b n m) (positive_of_more n m hn hm) ordinary.1)
       (added_then (IsOrdinaryBeyond c s) e (λ p. WithSide i j p ⊎ WithSide j g p) (WithSide g i) old second new (added_then (IsOrdinaryBeyond c s) e (WithSide i j) (WithSide j g) old first second x y) z)

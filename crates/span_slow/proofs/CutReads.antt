@@ -2,6 +2,7 @@
 use Rattle.std.proofs.Common.{◌≡◌, ◌⊎◌, inl, inr, Bool, false, sym, subst, ap, ◌∙◌, arith}
 use Rattle.std.specs.Prelude.{◌↔◌, ℤ, pos, neg_ℤ, ◌-ℤ◌, ◌<ℤ◌, ◌≤ℤ◌}
 use Rattle.std.proofs.lemmas.Int.{ints, by_lt_z}
+use Rattle.geometry.proofs.FacePoints.{face_point-turned}
 use Rattle.lattice.specs.declared.points.Axis.{Axis}
 use Rattle.lattice.specs.declared.points.Corner.{Corner}
 use Rattle.lattice.specs.Triple.{dot}
@@ -12,7 +13,6 @@ use Rattle.geometry.specs.Parts.{Part, Face}
 use Rattle.geometry.specs.Cuts.{FaceHidesInCut}
 use Rattle.hiding.specs.inner.Values.{AreCornersOf}
 use Rattle.hiding.specs.inner.CutValues.{HidesInCut}
-use Rattle.hiding.proofs.Hiding.{face-turned}
 use Rattle.span_slow.proofs.Axes.{dot_negated}
 
 -- seen from the low side, heights go against the axis
@@ -45,11 +45,11 @@ cut_hides_by_corners c f i j k p corners = (
   where
     there : AreCornersOf f i j k → (q : Point) → IsPointOfFace f.a f.b f.c q → IsPointOfFace i j k q
     there (inl (x, y, z)) q h = read_point q f.a f.b f.c i j k x y z h
-    there (inr (x, z, y)) q h = face-turned i k j q (read_point q f.a f.b f.c i k j x z y h)
+    there (inr (x, z, y)) q h = face_point-turned i k j q (read_point q f.a f.b f.c i k j x z y h)
 
     back : AreCornersOf f i j k → (q : Point) → IsPointOfFace i j k q → IsPointOfFace f.a f.b f.c q
     back (inl (x, y, z)) q h = read_point q i j k f.a f.b f.c (sym x) (sym y) (sym z) h
-    back (inr (x, z, y)) q h = read_point q i k j f.a f.b f.c (sym x) (sym z) (sym y) (face-turned i j k q h)
+    back (inr (x, z, y)) q h = read_point q i k j f.a f.b f.c (sym x) (sym z) (sym y) (face_point-turned i j k q h)
 
 pub cut_read_corners : (c : Plane) {s : Part} (f g : Face s) (p : Point) → f.a ≡ g.a → f.b ≡ g.b → f.c ≡ g.c → FaceHidesInCut c f p → FaceHidesInCut c g p
 cut_read_corners c f g p x y z h = record { point = h.point; on_face = read_point h.point f.a f.b f.c g.a g.b g.c x y z h.on_face; beyond = h.beyond; same_sight = h.same_sight; nearer = h.nearer }

@@ -1,7 +1,7 @@
 -- What a face hides by its facing: the other way round, and edge-on by its three sides.
-use Rattle.std.proofs.Common.{◌≡◌, ◌⊎◌, inl, inr, List, ◌++◌, sym, subst, ◌∙◌, arith}
-use Rattle.std.specs.Prelude.{ℤ, pos, ◌-ℤ◌, ◌<ℤ◌, ◌↔◌}
-use Rattle.std.proofs.lemmas.Int.{ints}
+use Rattle.std.proofs.Common.{◌≡◌, ◌⊎◌, inl, inr, List, ◌++◌, sym, subst, ◌∙◌}
+use Rattle.std.specs.Prelude.{ℤ, pos, ◌<ℤ◌, ◌↔◌}
+use Rattle.integers.proofs.Comparisons.{positive_of_negated, positive_of_more}
 use Rattle.lattice.specs.declared.points.Corner.{Corner}
 use Rattle.lattice.specs.Triple.{Triple, IsZero, det}
 use Rattle.lattice.specs.Points.{Point, IsPoint, difference}
@@ -14,7 +14,6 @@ use Rattle.intervals.specs.declared.interval.Interval.{Interval}
 use Rattle.span_slow.specs.inner.Hidden.{AreWhere}
 use Rattle.hiding.proofs.Values.{facing-turned}
 use Rattle.hiding.proofs.Hiding.{wide-side-hides, face-hides}
-use Rattle.geometry.proofs.PlaceFractions.{positive_of}
 use Rattle.span_slow.proofs.Fronts.{hides_by_corners}
 use Rattle.span_slow.proofs.Where.{where_alike, where_either}
 
@@ -23,10 +22,7 @@ pub facing_read : (d : Triple) (a b c : Corner) {x : ℤ} {u v : Triple} → x �
 facing_read d a b c value first second = value ∙ (λ i. det d (first i) (second i))
 
 pub facing_back : (d : Triple) (a b c : Corner) → facing_of d a b c <ℤ pos 0 → pos 0 <ℤ facing_of d a c b
-facing_back d a b c h = turn (facing_of d a b c) (facing_of d a c b) (facing-turned d a b c) h
-  where
-    turn : (x y : ℤ) → y ≡ pos 0 -ℤ x → x <ℤ pos 0 → pos 0 <ℤ y
-    turn x y e h = omega (arith, ints)
+facing_back d a b c h = positive_of_negated (facing_of d a b c) (facing_of d a c b) (facing-turned d a b c) h
 
 module _ (d : Triple) (somewhere : ¬ IsZero d) {s : Part} (closed : IsClosed s) (e : Edge s) (f : Face s) (a b c : Corner) (at_a : f.a ≡ a) (at_b : f.b ≡ b) (at_c : f.c ≡ c)
     (edge_on : facing_of d a b c ≡ pos 0) where
@@ -54,5 +50,5 @@ module _ (d : Triple) (somewhere : ¬ IsZero d) {s : Part} (closed : IsClosed s)
   pub edge_on_where : (xs ys zs : List (Interval Frac)) → AreWhere d e (WideSideHides d a b) xs → AreWhere d e (WideSideHides d b c) ys → AreWhere d e (WideSideHides d c a) zs
       → AreWhere d e (FaceHides d f.a f.b f.c) (xs ++ (ys ++ zs))
   edge_on_where xs ys zs x y z =
-      where_alike (IsOrdinary d s) e BySide (FaceHides d f.a f.b f.c) (xs ++ (ys ++ zs)) (λ n m hn hm ordinary. by_side _ (positive_of n m hn hm))
+      where_alike (IsOrdinary d s) e BySide (FaceHides d f.a f.b f.c) (xs ++ (ys ++ zs)) (λ n m hn hm ordinary. by_side _ (positive_of_more n m hn hm))
       (where_either (IsOrdinary d s) e (WideSideHides d a b) (λ p. WideSideHides d b c p ⊎ WideSideHides d c a p) xs (ys ++ zs) x (where_either (IsOrdinary d s) e (WideSideHides d b c) (WideSideHides d c a) ys zs y z))

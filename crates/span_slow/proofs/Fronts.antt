@@ -2,6 +2,7 @@
 use Rattle.std.proofs.Common.{◌≡◌, ◌⊎◌, inl, inr, List, [], ◌∷◌, Option, sym, subst, ◌∙◌, arith, All, length}
 use Rattle.std.specs.Prelude.{ℤ, pos, ◌<ℤ◌, ◌≤ℤ◌, ◌↔◌, ◌≢◌, IfSome, IfNone, option_to_list}
 use Rattle.std.proofs.lemmas.Int.{ints}
+use Rattle.integers.proofs.Comparisons.{at_most_of_less, not_negative_at, less_not_at_most, positive_of_more}
 use Rattle.integers.proofs.Signs.{zero_of_mul}
 use Rattle.lattice.specs.declared.points.Corner.{Corner}
 use Rattle.lattice.specs.Triangles.{IsBelow}
@@ -21,7 +22,7 @@ use Rattle.hiding.proofs.Values.{side-share, depth-share}
 use Rattle.hiding.proofs.Hiding.{hides-turned, hides-front}
 use Rattle.hiding.proofs.FrontEnds.{not-at-start, not-at-finish, not-at-front-end, IsRoot}
 use Rattle.span_slow.proofs.LinearValues.{at_most_between, level_value}
-use Rattle.geometry.proofs.PlaceFractions.{weaker, positive_of, strict}
+use Rattle.geometry.proofs.PlaceFractions.{strict}
 use Rattle.span_slow.proofs.Where.{Tells, told, IsRootOrEndAt, HasRootAt, where_none, where_proper}
 
 -- the order of the corners does not count
@@ -68,11 +69,8 @@ module _ (d : Triple) (s : Part) (sound : IsSound s) (in_range : All (IsBelow (l
   -- in front of the plane
   pub front_none : depth.start ≤ℤ pos 0 → depth.end ≤ℤ pos 0 → AreWhere d e (FaceHides d f.a f.b f.c) []
   front_none start end = where_none (IsOrdinary d s) e (FaceHides d f.a f.b f.c) (λ n m hn hm ordinary hides.
-      let least : pos 0 <ℤ value_at depth.start depth.end n m = subst (λ (v : ℤ). pos 0 <ℤ v) (sym (at_depth n m)) ((behind n m (positive_of n m hn hm)).0 hides).depth in
-      apart (value_at depth.start depth.end n m) least (at_most_between depth.start depth.end n m hn hm start end))
-    where
-      apart : (v : ℤ) → pos 0 <ℤ v → v ≤ℤ pos 0 → ⊥
-      apart v h k = omega (arith, ints)
+      let least : pos 0 <ℤ value_at depth.start depth.end n m = subst (λ (v : ℤ). pos 0 <ℤ v) (sym (at_depth n m)) ((behind n m (positive_of_more n m hn hm)).0 hides).depth in
+      less_not_at_most (pos 0) (value_at depth.start depth.end n m) least (at_most_between depth.start depth.end n m hn hm start end))
 
   module _ (ab bc ca : Linear) (tells_ab : Tells e ab (side_of d a b)) (tells_bc : Tells e bc (side_of d b c)) (tells_ca : Tells e ca (side_of d c a)) where
     at_ab : (n m : ℤ) → value_at ab.start ab.end n m ≡ side_of d a b (share_point e.a e.b n m)
@@ -114,16 +112,13 @@ module _ (d : Triple) (s : Part) (sound : IsSound s) (in_range : All (IsBelow (l
       inside n m hn hm ordinary = ((λ hides. all ((behind n m positive).0 hides)), (λ least. (behind n m positive).1 (all_back least)))
         where
           positive : pos 0 <ℤ m
-          positive = positive_of n m hn hm
-
-          moved : {v w : ℤ} → v ≡ w → pos 0 ≤ℤ w → pos 0 ≤ℤ v
-          moved same h = subst (λ (z : ℤ). pos 0 ≤ℤ z) (sym same) h
+          positive = positive_of_more n m hn hm
 
           moved_back : {v w : ℤ} → v ≡ w → pos 0 ≤ℤ v → pos 0 ≤ℤ w
           moved_back same h = subst (λ (z : ℤ). pos 0 ≤ℤ z) same h
 
           all : IsBehind d a b c (share_point e.a e.b n m) → AreNonnegative linears n m
-          all h = (moved (at_ab n m) h.ab, (moved (at_bc n m) h.bc, (moved (at_ca n m) h.ca, (moved (at_depth n m) (weaker h.depth), _))))
+          all h = (not_negative_at _ _ (at_ab n m) h.ab, (not_negative_at _ _ (at_bc n m) h.bc, (not_negative_at _ _ (at_ca n m) h.ca, (not_negative_at _ _ (at_depth n m) (at_most_of_less _ _ h.depth), _))))
 
           all_back : AreNonnegative linears n m → IsBehind d a b c (share_point e.a e.b n m)
           all_back (h_ab, (h_bc, (h_ca, (h_depth, u)))) = record {
@@ -132,7 +127,7 @@ module _ (d : Triple) (s : Part) (sound : IsSound s) (in_range : All (IsBelow (l
             ca = moved_back (at_ca n m) h_ca;
             depth = subst (λ (z : ℤ). pos 0 <ℤ z) (at_depth n m) (strict h_depth (λ zero.
                 let root : (depth.start ≢ depth.end) × (value_at depth.start depth.end n m ≡ pos 0) = (changes depth.start depth.end n m positive some (sym zero), sym zero) in
-                end_apart n m positive (weaker hn) (weaker hm) (h_ab, (h_bc, (h_ca, (h_depth, u)))) (inr (inr (inr (inr (inr (inl root)))))) ordinary));
+                end_apart n m positive (at_most_of_less _ _ hn) (at_most_of_less _ _ hm) (h_ab, (h_bc, (h_ca, (h_depth, u)))) (inr (inr (inr (inr (inr (inl root)))))) ordinary));
           }
 
       pub front_where : (x : Interval Frac) → IsWhereNonnegative linears x → (o : Option (Interval Frac)) → IfSome o (λ y. (y ≡ x) × IsEarlier x.from x.to) → IfNone o (¬ IsEarlier x.from x.to)

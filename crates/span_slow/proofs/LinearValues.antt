@@ -2,7 +2,8 @@
 use Rattle.std.proofs.Common.{◌≡◌, [], ◌∷◌, refl, sym, ap, ◌∙◌, arith}
 use Rattle.std.specs.Prelude.{ℤ, pos, ◌+ℤ◌, ◌-ℤ◌, ◌*ℤ◌, ◌<ℤ◌, ◌≤ℤ◌}
 use Rattle.std.proofs.lemmas.Int.{ints}
-use Rattle.integers.proofs.Ring.{Expr, var, ◌⊕◌, ◌⊖◌, ◌⊗◌, ring, by_one}
+use Rattle.integers.proofs.Comparisons.{times_zero}
+use Rattle.integers.proofs.Ring.{Expr, var, ◌⊕◌, ◌⊖◌, ◌⊗◌, ring, by_one, gap_of_less}
 use Rattle.integers.proofs.Signs.{zero_of_mul, mul_nonpos}
 use Rattle.hiding.specs.inner.Values.{value_at}
 
@@ -16,18 +17,12 @@ same_value f g n m k l h =
     (ring (f ∷ g ∷ n ∷ m ∷ k ∷ l ∷ []) ((var 5 ⊗ values (var 2) (var 3)) ⊖ (var 3 ⊗ values (var 4) (var 5))) (((var 2 ⊗ var 5) ⊖ (var 4 ⊗ var 3)) ⊗ (var 1 ⊖ var 0)) refl) h
 
 pub same_root : (f g n m k l : ℤ) → pos 0 <ℤ l → n *ℤ l ≡ k *ℤ m → value_at f g k l ≡ pos 0 → value_at f g n m ≡ pos 0
-same_root f g n m k l positive h root = zero_of_mul l (value_at f g n m) positive (same_value f g n m k l h ∙ ap (λ (v : ℤ). m *ℤ v) root ∙ nothing m)
-  where
-    nothing : (m : ℤ) → m *ℤ pos 0 ≡ pos 0
-    nothing m = omega (arith, ints)
+same_root f g n m k l positive h root = zero_of_mul l (value_at f g n m) positive (same_value f g n m k l h ∙ ap (λ (v : ℤ). m *ℤ v) root ∙ times_zero m)
 
 -- a value that is at most 0 at both ends is at most 0 between them
 pub at_most_between : (f g n m : ℤ) → pos 0 <ℤ n → n <ℤ m → f ≤ℤ pos 0 → g ≤ℤ pos 0 → value_at f g n m ≤ℤ pos 0
-at_most_between f g n m least most hf hg = sum _ _ (mul_nonpos (m -ℤ n) f (gap n m most) hf) (mul_nonpos n g least hg)
+at_most_between f g n m least most hf hg = sum _ _ (mul_nonpos (m -ℤ n) f (gap_of_less n m most) hf) (mul_nonpos n g least hg)
   where
-    gap : (n m : ℤ) → n <ℤ m → pos 0 <ℤ (m -ℤ n)
-    gap n m h = omega (arith, ints)
-
     sum : (a b : ℤ) → a ≤ℤ pos 0 → b ≤ℤ pos 0 → (a +ℤ b) ≤ℤ pos 0
     sum a b p q = omega (arith, ints)
 

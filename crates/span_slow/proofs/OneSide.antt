@@ -3,6 +3,8 @@ use Rattle.std.proofs.Common.{◌≡◌, ℕ, ◌+◌, ◌<◌, List, [], ◌∷
 use Rattle.std.specs.Prelude.{ℤ, pos, ◌+ℤ◌, ◌-ℤ◌, ◌*ℤ◌, ◌<ℤ◌, ◌≤ℤ◌}
 use Rattle.std.proofs.lemmas.Int.{ints}
 use Rattle.std.proofs.lemmas.List.{append-nil}
+use Rattle.integers.proofs.Absolutes.{natural_not_negative}
+use Rattle.integers.proofs.Comparisons.{not_negative_of_positive}
 use Rattle.integers.proofs.Ring.{var, con, ◌⊕◌, ◌⊖◌, ◌⊗◌, ring}
 use Rattle.integers.proofs.Signs.{mul_nonneg}
 use Rattle.lattice.specs.declared.points.Corner.{Corner}
@@ -23,16 +25,10 @@ use Rattle.span_slow.proofs.Where.{where_none, added_one}
 before_all : (c : Plane) (a b k : Corner) → IsBeforePlane c (point_of a) → IsBeforePlane c (point_of b) → IsBeforePlane c (point_of k) → (p : Point) → IsPointOfFace a b k p → ¬ IsBeyond c p
 before_all c a b k at_a at_b at_k p (i, j, n, some, is) beyond =
     clash _ _ (rise_beyond c (face_sum a b k i j n) (subst (IsBeyond c) is beyond)) (face_rise c a b k i j n) (sum _ _ _
-    (mul_nonneg (pos i) _ (natural i) (weak _ (over_before c a at_a)))
-    (mul_nonneg (pos j) _ (natural j) (weak _ (over_before c b at_b)))
-    (mul_nonneg (pos n) _ (natural n) (weak _ (over_before c k at_k))))
+    (mul_nonneg (pos i) _ (natural_not_negative i) (not_negative_of_positive _ (over_before c a at_a)))
+    (mul_nonneg (pos j) _ (natural_not_negative j) (not_negative_of_positive _ (over_before c b at_b)))
+    (mul_nonneg (pos n) _ (natural_not_negative n) (not_negative_of_positive _ (over_before c k at_k))))
   where
-    weak : (x : ℤ) → pos 0 <ℤ x → pos 0 ≤ℤ x
-    weak x h = omega (arith, ints)
-
-    natural : (n : ℕ) → pos 0 ≤ℤ pos n
-    natural n = omega (arith, ints)
-
     sum : (x y z : ℤ) → pos 0 ≤ℤ x → pos 0 ≤ℤ y → pos 0 ≤ℤ z → pos 0 ≤ℤ ((x +ℤ y) +ℤ z)
     sum x y z p q r = omega (arith, ints)
 
@@ -69,11 +65,8 @@ beyond_all c a b k at_a at_b at_k p (i, j, n, some, is) =
     at_n : over_of c k <ℤ pos 0
     at_n = over_beyond c k at_k
 
-    natural : (n : ℕ) → pos 0 ≤ℤ pos n
-    natural n = omega (arith, ints)
-
     weight : (n : ℕ) (x : ℤ) → x <ℤ pos 0 → ((pos n *ℤ x) +ℤ pos n) ≤ℤ pos 0
-    weight n x h = turned _ _ (ring (pos n ∷ x ∷ []) (var 0 ⊗ (con (pos 0) ⊖ (var 1 ⊕ con (pos 1)))) (con (pos 0) ⊖ ((var 0 ⊗ var 1) ⊕ var 0)) refl) (mul_nonneg (pos n) _ (natural n) (minus_one x h))
+    weight n x h = turned _ _ (ring (pos n ∷ x ∷ []) (var 0 ⊗ (con (pos 0) ⊖ (var 1 ⊕ con (pos 1)))) (con (pos 0) ⊖ ((var 0 ⊗ var 1) ⊕ var 0)) refl) (mul_nonneg (pos n) _ (natural_not_negative n) (minus_one x h))
       where
         turned : (x y : ℤ) → x ≡ pos 0 -ℤ y → pos 0 ≤ℤ x → y ≤ℤ pos 0
         turned x y e g = omega (arith, ints)

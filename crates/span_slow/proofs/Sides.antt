@@ -1,7 +1,7 @@
 -- Where a side of a face that is edge-on hides an edge: between its ends and behind its line.
-use Rattle.std.proofs.Common.{◌≡◌, ◌⊎◌, inl, inr, List, [], ◌∷◌, Option, sym, subst, arith, All, length}
+use Rattle.std.proofs.Common.{◌≡◌, ◌⊎◌, inl, inr, List, [], ◌∷◌, Option, sym, subst, All, length}
 use Rattle.std.specs.Prelude.{ℤ, pos, ◌<ℤ◌, ◌≤ℤ◌, ◌↔◌, ◌≢◌, IfSome, IfNone, option_to_list}
-use Rattle.std.proofs.lemmas.Int.{ints}
+use Rattle.integers.proofs.Comparisons.{at_most_of_less, positive_not_zero, not_negative_at, less_not_at_most, positive_of_more}
 use Rattle.lattice.specs.declared.points.Corner.{Corner}
 use Rattle.lattice.specs.Triangles.{IsBelow}
 use Rattle.lattice.specs.Triple.{Triple, dot, IsZero}
@@ -21,7 +21,7 @@ use Rattle.hiding.proofs.FrontEnds.{not-at-start, not-at-finish}
 use Rattle.hiding.proofs.SideEnds.{side-hides, in-line, one-sight, not-at-side-end, side-hides-turned}
 use Rattle.span_slow.proofs.Axes.{level_by_sight}
 use Rattle.span_slow.proofs.LinearValues.{at_most_between}
-use Rattle.geometry.proofs.PlaceFractions.{weaker, positive_of, strict}
+use Rattle.geometry.proofs.PlaceFractions.{strict}
 use Rattle.span_slow.proofs.Fronts.{changes, rooted}
 use Rattle.span_slow.proofs.Where.{Tells, told, IsRootOrEndAt, HasRootAt, where_none, where_alike, where_proper}
 
@@ -53,7 +53,7 @@ in_line_at d e a b k l at_a at_b = (
 module _ (d axis : Triple) (somewhere : ¬ IsZero d) (s : Part) (sound : IsSound s) (in_range : All (IsBelow (length s.corners)) s.triangles) (e : Edge s) (ahead : IsAhead d axis e.a e.b) (f : Face s) (k l : Corner) (side : IsSideOf f k l) where
   -- ---- sides that hide nothing at ordinary points
   hides_in_line : (n m : ℤ) → pos 0 <ℤ n → n <ℤ m → IsOrdinary d s (share_point e.a e.b n m) → WideSideHides d k l (share_point e.a e.b n m) → IsInLine d e.a e.b k l
-  hides_in_line n m hn hm ordinary h = in-line d axis somewhere s sound in_range e n m (positive_of n m hn hm) (weaker hn) (weaker hm) ahead f k l side ordinary h.1
+  hides_in_line n m hn hm ordinary h = in-line d axis somewhere s sound in_range e n m (positive_of_more n m hn hm) (at_most_of_less _ _ hn) (at_most_of_less _ _ hm) ahead f k l side ordinary h.1
 
   -- not in line with the edge
   pub side_off_line : ¬ IsInLine d e.a e.b k l → AreWhere d e (WideSideHides d k l) []
@@ -72,10 +72,7 @@ module _ (d axis : Triple) (somewhere : ¬ IsZero d) (s : Part) (sound : IsSound
 
     -- it is not seen end-on
     wide : ¬ OnOneSight d (point_of k) (point_of l)
-    wide same = apart (dot axis (difference k l)) forward (level_by_sight d axis k l square ahead.level same)
-      where
-        apart : (v : ℤ) → pos 0 <ℤ v → v ≡ pos 0 → ⊥
-        apart v h k = omega (arith, ints)
+    wide same = positive_not_zero (dot axis (difference k l)) forward (level_by_sight d axis k l square ahead.level same)
 
     under : (n m : ℤ) → pos 0 <ℤ m → WideSideHides d k l (share_point e.a e.b n m) ↔ IsBehindSide d axis k l (share_point e.a e.b n m)
     under n m positive =
@@ -85,11 +82,8 @@ module _ (d axis : Triple) (somewhere : ¬ IsZero d) (s : Part) (sound : IsSound
     -- in front of the line
     pub side_none : behind.start ≤ℤ pos 0 → behind.end ≤ℤ pos 0 → AreWhere d e (WideSideHides d k l) []
     side_none start end = where_none (IsOrdinary d s) e (WideSideHides d k l) (λ n m hn hm ordinary hides.
-        let least : pos 0 <ℤ value_at behind.start behind.end n m = subst (λ (v : ℤ). pos 0 <ℤ v) (sym (at_behind n m)) ((under n m (positive_of n m hn hm)).0 hides).behind in
-        apart (value_at behind.start behind.end n m) least (at_most_between behind.start behind.end n m hn hm start end))
-      where
-        apart : (v : ℤ) → pos 0 <ℤ v → v ≤ℤ pos 0 → ⊥
-        apart v h k = omega (arith, ints)
+        let least : pos 0 <ℤ value_at behind.start behind.end n m = subst (λ (v : ℤ). pos 0 <ℤ v) (sym (at_behind n m)) ((under n m (positive_of_more n m hn hm)).0 hides).behind in
+        less_not_at_most (pos 0) (value_at behind.start behind.end n m) least (at_most_between behind.start behind.end n m hn hm start end))
 
     module _ (past short : Linear) (tells_past : Tells e past (past_of axis k)) (tells_short : Tells e short (short_of axis l)) where
       at_past : (n m : ℤ) → value_at past.start past.end n m ≡ past_of axis k (share_point e.a e.b n m)
@@ -125,16 +119,13 @@ module _ (d axis : Triple) (somewhere : ¬ IsZero d) (s : Part) (sound : IsSound
         inside n m hn hm ordinary = ((λ hides. all ((under n m positive).0 hides)), (λ least. (under n m positive).1 (all_back least)))
           where
             positive : pos 0 <ℤ m
-            positive = positive_of n m hn hm
-
-            moved : {v w : ℤ} → v ≡ w → pos 0 ≤ℤ w → pos 0 ≤ℤ v
-            moved same h = subst (λ (z : ℤ). pos 0 ≤ℤ z) (sym same) h
+            positive = positive_of_more n m hn hm
 
             moved_back : {v w : ℤ} → v ≡ w → pos 0 ≤ℤ v → pos 0 ≤ℤ w
             moved_back same h = subst (λ (z : ℤ). pos 0 ≤ℤ z) same h
 
             all : IsBehindSide d axis k l (share_point e.a e.b n m) → AreNonnegative linears n m
-            all h = (moved (at_past n m) h.past, (moved (at_short n m) h.short, (moved (at_behind n m) (weaker h.behind), _)))
+            all h = (not_negative_at _ _ (at_past n m) h.past, (not_negative_at _ _ (at_short n m) h.short, (not_negative_at _ _ (at_behind n m) (at_most_of_less _ _ h.behind), _)))
 
             all_back : AreNonnegative linears n m → IsBehindSide d axis k l (share_point e.a e.b n m)
             all_back (h_past, (h_short, (h_behind, u))) = record {
@@ -142,7 +133,7 @@ module _ (d axis : Triple) (somewhere : ¬ IsZero d) (s : Part) (sound : IsSound
               short = moved_back (at_short n m) h_short;
               behind = subst (λ (z : ℤ). pos 0 <ℤ z) (at_behind n m) (strict h_behind (λ zero.
                   let root : (behind.start ≢ behind.end) × (value_at behind.start behind.end n m ≡ pos 0) = (changes behind.start behind.end n m positive some (sym zero), sym zero) in
-                  end_apart n m positive (weaker hn) (weaker hm) (h_past, (h_short, (h_behind, u))) (inr (inr (inr (inr (inl root))))) ordinary));
+                  end_apart n m positive (at_most_of_less _ _ hn) (at_most_of_less _ _ hm) (h_past, (h_short, (h_behind, u))) (inr (inr (inr (inr (inl root))))) ordinary));
             }
 
         pub side_where : (x : Interval Frac) → IsWhereNonnegative linears x → (o : Option (Interval Frac)) → IfSome o (λ y. (y ≡ x) × IsEarlier x.from x.to) → IfNone o (¬ IsEarlier x.from x.to)

@@ -3,6 +3,7 @@ use Rattle.std.proofs.Common.{◌≡◌, ◌⊎◌, inl, inr, ⊎_elim, List, []
 use Rattle.std.specs.Prelude.{ℤ, pos, ◌-ℤ◌, ◌*ℤ◌, ◌<ℤ◌, ◌≤ℤ◌, ◌↔◌}
 use Rattle.std.proofs.lemmas.Int.{ints}
 use Rattle.std.proofs.lemmas.List.Elements.{All-nil, All-push, All-contains}
+use Rattle.integers.proofs.Comparisons.{less_not_at_most, at_most_of_less, at_most_of_same, positive_of_more}
 use Rattle.integers.proofs.Ring.{var, ◌⊖◌, ◌⊗◌, ring, less_by, gap_of_less}
 use Rattle.integers.proofs.Signs.{mul_nonneg, mul_pos}
 use Rattle.exact_frac.specs.declared.Frac.{Frac}
@@ -14,8 +15,7 @@ use Rattle.geometry.specs.Places.{IsPlace, IsEarlier, IsSame, IsBetween, HasNoEn
 use Rattle.span_slow.specs.Beyond.{IsWithinAny, IsStretch}
 use Rattle.span_slow.specs.inner.Hidden.{AreWhereAt}
 use Rattle.span_slow.specs.inner.Sections.{mediant_point, IsKept, IsStretchAdded, IsApartFrom, AreWhereUpTo}
-use Rattle.geometry.proofs.PlaceFractions.{weaker, no_less, positive_of}
-use Rattle.geometry.proofs.PlaceOrder.{clash, three, less_most, most_most, IsNotLater, between_earlier}
+use Rattle.geometry.proofs.PlaceOrder.{three, less_most, most_most, IsNotLater, between_earlier}
 use Rattle.geometry.proofs.SamePlaces.{same_back, same_value, same_between, same_earlier}
 use Rattle.span_slow.proofs.Within.{within_old, within_new, within_cases}
 
@@ -28,7 +28,7 @@ module _ (O : Point → Type 0) {s : Part} (e : Edge s) (P : Point → Type 0) w
     ends = All-nil (λ (x : Interval Frac). HasNoEndAt O e x.from x.to);
     before = All-nil (λ (x : Interval Frac). IsNotLater x.to to);
     apart = apart;
-    exactly = λ n m first last less ordinary. absurd (none (n *ℤ to.den) m (mul_nonneg n to.den (weaker first) (weaker to.positive)) (subst (λ v. (n *ℤ to.den) <ℤ (v *ℤ m)) zero less));
+    exactly = λ n m first last less ordinary. absurd (none (n *ℤ to.den) m (mul_nonneg n to.den (at_most_of_less _ _ first) (at_most_of_less _ _ to.positive)) (subst (λ v. (n *ℤ to.den) <ℤ (v *ℤ m)) zero less));
   }
     where
       none : (x m : ℤ) → pos 0 ≤ℤ x → x <ℤ (pos 0 *ℤ m) → ⊥
@@ -53,11 +53,11 @@ module _ (O : Point → Type 0) {s : Part} (e : Edge s) (P : Point → Type 0) w
     side : (n m : ℤ) → pos 0 <ℤ n → n <ℤ m → O (share_point e.a e.b n m) → (n *ℤ to.den) <ℤ (to.num *ℤ m) → ((n *ℤ from.den) <ℤ (from.num *ℤ m)) ⊎ IsBetween from to n m
     side n m first last here less = ⊎_elim
         (λ l. inl l)
-        (λ r. ⊎_elim (λ same. absurd (before.apart n m (positive_of n m first last) (weaker first) (weaker last) same here)) (λ g. inr (g, less)) r)
+        (λ r. ⊎_elim (λ same. absurd (before.apart n m (positive_of_more n m first last) (at_most_of_less _ _ first) (at_most_of_less _ _ last) same here)) (λ g. inr (g, less)) r)
         (three (n *ℤ from.den) (from.num *ℤ m))
 
     not_both : (n m : ℤ) → (n *ℤ from.den) <ℤ (from.num *ℤ m) → IsBetween from to n m → ⊥
-    not_both n m less between = clash (n *ℤ from.den) (from.num *ℤ m) less (weaker between.0)
+    not_both n m less between = less_not_at_most (n *ℤ from.den) (from.num *ℤ m) less (at_most_of_less _ _ between.0)
 
     old_less : (n m : ℤ) → pos 0 <ℤ m → IsWithinAny old n m → (n *ℤ from.den) <ℤ (from.num *ℤ m)
     old_less n m up (x, listed, between) = less_most n m x.to.num x.to.den from.num from.den up x.to.positive from.positive between.1 (All-contains (λ (x : Interval Frac). IsNotLater x.to from) old x before.before listed)
@@ -72,7 +72,7 @@ module _ (O : Point → Type 0) {s : Part} (e : Edge s) (P : Point → Type 0) w
       before = still_before;
       apart = apart;
       exactly = λ n m first last less here. ⊎_elim (λ l. before.exactly n m first last l here) (λ b.
-          let up = positive_of n m first last in
+          let up = positive_of_more n m first last in
           let earlier = between_earlier from to n m up b in (
             (λ p. absurd (not (earlier, (alike earlier n m up b).0 p))),
             (λ w. absurd (not_both n m (old_less n m up w) b)),
@@ -86,7 +86,7 @@ module _ (O : Point → Type 0) {s : Part} (e : Edge s) (P : Point → Type 0) w
         before.apart x.from.num x.from.den x.from.positive places.0.least places.0.most (same_value x.from from x.from.num x.from.den same_from refl),
         apart x.to.num x.to.den x.to.positive places.1.least places.1.most at_to,
       );
-      before = All-push (λ (x : Interval Frac). IsNotLater x.to to) old x still_before (no_less at_to);
+      before = All-push (λ (x : Interval Frac). IsNotLater x.to to) old x still_before (at_most_of_same _ _ at_to);
       apart = apart;
       exactly = λ n m first last less here. ⊎_elim (λ l.
           let known = before.exactly n m first last l here in (
@@ -94,7 +94,7 @@ module _ (O : Point → Type 0) {s : Part} (e : Edge s) (P : Point → Type 0) w
             (λ w. ⊎_elim (λ h. known.1 h) (λ b. absurd (not_both n m l (same_between x.from x.to from to n m same_from same_to b))) (within_cases old x n m w)),
           )) (λ b. (
             (λ p. within_new old x n m (same_between from to x.from x.to n m back_from back_to b)),
-            (λ w. (alike kept.0 n m (positive_of n m first last) b).1 kept.1),
+            (λ w. (alike kept.0 n m (positive_of_more n m first last) b).1 kept.1),
           )) (side n m first last here less);
     }
       where

@@ -1,10 +1,11 @@
 -- Hidden and visible spans take turns along the edge.
 use Rattle.std.proofs.Common.{◌≡◌, ◌≢◌, ℕ, ◌+◌, ◌<◌, ◌≤◌, Bool, true, false, not, true≢false, List, [], ◌∷◌, ◌++◌, length, take, get_or, sym, subst, ◌∙◌, arith, ◌⊎◌, inl, inr, ⊎_elim}
-use Rattle.std.specs.Prelude.{ℤ, pos, ◌*ℤ◌, ◌<ℤ◌, ◌≤ℤ◌, All, Contains}
-use Rattle.std.proofs.lemmas.Int.{ints}
+use Rattle.std.specs.Prelude.{ℤ, pos, ◌*ℤ◌, ◌<ℤ◌, All, Contains}
 use Rattle.std.proofs.lemmas.Bool.{cases_lt}
 use Rattle.std.proofs.lemmas.List.{get_or-take, length-take, get_or_default}
 use Rattle.std.proofs.lemmas.List.Elements.{All-nil, All-push}
+use Rattle.integers.proofs.Comparisons.{at_most_of_less, less_not_at_most, at_most_itself}
+use Rattle.integers.proofs.Lists.{front_more}
 use Rattle.integers.proofs.Orders.{less_of_cmp}
 use Rattle.exact_frac.specs.declared.Frac.{Frac}
 use Rattle.exact_frac.specs.Frac.{order_of}
@@ -16,10 +17,9 @@ use Rattle.span_slow.specs.Spans.{Follow, Alternate}
 use Rattle.span_slow.specs.Beyond.{IsStretch, IsWithinAny}
 use Rattle.span_slow.specs.inner.Hidden.{IsIntervalEnd, TellsWithin, AreSpansOf}
 use Rattle.span_slow.specs.inner.Steps.{IsSpanAdded}
-use Rattle.geometry.proofs.PlaceOrder.{clash, weaken, less_most, most_less, most_most, IsNotLater, not_later_of_not, earlier_earlier, not_later_earlier, zero_of_not_later, one_of_not_later, zero_not_later}
+use Rattle.geometry.proofs.PlaceOrder.{less_most, most_less, most_most, IsNotLater, not_later_of_not, earlier_earlier, not_later_earlier, zero_of_not_later, one_of_not_later, zero_not_later}
 use Rattle.geometry.proofs.SamePlaces.{same, same_back, same_between, same_earlier}
 use Rattle.span_slow.proofs.Same.{same_known}
-use Rattle.span_slow.proofs.Lists.{front_more}
 
 -- ---- a list of spans with one more at its end
 -- the last one, if there is one, is hidden or not
@@ -105,10 +105,10 @@ free united k from to past later n m up b w =
     (λ less.
     let e : get_or (take k united) j u ≡ u = get_or-take k united j u less ∙ at in
     let before : IsNotLater u.to from = subst (λ (y : Interval Frac). IsNotLater y.to from) e (past j u (among j less w.1.1)) in
-    clash _ _ w.2.1 (weaken (u.to.num *ℤ m) (n *ℤ u.to.den) (most_less u.to.num u.to.den from.num from.den n m u.to.positive from.positive up before b.0)))
+    less_not_at_most _ _ w.2.1 (at_most_of_less (u.to.num *ℤ m) (n *ℤ u.to.den) (most_less u.to.num u.to.den from.num from.den n m u.to.positive from.positive up before b.0)))
     (λ le.
     let after : IsNotLater to u.from = subst (λ (y : Interval Frac). IsNotLater to y.from) at (later j u le w.1.1) in
-    clash _ _ w.2.0 (weaken (n *ℤ u.from.den) (u.from.num *ℤ m) (less_most n m to.num to.den u.from.num u.from.den up to.positive u.from.positive b.1 after)))
+    less_not_at_most _ _ w.2.0 (at_most_of_less (n *ℤ u.from.den) (u.from.num *ℤ m) (less_most n m to.num to.den u.from.num u.from.den up to.positive u.from.positive b.1 after)))
     (cases_lt j k)
   where
     among : (j : ℕ) → j < k → j < length united → j < length (take k united)
@@ -141,18 +141,15 @@ module _ (united : List (Interval Frac)) (stretches : All IsStretch united) (apa
 
     rest_later : (j : ℕ) (d : Interval Frac) → k ≤ j → j < length united → IsNotLater x.from (get_or united j d).from
     rest_later j d le long = ⊎_elim
-        (λ less. weaken _ _ (earlier_earlier x.from x.to (get_or united j d).from x_inside (rest_after j d less long)))
-        (λ least. subst (λ (i : ℕ). IsNotLater x.from (get_or united i d).from) (equal k j le least) (subst (λ (y : Interval Frac). IsNotLater x.from y.from) (sym (x_at d)) (itself (x.from.num *ℤ x.from.den))))
+        (λ less. at_most_of_less _ _ (earlier_earlier x.from x.to (get_or united j d).from x_inside (rest_after j d less long)))
+        (λ least. subst (λ (i : ℕ). IsNotLater x.from (get_or united i d).from) (equal k j le least) (subst (λ (y : Interval Frac). IsNotLater x.from y.from) (sym (x_at d)) (at_most_itself (x.from.num *ℤ x.from.den))))
         (cases_lt k j)
       where
         equal : (k j : ℕ) → k ≤ j → j ≤ k → k ≡ j
         equal k j p q = omega arith
 
-        itself : (z : ℤ) → z ≤ℤ z
-        itself z = omega (arith, ints)
-
     forth : IsNotLater from x.from
-    forth = ⊎_elim (λ h. zero_not_later from x.from h.1 stretch.from_place.least) (λ h. subst (λ (y : Interval Frac). IsNotLater from y.from) at (weaken _ _ (h k x (least k) within))) told.ahead
+    forth = ⊎_elim (λ h. zero_not_later from x.from h.1 stretch.from_place.least) (λ h. subst (λ (y : Interval Frac). IsNotLater from y.from) at (at_most_of_less _ _ (h k x (least k) within))) told.ahead
       where
         least : (k : ℕ) → k ≤ k
         least k = omega arith
@@ -181,16 +178,13 @@ module _ (united : List (Interval Frac)) (stretches : All IsStretch united) (apa
       place = stretch.to_place;
       known = inr (inr (x, listed, inr (same x.to)));
       past = subst (All IsPast) (front_more united k x within at) (All-push IsPast (take k united) x
-          (λ j d h. weaken _ _ (not_later_earlier (get_or (take k united) j d).to x.from x.to
-          (past_forth (get_or (take k united) j d).to (told.past j d h)) x_inside)) (itself (x.to.num *ℤ x.to.den)));
+          (λ j d h. at_most_of_less _ _ (not_later_earlier (get_or (take k united) j d).to x.from x.to
+          (past_forth (get_or (take k united) j d).to (told.past j d h)) x_inside)) (at_most_itself (x.to.num *ℤ x.to.den)));
       ahead = inr (λ j d le long. rest_after j d (more k j le) long);
       right = right_more united x.from x.to false mid y (up_to mid added) sf st x_inside (inr (inr (x, listed, inl (same x.from)))) (inr (inr (x, listed, inr (same x.to)))) is
           (λ n m up b off. (λ h. (x, listed, same_between y.from y.to x.from x.to n m sf st b), λ h. is));
     }
       where
-        itself : (z : ℤ) → z ≤ℤ z
-        itself z = omega (arith, ints)
-
         more : (k j : ℕ) → k + 1 ≤ j → k < j
         more k j h = omega arith
 

@@ -3,6 +3,7 @@ use Rattle.std.proofs.Common.{◌≡◌, ◌⊎◌, inl, inr, zero, suc, List, [
 use Rattle.std.specs.Prelude.{ℤ, pos, ◌<ℤ◌, ◌≤ℤ◌, ◌↔◌, ◌≢◌, IfSome, IfNone, option_to_list}
 use Rattle.std.proofs.lemmas.List.{append_assoc}
 use Rattle.std.proofs.lemmas.List.Elements.{All-append, Contains-append_left, Contains-append_right, Contains-append_cases}
+use Rattle.integers.proofs.Comparisons.{at_most_of_less, at_most_of_same, positive_of_more}
 use Rattle.exact_frac.specs.declared.Frac.{Frac}
 use Rattle.lattice.specs.declared.points.Corner.{Corner}
 use Rattle.lattice.specs.Points.{Point, point_of}
@@ -15,7 +16,7 @@ use Rattle.geometry.specs.Places.{IsPlace, IsEarlier, IsValue, IsBetween, IsFrom
 use Rattle.span_slow.specs.inner.Hidden.{AreNonnegative, HasRoot, IsRootOrEnd, IsWhereNonnegative, AreWhereAt, AreAddedAt}
 use Rattle.span_slow.specs.Beyond.{IsWithinAny, IsStretch}
 use Rattle.span_slow.proofs.LinearValues.{same_root}
-use Rattle.geometry.proofs.PlaceFractions.{weaker, no_less, strict, positive_of, value_at_start, value_at_finish, earlier_between}
+use Rattle.geometry.proofs.PlaceFractions.{strict, value_at_start, value_at_finish, earlier_between}
 
 -- ---- within lists of intervals
 pub within_none : (n m : ℤ) → ¬ IsWithinAny [] n m
@@ -147,17 +148,17 @@ module _ (O : Point → Type 0) {s : Part} (e : Edge s) (P : Point → Type 0) (
   -- so a point of O where P holds is not at an end
   is_between : (n m : ℤ) → pos 0 <ℤ n → n <ℤ m → O (share_point e.a e.b n m) → P (share_point e.a e.b n m) → IsBetween x.from x.to n m
   is_between n m hn hm ordinary p =
-      let positive = positive_of n m hn hm in
+      let positive = positive_of_more n m hn hm in
       let all = (inside n m hn hm ordinary).0 p in
-      let closed = (least.exactly n m positive (weaker hn) (weaker hm)).1 all in
-      let cut : IsRootOrEndAt linears n m → ⊥ = λ c. apart n m positive (weaker hn) (weaker hm) all c ordinary in (
+      let closed = (least.exactly n m positive (at_most_of_less _ _ hn) (at_most_of_less _ _ hm)).1 all in
+      let cut : IsRootOrEndAt linears n m → ⊥ = λ c. apart n m positive (at_most_of_less _ _ hn) (at_most_of_less _ _ hm) all c ordinary in (
         strict closed.0 (λ h. cut (cut_at linears x.from n m (sym h) least.from_end)),
         strict closed.1 (λ h. cut (cut_at linears x.to n m h least.to_end)),
       )
 
   holds_between : (n m : ℤ) → pos 0 <ℤ n → n <ℤ m → O (share_point e.a e.b n m) → IsBetween x.from x.to n m → P (share_point e.a e.b n m)
   holds_between n m hn hm ordinary between =
-      (inside n m hn hm ordinary).1 ((least.exactly n m (positive_of n m hn hm) (weaker hn) (weaker hm)).0 (weaker between.0, weaker between.1))
+      (inside n m hn hm ordinary).1 ((least.exactly n m (positive_of_more n m hn hm) (at_most_of_less _ _ hn) (at_most_of_less _ _ hm)).0 (at_most_of_less _ _ between.0, at_most_of_less _ _ between.1))
 
   at_end : (r : Frac) → IsPlace r → IsRootOrEnd linears r → IsFromTo x.from x.to r.num r.den → ¬ O (share_point e.a e.b r.num r.den)
   at_end r place cut within =
@@ -166,7 +167,7 @@ module _ (O : Point → Type 0) {s : Part} (e : Edge s) (P : Point → Type 0) (
   where_one : IsEarlier x.from x.to → AreWhereAt O e P (x ∷ [])
   where_one earlier = record {
     stretches = all_one IsStretch x (record { from_place = least.from_place; to_place = least.to_place; earlier = earlier });
-    ends = all_one (λ x. HasNoEndAt O e x.from x.to) x (at_end x.from least.from_place least.from_end (no_less refl, weaker earlier), at_end x.to least.to_place least.to_end (weaker earlier, no_less refl));
+    ends = all_one (λ x. HasNoEndAt O e x.from x.to) x (at_end x.from least.from_place least.from_end (at_most_of_same _ _ refl, at_most_of_less _ _ earlier), at_end x.to least.to_place least.to_end (at_most_of_less _ _ earlier, at_most_of_same _ _ refl));
     exactly = λ n m hn hm ordinary.
         ((λ p. (within_one x n m).0 (is_between n m hn hm ordinary p)), (λ within. holds_between n m hn hm ordinary ((within_one x n m).1 within)));
   }
@@ -174,7 +175,7 @@ module _ (O : Point → Type 0) {s : Part} (e : Edge s) (P : Point → Type 0) (
   where_no_inside : ¬ IsEarlier x.from x.to → AreWhereAt O e P []
   where_no_inside later = where_none O e P (λ n m hn hm ordinary p.
       let between = is_between n m hn hm ordinary p in
-      later (earlier_between x.from.num x.from.den x.to.num x.to.den n m x.from.positive x.to.positive (positive_of n m hn hm) between.0 between.1))
+      later (earlier_between x.from.num x.from.den x.to.num x.to.den n m x.from.positive x.to.positive (positive_of_more n m hn hm) between.0 between.1))
 
   -- kept if it has an inside
   pub where_proper : (o : Option (Interval Frac)) → IfSome o (λ y. (y ≡ x) × IsEarlier x.from x.to) → IfNone o (¬ IsEarlier x.from x.to) → AreWhereAt O e P (option_to_list o)

@@ -3,6 +3,7 @@ use Rattle.std.proofs.Common.{◌≡◌, zero, suc, List, [], ◌∷◌, Contain
 use Rattle.std.specs.Prelude.{ℤ, pos, ◌-ℤ◌, ◌*ℤ◌, ◌<ℤ◌, ◌≤ℤ◌}
 use Rattle.std.proofs.lemmas.Int.{ints, by_lt_z}
 use Rattle.std.proofs.lemmas.List.Elements.{Contains-get_or}
+use Rattle.integers.proofs.Lists.{Contains-later}
 use Rattle.integers.proofs.Ring.{var, ◌⊖◌, ◌⊗◌, ring}
 use Rattle.integers.proofs.Signs.{mul_nonneg}
 use Rattle.exact_frac.specs.declared.Frac.{Frac}
@@ -10,7 +11,7 @@ use Rattle.lattice.specs.Triple.{Triple}
 use Rattle.lattice.specs.Points.{Point, IsPoint, OnOneSight}
 use Rattle.geometry.specs.Faces.{share_point}
 use Rattle.geometry.specs.Parts.{Part, Edge}
-use Rattle.line_merge.proofs.Lists.{contains_rest, contains_first}
+use Rattle.line_merge.proofs.Lists.{contains_first}
 use Rattle.span_slow.specs.declared.span.Span.{Span}
 use Rattle.geometry.specs.Places.{IsPlace, point_at, IsEarlier, IsBetween, HasNoEndAt}
 use Rattle.span_slow.specs.Spans.{Follow, CoverEdge}
@@ -94,7 +95,7 @@ module _ (d : Triple) (O : Point → Type 0) (along : StaysAlong d O) {s : Part}
         (subst (λ (k : ℤ). (k *ℤ m) <ℤ (n *ℤ x.from.den)) (sym same.0) (subst (λ (k : ℤ). (from.num *ℤ m) <ℤ (n *ℤ k)) (sym same.1) after), within),
       ))
       (λ past. by_lt_z (x.to.num *ℤ m) (n *ℤ x.to.den)
-      (λ beyond. let (y, c, between) = find x.to to xs later (λ y c. apart y (contains_rest x xs y c)) beyond before in (y, contains_rest x xs y c, between))
+      (λ beyond. let (y, c, between) = find x.to to xs later (λ y c. apart y (Contains-later x xs y c)) beyond before in (y, Contains-later x xs y c, between))
       (λ not_past. absurd (not_at x.to (apart x (contains_first xs x)).1 (equal_of (x.to.num *ℤ m) (n *ℤ x.to.den) not_past past))))
 
   -- the share is at most 1

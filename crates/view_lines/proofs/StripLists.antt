@@ -1,10 +1,11 @@
 -- Lists of strips, edge by edge: one edge more, the edge of a strip and the strips of an edge.
 use Rattle.std.proofs.Common.{ℕ, zero, suc, ◌≡◌, ◌⊎◌, inl, inr, List, [], ◌∷◌, ◌++◌, Contains, refl, sym, subst, ap, ◌∙◌, arith, append-nil, append_assoc}
 use Rattle.std.proofs.lemmas.List.Elements.{Contains-append_cases, Contains-append_left, Contains-append_right}
+use Rattle.integers.proofs.Lists.{Contains-later}
 use Rattle.lattice.specs.declared.pieces.Strip.{Strip}
 use Rattle.lattice.specs.Triple.{Triple}
 use Rattle.geometry.specs.Parts.{Part, Edge, IsNumbered}
-use Rattle.line_merge.proofs.Lists.{contains_rest, contains_first}
+use Rattle.line_merge.proofs.Lists.{contains_first}
 use Rattle.span_slow.specs.declared.span.Span.{Span}
 use Rattle.std.specs.List.{AllZip}
 use Rattle.view_lines.specs.inner.Strips.{IsStripOf, AreStripsOf, AreEdgeStrips}
@@ -36,7 +37,7 @@ module _ (d : Triple) {s : Part} (Right : Edge s → List Span → Type 0) (halv
 
       by : (Contains rest y → Found ks) → (Contains here y ⊎ Contains rest y) → (i : ℕ) × (here : List Strip) × Contains (k ∷ ks) i × Contains here y × AreOf i here
       by in_later (inl c) = (k, here, contains_first ks k, c, of_k)
-      by in_later (inr c) = let (i, group, n, in_group, of_i) = in_later c in (i, group, contains_rest k ks i n, in_group, of_i)
+      by in_later (inr c) = let (i, group, n, in_group, of_i) = in_later c in (i, group, Contains-later k ks i n, in_group, of_i)
 
   pub strips_of_edge : (numbers : List ℕ) (strips : List Strip) → AreEdgeStrips d Right halves numbers strips → (i : ℕ) → Contains numbers i
       → (here : List Strip) × ((y : Strip) → Contains here y → Contains strips y) × AreOf i here

@@ -1,8 +1,8 @@
 use Rattle.std.proofs.Common.{◌≡◌, ◌∙◌, arith, to_z, of_z}
 use Rattle.std.specs.Int.{w32, int_min, int_max}
 use Rattle.std.proofs.lemmas.Int.{ints}
+use Rattle.integers.proofs.Logic.{↔-trans}
 use Rattle.meeting.proofs.Ranges.{coordinates-by-ranges}
-use Rattle.meeting.proofs.Machine.{both_ways}
 use Rattle.meeting.proofs.boxes.coordinates_meet.Goals as goal
 
 pub returns : goal.returns
@@ -15,7 +15,7 @@ returns c =
     let q : to_z w32 (of_z w32 s.q) ≡ s.q = omega (arith, ints) in
     let t = c.triangle_range.ensures in
     let e = c.edge_range.ensures in
-    both_ways c.ranges_meet.ensures
+    ↔-trans c.ranges_meet.ensures
     (coordinates-by-ranges s.a s.b s.c s.p s.q c.triangle_range.result c.edge_range.result
     (record { from = t.from ∙ (λ i. int_min (int_min (a i) (b i)) (d i)); to = t.to ∙ (λ i. int_max (int_max (a i) (b i)) (d i)) })
     (record { from = e.from ∙ (λ i. int_min (p i) (q i)); to = e.to ∙ (λ i. int_max (p i) (q i)) }))

@@ -1,9 +1,10 @@
 use Rattle.std.proofs.Common.{◌<◌, sym, subst, ap, ◌∙◌, ℤ, ◌<ℤ◌, pos, to_z, of_z, true≢false}
 use Rattle.std.specs.Int.{w128}
+use Rattle.integers.proofs.Logic.{↔-trans}
 use Rattle.lattice.specs.Triple.{Triple, dot, cross, IsZero}
 use Rattle.lattice.specs.Points.{of_dir}
 use Rattle.meeting.proofs.Products.{height_read, offset_read}
-use Rattle.meeting.proofs.Machine.{both_ways, signs_read}
+use Rattle.meeting.proofs.Machine.{signs_read}
 use Rattle.meeting.proofs.Beyond.{beyond, beyond-level}
 use Rattle.meeting.proofs.touching.touches_beyond.Goals as goal
 
@@ -29,4 +30,4 @@ returns c =
     let front = subst (λ (n : Triple). pos 0 <ℤ dot d n) normal c.front-d.ensures in
     let first = offset_read c.left_of.result c.left_of.ensures.size ∙ c.left_of.ensures.value in
     let second = offset_read c.left_of-2.result c.left_of-2.ensures.size ∙ c.left_of-2.ensures.value in
-    both_ways c.is_beyond.ensures (signs_read _ _ _ _ first second (beyond d s.a.now s.b.now s.c.now s.q.now front level))
+    ↔-trans c.is_beyond.ensures (signs_read _ _ _ _ first second (beyond d s.a.now s.b.now s.c.now s.q.now front level))

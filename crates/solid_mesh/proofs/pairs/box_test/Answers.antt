@@ -1,8 +1,9 @@
 use Rattle.std.proofs.Common.{◌≡◌, ◌/◌, ◌<◌, length, slice_get, Some, refl, arith}
 use Rattle.std.proofs.lemmas.Option.{slice_get_read}
+use Rattle.integers.proofs.Logic.{↔-trans}
 use Rattle.geometry.specs.Parts.{part_of}
 use Rattle.solid_mesh.proofs.FlatLemmas.{face_read}
-use Rattle.solid_mesh.proofs.Meets.{through, box_here}
+use Rattle.solid_mesh.proofs.Meets.{box_here}
 use Rattle.solid_mesh.proofs.Readings.{side_read}
 use Rattle.solid_mesh.proofs.pairs.box_test.Goals as goal
 
@@ -18,4 +19,4 @@ returns-clause-value c =
     let u = c.index-2.result.now in
     let at_u : slice_get s.triangles c.args.tri ≡ Some u = slice_get_read s.triangles (length s.triangles) c.args.tri u refl c.requires.tri c.index-2.ensures in
     let f = face_read s soup.in_range u c.args.tri at_u c.index-3.result.now c.index-4.result.now c.index-5.result.now c.index-3.ensures c.index-4.ensures c.index-5.ensures in
-    through c.boxes_meet.ensures (box_here s half c.args.tri e f refl)
+    ↔-trans c.boxes_meet.ensures (box_here s half c.args.tri e f refl)

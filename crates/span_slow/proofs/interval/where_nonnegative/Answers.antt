@@ -1,6 +1,6 @@
 use Rattle.std.proofs.Common.{sym, subst, take}
+use Rattle.integers.proofs.Lists.{front_more}
 use Rattle.span_slow.specs.inner.Hidden.{IsWhereNonnegative}
-use Rattle.span_slow.proofs.Lists.{front_more}
 use Rattle.span_slow.proofs.Clips.{clipped_more}
 use Rattle.span_slow.proofs.interval.where_nonnegative.Goals as goal
 
