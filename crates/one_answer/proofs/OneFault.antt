@@ -1,6 +1,7 @@
 -- A part has at most one fault, and a sound part has none.
 use Rattle.std.proofs.Common.{◌≡◌, ℕ, zero, suc, ◌+◌, ◌*◌, ◌/◌, ◌<◌, ◌≤◌, List, [], ◌∷◌, Contains, AllPairs, length, get_or, refl, sym, ap, subst, ◌∙◌, arith}
 use Rattle.std.proofs.lemmas.List.Kept.{AllPairs-from_increasing}
+use Rattle.integers.proofs.Lists.{Contains-later}
 use Rattle.geometry.specs.Parts.{Part, HasNoFlatTriangle, IsClosed, HasNoSideTwice, HasNoDouble, AreEdges}
 use Rattle.geometry.specs.Sound.{IsSound, MeetInSharedCorners}
 use Rattle.solid_mesh.specs.Faults.{IsLeast, IsFlatAt, SharesEarlier, IsUnpaired, DoublesEarlier, MeetsAt, HasFault}
@@ -31,14 +32,11 @@ behind_first : (x y : ℕ) (xs : List ℕ) → x < y → (k : ℕ) → k < lengt
 behind_first x y xs above zero less e = let same : x ≡ y = e in absurd (omega (arith, above, same))
 behind_first x y xs above (suc k) less e = (k, omega (arith, less), e)
 
-later : (x y : ℕ) (xs : List ℕ) → Contains xs y → Contains (x ∷ xs) y
-later x y xs (k, less, e) = (suc k, omega (arith, less), e)
-
 -- behind equal first elements
 others_in : (x y : ℕ) (xs ys : List ℕ) → x ≡ y → IsRising (x ∷ xs) → ((n : ℕ) → Contains (x ∷ xs) n → Contains (y ∷ ys) n) → (n : ℕ) → Contains xs n → Contains ys n
 others_in x y xs ys e a f n c =
     let above : x < n = first_below x n xs a c in
-    let found = f n (later x n xs c) in
+    let found = f n (Contains-later x xs n c) in
     behind_first y n ys (omega (arith, above, e)) found.0 found.1 found.2
 
 -- rising lists with the same members are one

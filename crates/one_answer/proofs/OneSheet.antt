@@ -1,7 +1,7 @@
 -- Jobs with the same values have the same sheet for a part, or the same lack of room.
-use Rattle.std.proofs.Common.{◌≡◌, ℕ, Bool, ℤ, ◌-ℤ◌, ◌≤ℤ◌, List, [], ◌∷◌, map, get_or, drop, unwrap_or, Option, Some, None, option_map, refl, sym, ap, subst, ◌∙◌, arith}
-use Rattle.std.proofs.lemmas.Int.{ints}
+use Rattle.std.proofs.Common.{◌≡◌, ℕ, Bool, ℤ, ◌-ℤ◌, ◌≤ℤ◌, List, [], ◌∷◌, map, get_or, drop, unwrap_or, Option, Some, None, option_map, refl, sym, ap, subst, ◌∙◌}
 use Rattle.std.proofs.lemmas.Option.{slice_get_within}
+use Rattle.integers.proofs.Comparisons.{same_of_both}
 use Rattle.lattice.specs.declared.points.Corner.{Corner}
 use Rattle.lattice.specs.declared.pieces.ViewSpec.{ViewSpec}
 use Rattle.lattice.specs.declared.pieces.ViewSpec.TheVariants.{Plain, Section}
@@ -28,10 +28,7 @@ least_first f xs m n a b =
     subst (λ (z : ℤ). n ≤ℤ z) there.4 (subst (λ x. n ≤ℤ f x) there.3 (b.bound there.0 there.1 there.2))
 
 one_least : {A : Type 0} (f : A → ℤ) (xs : List A) (m n : ℤ) → IsLeast f xs m → IsLeast f xs n → m ≡ n
-one_least f xs m n a b = one_order m n (least_first f xs n m b a) (least_first f xs m n a b)
-  where
-    one_order : (m n : ℤ) → m ≤ℤ n → n ≤ℤ m → m ≡ n
-    one_order m n h k = omega (arith, ints)
+one_least f xs m n a b = same_of_both m n (least_first f xs n m b a) (least_first f xs m n a b)
 
 greatest_last : {A : Type 0} (f : A → ℤ) (xs : List A) (m n : ℤ) → IsGreatest f xs m → IsGreatest f xs n → m ≤ℤ n
 greatest_last f xs m n a b =
@@ -39,10 +36,7 @@ greatest_last f xs m n a b =
     subst (λ (z : ℤ). z ≤ℤ n) there.4 (subst (λ x. f x ≤ℤ n) there.3 (b.bound there.0 there.1 there.2))
 
 one_greatest : {A : Type 0} (f : A → ℤ) (xs : List A) (m n : ℤ) → IsGreatest f xs m → IsGreatest f xs n → m ≡ n
-one_greatest f xs m n a b = one_order m n (greatest_last f xs m n a b) (greatest_last f xs n m b a)
-  where
-    one_order : (m n : ℤ) → m ≤ℤ n → n ≤ℤ m → m ≡ n
-    one_order m n h k = omega (arith, ints)
+one_greatest f xs m n a b = same_of_both m n (greatest_last f xs m n a b) (greatest_last f xs n m b a)
 
 -- ---- views
 -- from where what is shown is seen

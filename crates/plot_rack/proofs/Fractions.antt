@@ -1,6 +1,6 @@
 -- A fraction in lowest terms is written with its own two numbers.
-use Rattle.std.proofs.Common.{◌≡◌, ◌*◌, ℕ, [], ◌∷◌, List, ◌++◌, codes, ℤ, pos, ◌*ℤ◌, ◌<ℤ◌, unsigned_abs, arith, refl, sym, ap, ◌∙◌, subst, inl, inr, false, mul_comm, append_assoc}
-use Rattle.std.specs.Prelude.{if◌then◌else◌, ◌==◌, ◌-ℤ◌}
+use Rattle.std.proofs.Common.{◌≡◌, ◌*◌, ℕ, [], ◌∷◌, List, ◌++◌, codes, ℤ, pos, ◌*ℤ◌, ◌<ℤ◌, unsigned_abs, arith, sym, ap, ◌∙◌, subst, inl, inr, false, mul_comm, append_assoc}
+use Rattle.std.specs.Prelude.{if◌then◌else◌, ◌==◌}
 use Rattle.std.specs.Fmt.{signed_decimal}
 use Rattle.std.specs.Int.{◌∣◌}
 use Rattle.std.proofs.lemmas.Int.{ints, unsigned_abs-mul}
@@ -8,8 +8,7 @@ use Rattle.std.proofs.lemmas.Bool.{ne_eqb}
 use Rattle.std.proofs.Math.Nat.{dvd-mul_left, eq-one_of_dvd-one}
 use Rattle.std.proofs.lemmas.Nat.Gcd.{dvd_antisymm}
 use Rattle.integers.proofs.Divisors.{divides_factor}
-use Rattle.integers.proofs.Ring.{var, con, ◌⊖◌, ◌⊗◌, ring, by_one, same_of_gap}
-use Rattle.integers.proofs.Signs.{zero_of_mul}
+use Rattle.integers.proofs.Orders.{same_of_products}
 use Rattle.exact_frac.specs.declared.Frac.{Frac}
 use Rattle.exact_frac.specs.Divisors.{IsGreatestDivisor}
 use Rattle.exact_frac.specs.Frac.{IsLowest}
@@ -30,11 +29,6 @@ divides a b c d positive lowest same =
 alike : (b d : ℤ) → pos 0 <ℤ b → pos 0 <ℤ d → unsigned_abs b ≡ unsigned_abs d → b ≡ d
 alike b d p q h = omega (arith, ints)
 
-cancel : (a c d : ℤ) → pos 0 <ℤ d → a *ℤ d ≡ c *ℤ d → a ≡ c
-cancel a c d p h =
-    same_of_gap a c (zero_of_mul d (a -ℤ c) p (by_one (d *ℤ (a -ℤ c)) (pos 0) (a *ℤ d) (c *ℤ d) (pos 1)
-    (ring (a ∷ c ∷ d ∷ []) ((var 2 ⊗ (var 0 ⊖ var 1)) ⊖ con (pos 0)) (((var 0 ⊗ var 2) ⊖ (var 1 ⊗ var 2)) ⊗ con (pos 1)) refl) h))
-
 record AreSame (a b c d : ℤ) : Type 0 where
   first : a ≡ c
   second : b ≡ d
@@ -42,7 +36,7 @@ record AreSame (a b c d : ℤ) : Type 0 where
 same_terms : (a b c d : ℤ) → pos 0 <ℤ b → pos 0 <ℤ d → IsGreatestDivisor a b (pos 1) → IsGreatestDivisor c d (pos 1) → a *ℤ d ≡ c *ℤ b → AreSame a b c d
 same_terms a b c d p q lowest lowest_too same =
     let second : b ≡ d = alike b d p q (dvd_antisymm (divides a b c d p lowest same) (divides c d a b q lowest_too (sym same))) in
-    record { first = cancel a c d q (same ∙ ap (λ (x : ℤ). c *ℤ x) second); second = second }
+    record { first = same_of_products a c d q (same ∙ ap (λ (x : ℤ). c *ℤ x) second); second = second }
 
 -- ---- its text
 ratio_text : (n d : ℤ) (text : List ℕ) → IsRatioText n d text

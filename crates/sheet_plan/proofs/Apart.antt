@@ -18,7 +18,7 @@ use Rattle.sheet_plan.specs.declared.cells.Cell.{Cell}
 use Rattle.sheet_plan.specs.declared.cells.Cell.TheVariants.{Grid, Lower}
 use Rattle.sheet_plan.specs.declared.cells.Shape.{Shape}
 use Rattle.sheet_plan.specs.declared.sheet.Sheet.{Sheet}
-use Rattle.sheet_plan.proofs.Bands.{NoneIsNegative, max_first, max_second, greatest_each, sum_not_negative, sum_behind, total_not_negative, total_behind, total_whole}
+use Rattle.sheet_plan.proofs.Bands.{NoneIsNegative, max_first, max_second, greatest_each, sum_below_not_negative, sum_behind, total_not_negative, total_behind, total_whole}
 use Rattle.sheet_plan.proofs.BoxPlaces.{IsBoxInCell, box_in_cell, lower_parts}
 use Rattle.sheet_plan.proofs.CellNames.{one_cell, row_of, cell_y-is, row_least, lower_than, few_columns, row_part, column_part, lower_part}
 use Rattle.sheet_plan.proofs.Sums.{greatest_least}
@@ -126,7 +126,7 @@ module _ (job : Job) (shapes : List Shape) (lower_parts_least : NoneIsNegative l
     where
       by_cell : (c : Cell) → v.shape.cell ≡ c → (margin ≤ℤ a.left) × (a.right ≤ℤ (margin +ℤ need_w shapes))
       by_cell (Grid row column) e = (
-        from_margin _ _ _ v.left (ap (cell_x shapes i) e) (sum_not_negative (column_stride shapes) columns_least column),
+        from_margin _ _ _ v.left (ap (cell_x shapes i) e) (sum_below_not_negative (column_stride shapes) columns_least column),
         up_to _ _ _ _ _ _ _ _ v.right (ap (cell_x shapes i) e) (column_part v.shape row column e) (greatest_each (part_of (Column column)) shapes i v.shape v.at)
             (sum_behind (column_stride shapes) columns_least column 4 (few_columns v.shape row column e v.inside)) (max_first (without_gap (sum_below (column_stride shapes) 4)) (without_gap (lower_strides shapes))),
       )
@@ -138,7 +138,7 @@ module _ (job : Job) (shapes : List Shape) (lower_parts_least : NoneIsNegative l
 
   within_height_of : (i : ℕ) (a : Box) → IsBoxInCell job shapes i a → (margin ≤ℤ a.top) × (a.bottom ≤ℤ (margin +ℤ need_h shapes))
   within_height_of i a v = (
-    from_margin _ _ _ v.top (cell_y-is shapes v.shape.cell) (sum_not_negative (row_stride shapes) rows_least (row_of v.shape.cell)),
+    from_margin _ _ _ v.top (cell_y-is shapes v.shape.cell) (sum_below_not_negative (row_stride shapes) rows_least (row_of v.shape.cell)),
     up_to _ _ _ _ _ _ _ _ v.bottom (cell_y-is shapes v.shape.cell) (row_part v.shape) (greatest_each (part_of (Row (row_of v.shape.cell))) shapes i v.shape v.at)
         (sum_behind (row_stride shapes) rows_least (row_of v.shape.cell) 4 (omega (arith, row_least v.shape.cell v.inside))) (≤ℤ_refl (need_h shapes)),
   )

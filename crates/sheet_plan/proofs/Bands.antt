@@ -7,6 +7,7 @@ use Rattle.std.proofs.lemmas.Int.{ints, clamps}
 use Rattle.std.proofs.lemmas.List.{take_all}
 use Rattle.std.proofs.lemmas.Option.{slice_get_within}
 use Rattle.std.proofs.Math.Nat.{eq-or-lt_of_le}
+use Rattle.integers.proofs.Comparisons.{sum_not_negative}
 use Rattle.sheet_plan.specs.declared.cells.Shape.{Shape}
 use Rattle.sheet_plan.specs.Layout.{greatest, total, sum_below}
 
@@ -29,9 +30,9 @@ longer : (s v m : ℤ) → m ≤ℤ s → pos 0 ≤ℤ v → m ≤ℤ (s +ℤ v)
 longer s v m h p = omega (arith, ints)
 
 module _ (f : ℕ → ℤ) (each : (k : ℕ) → pos 0 ≤ℤ f k) where
-  pub sum_not_negative : (n : ℕ) → pos 0 ≤ℤ sum_below f n
-  sum_not_negative zero = omega (arith, ints)
-  sum_not_negative (suc n) = longer (sum_below f n) (f n) (pos 0) (sum_not_negative n) (each n)
+  pub sum_below_not_negative : (n : ℕ) → pos 0 ≤ℤ sum_below f n
+  sum_below_not_negative zero = omega (arith, ints)
+  sum_below_not_negative (suc n) = longer (sum_below f n) (f n) (pos 0) (sum_below_not_negative n) (each n)
 
   pub sum_behind : (m n : ℕ) → m < n → (sum_below f m +ℤ f m) ≤ℤ sum_below f n
   sum_behind m zero h = absurd (omega arith)
@@ -45,9 +46,6 @@ module _ (f : ℕ → ℤ) (each : (k : ℕ) → pos 0 ≤ℤ f k) where
 abbrev pub NoneIsNegative : (Shape → ℤ) → List Shape → Type 0
 NoneIsNegative f xs = (i : ℕ) (x : Shape) → slice_get xs i ≡ Some x → pos 0 ≤ℤ f x
 
-sum_of_two : (a b : ℤ) → pos 0 ≤ℤ a → pos 0 ≤ℤ b → pos 0 ≤ℤ (a +ℤ b)
-sum_of_two a b p q = omega (arith, ints)
-
 first_only : (v t : ℤ) → pos 0 ≤ℤ t → (pos 0 +ℤ v) ≤ℤ (v +ℤ t)
 first_only v t h = omega (arith, ints)
 
@@ -58,7 +56,7 @@ pub total_not_negative : (f : Shape → ℤ) (xs : List Shape) (n : ℕ) → Non
 total_not_negative f [] zero h = omega (arith, ints)
 total_not_negative f [] (suc n) h = omega (arith, ints)
 total_not_negative f (x ∷ xs) zero h = omega (arith, ints)
-total_not_negative f (x ∷ xs) (suc n) h = sum_of_two (f x) (total f (take n xs)) (h 0 x refl) (total_not_negative f xs n (λ i y at. h (suc i) y at))
+total_not_negative f (x ∷ xs) (suc n) h = sum_not_negative (f x) (total f (take n xs)) (h 0 x refl) (total_not_negative f xs n (λ i y at. h (suc i) y at))
 
 pub total_behind : (f : Shape → ℤ) (xs : List Shape) → NoneIsNegative f xs → (i j : ℕ) (x : Shape) → i < j → slice_get xs i ≡ Some x → (total f (take i xs) +ℤ f x) ≤ℤ total f (take j xs)
 total_behind f [] h i j x l at = absurd (omega (arith, slice_get_within [] i x at))

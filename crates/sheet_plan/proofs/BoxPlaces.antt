@@ -1,8 +1,10 @@
 -- The box of a view stands in the view's cell, and is as large as the view's shape.
-use Rattle.std.proofs.Common.{◌≡◌, ℕ, zero, suc, ◌<◌, ◌≤◌, Bool, List, [], ◌∷◌, length, slice_get, Some, refl, sym, ap, ◌∙◌, subst, arith}
+use Rattle.std.proofs.Common.{◌≡◌, ℕ, zero, suc, ◌≤◌, Bool, List, [], ◌∷◌, slice_get, Some, refl, sym, ap, ◌∙◌, subst, arith}
 use Rattle.std.specs.Prelude.{ℤ, pos, ◌+ℤ◌, ◌-ℤ◌, ◌≤ℤ◌}
 use Rattle.std.proofs.lemmas.Int.{ints}
 use Rattle.std.proofs.lemmas.Option.{slice_get_within}
+use Rattle.integers.proofs.Comparisons.{gap_of_at_most}
+use Rattle.integers.proofs.Lists.{some_element}
 use Rattle.lattice.specs.Points.{of_dir}
 use Rattle.lattice.specs.Triple.{right_axis, up_axis}
 use Rattle.job_file.specs.declared.job.Job.{Job}
@@ -19,7 +21,7 @@ use Rattle.sheet_plan.specs.Sheets.{IsPlaceOf}
 use Rattle.sheet_plan.specs.inner.Sizes.{IsInGrid}
 use Rattle.sheet_plan.proofs.Bands.{NoneIsNegative}
 use Rattle.sheet_plan.proofs.CellNames.{in_grid, lower_part_least}
-use Rattle.sheet_plan.proofs.Ordered.{gap_of, length_ordered}
+use Rattle.sheet_plan.proofs.Ordered.{length_ordered}
 use Rattle.sheet_plan.proofs.Scales.{IsBounded, scale_bounds}
 
 -- ---- the shape with this number is that of a view, which reaches so far
@@ -37,11 +39,6 @@ shape_from third m (v ∷ vs) (e ∷ es) zero s at = record { view = v; extent =
 shape_from third m (v ∷ vs) (e ∷ es) (suc i) s at =
     let r = shape_from third m vs es i s at in
     record { view = r.view; extent = r.extent; listed = r.listed; reaches = r.reaches; is = r.is }
-
-some_element : {X : Type 0} (xs : List X) (i : ℕ) → i < length xs → (x : X) × (slice_get xs i ≡ Some x)
-some_element [] i h = absurd (omega arith)
-some_element (x ∷ xs) zero h = (x, refl)
-some_element (x ∷ xs) (suc i) h = some_element xs i (omega arith)
 
 -- ---- from the place of the view's origin to the ends of its box
 at_left : (a x0 u v c l : ℤ) → a ≡ x0 +ℤ u → u ≡ v → x0 ≡ c -ℤ l → l ≡ v → a ≡ c
@@ -93,7 +90,7 @@ module _ (job : Job) (extents : List Extent) (num den : ℕ) (sheet : Sheet) (h 
   -- what a shape reaches isn't negative
   reach : (q : ℕ) (u v : ℤ) → u ≤ℤ v → pos 0 ≤ℤ (sheet_length (measure_at job num den) q v (pos 1) -ℤ sheet_length (measure_at job num den) q u (pos 1))
   reach q u v ordered =
-      gap_of _ _ (length_ordered (measure_at job num den) q u v
+      gap_of_at_most _ _ (length_ordered (measure_at job num den) q u v
       (subst (λ (n : ℕ). 1 ≤ n) h.den_is bounds.den_least) (subst (λ (n : ℕ). n ≤ 100) h.den_is bounds.den_greatest) job.few_decimals ordered)
 
   width_least : (third : Bool) (v : JobView) (e : Extent) → pos 0 ≤ℤ (shape_of third (measure_at job num den) v e).width

@@ -1,7 +1,7 @@
 -- The origins of the views in the front view's column have equal x, and those of the views in its row equal y.
-use Rattle.std.proofs.Common.{◌≡◌, ℕ, Bool, true, false, List, Some, refl, sym, ap, ◌∙◌, subst, arith}
+use Rattle.std.proofs.Common.{◌≡◌, ℕ, Bool, true, false, List, Some, refl, sym, ap, ◌∙◌, subst}
 use Rattle.std.specs.Prelude.{ℤ, pos, ◌+ℤ◌, ◌-ℤ◌, ◌≤ℤ◌, IsTrue}
-use Rattle.std.proofs.lemmas.Int.{ints}
+use Rattle.integers.proofs.Comparisons.{same_of_both}
 use Rattle.lattice.specs.declared.pieces.ViewSpec.{ViewSpec}
 use Rattle.lattice.specs.declared.pieces.ViewSpec.TheVariants.{Plain, Section}
 use Rattle.lattice.specs.declared.points.Corner.{Corner}
@@ -27,21 +27,18 @@ use Rattle.sheet_plan.proofs.BoxPlaces.{measure_at, view_at}
 use Rattle.sheet_plan.proofs.Listed.{zip_at}
 
 -- ---- there is one least and one greatest value
-both_ways : (m n : ℤ) → m ≤ℤ n → n ≤ℤ m → m ≡ n
-both_ways m n h g = omega (arith, ints)
-
 module _ {A : Type 0} (f : A → ℤ) (xs : List A) where
   below : (m n : ℤ) → IsLeast f xs m → IsLeast f xs n → n ≤ℤ m
   below m n h g = let r = h.reached in subst (λ (z : ℤ). n ≤ℤ z) (ap f r.3 ∙ r.4) (g.bound r.0 r.1 r.2)
 
   one_least : (m n : ℤ) → IsLeast f xs m → IsLeast f xs n → m ≡ n
-  one_least m n h g = both_ways m n (below n m g h) (below m n h g)
+  one_least m n h g = same_of_both m n (below n m g h) (below m n h g)
 
   above : (m n : ℤ) → IsGreatest f xs m → IsGreatest f xs n → m ≤ℤ n
   above m n h g = let r = h.reached in subst (λ (z : ℤ). z ≤ℤ n) (ap f r.3 ∙ r.4) (g.bound r.0 r.1 r.2)
 
   one_greatest : (m n : ℤ) → IsGreatest f xs m → IsGreatest f xs n → m ≡ n
-  one_greatest m n h g = both_ways m n (above m n h g) (above n m g h)
+  one_greatest m n h g = same_of_both m n (above m n h g) (above n m g h)
 
 -- ---- a column's views have one right axis, and a row's views one up axis
 abbrev level : Triple

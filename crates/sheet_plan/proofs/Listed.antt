@@ -1,28 +1,19 @@
 -- Facts on each element of a list that grows by one, and the shapes of the views that are left.
-use Rattle.std.proofs.Common.{◌≡◌, ℕ, zero, suc, ◌+◌, ◌<◌, ◌≤◌, ◌⊎◌, inl, inr, Bool, List, [], ◌∷◌, ◌++◌, length, drop, get_or, slice_get, Some, refl, sym, ap, ◌∙◌, subst, append_assoc}
+use Rattle.std.proofs.Common.{◌≡◌, ℕ, zero, suc, ◌+◌, ◌<◌, ◌≤◌, ◌⊎◌, inl, inr, Bool, List, [], ◌∷◌, ◌++◌, length, drop, get_or, slice_get, Some, sym, ap, ◌∙◌, subst, append_assoc}
 use Rattle.std.proofs.lemmas.List.{drop_more, drop_all, append-nil}
 use Rattle.std.specs.List.{AllZip}
+use Rattle.integers.proofs.Lists.{slice_get_push}
 use Rattle.job_file.specs.declared.view.JobView.{JobView}
 use Rattle.sheet_plan.specs.declared.bounds.Extent.{Extent}
 use Rattle.sheet_plan.specs.declared.cells.Shape.{Shape}
 use Rattle.sheet_plan.specs.Layout.{shape_of, shapes_of}
 use Rattle.sheet_plan.specs.Numbers.{Measure}
 
-pub pushed : {X : Type 0} (xs : List X) (x y : X) (j : ℕ) → slice_get (xs ++ x ∷ []) j ≡ Some y → (slice_get xs j ≡ Some y) ⊎ ((j ≡ length xs) × (x ≡ y))
-pushed [] x y zero h = inr (refl, (cc))
-pushed [] x y (suc j) h = absurd (cc)
-pushed (z ∷ xs) x y zero h = inl h
-pushed (z ∷ xs) x y (suc j) h = further (pushed xs x y j h)
-  where
-    further : ((slice_get xs j ≡ Some y) ⊎ ((j ≡ length xs) × (x ≡ y))) → ((slice_get xs j ≡ Some y) ⊎ ((suc j ≡ suc (length xs)) × (x ≡ y)))
-    further (inl e) = inl e
-    further (inr e) = inr (ap suc e.0, e.1)
-
 -- what relates elements at one place does so with one more
 module _ {X Y : Type 0} (P : ℕ → Y → X → Type 0) (ys : List Y) (xs new : List X) (x : X) (i : ℕ) (count : length xs ≡ i) (step : new ≡ xs ++ x ∷ [])
     (before : (j : ℕ) (y : Y) (z : X) → slice_get ys j ≡ Some y → slice_get xs j ≡ Some z → P j y z) (last : (y : Y) → slice_get ys i ≡ Some y → P i y x) where
   pub each_more : (j : ℕ) (y : Y) (z : X) → slice_get ys j ≡ Some y → slice_get new j ≡ Some z → P j y z
-  each_more j y z at got = by_cases (pushed xs x z j (sym (ap (λ (l : List X). slice_get l j) step) ∙ got))
+  each_more j y z at got = by_cases (slice_get_push xs x j z (sym (ap (λ (l : List X). slice_get l j) step) ∙ got))
     where
       by_cases : ((slice_get xs j ≡ Some z) ⊎ ((j ≡ length xs) × (x ≡ z))) → P j y z
       by_cases (inl e) = before j y z at e

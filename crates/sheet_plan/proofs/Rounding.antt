@@ -2,6 +2,7 @@
 use Rattle.std.proofs.Common.{◌≡◌, ℕ, zero, suc, ◌+◌, ◌*◌, ◌<◌, ◌≤◌, ◌^◌, arith, subst, ◌∙◌, sym, mul-le-mul}
 use Rattle.std.specs.Prelude.{ℤ, pos, ◌+ℤ◌, ◌-ℤ◌, ◌*ℤ◌, ◌<ℤ◌, ◌≤ℤ◌, unsigned_abs}
 use Rattle.std.proofs.lemmas.Int.{ints}
+use Rattle.integers.proofs.Comparisons.{twice_positive}
 use Rattle.integers.specs.Floors.{IsFloor, floor_of}
 use Rattle.integers.proofs.Floors.{floor_of-unique, IsFloor-nested, IsFloor-shifted}
 use Rattle.integers.proofs.FloorSizes.{IsFloor-size}
@@ -9,9 +10,6 @@ use Rattle.integers.proofs.Ring.{mul_assoc}
 use Rattle.integers.proofs.Signs.{mul_pos}
 use Rattle.integers.proofs.Sizes.{abs_times, abs_plus}
 use Rattle.sheet_plan.specs.Numbers.{nearest}
-
-twice_positive : (d : ℤ) → pos 0 <ℤ d → pos 0 <ℤ (pos 2 *ℤ d)
-twice_positive d h = omega (arith, ints)
 
 pub rounded_is : (r t f n w d : ℤ) → pos 0 <ℤ w → pos 0 <ℤ d → IsFloor t ((pos 2 *ℤ f) *ℤ n) w → IsFloor r (t +ℤ d) (pos 2 *ℤ d) → r ≡ nearest (f *ℤ n) (d *ℤ w)
 rounded_is r t f n w d hw hd inner outer =

@@ -4,6 +4,7 @@ use Rattle.std.specs.Prelude.{ℤ, pos, ◌+ℤ◌, ◌≤ℤ◌}
 use Rattle.std.specs.Int.{int_max}
 use Rattle.std.proofs.lemmas.Int.{ints, clamps}
 use Rattle.std.proofs.lemmas.List.{take_more, drop_more, drop_all}
+use Rattle.integers.proofs.Comparisons.{zero_plus, plus_zero}
 use Rattle.sheet_plan.specs.declared.cells.Shape.{Shape}
 use Rattle.sheet_plan.specs.Layout.{greatest, total, sum_below}
 
@@ -57,10 +58,7 @@ module _ (f : Shape → ℤ) (xs : List Shape) where
 
 -- ---- the sum over the first views
 total_append : (f : Shape → ℤ) (xs ys : List Shape) → total f (xs ++ ys) ≡ total f xs +ℤ total f ys
-total_append f [] ys = nothing (total f ys)
-  where
-    nothing : (a : ℤ) → a ≡ pos 0 +ℤ a
-    nothing a = omega (arith, ints)
+total_append f [] ys = zero_plus (total f ys)
 total_append f (x ∷ xs) ys = ap (λ (z : ℤ). f x +ℤ z) (total_append f xs ys) ∙ assoc (f x) (total f xs) (total f ys)
   where
     assoc : (a b c : ℤ) → a +ℤ (b +ℤ c) ≡ (a +ℤ b) +ℤ c
@@ -68,12 +66,9 @@ total_append f (x ∷ xs) ys = ap (λ (z : ℤ). f x +ℤ z) (total_append f xs 
 
 pub total_taken : (f : Shape → ℤ) (xs : List Shape) (i : ℕ) (d : Shape) (a v : ℤ) → i < length xs → v ≡ f (get_or xs i d) → a ≡ total f (take i xs) → a +ℤ v ≡ total f (take (i + 1) xs)
 total_taken f xs i d a v h is so_far =
-    ap (λ (z : ℤ). a +ℤ z) (is ∙ only (f (get_or xs i d)))
+    ap (λ (z : ℤ). a +ℤ z) (is ∙ plus_zero (f (get_or xs i d)))
     ∙ ap (λ (z : ℤ). z +ℤ total f (get_or xs i d ∷ [])) so_far
     ∙ sym (ap (total f) (take_more xs i d h) ∙ total_append f (take i xs) (get_or xs i d ∷ []))
-  where
-    only : (a : ℤ) → a ≡ a +ℤ pos 0
-    only a = omega (arith, ints)
 
 -- ---- the sum of the first values
 pub sum_more : (f : ℕ → ℤ) (i : ℕ) (a v : ℤ) → a ≡ sum_below f i → v ≡ f i → a +ℤ v ≡ sum_below f (i + 1)
