@@ -12,3 +12,4 @@ pub mod BorderSteps
 pub mod PlaceOrder
 pub mod PlaceFractions
 pub mod SamePlaces
+pub mod TracePoints

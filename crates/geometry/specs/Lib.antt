@@ -3,6 +3,7 @@ pub mod Parts
 pub mod Views
 pub mod Places
 pub mod Cuts
+pub mod Traces
 pub mod Pieces
 pub mod Scenes
 pub mod Runs

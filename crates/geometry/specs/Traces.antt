@@ -1,0 +1,94 @@
+-- Where planes of cuts are seen edge-on in a plain view: their traces, and which points are ordinary beside them.
+use Rattle.std.specs.Prelude.{◌≡◌, ◌≢◌, ◌⊎◌, ℤ, pos, ◌*ℤ◌, ◌≤ℤ◌, List, Contains}
+use Rattle.lattice.specs.declared.points.Axis.{Axis}
+use Rattle.lattice.specs.declared.points.Axis.TheVariants.{X, Y, Z}
+use Rattle.lattice.specs.declared.points.Corner.{Corner}
+use Rattle.lattice.specs.Cuts.{Plane, unit_of, IsBeyond, IsBeforePlane}
+use Rattle.lattice.specs.Points.{Point, point_of, OnOneSight}
+use Rattle.lattice.specs.Triple.{Triple, det}
+use Rattle.geometry.specs.Faces.{difference}
+use Rattle.geometry.specs.Parts.{Part, Edge}
+use Rattle.geometry.specs.Views.{IsSeenOver, IsOrdinary}
+
+-- ---- axes
+-- the number of a direction along an axis
+abbrev pub component_of : Axis → Triple → ℤ
+component_of X d = d.x
+component_of Y d = d.y
+component_of Z d = d.z
+
+-- the coordinate of a point on an axis, times its w
+abbrev pub coordinate_of : Axis → Point → ℤ
+coordinate_of X p = p.x
+coordinate_of Y p = p.y
+coordinate_of Z p = p.z
+
+-- the axis beside two different ones
+abbrev pub third_of : Axis → Axis → Axis
+third_of X X = X
+third_of X Y = Z
+third_of X Z = Y
+third_of Y X = Z
+third_of Y Y = Y
+third_of Y Z = X
+third_of Z X = Y
+third_of Z Y = X
+third_of Z Z = Z
+
+-- the direction is along the axis: on no other has it a number that isn't 0
+pub record IsAlong (axis : Axis) (d : Triple) : Type 0 where
+  pub there : component_of axis d ≢ pos 0
+  pub alone : (other : Axis) → other ≢ axis → component_of other d ≡ pos 0
+
+-- ---- traces
+-- The view along d has the trace of the plane of a cut: d is along an axis other than the cut's, corners are on both sides of the
+-- plane, and on the third axis, along which the trace runs, not all corners are at one place.
+pub record HasTrace (d : Triple) (s : Part) (c : Plane) (sight : Axis) : Type 0 where
+  pub other : sight ≢ c.axis
+  pub along : IsAlong sight d
+  pub before : (k : Corner) × Contains s.corners k × IsBeforePlane c (point_of k)
+  pub beyond : (k : Corner) × Contains s.corners k × IsBeyond c (point_of k)
+  pub apart : (k : Corner) × (l : Corner) × Contains s.corners k × Contains s.corners l
+      × (coordinate_of (third_of c.axis sight) (point_of k) ≢ coordinate_of (third_of c.axis sight) (point_of l))
+
+-- on an axis the point is between the least and the greatest of the corners
+pub record IsAmongCorners (s : Part) (axis : Axis) (p : Point) : Type 0 where
+  pub least : (k : Corner) × Contains s.corners k × ((coordinate_of axis (point_of k) *ℤ p.w) ≤ℤ coordinate_of axis p)
+  pub most : (k : Corner) × Contains s.corners k × (coordinate_of axis p ≤ℤ (coordinate_of axis (point_of k) *ℤ p.w))
+
+-- a point of the trace: at the place that the cut names, and on the two other axes among the corners
+pub record IsOnTrace (d : Triple) (s : Part) (c : Plane) (sight : Axis) (p : Point) : Type 0 where
+  pub has : HasTrace d s c sight
+  pub place : coordinate_of c.axis p ≡ c.at *ℤ p.w
+  pub within : IsAmongCorners s sight p
+  pub within_run : IsAmongCorners s (third_of c.axis sight) p
+
+abbrev pub IsTracePoint : Triple → Part → List Plane → Point → Type 0
+IsTracePoint d s cuts p = (c : Plane) × Contains cuts c × ((sight : Axis) × IsOnTrace d s c sight p)
+
+-- no corner is before the point on the axis, or none is behind it
+abbrev pub IsOutermost : Part → Axis → Point → Type 0
+IsOutermost s axis p =
+    ((k : Corner) → Contains s.corners k → coordinate_of axis p ≤ℤ (coordinate_of axis (point_of k) *ℤ p.w))
+    ⊎ ((k : Corner) → Contains s.corners k → (coordinate_of axis (point_of k) *ℤ p.w) ≤ℤ coordinate_of axis p)
+
+-- an end of a trace
+abbrev pub IsTraceEnd : Triple → Part → List Plane → Point → Type 0
+IsTraceEnd d s cuts p =
+    (c : Plane) × Contains cuts c × ((sight : Axis) × IsOnTrace d s c sight p × IsOutermost s (third_of c.axis sight) p)
+
+-- ---- ordinary points
+-- a trace has a point on the line of sight of p, and runs that way
+abbrev pub TraceRuns : Triple → Part → List Plane → Point → Triple → Type 0
+TraceRuns d s cuts p way =
+    (c : Plane) × Contains cuts c × ((sight : Axis) × ((q : Point) × IsOnTrace d s c sight q × OnOneSight d q p) × (way ≡ unit_of (third_of c.axis sight)))
+
+-- an edge has one, and runs that way
+abbrev pub EdgeRuns : Triple → (s : Part) → Point → Triple → Type 0
+EdgeRuns d s p way = (e : Edge s) × IsSeenOver d e p × (way ≡ difference e.a e.b)
+
+-- no corner and no end of a trace is on its line of sight, and any two edges or traces with a point on it have parallel projections
+pub record IsOrdinaryBeside (d : Triple) (s : Part) (cuts : List Plane) (p : Point) : Type 0 where
+  pub ordinary : IsOrdinary d s p
+  pub off_ends : (q : Point) → IsTraceEnd d s cuts q → ¬ OnOneSight d q p
+  pub off_traces : (way other : Triple) → TraceRuns d s cuts p way → EdgeRuns d s p other ⊎ TraceRuns d s cuts p other → det d way other ≡ pos 0
