@@ -196,4 +196,3 @@ pub fn round_half_up(num: i128, den: i128) -> i128
 {
     (2 * num + den).div_euclid(2 * den)
 }
-

@@ -3,16 +3,17 @@ use Rattle.std.proofs.Common.{◌≡◌, ◌≢◌, ◌⊎◌, inl, inr, ◌<◌
 use Rattle.std.specs.Prelude.{ℤ, pos, negsuc, ◌+ℤ◌, ◌-ℤ◌, ◌*ℤ◌, ◌≤ℤ◌}
 use Rattle.std.proofs.lemmas.Int.{ints, by_lt_z}
 use Rattle.integers.proofs.Comparisons.{at_most_by, at_most_of_less, gap_of_at_most, sum_not_negative}
-use Rattle.integers.proofs.Ring.{var, con, ◌⊕◌, ◌⊖◌, ◌⊗◌, ring}
+use Rattle.integers.proofs.Ring.{var, con, ◌⊕◌, ◌⊖◌, ◌⊗◌, ring, by_one}
 use Rattle.integers.proofs.Signs.{mul_nonneg, square_pos}
 use Rattle.lattice.specs.declared.points.Axis.{Axis}
 use Rattle.lattice.specs.declared.points.Axis.TheVariants.{X, Y, Z}
 use Rattle.lattice.specs.declared.points.Corner.{Corner}
 use Rattle.lattice.specs.Cuts.{Plane, unit_of}
 use Rattle.lattice.specs.Points.{Point, IsPoint, point_of, scaled, OnOneSight}
-use Rattle.lattice.specs.Triple.{Triple, dot, IsZero}
+use Rattle.lattice.specs.Triple.{Triple, dot, det, IsZero}
 use Rattle.lattice.proofs.SightAxes.{agree_of_sight}
 use Rattle.lattice.proofs.SightLines.{sight_of_along}
+use Rattle.lattice.proofs.Vectors.{letters, dots, crosses}
 use Rattle.geometry.specs.Parts.{Part}
 use Rattle.geometry.specs.Traces.{component_of, coordinate_of, third_of, IsAlong, IsAmongCorners, TraceRuns, EdgeRuns, IsOrdinaryBeside}
 use Rattle.geometry.proofs.Sights.{sight_on, ordinary_along}
@@ -161,6 +162,14 @@ module _ (d : Triple) (sight : Axis) (along : IsAlong sight d) (p q : Point) whe
   coordinates_of_sight same x n =
       let is = λ (r : Point). unit_product x (scaled r) ∙ scaled_component x r in
       (λ t. sym (is p) t *ℤ q.w) ∙ agree_of_sight d (unit_of x) p q somewhere (unit_product x d ∙ along.alone x n) same ∙ (λ t. is q t *ℤ p.w)
+
+-- the order of two ways doesn't matter to whether they are parallel as they are seen
+pub det_turned : (d s t : Triple) → det d s t ≡ pos 0 → det d t s ≡ pos 0
+det_turned d s t none =
+    by_one _ _ (det d s t) (pos 0) (pos 0 -ℤ pos 1)
+    (ring (d.x ∷ d.y ∷ d.z ∷ s.x ∷ s.y ∷ s.z ∷ t.x ∷ t.y ∷ t.z ∷ [])
+    (dots (letters 0) (crosses (letters 6) (letters 3)) ⊖ con (pos 0))
+    ((dots (letters 0) (crosses (letters 3) (letters 6)) ⊖ con (pos 0)) ⊗ (con (pos 0) ⊖ con (pos 1))) refl) none
 
 -- ---- between two points
 -- what is at least so far as the nearer of two corners

@@ -4,7 +4,7 @@ use Rattle.lattice.specs.declared.points.Axis.{Axis}
 use Rattle.lattice.specs.declared.points.Axis.TheVariants.{X, Y, Z}
 use Rattle.lattice.specs.declared.points.Corner.{Corner}
 use Rattle.lattice.specs.Cuts.{Plane, unit_of, IsBeyond, IsBeforePlane}
-use Rattle.lattice.specs.Points.{Point, point_of, OnOneSight}
+use Rattle.lattice.specs.Points.{Point, IsPoint, point_of, OnOneSight}
 use Rattle.lattice.specs.Triple.{Triple, det}
 use Rattle.geometry.specs.Faces.{difference}
 use Rattle.geometry.specs.Parts.{Part, Edge}
@@ -59,6 +59,7 @@ pub record IsAmongCorners (s : Part) (axis : Axis) (p : Point) : Type 0 where
 -- a point of the trace: at the place that the cut names, and on the two other axes among the corners
 pub record IsOnTrace (d : Triple) (s : Part) (c : Plane) (sight : Axis) (p : Point) : Type 0 where
   pub has : HasTrace d s c sight
+  pub there : IsPoint p
   pub place : coordinate_of c.axis p ≡ c.at *ℤ p.w
   pub within : IsAmongCorners s sight p
   pub within_run : IsAmongCorners s (third_of c.axis sight) p

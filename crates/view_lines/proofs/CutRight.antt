@@ -200,9 +200,9 @@ module _ (c : Plane) (fraction : ℕ) (s : Part) (halves numbers : List ℕ) (se
         (y, of_edges y listed, on, shows)
     strip_of q (inr (f, on_border), sight) = strip_of_border_point f q on_border sight
 
-    shown : ShowAt d Drawn Hidden strips p
-    shown = record { clear = clear; point_of = λ y listed on. point_of y (source y listed) on; strip_of = strip_of }
+    shown : ShowAt d Drawn Hidden (λ q. ⊥) strips p
+    shown = record { clear = clear; point_of = λ y listed on. inl (point_of y (source y listed) on); strip_of = strip_of; trace_of = λ q at. absurd at.0 }
 
   -- the strips put together are a right list
   pub right_in_cut : (pieces : List Piece) → AreMerged d strips pieces → AreRightInCut c fraction s pieces
-  right_in_cut pieces merged = right_of_merged d Drawn Hidden strips Ordinary shown pieces merged
+  right_in_cut pieces merged = right_of_merged d Drawn Hidden (λ q. ⊥) strips Ordinary shown pieces merged

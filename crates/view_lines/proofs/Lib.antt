@@ -11,4 +11,8 @@ pub mod SpanSums
 pub mod StripLists
 pub mod StripPlaces
 pub mod StripScenes
+pub mod TraceAxes
+pub mod TraceLists
+pub mod TraceMade
+pub mod TraceStrips
 pub mod ViewRight

@@ -1,13 +1,13 @@
 -- Strips that show what a view draws and hides are put together to pieces that are right for it.
-use Rattle.std.proofs.Common.{◌≡◌, Bool, true, false, List, Contains, ◌↔◌, refl, sym, subst, IsTrue}
+use Rattle.std.proofs.Common.{◌≡◌, ◌⊎◌, inl, inr, Bool, true, false, List, Contains, ◌↔◌, refl, sym, subst, IsTrue}
 use Rattle.lattice.specs.declared.pieces.Piece.{Piece}
 use Rattle.lattice.specs.declared.pieces.Strip.{Strip}
 use Rattle.lattice.specs.declared.pieces.StripKind.{StripKind}
 use Rattle.lattice.specs.declared.pieces.StripKind.TheVariants.{Seen, Hidden, Trace}
 use Rattle.lattice.specs.Triple.{Triple}
 use Rattle.lattice.specs.Points.{Point, IsPoint, OnOneSight}
-use Rattle.geometry.specs.Scenes.{IsSeenAt, SeesVisible, SeesHiddenAlone, AreRightIn}
-use Rattle.line_merge.specs.Merging.{LiesOnStrip, IsClear, LiesOnKind, AreMerged}
+use Rattle.geometry.specs.Scenes.{IsSeenAt, SeesVisible, SeesHiddenAlone, SeesTraceAlone, AreRightIn}
+use Rattle.line_merge.specs.Merging.{LiesOnStrip, IsClear, LiesOnKind, LiesOnTracesOnly, AreMerged}
 use Rattle.view_lines.specs.inner.Strips.{kind_of}
 
 -- a strip of this kind is hidden or seen, as its point is
@@ -30,11 +30,17 @@ pub record Shows (d : Triple) (Drawn Hides : Point → Type 0) (y : Strip) (p q 
   pub sight : OnOneSight d q p
   pub tells : TellsOf y.kind (Hides q)
 
--- a strip lies on the line of sight of p exactly where a drawn point is on it, and shows it
-pub record ShowAt (d : Triple) (Drawn Hides : Point → Type 0) (strips : List Strip) (p : Point) : Type 0 where
+-- the strip is one of a trace, and a point of a trace is on the line of sight
+pub record ShowsTrace (d : Triple) (Traced : Point → Type 0) (y : Strip) (p : Point) : Type 0 where
+  pub kind : y.kind ≡ Trace
+  pub seen : (q : Point) × IsSeenAt d Traced p q
+
+-- a strip lies on the line of sight of p exactly where a drawn point or one of a trace is on it, and shows it
+pub record ShowAt (d : Triple) (Drawn Hides Traced : Point → Type 0) (strips : List Strip) (p : Point) : Type 0 where
   pub clear : IsClear d strips p
-  pub point_of : (y : Strip) → Contains strips y → LiesOnStrip d y p → (q : Point) × Shows d Drawn Hides y p q
+  pub point_of : (y : Strip) → Contains strips y → LiesOnStrip d y p → ((q : Point) × Shows d Drawn Hides y p q) ⊎ ShowsTrace d Traced y p
   pub strip_of : (q : Point) → IsSeenAt d Drawn p q → (y : Strip) × Contains strips y × LiesOnStrip d y p × Shows d Drawn Hides y p q
+  pub trace_of : (q : Point) → IsSeenAt d Traced p q → (y : Strip) × Contains strips y × LiesOnStrip d y p × (y.kind ≡ Trace)
 
 of_kind : (k l : StripKind) (P : Type 0) → k ≡ l → TellsOf k P → TellsOf l P
 of_kind k l P same tells = subst (λ (k : StripKind). TellsOf k P) same tells
@@ -54,43 +60,83 @@ hides_of Seen P tells none = absurd (none refl)
 hides_of Hidden P tells none = tells
 hides_of Trace P tells none = absurd tells
 
-module _ (d : Triple) (Drawn Hides : Point → Type 0) (strips : List Strip) where
-  module _ (p : Point) (shown : ShowAt d Drawn Hides strips p) where
+-- no strip of a trace is of another kind
+not_seen : (k : StripKind) → k ≡ Trace → ¬ (k ≡ Seen)
+not_seen Seen e = λ f. cc
+not_seen Hidden e = λ f. cc
+not_seen Trace e = λ f. cc
+
+not_hidden : (k : StripKind) → k ≡ Trace → ¬ (k ≡ Hidden)
+not_hidden Seen e = λ f. cc
+not_hidden Hidden e = λ f. cc
+not_hidden Trace e = λ f. cc
+
+module _ (d : Triple) (Drawn Hides Traced : Point → Type 0) (strips : List Strip) where
+  module _ (p : Point) (shown : ShowAt d Drawn Hides Traced strips p) where
+    -- a strip that isn't one of a trace shows a drawn point
+    drawn_by : (y : Strip) → ¬ (y.kind ≡ Trace) → ((q : Point) × Shows d Drawn Hides y p q) ⊎ ShowsTrace d Traced y p → (q : Point) × Shows d Drawn Hides y p q
+    drawn_by y not_trace (inl shows) = shows
+    drawn_by y not_trace (inr trace) = absurd (not_trace trace.kind)
+
+    of_seen : (y : Strip) → y.kind ≡ Seen → Contains strips y → LiesOnStrip d y p → (q : Point) × Shows d Drawn Hides y p q
+    of_seen y is c on = drawn_by y (λ t. not_seen y.kind t is) (shown.point_of y c on)
+
+    of_hidden : (y : Strip) → y.kind ≡ Hidden → Contains strips y → LiesOnStrip d y p → (q : Point) × Shows d Drawn Hides y p q
+    of_hidden y is c on = drawn_by y (λ t. not_hidden y.kind t is) (shown.point_of y c on)
+
     visible : LiesOnKind d strips Seen p ↔ SeesVisible d Drawn Hides p
     visible = (
-      λ v. let (y, c, is, on) = v in let (q, shows) = shown.point_of y c on in (q, shows.drawn, shows.sight, of_kind y.kind Seen (Hides q) is shows.tells),
+      λ v. let (y, c, is, on) = v in let (q, shows) = of_seen y is c on in (q, shows.drawn, shows.sight, of_kind y.kind Seen (Hides q) is shows.tells),
       λ v. let (q, drawn, sight, unseen) = v in let (y, c, on, shows) = shown.strip_of q (drawn, sight) in (y, c, seen_of y.kind (Hides q) shows.tells unseen, on),
     )
 
     hidden : (LiesOnKind d strips Hidden p × ¬ LiesOnKind d strips Seen p) ↔ SeesHiddenAlone d Drawn Hides p
     hidden = (
       λ h. let ((y, c, is, on), none) = h in record {
-        some = let (q, shows) = shown.point_of y c on in (q, (shows.drawn, shows.sight));
+        some = let (q, shows) = of_hidden y is c on in (q, (shows.drawn, shows.sight));
         hidden = λ q at. let (z, e, on_z, shows) = shown.strip_of q at in hides_of z.kind (Hides q) shows.tells (λ seen. none (z, e, seen, on_z));
       },
       λ h. (
         let (q, at) = h.some in let (y, c, on, shows) = shown.strip_of q at in (y, c, hidden_of y.kind (Hides q) shows.tells (h.hidden q at), on),
-        λ v. let (y, c, is, on) = v in let (q, shows) = shown.point_of y c on in of_kind y.kind Seen (Hides q) is shows.tells (h.hidden q (shows.drawn, shows.sight)),
+        λ v. let (y, c, is, on) = v in let (q, shows) = of_seen y is c on in of_kind y.kind Seen (Hides q) is shows.tells (h.hidden q (shows.drawn, shows.sight)),
       ),
     )
 
-    no_trace : (y : Strip) → Contains strips y → LiesOnStrip d y p → ¬ (y.kind ≡ Trace)
-    no_trace y c on is = let (q, shows) = shown.point_of y c on in of_kind y.kind Trace (Hides q) is shows.tells
+    -- a strip of a drawn point is none of a trace
+    not_trace : (y : Strip) (q : Point) → Shows d Drawn Hides y p q → ¬ (y.kind ≡ Trace)
+    not_trace y q shows is = of_kind y.kind Trace (Hides q) is shows.tells
+
+    seen_trace : (y : Strip) → y.kind ≡ Trace → ((q : Point) × Shows d Drawn Hides y p q) ⊎ ShowsTrace d Traced y p → (q : Point) × IsSeenAt d Traced p q
+    seen_trace y is (inl (q, shows)) = absurd (not_trace y q shows is)
+    seen_trace y is (inr trace) = trace.seen
+
+    kind_alone : (y : Strip) → ((q : Point) → ¬ IsSeenAt d Drawn p q) → ((q : Point) × Shows d Drawn Hides y p q) ⊎ ShowsTrace d Traced y p → y.kind ≡ Trace
+    kind_alone y none (inl (q, shows)) = absurd (none q (shows.drawn, shows.sight))
+    kind_alone y none (inr trace) = trace.kind
+
+    traced : LiesOnTracesOnly d strips p ↔ SeesTraceAlone d Drawn Traced p
+    traced = (
+      λ h. record {
+        some = let (y, c, on) = h.some in seen_trace y (h.traces y c on) (shown.point_of y c on);
+        none = λ q at. let (y, c, on, shows) = shown.strip_of q at in not_trace y q shows (h.traces y c on);
+      },
+      λ h. record {
+        some = let (q, at) = h.some in let (y, c, on, is) = shown.trace_of q at in (y, c, on);
+        traces = λ y c on. kind_alone y h.none (shown.point_of y c on);
+      },
+    )
 
   both : {A B C : Type 0} → A ↔ B → B ↔ C → A ↔ C
   both f g = (λ a. g.0 (f.0 a), λ c. f.1 (g.1 c))
 
   -- the strips put together are a right list
-  pub right_of_merged : (Ordinary : Point → Type 0) → ((p : Point) → IsPoint p → Ordinary p → ShowAt d Drawn Hides strips p)
-      → (pieces : List Piece) → AreMerged d strips pieces → AreRightIn d Drawn Hides Ordinary pieces
+  pub right_of_merged : (Ordinary : Point → Type 0) → ((p : Point) → IsPoint p → Ordinary p → ShowAt d Drawn Hides Traced strips p)
+      → (pieces : List Piece) → AreMerged d strips pieces → AreRightIn d Drawn Hides Traced Ordinary pieces
   right_of_merged Ordinary shown pieces merged = record {
     proper = merged.proper;
     visible = λ p positive ordinary. let at = shown p positive ordinary in both (merged.visible p positive at.clear) (visible p at);
     hidden = λ p positive ordinary. let at = shown p positive ordinary in both (merged.hidden p positive at.clear) (hidden p at);
-    chain = λ p positive ordinary on.
-        let at = shown p positive ordinary in
-        let traces = (merged.traces p positive at.clear).0 on in
-        let (y, c, on_y) = traces.some in no_trace p at y c on_y (traces.traces y c on_y);
+    traced = λ p positive ordinary. let at = shown p positive ordinary in both (merged.traces p positive at.clear) (traced p at);
     once = λ p positive ordinary. merged.once p positive (shown p positive ordinary).clear;
     whole = merged.whole;
   }

@@ -1,7 +1,7 @@
 -- What a view shows of a solid.
 use Rattle.std.specs.Prelude.{◌≡◌, ℕ, List, []}
 use Rattle.lattice.specs.Creases.{fraction_of}
-use Rattle.lattice.specs.Cuts.{plane_of, toward_of}
+use Rattle.lattice.specs.Cuts.{Plane, plane_of, toward_of}
 use Rattle.lattice.specs.Points.{of_dir}
 use Rattle.lattice.specs.declared.pieces.Crease.{Crease}
 use Rattle.lattice.specs.declared.pieces.HatchLine.{HatchLine}
@@ -18,10 +18,10 @@ use Rattle.span_count.specs.declared.span.EdgeSpans.{EdgeSpans}
 use Rattle.view_lines.specs.Counts.{AreCountsAlong}
 use Rattle.view_lines.specs.declared.view.ViewDrawing.{ViewDrawing}
 
--- the pieces are right for what the view shows: the whole part, or what a cut leaves of it
-abbrev pub IsRightView : ViewSpec → ℕ → Part → List Piece → Type 0
-IsRightView (Plain d) fraction s pieces = AreRight (of_dir d) fraction s pieces
-IsRightView (Section c) fraction s pieces = AreRightInCut (plane_of c) fraction s pieces
+-- the pieces are right for what the view shows: the whole part, with the traces of these cuts, or what a cut leaves of it
+abbrev pub IsRightView : ViewSpec → ℕ → Part → List Plane → List Piece → Type 0
+IsRightView (Plain d) fraction s cuts pieces = AreRight (of_dir d) fraction s cuts pieces
+IsRightView (Section c) fraction s cuts pieces = AreRightInCut (plane_of c) fraction s pieces
 
 -- the pieces are in the order of the view's direction, of a cut that toward its viewer
 abbrev pub IsOrderedView : ViewSpec → List Piece → Type 0
@@ -40,9 +40,9 @@ IsCountedView (Section c) fraction solid entries = entries ≡ []
 
 -- the view shows of the solid what was asked for: its pieces are right for it and the crease, and in order, its hatch lines are so
 -- many units apart, and its counts are right
-pub record ShowsView (solid : Solid) (crease : Crease) (spacing : ℕ) (asked : ViewSpec) (view : ViewDrawing) : Type 0 where
+pub record ShowsView (solid : Solid) (crease : Crease) (cuts : List Plane) (spacing : ℕ) (asked : ViewSpec) (view : ViewDrawing) : Type 0 where
   pub spec : view.spec ≡ asked
-  pub right : IsRightView asked (fraction_of crease) (solid_part solid) view.pieces.items
+  pub right : IsRightView asked (fraction_of crease) (solid_part solid) cuts view.pieces.items
   pub order : IsOrderedView asked view.pieces.items
   pub hatched : IsHatchedView asked spacing (solid_part solid) view.hatches.items
   pub counted : IsCountedView asked (fraction_of crease) solid view.counts.items

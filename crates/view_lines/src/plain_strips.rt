@@ -2,6 +2,7 @@
 ghost use Rattle.std.specs.Prelude.{◌≡◌, ◌≢◌, ◌↔◌, ℕ, ◌+◌, ◌≤◌, ◌^◌, [], map, IfOk, IsTrue};
 ghost use Rattle.std.specs.List.{AllZip};
 ghost use Rattle.lattice.specs.Creases.{fraction_of};
+ghost use Rattle.lattice.specs.Cuts.{plane_of};
 ghost use Rattle.lattice.specs.Points.{of_dir};
 ghost use Rattle.geometry.specs.Pieces.{AreInOrder};
 ghost use Rattle.geometry.specs.Scenes.{AreRight};
@@ -9,14 +10,16 @@ ghost use Rattle.solid_mesh.specs.Solids.{solid_part, edge_halves};
 ghost use Rattle.view_lines.specs.Counts.{AreCountsAlong};
 ghost use Rattle.view_lines.specs.Numbers.{CountsView, AreBelow};
 ghost use Rattle.view_lines.specs.inner.Strips.{TellHidden, AreEdgeStrips};
+ghost use Rattle.view_lines.specs.inner.Traces.{AreViewStrips};
 ghost use Rattle.view_lines.specs.inner.Told.{IsToldBy};
 
 use crate::counts::{Counts, counts_along};
 use crate::strips::add_strips;
+use crate::trace_strips::add_traces;
 use crate::view::{ViewDrawing, ViewLines};
 use edge_pick::{Crease, pick};
 use exact_frac::OutOfMemory;
-use lattice::{Dir, Strip, ViewSpec};
+use lattice::{Cut, Dir, Strip, ViewSpec};
 use line_merge::merge;
 use solid_mesh::Solid;
 use span_count::{CountSpan, EdgeSpans};
@@ -70,7 +73,23 @@ fn counted_strips(
     Ok(strips)
 }
 
-/// The plain view along a direction: visible lines solid and hidden ones dashed, in their order, and its counts and numbers.
+/// The strips of a plain view: those of the drawn edges with these counts, and then the traces of these cuts.
+fn view_strips(
+    alloc: Global,
+    solid: &Solid,
+    d: &Dir,
+    entries: &[EdgeSpans],
+    cuts: &[Cut],
+) -> Result<Vec<Strip>, OutOfMemory>
+    requires { (fraction : ℕ) × AreCountsAlong (of_dir d.now) fraction solid.now entries.now }
+    ensures { IfOk result (λ strips. AreViewStrips (of_dir d.now) (solid_part solid.now) (edge_halves solid.now) (map (λ x. x.edge) entries.now) (map plane_of cuts.now) strips.items) }
+{
+    let mut strips = counted_strips(alloc, solid, d, entries)?;
+    add_traces(&mut strips, solid, d, cuts)?;
+    Ok(strips)
+}
+
+/// The plain view along a direction: visible lines solid, hidden ones dashed and traces of cuts chain lines, in their order, and its counts and numbers.
 ///
 /// Carries the counts along the drawn edges and around corners, by as many tests as the bound at most, and then sorts the strips
 /// along their lines.
@@ -79,9 +98,10 @@ pub(crate) fn plain_lines(
     solid: &Solid,
     d: &Dir,
     crease: Crease,
+    cuts: &[Cut],
 ) -> Result<ViewLines, OutOfMemory>
     ensures spec { IfOk result (λ x. x.view.spec ≡ ViewSpec.Plain d.now) }
-    ensures right { IfOk result (λ x. AreRight (of_dir d.now) (fraction_of crease) (solid_part solid.now) x.view.pieces.items) }
+    ensures right { IfOk result (λ x. AreRight (of_dir d.now) (fraction_of crease) (solid_part solid.now) (map plane_of cuts.now) x.view.pieces.items) }
     ensures order { IfOk result (λ x. AreInOrder (of_dir d.now) x.view.pieces.items) }
     ensures hatched { IfOk result (λ x. x.view.hatches.items ≡ []) }
     ensures counts { IfOk result (λ x. AreCountsAlong (of_dir d.now) (fraction_of crease) solid.now x.view.counts.items) }
@@ -91,7 +111,7 @@ pub(crate) fn plain_lines(
 {
     let picked = pick(alloc, solid, d, crease)?;
     let Counts { entries, numbers } = counts_along(alloc, solid, d, crease, &picked)?;
-    let strips = counted_strips(alloc, solid, d, &entries)?;
+    let strips = view_strips(alloc, solid, d, &entries, cuts)?;
     let pieces = merge(alloc, d, &strips)?;
     let view = ViewDrawing {
         spec: ViewSpec::Plain(*d),

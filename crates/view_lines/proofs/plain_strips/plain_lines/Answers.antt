@@ -1,6 +1,7 @@
 use Rattle.std.proofs.Common.{List, map, sym, subst}
 use Rattle.lattice.specs.Creases.{fraction_of}
 use Rattle.lattice.specs.declared.pieces.Strip.{Strip}
+use Rattle.lattice.specs.Cuts.{plane_of}
 use Rattle.lattice.specs.Points.{of_dir}
 use Rattle.line_merge.specs.Merging.{AreStrips, AreMerged}
 use Rattle.solid_mesh.specs.Solids.{solid_part, edge_halves}
@@ -10,8 +11,8 @@ use Rattle.view_lines.specs.Counts.{AreCountsAlong}
 use Rattle.view_lines.proofs.ViewRight.{are_strips, right_view}
 use Rattle.view_lines.proofs.plain_strips.plain_lines.Goals as goal
 
-pub counted_strips-requires : goal.counted_strips-requires
-counted_strips-requires c =
+pub view_strips-requires : goal.view_strips-requires
+view_strips-requires c =
     let Along : List EdgeSpans → Type 0 = AreCountsAlong (of_dir c.args.d.now) (fraction_of c.args.crease) c.args.solid.now in
     (fraction_of c.args.crease, subst Along (sym c.deref.ensures.value) c.in_ok-entries.ensures.right)
 
@@ -23,7 +24,7 @@ merge-requires c =
     let Along : List EdgeSpans → Type 0 = AreCountsAlong d fraction solid in
     let along = subst Along (sym c.deref.ensures.value) c.in_ok-entries.ensures.right in
     subst (AreStrips d) (sym c.deref-2.ensures.value)
-    (are_strips d fraction (solid_part solid) (edge_halves solid) (map (λ x. x.edge) c.deref.result.now) c.in_ok-strips.strips.items (closed solid) (edge_there solid) along.edges c.in_ok-strips.ensures)
+    (are_strips d fraction (solid_part solid) (edge_halves solid) (map (λ x. x.edge) c.deref.result.now) (map plane_of c.args.cuts.now) c.in_ok-strips.strips.items (closed solid) (edge_there solid) along.edges c.in_ok-strips.ensures)
 
 pub returns-clause-right : goal.returns-clause-right
 returns-clause-right c =
@@ -34,7 +35,7 @@ returns-clause-right c =
     let pieces = c.in_ok-pieces.pieces.items in
     let Along : List EdgeSpans → Type 0 = AreCountsAlong d fraction solid in
     let along = subst Along (sym c.deref.ensures.value) c.in_ok-entries.ensures.right in
-    right_view d fraction (solid_part solid) (edge_halves solid) (map (λ x. x.edge) c.deref.result.now) strips (closed solid) (edge_there solid) along.edges c.in_ok-strips.ensures pieces
+    right_view d fraction (solid_part solid) (edge_halves solid) (map (λ x. x.edge) c.deref.result.now) (map plane_of c.args.cuts.now) strips (closed solid) (edge_there solid) along.edges c.in_ok-strips.ensures pieces
     (subst (λ (ys : List Strip). AreMerged d ys pieces) c.deref-2.ensures.value c.in_ok-pieces.ensures)
 
 pub returns-clause-counted : goal.returns-clause-counted
