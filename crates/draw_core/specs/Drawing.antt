@@ -1,7 +1,10 @@
 -- What a drawing shows, and its text.
-use Rattle.std.specs.Prelude.{◌≡◌, ◌≤◌, ℕ, ℤ, List, [], ◌∷◌, map, Option, Some, None, IsSomeAnd}
+use Rattle.std.specs.Prelude.{◌≡◌, ◌≤◌, ℕ, ℤ, List, [], ◌∷◌, map, flat_map, Option, Some, None, IsSomeAnd}
 use Rattle.std.specs.List.{AllZip}
+use Rattle.lattice.specs.Cuts.{Plane, plane_of}
 use Rattle.lattice.specs.declared.pieces.Crease.{Crease}
+use Rattle.lattice.specs.declared.pieces.ViewSpec.{ViewSpec}
+use Rattle.lattice.specs.declared.pieces.ViewSpec.TheVariants.{Plain, Section}
 use Rattle.desk.specs.Files.{Files}
 use Rattle.draw_words.specs.Names.{Named}
 use Rattle.job_file.specs.Seen.{job_seen}
@@ -25,18 +28,26 @@ use Rattle.view_lines.specs.Views.{ShowsView}
 use Rattle.view_lines.specs.declared.numbers.ViewNumbers.{ViewNumbers}
 use Rattle.view_lines.specs.declared.view.ViewDrawing.{ViewDrawing}
 
--- the view shows the solid as the job's view asks for it
-abbrev pub ShowsJobView : Solid → Crease → ℕ → JobView → ViewDrawing → Type 0
-ShowsJobView solid crease spacing asked view = ShowsView solid crease spacing asked.spec view
+-- the planes of the cuts among a job's views, in their order
+abbrev pub planes_of : ViewSpec → List Plane
+planes_of (Plain d) = []
+planes_of (Section c) = plane_of c ∷ []
+
+abbrev pub planes_in : List JobView → List Plane
+planes_in views = flat_map (λ view. planes_of view.spec) views
+
+-- the view shows the solid as the job's view asks for it, with the traces of these planes
+abbrev pub ShowsJobView : Solid → Crease → List Plane → ℕ → JobView → ViewDrawing → Type 0
+ShowsJobView solid crease cuts spacing asked view = ShowsView solid crease cuts spacing asked.spec view
 
 -- how far the hatch lines of a sheet are apart
 abbrev pub spacing_on : Sheet → ℕ
 spacing_on sheet = spacing_of sheet.scale.num sheet.scale.den sheet.decimals
 
--- each view of the job is there, in their order, the sheet is the job's for the solid, the bound is the sum of those of the plain
+-- each view of the job is there, in their order, with the traces of the job's cuts, the sheet is the job's for the solid, the bound is the sum of those of the plain
 -- views, and there were at most as many tests
 pub record IsDrawing (d : Drawing) : Type 0 where
-  pub views : AllZip (ShowsJobView d.solid d.job.crease (spacing_on d.sheet)) d.job.views.items d.views.items
+  pub views : AllZip (ShowsJobView d.solid d.job.crease (planes_in d.job.views.items) (spacing_on d.sheet)) d.job.views.items d.views.items
   pub sheet : IsSheetOf d.job (solid_part d.solid).corners d.sheet
   pub bound : (sums : ViewNumbers) × SumsViews d.solid d.job.crease d.job.views.items sums × (d.bound ≡ sums.bound)
   pub tested : d.meter.tests ≤ d.bound

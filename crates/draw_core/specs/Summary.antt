@@ -1,5 +1,6 @@
 -- The line that a run says of its drawing.
-use Rattle.std.specs.Prelude.{◌≡◌, ℕ, Bool, true, false, List, ◌++◌, length, codes, count_by, sum_by, Option, Some, None}
+use Rattle.std.specs.Prelude.{◌≡◌, ℕ, Bool, true, false, List, [], ◌++◌, length, codes, count_by, sum_by, Option, Some, None}
+use Rattle.std.proofs.Common.{zero, suc}
 use Rattle.std.specs.Fmt.{decimal}
 use Rattle.desk.specs.Files.{AppendsFront}
 use Rattle.lattice.specs.declared.pieces.Style.{Style}
@@ -14,17 +15,22 @@ use Rattle.part_input.specs.declared.fault.Target.TheVariants.{Summary}
 use Rattle.view_lines.specs.declared.numbers.ViewNumbers.{ViewNumbers}
 use Rattle.view_lines.specs.declared.view.ViewDrawing.{ViewDrawing}
 
--- the line with eight numbers, in two halves
+-- the line with eight numbers, in two halves, and a ninth at its end where there are chain pieces
 abbrev pub first_half : ℕ → ℕ → ℕ → ℕ → List ℕ
 first_half triangles views edges runs =
     codes "triangles " ⊕ decimal triangles ⊕ codes " views " ⊕ decimal views ⊕ codes " edges " ⊕ decimal edges ⊕ codes " runs " ⊕ decimal runs
 
 abbrev pub second_half : ℕ → ℕ → ℕ → ℕ → List ℕ
 second_half bound solid dashed hatch =
-    codes " bound " ⊕ decimal bound ⊕ codes " solid " ⊕ decimal solid ⊕ codes " dashed " ⊕ decimal dashed ⊕ codes " hatch " ⊕ decimal hatch ⊕ codes "\n"
+    codes " bound " ⊕ decimal bound ⊕ codes " solid " ⊕ decimal solid ⊕ codes " dashed " ⊕ decimal dashed ⊕ codes " hatch " ⊕ decimal hatch
 
-abbrev pub summary_line : ℕ → ℕ → ℕ → ℕ → ℕ → ℕ → ℕ → ℕ → List ℕ
-summary_line triangles views edges runs bound solid dashed hatch = first_half triangles views edges runs ⊕ second_half bound solid dashed hatch
+abbrev pub chain_part : ℕ → List ℕ
+chain_part zero = []
+chain_part (suc n) = codes " chain " ⊕ decimal (suc n)
+
+abbrev pub summary_line : ℕ → ℕ → ℕ → ℕ → ℕ → ℕ → ℕ → ℕ → ℕ → List ℕ
+summary_line triangles views edges runs bound solid dashed hatch chain =
+    first_half triangles views edges runs ⊕ second_half bound solid dashed hatch ⊕ chain_part chain ⊕ codes "\n"
 
 abbrev pub is_style : Style → Style → Bool
 is_style Solid Solid = true
@@ -49,7 +55,7 @@ pub record IsSummaryOf (d : Drawing) (line : List ℕ) : Type 0 where
   pub sums : ViewNumbers
   pub summed : SumsViews d.solid d.job.crease d.job.views.items sums
   pub line_is : line ≡ summary_line (length (solid_part d.solid).triangles) (length d.job.views.items) sums.edges sums.runs sums.bound
-      (pieces_in Solid d.views.items) (pieces_in Dashed d.views.items) (hatches_in d.views.items)
+      (pieces_in Solid d.views.items) (pieces_in Dashed d.views.items) (hatches_in d.views.items) (pieces_in Chain d.views.items)
 
 -- what a run adds to what was said: the whole line with no fault, a prefix of it where it couldn't be said, and else nothing
 abbrev pub Says : Option Fault → List ℕ → List ℕ → List ℕ → Type 0

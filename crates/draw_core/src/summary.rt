@@ -2,7 +2,7 @@
 ghost use Rattle.std.specs.Prelude.{◌≡◌, ◌*◌, ◌<◌, ◌≤◌, ◌^◌, length, count_by, string_bytes, IfOk};
 ghost use Rattle.draw_core.specs.Lines.{write_line};
 ghost use Rattle.draw_core.specs.Numbers.{SumsViews};
-ghost use Rattle.draw_core.specs.Summary.{first_half, second_half, summary_line, is_style, pieces_in, hatches_in, IsSummaryOf};
+ghost use Rattle.draw_core.specs.Summary.{first_half, second_half, chain_part, summary_line, is_style, pieces_in, hatches_in, IsSummaryOf};
 ghost use Rattle.fault_lines.specs.Told.{text_of as line_text};
 ghost use Rattle.part_input.specs.declared.fault.Target.{Target};
 
@@ -102,7 +102,17 @@ fn second_half(
 ) -> Result<String, AllocError>
     ensures { IfOk result (λ half. string_bytes half ≡ second_half bound solid dashed hatch) }
 {
-    format!(in alloc; " bound {bound} solid {solid} dashed {dashed} hatch {hatch}\n")
+    format!(in alloc; " bound {bound} solid {solid} dashed {dashed} hatch {hatch}")
+}
+
+/// The number of chain pieces, where there are any.
+fn chain_part(alloc: Global, chain: u64) -> Result<String, AllocError>
+    ensures { IfOk result (λ part. string_bytes part ≡ chain_part chain) }
+{
+    if chain == 0 {
+        return Ok(String::new(alloc));
+    }
+    format!(in alloc; " chain {chain}")
 }
 
 /// The line with these numbers.
@@ -116,11 +126,14 @@ fn summary_line(
     solid: u64,
     dashed: u64,
     hatch: u64,
+    chain: u64,
 ) -> Result<String, AllocError>
-    ensures { IfOk result (λ line. string_bytes line ≡ summary_line triangles views edges runs bound solid dashed hatch) }
+    ensures { IfOk result (λ line. string_bytes line ≡ summary_line triangles views edges runs bound solid dashed hatch chain) }
 {
     let mut line = first_half(alloc, triangles, views, edges, runs)?;
     line.push_str(&second_half(alloc, bound, solid, dashed, hatch)?)?;
+    line.push_str(&chain_part(alloc, chain)?)?;
+    line.push_str("\n")?;
     Ok(line)
 }
 
@@ -145,8 +158,9 @@ fn line_of_drawing(
     let solid = pieces_in(&drawing.views, Style::Solid);
     let dashed = pieces_in(&drawing.views, Style::Dashed);
     let hatch = hatches_in(&drawing.views);
+    let chain = pieces_in(&drawing.views, Style::Chain);
     summary_line(
-        alloc, triangles, views, edges, runs, bound, solid, dashed, hatch,
+        alloc, triangles, views, edges, runs, bound, solid, dashed, hatch, chain,
     )
 }
 

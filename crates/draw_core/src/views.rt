@@ -1,12 +1,13 @@
 // The views of a job, drawn.
-ghost use Rattle.std.specs.Prelude.{◌≤◌, length, IfOk};
+ghost use Rattle.std.specs.Prelude.{◌≡◌, ◌≤◌, ◌++◌, length, map, IfOk, OnOk};
 ghost use Rattle.std.specs.List.{AllZip};
-ghost use Rattle.draw_core.specs.Drawing.{ShowsJobView};
+ghost use Rattle.lattice.specs.Cuts.{plane_of};
+ghost use Rattle.draw_core.specs.Drawing.{planes_of, planes_in, ShowsJobView};
 ghost use Rattle.draw_core.specs.Numbers.{SumsViews};
 
 use exact_frac::OutOfMemory;
 use job_file::JobView;
-use lattice::Crease;
+use lattice::{Crease, Cut, ViewSpec};
 use solid_mesh::Solid;
 use std::alloc::Global;
 use view_lines::{ViewDrawing, ViewLines, ViewNumbers, view_lines};
@@ -18,7 +19,59 @@ pub(crate) struct Views {
     pub numbers: ViewNumbers,
 }
 
-/// All views that are asked for, in their order.
+/// Adds the cut that a view shows, if it shows one.
+fn add_cut(cuts: &mut Vec<Cut>, spec: &ViewSpec) -> Result<(), OutOfMemory>
+    ensures { OnOk result (map plane_of cuts.new.items ≡ map plane_of cuts.old.items ++ planes_of spec.now) }
+{
+    match spec {
+        ViewSpec::Plain(_) => {}
+        ViewSpec::Section(cut) => cuts.push(*cut)?,
+    }
+    Ok(())
+}
+
+/// The cuts among the views, in their order.
+fn cuts_in(alloc: Global, asked: &[JobView]) -> Result<Vec<Cut>, OutOfMemory>
+    ensures { IfOk result (λ cuts. map plane_of cuts.items ≡ planes_in asked.now) }
+{
+    let mut cuts = Vec::new(alloc);
+    for view in asked {
+        add_cut(&mut cuts, &view.spec)?;
+    }
+    Ok(cuts)
+}
+
+/// The views that are asked for, in their order, with the traces of these cuts.
+fn views_with(
+    alloc: Global,
+    solid: &Solid,
+    crease: Crease,
+    cuts: &[Cut],
+    spacing: u32,
+    asked: &[JobView],
+) -> Result<Views, OutOfMemory>
+    requires spacing { 1 ≤ spacing }
+    requires few { length asked.now ≤ 12 }
+    ensures shows { IfOk result (λ x. AllZip (ShowsJobView solid.now crease (map plane_of cuts.now) spacing) asked.now x.views.items) }
+    ensures sums { IfOk result (λ x. SumsViews solid.now crease asked.now x.numbers) }
+    ensures tested { IfOk result (λ x. x.numbers.tests ≤ x.numbers.bound) }
+{
+    let mut views = Vec::new(alloc);
+    let mut sums = ViewNumbers::none();
+    for view in asked {
+        let ViewLines { view, numbers } = view_lines(
+            alloc, solid, &view.spec, crease, cuts, spacing,
+        )?;
+        sums = sums.plus(numbers);
+        views.push(view)?;
+    }
+    Ok(Views {
+        views,
+        numbers: sums,
+    })
+}
+
+/// All views that are asked for, in their order, with the traces of the cuts among them.
 pub(crate) fn views_of(
     alloc: Global,
     solid: &Solid,
@@ -28,19 +81,10 @@ pub(crate) fn views_of(
 ) -> Result<Views, OutOfMemory>
     requires spacing { 1 ≤ spacing }
     requires few { length asked.now ≤ 12 }
-    ensures shows { IfOk result (λ x. AllZip (ShowsJobView solid.now crease spacing) asked.now x.views.items) }
+    ensures shows { IfOk result (λ x. AllZip (ShowsJobView solid.now crease (planes_in asked.now) spacing) asked.now x.views.items) }
     ensures sums { IfOk result (λ x. SumsViews solid.now crease asked.now x.numbers) }
     ensures tested { IfOk result (λ x. x.numbers.tests ≤ x.numbers.bound) }
 {
-    let mut views = Vec::new(alloc);
-    let mut sums = ViewNumbers::none();
-    for view in asked {
-        let ViewLines { view, numbers } = view_lines(alloc, solid, &view.spec, crease, spacing)?;
-        sums = sums.plus(numbers);
-        views.push(view)?;
-    }
-    Ok(Views {
-        views,
-        numbers: sums,
-    })
+    let cuts = cuts_in(alloc, asked)?;
+    views_with(alloc, solid, crease, &cuts, spacing, asked)
 }

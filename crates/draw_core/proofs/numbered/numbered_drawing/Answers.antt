@@ -3,7 +3,7 @@ use Rattle.std.specs.List.{AllZip}
 use Rattle.job_file.specs.declared.view.JobView.{JobView}
 use Rattle.solid_mesh.specs.Solids.{solid_part}
 use Rattle.view_lines.specs.declared.view.ViewDrawing.{ViewDrawing}
-use Rattle.draw_core.specs.Drawing.{ShowsJobView, spacing_on}
+use Rattle.draw_core.specs.Drawing.{ShowsJobView, planes_in, spacing_on}
 use Rattle.draw_core.specs.Numbers.{SumsViews}
 use Rattle.draw_core.proofs.SheetFacts.{refused_sheet}
 use Rattle.draw_core.proofs.numbered.numbered_drawing.Goals as goal
@@ -16,12 +16,12 @@ returns-clause-shows c =
     let job = c.args.job in
     let solid = c.args.solid in
     let made = c.in-Ok-views_of.views in
-    let R : ℕ → JobView → ViewDrawing → Type 0 = λ spacing. ShowsJobView solid job.crease spacing in
+    let R : List JobView → ℕ → JobView → ViewDrawing → Type 0 = λ of spacing. ShowsJobView solid job.crease (planes_in of) spacing in
     let asked = c.deref.result.now in
     let views = made.views.items in
-    let spaced = subst (λ (n : ℕ). AllZip (R n) asked views) c.spacing.ensures.value c.in-Ok-views_of.ensures.shows in
+    let spaced = subst (λ (n : ℕ). AllZip (R asked n) asked views) c.spacing.ensures.value c.in-Ok-views_of.ensures.shows in
     record {
-      views = subst (λ (of : List JobView). AllZip (R (spacing_on c.in-Ok.sheet)) of views) c.deref.ensures.value spaced;
+      views = subst (λ (of : List JobView). AllZip (R of (spacing_on c.in-Ok.sheet)) of views) c.deref.ensures.value spaced;
       sheet = c.in-Ok.ensures.sheet;
       bound = (made.numbers, subst (λ (of : List JobView). SumsViews solid job.crease of made.numbers) c.deref.ensures.value c.in-Ok-views_of.ensures.sums, refl);
       tested = c.in-Ok-views_of.ensures.tested;

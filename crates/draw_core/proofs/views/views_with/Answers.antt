@@ -1,12 +1,13 @@
-use Rattle.std.proofs.Common.{List, sym, subst, take, ◌+◌, ◌*◌, ◌^◌, ◌≤◌, arith}
+use Rattle.std.proofs.Common.{List, map, sym, subst, take, ◌+◌, ◌*◌, ◌^◌, ◌≤◌, arith}
 use Rattle.std.specs.List.{AllZip}
+use Rattle.lattice.specs.Cuts.{plane_of}
 use Rattle.line_merge.proofs.Zips.{zip_more}
 use Rattle.draw_core.specs.Drawing.{ShowsJobView}
 use Rattle.draw_core.specs.Numbers.{SumsViews}
 use Rattle.draw_core.proofs.ViewSums.{AreAtMost, below_of, wider, at_most_plus, sums_more}
 use Rattle.view_lines.specs.declared.numbers.ViewNumbers.{ViewNumbers}
 use Rattle.view_lines.specs.declared.view.ViewDrawing.{ViewDrawing}
-use Rattle.draw_core.proofs.views.views_of.Goals as goal
+use Rattle.draw_core.proofs.views.views_with.Goals as goal
 
 pub plus-sums-requires-clause-first : goal.plus-sums-requires-clause-first
 plus-sums-requires-clause-first c = below_of c.loop-view.view-index c.loop-view.sums (omega (arith, c.loop-view-test.true, c.requires.few)) c.loop-view.invariant.small
@@ -16,7 +17,7 @@ plus-sums-requires-clause-second c = wider c.in_ok-view.field-0.numbers c.in_ok-
 
 pub loop-view-preserved : goal.loop-view-preserved
 loop-view-preserved c =
-    let R = ShowsJobView c.args.solid.now c.args.crease c.args.spacing in
+    let R = ShowsJobView c.args.solid.now c.args.crease (map plane_of c.args.cuts.now) c.args.spacing in
     let asked = c.args.asked.now in
     let k = c.loop-view.view-index in
     let so_far = c.loop-view.invariant in
