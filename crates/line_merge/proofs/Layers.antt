@@ -1,5 +1,5 @@
 -- What is drawn of each style: the strips of some kinds, put together, and what others leave of them.
-use Rattle.std.proofs.Common.{◌≡◌, ℕ, Bool, true, false, List, Contains, map, ◌↔◌, refl, sym, subst, ◌∙◌}
+use Rattle.std.proofs.Common.{◌≡◌, ℕ, Bool, true, false, List, Contains, map, ◌↔◌, refl, subst, ◌∙◌}
 use Rattle.std.specs.List.{All, AllZip, filter}
 use Rattle.std.proofs.lemmas.List.Elements.{All-contains}
 use Rattle.intervals.specs.declared.interval.Interval.{Interval}

@@ -9,3 +9,4 @@ pub mod Given
 pub mod Layers
 pub mod Drawn
 pub mod Merged
+pub mod Untraced

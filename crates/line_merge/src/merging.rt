@@ -1,11 +1,12 @@
 // From the strips of a view to its pieces.
 ghost use Rattle.std.specs.Prelude.{◌≡◌, ◌++◌, map, IfOk, OnOk};
-ghost use Rattle.std.specs.List.{All, AllZip, filter};
+ghost use Rattle.std.specs.List.{All, AllZip, filter, list_any};
 ghost use Rattle.lattice.specs.Points.{of_dir};
 ghost use Rattle.lattice.specs.Lines.{AreStripEnds};
+ghost use Rattle.lattice.specs.declared.pieces.StripKind.{StripKind};
 ghost use Rattle.line_merge.specs.Merging.{AreStrips, AreMerged};
-ghost use Rattle.line_merge.specs.inner.Kinds.{is_up_to};
-ghost use Rattle.line_merge.specs.inner.Ends.{IsIntervalOf, AreUnitedOf};
+ghost use Rattle.line_merge.specs.inner.Kinds.{is_up_to, is_trace};
+ghost use Rattle.line_merge.specs.inner.Ends.{IsIntervalOf, AreUnitedOf, IsLeftOfAll};
 ghost use Rattle.line_merge.specs.inner.Stretches.{stretch_of, piece_of};
 
 use crate::ends::{SeenEnd, interval_of};
@@ -28,15 +29,43 @@ pub fn merge(alloc: Global, d: &Dir, strips: &[Strip]) -> Result<Vec<Piece>, Out
     let numbered = number_lines(alloc, strips)?;
     let visible = united_up_to(alloc, d, &numbered, StripKind::Seen)?;
     let drawn = united_up_to(alloc, d, &numbered, StripKind::Hidden)?;
-    let all = united_up_to(alloc, d, &numbered, StripKind::Trace)?;
     let hidden = rest(alloc, &drawn, &visible)?;
-    let traces = rest(alloc, &all, &drawn)?;
+    let traces = traces_beside(alloc, d, &numbered, &drawn)?;
     let mut stretches = Vec::new(alloc);
     add(&mut stretches, &visible, Style::Solid)?;
     add(&mut stretches, &hidden, Style::Dashed)?;
     add(&mut stretches, &traces, Style::Chain)?;
     stretches.sort()?;
     pieces_of(alloc, &stretches)
+}
+
+/// Some strip is one of a trace.
+fn has_trace(numbered: &[Numbered]) -> bool
+    ensures { result ≡ list_any (λ x. is_trace x.strip.kind) numbered.now }
+{
+    numbered
+        .iter()
+        .any(|x| matches!(x.strip.kind, StripKind::Trace))
+}
+
+/// What the strips of all kinds, put together, leave beside those that are drawn. Where there is no trace it is nothing, and no
+/// list of all is made.
+fn traces_beside(
+    alloc: Global,
+    d: &Dir,
+    numbered: &[Numbered],
+    drawn: &[Interval<SeenEnd>],
+) -> Result<Vec<Interval<SeenEnd>>, OutOfMemory>
+    requires ends { All (λ x. AreStripEnds (of_dir d.now) x.strip.line x.strip.a x.strip.b) numbered.now }
+    requires drawn { AreUnitedOf (of_dir d.now) (filter (λ x. is_up_to StripKind.Hidden x.strip.kind) numbered.now) drawn.now }
+    ensures { IfOk result (λ traces. IsLeftOfAll (of_dir d.now) numbered.now drawn.now traces.items) }
+{
+    if !has_trace(numbered) {
+        return Ok(Vec::new(alloc));
+    }
+    let all = united_up_to(alloc, d, numbered, StripKind::Trace)?;
+    let traces = rest(alloc, &all, drawn)?;
+    Ok(traces)
 }
 
 /// The intervals of the strips of the kinds up to this one, put together.

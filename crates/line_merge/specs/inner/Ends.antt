@@ -1,17 +1,19 @@
 -- Where the ends of strips are seen on lines, their order, the intervals of strips, and these put together.
 use Rattle.std.specs.Prelude.{◌≡◌, ℕ, ◌⊎◌, List}
-use Rattle.std.specs.List.{AllZip}
+use Rattle.std.specs.List.{AllZip, filter}
 use Rattle.std.specs.Ordering.{nat_cmp, ordering_then}
 use Rattle.std.specs.declared.cmp.Ordering.{Ordering}
 use Rattle.std.specs.declared.cmp.Ordering.TheVariants.{Less}
 use Rattle.exact_frac.specs.Frac.{order_of}
-use Rattle.intervals.specs.Cuts.{AreUnited}
+use Rattle.intervals.specs.Cuts.{AreUnited, AreRest}
 use Rattle.intervals.specs.declared.interval.Interval.{Interval}
+use Rattle.lattice.specs.declared.pieces.StripKind.TheVariants.{Trace}
 use Rattle.lattice.specs.declared.points.Spot.{Spot}
 use Rattle.lattice.specs.Triple.{Triple}
 use Rattle.lattice.specs.Points.{of_spot, across_of, upward_of, IsRatio}
 use Rattle.line_merge.specs.declared.ends.SeenEnd.{SeenEnd}
 use Rattle.line_merge.specs.declared.numbering.Numbered.{Numbered}
+use Rattle.line_merge.specs.inner.Kinds.{is_up_to}
 
 -- by U, and then by V
 abbrev pub seen_order : SeenEnd → SeenEnd → Ordering
@@ -41,3 +43,9 @@ pub record AreUnitedOf (d : Triple) (given : List Numbered) (joined : List (Inte
   pub intervals : List (Interval SeenEnd)
   pub each : AllZip (IsIntervalOf d) given intervals
   pub united : AreUnited end_order intervals joined
+
+-- these are what the strips of all kinds, put together, leave beside those that are drawn
+pub record IsLeftOfAll (d : Triple) (given : List Numbered) (drawn traces : List (Interval SeenEnd)) : Type 0 where
+  pub all : List (Interval SeenEnd)
+  pub united : AreUnitedOf d (filter (λ x. is_up_to Trace x.strip.kind) given) all
+  pub left : AreRest end_order all drawn traces

@@ -12,3 +12,8 @@ is_up_to Hidden Seen = true
 is_up_to Hidden Hidden = true
 is_up_to Hidden Trace = false
 is_up_to Trace kind = true
+
+abbrev pub is_trace : StripKind → Bool
+is_trace Seen = false
+is_trace Hidden = false
+is_trace Trace = true
