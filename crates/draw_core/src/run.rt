@@ -166,10 +166,10 @@ fn write_drawing<D: Desk>(alloc: Global, taken: Taken, desk: &mut D) -> Outcome
     }
 }
 
-/// Reads the job and the part that the words name, draws the job's views on their sheet and writes it under the name that
-/// they give, or `drawing.svg`, and beside it the texts of the plotters that the job's outputs choose out of `extras`; all
-/// others are dropped. At the end it says the summary, a line with the drawing's numbers. Without a job it is the usual one:
-/// front, above and left. Of a fault it warns once, by one line.
+/// Reads the job and the part that the words name, draws the job's views on their sheet and writes it under the name that they
+/// give, or `drawing.svg`, and beside it the texts of the plotters that the job's outputs choose out of `extras`; all others
+/// are dropped. The cuts of a job are chain lines in its plain views. At the end it says the summary, a line with the drawing's
+/// numbers. Without a job it is the usual one: front, above and left. Of a fault it warns once, by one line.
 ///
 /// The faults are looked for in this order: the words, the job's bytes, its text, its outputs, a sample's size, the part's bytes, its
 /// text, whether it has a triangle, its surface, whether the views fit the sheet, the drawing's files, in their order, the summary.

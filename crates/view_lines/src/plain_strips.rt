@@ -89,7 +89,8 @@ fn view_strips(
     Ok(strips)
 }
 
-/// The plain view along a direction: visible lines solid, hidden ones dashed and traces of cuts chain lines, in their order, and its counts and numbers.
+/// The plain view along a direction: visible lines solid, hidden ones dashed and traces of cuts chain lines, in their order, and its
+/// counts and numbers.
 ///
 /// Carries the counts along the drawn edges and around corners, by as many tests as the bound at most, and then sorts the strips
 /// along their lines.

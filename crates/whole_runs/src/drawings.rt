@@ -1,7 +1,7 @@
 // What a drawing has: its job, its solid, its views, its counts and its meter.
 use crate::runs::{desk_of, words_of};
 use cross_find::SolidSight;
-use draw_core::{Drawing, draw};
+use draw_core::{Drawing, draw, drawing_of};
 use edge_pick::{Crease, pick};
 use exact_frac::Frac;
 use fixtures::{CUBE_TEXT, MOVED_TEXT};
@@ -39,6 +39,23 @@ fn a_drawing_has_its_job(rt: HostRuntime) -> Result<(), Fail> {
             assert_eq!(rt; (view.pieces.len(), visible), (4, true));
         }
     }
+    Ok(())
+}
+
+// A drawing of a solid by a job needs no desk, and is that of the run.
+#[test]
+fn a_drawing_needs_no_desk(rt: HostRuntime) -> Result<(), Fail> {
+    let alloc = rt.alloc();
+    let Drawing {
+        solid,
+        job,
+        sheet: _,
+        views: _,
+        meter: _,
+        bound: most,
+    } = drawn(alloc, "p", CUBE_TEXT, "")?;
+    let again = drawing_of(alloc, solid, job).ok().ok_or("no drawing")?;
+    assert_eq!(rt; (again.views.len(), again.bound), (3, most));
     Ok(())
 }
 
