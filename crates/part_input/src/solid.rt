@@ -134,6 +134,7 @@ pub fn fetch_solid<D: Desk>(
     ensures answer { (D.state desk.old).tells ≡ true →
         Gives solid_part (TakesSolid (D.state desk.old).files name.now job.now.decimals) result }
     ensures of_part { IfErr result (IsOfPart name.now) }
+    ensures sized { IfOk result (λ _. HasSize name.now) }
 
     // Where no fault of reading was counted, the answer is that of the name, or want of memory; on a steady desk always.
     ensures complete { (D.state desk.old).tells ≡ true →
