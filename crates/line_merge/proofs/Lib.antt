@@ -10,3 +10,4 @@ pub mod Layers
 pub mod Drawn
 pub mod Merged
 pub mod Untraced
+pub mod Filtered

@@ -4,7 +4,7 @@ use Rattle.std.specs.List.{AllZip, Any}
 use Rattle.std.proofs.lemmas.List.{take_more}
 
 module _ {A B : Type 0} (R : A → B → Type 0) where
-  zip_push : (xs : List A) (ys : List B) (x : A) (y : B) → AllZip R xs ys → R x y → AllZip R (xs ++ x ∷ []) (ys ++ y ∷ [])
+  pub zip_push : (xs : List A) (ys : List B) (x : A) (y : B) → AllZip R xs ys → R x y → AllZip R (xs ++ x ∷ []) (ys ++ y ∷ [])
   zip_push [] [] x y h k = (k, tt)
   zip_push [] (w ∷ ys) x y h k = absurd h
   zip_push (w ∷ xs) [] x y h k = absurd h

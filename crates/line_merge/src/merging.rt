@@ -78,24 +78,7 @@ fn united_up_to(
     requires { All (λ x. AreStripEnds (of_dir d.now) x.strip.line x.strip.a x.strip.b) numbered.now }
     ensures { IfOk result (λ united. AreUnitedOf (of_dir d.now) (filter (λ x. is_up_to last x.strip.kind) numbered.now) united.items) }
 {
-    let kept = kept_up_to(alloc, numbered, last)?;
-    united(alloc, intervals_of(alloc, d, &kept)?)
-}
-
-/// The strips of the kinds up to this one.
-fn kept_up_to(
-    alloc: Global,
-    numbered: &[Numbered],
-    last: StripKind,
-) -> Result<Vec<Numbered>, OutOfMemory>
-    ensures { IfOk result (λ kept. kept.items ≡ filter (λ x. is_up_to last x.strip.kind) numbered.now) }
-{
-    let kept = numbered
-        .iter()
-        .filter(|x| is_up_to(last, x.strip.kind))
-        .copied()
-        .collect(alloc)?;
-    Ok(kept)
+    united(alloc, intervals_up_to(alloc, d, numbered, last)?)
 }
 
 /// The kind is the last one or goes before it: seen, hidden, trace.
@@ -109,18 +92,21 @@ fn is_up_to(last: StripKind, kind: StripKind) -> bool
     }
 }
 
-/// The interval of each strip.
-fn intervals_of(
+/// The interval of each strip of the kinds up to this one.
+fn intervals_up_to(
     alloc: Global,
     d: &Dir,
     numbered: &[Numbered],
+    last: StripKind,
 ) -> Result<Vec<Interval<SeenEnd>>, OutOfMemory>
     requires { All (λ x. AreStripEnds (of_dir d.now) x.strip.line x.strip.a x.strip.b) numbered.now }
-    ensures { IfOk result (λ intervals. AllZip (IsIntervalOf (of_dir d.now)) numbered.now intervals.items) }
+    ensures { IfOk result (λ intervals. AllZip (IsIntervalOf (of_dir d.now)) (filter (λ x. is_up_to last x.strip.kind) numbered.now) intervals.items) }
 {
     let mut intervals = Vec::new(alloc);
     for x in numbered {
-        intervals.push(interval_of(d, x))?;
+        if is_up_to(last, x.strip.kind) {
+            intervals.push(interval_of(d, x))?;
+        }
     }
     Ok(intervals)
 }
