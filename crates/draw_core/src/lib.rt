@@ -22,4 +22,5 @@ pub use numbered::drawing_of;
 pub use part_input::{Fault, Input, Target};
 pub use run::draw;
 pub use span_count::{CountSpan, EdgeSpans, bound};
+pub use strokes::strokes_of;
 pub use view_lines::ViewDrawing;

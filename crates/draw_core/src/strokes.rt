@@ -75,8 +75,9 @@ fn add_view(
     Ok(())
 }
 
-/// The strokes of all views. Goes once over the pieces and the hatch lines.
-pub(crate) fn strokes_of(
+/// The strokes of a drawing's views on its sheet: view by view, one for each piece and then one for each hatch line. Goes once over
+/// the pieces and the hatch lines.
+pub fn strokes_of(
     alloc: Global,
     sheet: &Sheet,
     views: &[ViewDrawing],
