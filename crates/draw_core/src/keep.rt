@@ -17,7 +17,7 @@ use desk::{Desk, DeskFault};
 use part_input::{Fault, Target};
 
 /// Warns by a line. A desk that can't is not asked again.
-pub(crate) fn warn<D: Desk>(line: &str, desk: &mut D)
+pub fn warn<D: Desk>(line: &str, desk: &mut D)
     ensures front { (D.state desk.old).tells_warned ≡ true →
         AppendsFront (D.state desk.old).warned (D.state desk.new).warned line.now }
     ensures whole { HearsAll (D.state desk.old) (D.state desk.new) →

@@ -17,6 +17,7 @@ mod views;
 pub use cross_find::Meter;
 pub use drawing::{Drawing, Outcome};
 pub use edge_pick::Picked;
+pub use keep::warn;
 pub use lines::MEMORY_LINE;
 pub use numbered::drawing_of;
 pub use part_input::{Fault, Input, Target};
