@@ -19,16 +19,16 @@ use Rattle.draw_core.proofs.OneAnswer.{one_answer}
 
 -- ---- files that are there
 -- steps in order don't come to this fault where none of them does
-never_then : {A B : Type 0} (first : Result A Fault → Type 0) (next : A → Result B Fault → Type 0) (e : Fault) → (first (Err e) → ⊥) → ((x : A) → next x (Err e) → ⊥) → (first and_then next) (Err e) → ⊥
+pub never_then : {A B : Type 0} (first : Result A Fault → Type 0) (next : A → Result B Fault → Type 0) (e : Fault) → (first (Err e) → ⊥) → ((x : A) → next x (Err e) → ⊥) → (first and_then next) (Err e) → ⊥
 never_then first next e f n (inl h) = f h
 never_then first next e f n (inr (x, _, h)) = n x h
 
-abbrev is_read : Fault → Bool
+abbrev pub is_read : Fault → Bool
 is_read (ReadFault input) = true
 is_read e = false
 
 -- a fault of reading is no other
-not_read : (input : Input) (e : Fault) → is_read e ≡ false → ReadFault input ≡ e → ⊥
+pub not_read : (input : Input) (e : Fault) → is_read e ≡ false → ReadFault input ≡ e → ⊥
 not_read input e other same = true≢false (ap is_read same ∙ other)
 
 module _ (suffixes : List (List ℕ)) (files : Files) (input : Input) where
@@ -37,7 +37,7 @@ module _ (suffixes : List (List ℕ)) (files : Files) (input : Input) where
   file_there TheJob name there (inr (e, long)) = not_read input (too_long TheJob) refl e
   file_there ThePart name there (inr (e, long)) = not_read input (too_long ThePart) refl e
 
-  job_there : (name : Option (List ℕ)) → HasJobFile files name → TakesJob files name (Err (ReadFault input)) → ⊥
+  pub job_there : (name : Option (List ℕ)) → HasJobFile files name → TakesJob files name (Err (ReadFault input)) → ⊥
   job_there None there h = h
   job_there (Some name) there h = file_there TheJob name there h
 
@@ -56,7 +56,7 @@ module _ (suffixes : List (List ℕ)) (files : Files) (input : Input) where
   soup_there (Some size) name decimals there h = not_read input SampleRange refl h.0
   soup_there None name decimals there h = part_file_there name decimals there h
 
-  part_there : (name : List ℕ) (decimals : ℕ) → HasSampleOr (sample_size name) files name → TakesSolid files name decimals (Err (ReadFault input)) → ⊥
+  pub part_there : (name : List ℕ) (decimals : ℕ) → HasSampleOr (sample_size name) files name → TakesSolid files name decimals (Err (ReadFault input)) → ⊥
   part_there name decimals there =
       never_then (TakesSoup files name decimals) ChecksPart (ReadFault input) (soup_there (sample_size name) name decimals there) (λ part h. not_read input (Mesh h.0) refl h.1)
 
@@ -69,7 +69,7 @@ module _ (suffixes : List (List ℕ)) (files : Files) (input : Input) where
   never_missing words there (inl (e, none)) = not_read input Usage refl e
   never_missing words there (inr (named, is, h)) = files_there named (subst (λ (o : Option Named). IfSome o (HasFiles files)) is there) h
 
-not_written : (e : Fault) → HasNoWriteFault (Some e) → IsOfNoWriting e
+pub not_written : (e : Fault) → HasNoWriteFault (Some e) → IsOfNoWriting e
 not_written (WriteFault target) w = w
 not_written e w = tt
 

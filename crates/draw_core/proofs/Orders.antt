@@ -60,11 +60,11 @@ job_in_order suffixes files named (WriteFault target) h = tt
 job_in_order suffixes files named Memory h = tt
 
 -- a fault of reading a part is that of a file
-no_job : (size : Option (List ℕ)) → IsOfSampleOr size (ReadFault TheJob) → ⊥
+pub no_job : (size : Option (List ℕ)) → IsOfSampleOr size (ReadFault TheJob) → ⊥
 no_job None h = h
 no_job (Some size) h = h
 
-is_no_sample : (size : Option (List ℕ)) → IsOfSampleOr size (ReadFault ThePart) → size ≡ None
+pub is_no_sample : (size : Option (List ℕ)) → IsOfSampleOr size (ReadFault ThePart) → size ≡ None
 is_no_sample None h = refl
 is_no_sample (Some size) h = absurd h
 
