@@ -1,0 +1,263 @@
+-- The ends at a place, as one more stroke is noted.
+use Rattle.std.proofs.Common.{◌≡◌, ◌≢◌, ◌⊎◌, inl, inr, ℕ, ◌+◌, ◌&&◌, Bool, true, false, cond, List, [], Option, None, Some, length, slice_get, Result, refl, sym, ap, subst, ◌∙◌, arith, nat_eq}
+use Rattle.std.specs.Bool.{Decides}
+use Rattle.std.specs.Ordering.{int_eq}
+use Rattle.std.proofs.lemmas.Bool.{cases_eq, false≢true}
+use Rattle.std.proofs.lemmas.Bool.Decides.{Decides-and, Decides-int_eq, Decides-eqb, Decides-like}
+use Rattle.std.proofs.lemmas.Option.{same_Some}
+use Rattle.std.proofs.lemmas.Result.{on_ok_weaker}
+use Rattle.std.specs.Result.{OnOk}
+use Rattle.std.specs.Map.{lookup}
+use Rattle.indexmap.specs.IndexMap.{IndexMap, get}
+use Rattle.sheet_plan.specs.declared.sheet.Mark.{Mark}
+use Rattle.sheet_plan.specs.declared.sheet.Mark.TheVariants.{Solid, Dashed, Chain, Hatch}
+use Rattle.sheet_plan.specs.declared.sheet.Stroke.{Stroke}
+use Rattle.stroke_paths.specs.declared.corners.Corner.{Corner}
+use Rattle.stroke_paths.specs.declared.corners.Corner.TheVariants.{One, Two, More}
+use Rattle.stroke_paths.specs.declared.corners.Place.{Place}
+use Rattle.stroke_paths.specs.declared.path.End.{End}
+use Rattle.stroke_paths.specs.declared.path.Point.{Point}
+use Rattle.stroke_paths.specs.Joints.{IsDot, point_of}
+use Rattle.stroke_paths.specs.inner.Corners.{number_of, place_for, place_of, same_place, with_end, Tells, EndsBelow, AreCorners, IsNoted}
+use Rattle.stroke_paths.specs.inner.Tables.{MayJoin}
+
+-- ---- places
+decides_point : (p q : Point) → Decides (int_eq p.x q.x && int_eq p.y q.y) (p ≡ q)
+decides_point p q =
+    Decides-like (int_eq p.x q.x && int_eq p.y q.y) (λ (a, b). λ i. record { x = a i; y = b i }) (λ e. (ap (λ (r : Point). r.x) e, ap (λ (r : Point). r.y) e))
+    (Decides-and (int_eq p.x q.x) (int_eq p.y q.y) (Decides-int_eq p.x q.x) (Decides-int_eq p.y q.y))
+
+decides_same : (p q : Place) → Decides (same_place p q) (p ≡ q)
+decides_same p q =
+    let points = int_eq p.point.x q.point.x && int_eq p.point.y q.point.y in
+    Decides-like (same_place p q) (λ (a, (b, c)). λ i. record { view = a i; mark = b i; point = c i })
+    (λ e. (ap (λ (s : Place). s.view) e, (ap (λ (s : Place). s.mark) e, ap (λ (s : Place). s.point) e)))
+    (Decides-and (nat_eq p.view q.view) (nat_eq p.mark q.mark && points) (Decides-eqb p.view q.view)
+    (Decides-and (nat_eq p.mark q.mark) points (Decides-eqb p.mark q.mark) (decides_point p.point q.point)))
+
+one_mark : (a b : Mark) → number_of a ≡ number_of b → a ≡ b
+one_mark Solid Solid e = refl
+one_mark Dashed Dashed e = refl
+one_mark Chain Chain e = refl
+one_mark Hatch Hatch e = refl
+one_mark Solid Dashed e = absurd (omega (arith, e))
+one_mark Solid Chain e = absurd (omega (arith, e))
+one_mark Solid Hatch e = absurd (omega (arith, e))
+one_mark Dashed Solid e = absurd (omega (arith, e))
+one_mark Dashed Chain e = absurd (omega (arith, e))
+one_mark Dashed Hatch e = absurd (omega (arith, e))
+one_mark Chain Solid e = absurd (omega (arith, e))
+one_mark Chain Dashed e = absurd (omega (arith, e))
+one_mark Chain Hatch e = absurd (omega (arith, e))
+one_mark Hatch Solid e = absurd (omega (arith, e))
+one_mark Hatch Dashed e = absurd (omega (arith, e))
+one_mark Hatch Chain e = absurd (omega (arith, e))
+
+-- a stroke's end is at this point, for the strokes of this view and mark
+pub record IsAt (s : Stroke) (second : Bool) (view : ℕ) (mark : Mark) (p : Point) : Type 0 where
+  pub view_is : s.view ≡ view
+  pub mark_is : s.mark ≡ mark
+  pub at : point_of second s ≡ p
+
+at_of_same : (s : Stroke) (b : Bool) (view : ℕ) (mark : Mark) (p : Point) → same_place (place_of b s) (place_for view mark p) ≡ true → IsAt s b view mark p
+at_of_same s b view mark p h =
+    let e = (decides_same (place_of b s) (place_for view mark p)).0 h in
+    record {
+      view_is = ap (λ (q : Place). q.view) e;
+      mark_is = one_mark s.mark mark (ap (λ (q : Place). q.mark) e);
+      at = ap (λ (q : Place). q.point) e;
+    }
+
+same_of_at : (s : Stroke) (b : Bool) (view : ℕ) (mark : Mark) (p : Point) → IsAt s b view mark p → same_place (place_of b s) (place_for view mark p) ≡ true
+same_of_at s b view mark p h = (decides_same (place_of b s) (place_for view mark p)).1 (λ i. place_for (h.view_is i) (h.mark_is i) (h.at i))
+
+-- ---- one more end that counts, or none
+module _ (P Q : End → Type 0) (more : (g : End) → P g → Q g) where
+  pub tells_same : ((g : End) → Q g → P g) → (o : Option Corner) → Tells P o → Tells Q o
+  tells_same back None h = λ g k. h g (back g k)
+  tells_same back (Some (One e)) h = record { counts = more e h.counts; only = λ g k. h.only g (back g k) }
+  tells_same back (Some (Two e f)) h = record { first = more e h.first; second = more f h.second; two = h.two; only = λ g k. h.only g (back g k) }
+  tells_same back (Some More) h =
+      record { e = h.e; f = h.f; g = h.g; first = more h.e h.first; second = more h.f h.second; third = more h.g h.third; two = h.two; others = h.others }
+
+  pub tells_more : (e : End) → Q e → ((g : End) → P g → g.stroke ≢ e.stroke) → ((g : End) → Q g → P g ⊎ (g ≡ e)) → (o : Option Corner) → Tells P o → Tells Q (Some (with_end o e))
+  tells_more e here new back None h = record { counts = here; only = λ g k. by g (back g k) }
+    where
+      by : (g : End) → P g ⊎ (g ≡ e) → g ≡ e
+      by g (inl k) = absurd (h g k)
+      by g (inr k) = k
+  tells_more e here new back (Some (One f)) h =
+      record { first = more f h.counts; second = here; two = new f h.counts; only = λ g k. by g (back g k) }
+    where
+      by : (g : End) → P g ⊎ (g ≡ e) → (g ≡ f) ⊎ (g ≡ e)
+      by g (inl k) = inl (h.only g k)
+      by g (inr k) = inr k
+  tells_more e here new back (Some (Two f g)) h =
+      record {
+        e = f;
+        f = g;
+        g = e;
+        first = more f h.first;
+        second = more g h.second;
+        third = here;
+        two = h.two;
+        others = (new f h.first, new g h.second);
+      }
+  tells_more e here new back (Some More) h =
+      record { e = h.e; f = h.f; g = h.g; first = more h.e h.first; second = more h.f h.second; third = more h.g h.third; two = h.two; others = h.others }
+
+-- ---- one more stroke
+module _ (strokes : List Stroke) (i : ℕ) (s : Stroke) (listed : slice_get strokes i ≡ Some s) where
+  below_more : (view : ℕ) (mark : Mark) (p : Point) (g : End) → EndsBelow strokes i view mark p g → EndsBelow strokes (i + 1) view mark p g
+  below_more view mark p g h = record { below = omega (arith, h.below); ends = h.ends }
+
+  -- an end below i + 1 is below i, or an end of the stroke at i
+  pub record IsEndHere (view : ℕ) (mark : Mark) (p : Point) (g : End) : Type 0 where
+    pub here : g.stroke ≡ i
+    pub at : IsAt s g.second view mark p
+    pub no_dot : IsDot s → ⊥
+
+  below_parts : (view : ℕ) (mark : Mark) (p : Point) (g : End) → EndsBelow strokes (i + 1) view mark p g → EndsBelow strokes i view mark p g ⊎ IsEndHere view mark p g
+  below_parts view mark p g h = by (cases_eq g.stroke i)
+    where
+      by : (g.stroke ≡ i) ⊎ (g.stroke ≡ i → ⊥) → EndsBelow strokes i view mark p g ⊎ IsEndHere view mark p g
+      by (inl e) =
+          let same : h.ends.stroke ≡ s = same_Some h.ends.stroke s (sym h.ends.listed ∙ ap (slice_get strokes) e ∙ listed) in
+          inr
+          (record {
+            here = e;
+            at = record {
+              view_is = ap (λ (t : Stroke). t.view) (sym same) ∙ h.ends.view_is;
+              mark_is = ap (λ (t : Stroke). t.mark) (sym same) ∙ h.ends.mark_is;
+              at = ap (point_of g.second) (sym same) ∙ h.ends.at;
+            };
+            no_dot = subst (λ (t : Stroke). IsDot t → ⊥) same h.ends.no_dot;
+          })
+      by (inr n) = inl (record { below = omega (arith, h.below, n); ends = h.ends })
+
+  end_here : (b : Bool) (view : ℕ) (mark : Mark) (p : Point) → (IsDot s → ⊥) → IsAt s b view mark p → EndsBelow strokes (i + 1) view mark p (record { stroke = i; second = b })
+  end_here b view mark p no_dot at =
+      record {
+        below = omega arith;
+        ends = record { stroke = s; listed = listed; no_dot = no_dot; view_is = at.view_is; mark_is = at.mark_is; at = at.at };
+      }
+
+  dot_of : (view : ℕ) (mark : Mark) (p : Point) → IsAt s false view mark p → IsAt s true view mark p → IsDot s
+  dot_of view mark p h k = h.at ∙ sym k.at
+
+  module _ {S : Type 0} (old : IndexMap Place Corner S) (so_far : AreCorners strokes i old) where
+    -- a stroke that may not be joined leaves the table
+    pub none_noted : (MayJoin s → ⊥) → AreCorners strokes (i + 1) old
+    none_noted alone view mark p drawn =
+        tells_same (EndsBelow strokes i view mark p) (EndsBelow strokes (i + 1) view mark p) (below_more view mark p) back (get same_place old (place_for view mark p)) (so_far view mark p drawn)
+      where
+        back : (g : End) → EndsBelow strokes (i + 1) view mark p g → EndsBelow strokes i view mark p g
+        back g h = by (below_parts view mark p g h)
+          where
+            by : EndsBelow strokes i view mark p g ⊎ IsEndHere view mark p g → EndsBelow strokes i view mark p g
+            by (inl k) = k
+            by (inr k) = absurd (alone (record { no_dot = k.no_dot; no_hatch = λ e. drawn (sym k.at.mark_is ∙ e) }))
+
+    -- one that may be is noted at its first end and at its second
+    module _ (no_dot : IsDot s → ⊥) (middle after : IndexMap Place Corner S) (first : IsNoted old middle (place_of false s) (record { stroke = i; second = false }))
+        (second : IsNoted middle after (place_of true s) (record { stroke = i; second = true })) where
+      module _ (view : ℕ) (mark : Mark) (p : Point) (drawn : mark ≢ Hatch) where
+        abbrev Was : End → Type 0
+        Was = EndsBelow strokes i view mark p
+
+        abbrev Is : End → Type 0
+        Is = EndsBelow strokes (i + 1) view mark p
+
+        abbrev q : Place
+        q = place_for view mark p
+
+        told : (o : Option Corner) → o ≡ get same_place old q → Tells Was o
+        told o e = subst (Tells Was) (sym e) (so_far view mark p drawn)
+
+        -- the end b alone is here
+        one_here : (b : Bool) → IsAt s b view mark p → ((c : Bool) → IsAt s c view mark p → c ≡ b) → (o : Option Corner) → o ≡ get same_place old q
+            → Tells Is (Some (with_end o (record { stroke = i; second = b })))
+        one_here b at only o e =
+            tells_more Was Is (below_more view mark p) (record { stroke = i; second = b }) (end_here b view mark p no_dot at) (λ g h k. absurd (omega (arith, h.below, k))) back o (told o e)
+          where
+            back : (g : End) → Is g → Was g ⊎ (g ≡ record { stroke = i; second = b })
+            back g h = by (below_parts view mark p g h)
+              where
+                by : Was g ⊎ IsEndHere view mark p g → Was g ⊎ (g ≡ record { stroke = i; second = b })
+                by (inl k) = inl k
+                by (inr k) = inr (λ j. record { stroke = k.here j; second = (only g.second k.at) j })
+
+        none_here : ((c : Bool) → IsAt s c view mark p → ⊥) → Tells Is (get same_place old q)
+        none_here none = tells_same Was Is (below_more view mark p) back (get same_place old q) (so_far view mark p drawn)
+          where
+            back : (g : End) → Is g → Was g
+            back g h = by (below_parts view mark p g h)
+              where
+                by : Was g ⊎ IsEndHere view mark p g → Was g
+                by (inl k) = k
+                by (inr k) = absurd (none g.second k.at)
+
+        not_at : (b : Bool) → same_place (place_of b s) q ≡ false → IsAt s b view mark p → ⊥
+        not_at b h k = false≢true (sym h ∙ same_of_at s b view mark p k)
+
+        other_differs : same_place (place_of true s) q ≡ true → same_place (place_of false s) (place_of true s) ≡ false
+        other_differs h = by (same_place (place_of false s) (place_of true s)) refl
+          where
+            by : (b : Bool) → same_place (place_of false s) (place_of true s) ≡ b → b ≡ false
+            by true e = absurd (no_dot ((at_of_same s false s.view s.mark (point_of true s) e).at))
+            by false e = refl
+
+        at_place : (a b : Bool) → same_place (place_of false s) q ≡ a → same_place (place_of true s) q ≡ b → Tells Is (get same_place after q)
+        at_place a true h k =
+            let here = at_of_same s true view mark p k in
+            let is : q ≡ place_of true s = sym ((decides_same (place_of true s) q).0 k) in
+            let before : get same_place middle (place_of true s) ≡ get same_place old q =
+            first (place_of true s) ∙ ap (λ c. cond c (Some (with_end (get same_place old (place_of false s)) (record { stroke = i; second = false }))) (get same_place old (place_of true s))) (other_differs k)
+            ∙ ap (get same_place old) (sym is) in
+            let now : get same_place after q ≡ Some (with_end (get same_place middle (place_of true s)) (record { stroke = i; second = true })) =
+            second q ∙ ap (λ c. cond c (Some (with_end (get same_place middle (place_of true s)) (record { stroke = i; second = true }))) (get same_place middle q)) k in
+            subst (Tells Is) (sym now) (one_here true here only (get same_place middle (place_of true s)) before)
+          where
+            only : (c : Bool) → IsAt s c view mark p → c ≡ true
+            only true h' = refl
+            only false h' = absurd (no_dot (dot_of view mark p h' (at_of_same s true view mark p k)))
+        at_place true false h k =
+            let here = at_of_same s false view mark p h in
+            let is : q ≡ place_of false s = sym ((decides_same (place_of false s) q).0 h) in
+            let now : get same_place after q ≡ Some (with_end (get same_place old (place_of false s)) (record { stroke = i; second = false })) =
+            second q ∙ ap (λ c. cond c (Some (with_end (get same_place middle (place_of true s)) (record { stroke = i; second = true }))) (get same_place middle q)) k
+            ∙ first q ∙ ap (λ c. cond c (Some (with_end (get same_place old (place_of false s)) (record { stroke = i; second = false }))) (get same_place old q)) h in
+            subst (Tells Is) (sym now) (one_here false here only (get same_place old (place_of false s)) (ap (get same_place old) (sym is)))
+          where
+            only : (c : Bool) → IsAt s c view mark p → c ≡ false
+            only true h' = absurd (not_at true k h')
+            only false h' = refl
+        at_place false false h k =
+            let now : get same_place after q ≡ get same_place old q =
+            second q ∙ ap (λ c. cond c (Some (with_end (get same_place middle (place_of true s)) (record { stroke = i; second = true }))) (get same_place middle q)) k
+            ∙ first q ∙ ap (λ c. cond c (Some (with_end (get same_place old (place_of false s)) (record { stroke = i; second = false }))) (get same_place old q)) h in
+            subst (Tells Is) (sym now) (none_here none)
+          where
+            none : (c : Bool) → IsAt s c view mark p → ⊥
+            none true = not_at true k
+            none false = not_at false h
+
+      pub both_noted : AreCorners strokes (i + 1) after
+      both_noted view mark p drawn = at_place view mark p drawn (same_place (place_of false s) (place_for view mark p)) (same_place (place_of true s) (place_for view mark p)) refl refl
+
+-- the same, by what the two calls say
+pub both_noted_by : {S : Type 0} (strokes : List Stroke) (i : ℕ) (s : Stroke) → slice_get strokes i ≡ Some s → (old : IndexMap Place Corner S) → AreCorners strokes i old → MayJoin s → (middle after : IndexMap Place Corner S)
+    (p q : Place) → p ≡ place_of false s → q ≡ place_of true s → IsNoted old middle p (record { stroke = i; second = false })
+    → {E : Type 0} (r : Result (Unit {0}) E) → OnOk r (IsNoted middle after q (record { stroke = i; second = true })) → OnOk r (AreCorners strokes (i + 1) after)
+both_noted_by strokes i s listed old so_far may middle after p q p_is q_is first r second =
+    on_ok_weaker r
+    (λ k.
+    both_noted strokes i s listed old so_far may.no_dot middle after (subst (λ (x : Place). IsNoted old middle x (record { stroke = i; second = false })) p_is first)
+    (subst (λ (x : Place). IsNoted middle after x (record { stroke = i; second = true })) q_is k)) second
+
+pub no_corners : {S : Type 0} (strokes : List Stroke) (corners : IndexMap Place Corner S) → corners.entries ≡ [] → AreCorners strokes 0 corners
+no_corners strokes corners empty view mark p drawn =
+    subst (λ (es : List (Place × Corner)). Tells (EndsBelow strokes 0 view mark p) (lookup (same_place (place_for view mark p)) es)) (sym empty) (λ e h. absurd (omega (arith, h.below)))
+
+pub all_corners : {S : Type 0} (strokes : List Stroke) (i : ℕ) (corners : IndexMap Place Corner S) → i ≡ length strokes → AreCorners strokes i corners → AreCorners strokes (length strokes) corners
+all_corners strokes i corners e h = subst (λ (n : ℕ). AreCorners strokes n corners) e h

@@ -1,0 +1,15 @@
+pub mod Chains
+pub mod CornerLemmas
+pub mod Joined
+pub mod JoinedLemmas
+pub mod Members
+pub mod Neighbours
+pub mod Numbers
+pub mod OnePaths
+pub mod PathLemmas
+pub mod RouteLemmas
+pub mod RouteSteps
+pub mod StepLemmas
+pub mod TableLemmas
+pub mod ViewsWithin
+pub mod WaySizes

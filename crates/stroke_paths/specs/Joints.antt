@@ -1,0 +1,68 @@
+-- The ends of strokes, and at which of them a path goes on from one stroke to another.
+use Rattle.std.specs.Prelude.{◌≡◌, ◌≢◌, ◌⊎◌, ◌≤◌, ℕ, Bool, true, false, not, ℤ, pos, ◌+ℤ◌, ◌-ℤ◌, ◌*ℤ◌, ◌≤ℤ◌, unsigned_abs, List, Some, slice_get}
+use Rattle.sheet_plan.specs.declared.sheet.Mark.{Mark}
+use Rattle.sheet_plan.specs.declared.sheet.Mark.TheVariants.{Hatch}
+use Rattle.sheet_plan.specs.declared.sheet.Stroke.{Stroke}
+use Rattle.stroke_paths.specs.declared.path.End.{End}
+use Rattle.stroke_paths.specs.declared.path.Point.{Point}
+
+-- where the first or the second end of a stroke is
+abbrev pub point_of : Bool → Stroke → Point
+point_of false s = record { x = s.x1; y = s.y1 }
+point_of true s = record { x = s.x2; y = s.y2 }
+
+-- both ends are one point of the sheet
+abbrev pub IsDot : Stroke → Type 0
+IsDot s = point_of false s ≡ point_of true s
+
+-- the stroke at this place is no dot; dots are left out
+pub record IsKept (strokes : List Stroke) (i : ℕ) : Type 0 where
+  pub stroke : Stroke
+  pub listed : slice_get strokes i ≡ Some stroke
+  pub no_dot : IsDot stroke → ⊥
+
+-- an end of a stroke of this view and mark, which is no dot, is at this point
+pub record EndsAt (strokes : List Stroke) (view : ℕ) (mark : Mark) (p : Point) (e : End) : Type 0 where
+  pub stroke : Stroke
+  pub listed : slice_get strokes e.stroke ≡ Some stroke
+  pub no_dot : IsDot stroke → ⊥
+  pub view_is : stroke.view ≡ view
+  pub mark_is : stroke.mark ≡ mark
+  pub at : point_of e.second stroke ≡ p
+
+-- how far a stroke goes to the right and down, as it comes to its first or to its second end
+abbrev pub across : Bool → Stroke → ℤ
+across false s = s.x1 -ℤ s.x2
+across true s = s.x2 -ℤ s.x1
+
+abbrev pub down : Bool → Stroke → ℤ
+down false s = s.y1 -ℤ s.y2
+down true s = s.y2 -ℤ s.y1
+
+-- it is no longer than the widest sheet, each way
+pub record FitsSheet (s : Stroke) : Type 0 where
+  pub wide : unsigned_abs (s.x2 -ℤ s.x1) ≤ 118900
+  pub high : unsigned_abs (s.y2 -ℤ s.y1) ≤ 118900
+
+-- where one goes by (a, b) and then by (c, d) one turns by at most 45 degrees
+abbrev pub TurnsLittle : ℤ → ℤ → ℤ → ℤ → Type 0
+TurnsLittle a b c d = pos (unsigned_abs ((a *ℤ d) -ℤ (b *ℤ c))) ≤ℤ ((a *ℤ c) +ℤ (b *ℤ d))
+
+-- one comes to the end e of a stroke s and goes on from the end f of a stroke t
+abbrev pub GoesOn : Bool → Stroke → Bool → Stroke → Type 0
+GoesOn e s f t = TurnsLittle (across e s) (down e s) (across (not f) t) (down (not f) t)
+
+-- a path goes on from one end to the other: they are ends of two strokes of one view and mark, at one point, where no third such stroke
+-- ends, and it turns there by at most 45 degrees. Hatch lines and strokes that are longer than a sheet stay alone.
+pub record AreJoined (strokes : List Stroke) (e f : End) : Type 0 where
+  pub view : ℕ
+  pub mark : Mark
+  pub point : Point
+  pub first : EndsAt strokes view mark point e
+  pub second : EndsAt strokes view mark point f
+  pub two : e.stroke ≢ f.stroke
+  pub no_third : (g : End) → EndsAt strokes view mark point g → (g.stroke ≡ e.stroke) ⊎ (g.stroke ≡ f.stroke)
+  pub no_hatch : mark ≢ Hatch
+  pub first_fits : FitsSheet first.stroke
+  pub second_fits : FitsSheet second.stroke
+  pub turns : GoesOn e.second first.stroke f.second second.stroke

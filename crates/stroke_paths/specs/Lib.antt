@@ -1,0 +1,5 @@
+pub mod Joints
+pub mod Neighbours
+pub mod Paths
+pub mod Routes
+pub mod inner

@@ -1,0 +1,4 @@
+pub mod Corners
+pub mod Drawn
+pub mod Tables
+pub mod Walks

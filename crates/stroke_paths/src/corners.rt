@@ -1,0 +1,168 @@
+// The points of a sheet at which strokes end, and the ends there.
+ghost use Rattle.std.specs.Prelude.{◌≡◌, ◌↔◌, ◌+◌, ◌<◌, IsTrue, IfOk, OnOk, length};
+ghost use Rattle.indexmap.specs.IndexMap.{get};
+ghost use Rattle.stroke_paths.specs.Joints.{point_of, IsDot};
+ghost use Rattle.stroke_paths.specs.inner.Corners.{AreCorners, IsNoted, number_of, other_end, place_of, same_place, with_end};
+ghost use Rattle.stroke_paths.specs.inner.Tables.{MayJoin};
+
+use crate::path::{End, Point};
+use exact_frac::OutOfMemory;
+use indexmap::IndexMap;
+use sheet_plan::{Mark, Stroke};
+use std::alloc::Global;
+
+/// A point, for the strokes of one view and one mark, which goes by its number.
+#[derive(Clone, Copy, PartialEq, Eq, Hash)]
+pub(crate) struct Place {
+    view: u32,
+    mark: u8,
+    point: Point,
+}
+
+/// The ends of strokes at a place: one, two, or more than two.
+#[derive(Clone, Copy)]
+pub(crate) enum Corner {
+    One(End),
+    Two(End, End),
+    More,
+}
+
+/// The corners at all places where strokes end that may be joined. Each of their ends is hashed twice.
+pub(crate) fn corners(
+    alloc: Global,
+    strokes: &[Stroke],
+) -> Result<IndexMap<Place, Corner>, OutOfMemory>
+    ensures { IfOk result (λ corners. AreCorners strokes.now (length strokes.now) corners) }
+{
+    let mut corners = IndexMap::new(alloc);
+    for i in 0..strokes.len() {
+        note_stroke(&mut corners, strokes, i)?;
+    }
+    Ok(corners)
+}
+
+/// One more stroke, at the places of both its ends, if it may be joined.
+fn note_stroke(
+    corners: &mut IndexMap<Place, Corner>,
+    strokes: &[Stroke],
+    i: usize,
+) -> Result<(), OutOfMemory>
+    requires listed { i < length strokes.now }
+    requires so_far { AreCorners strokes.now i corners.old }
+    ensures { OnOk result (AreCorners strokes.now (i + 1) corners.new) }
+{
+    let stroke = strokes[i];
+    if !may_join(&stroke) {
+        return Ok(());
+    }
+    let first = End {
+        stroke: i,
+        second: false,
+    };
+    let second = End {
+        stroke: i,
+        second: true,
+    };
+    note(corners, place_of(&stroke, false), first)?;
+    note(corners, place_of(&stroke, true), second)
+}
+
+/// One more end at a place.
+fn note(corners: &mut IndexMap<Place, Corner>, place: Place, end: End) -> Result<(), OutOfMemory>
+    ensures { OnOk result (IsNoted corners.old corners.new place end) }
+{
+    let corner = with_end(corners.get(&place).copied(), end);
+    corners.insert(place, corner)?;
+    Ok(())
+}
+
+/// A corner with one more end.
+fn with_end(corner: Option<Corner>, end: End) -> Corner
+    ensures { result ≡ with_end corner end }
+{
+    match corner {
+        None => Corner::One(end),
+        Some(Corner::One(other)) => Corner::Two(other, end),
+        Some(_) => Corner::More,
+    }
+}
+
+/// The end at a place that isn't this stroke's, if there are two.
+pub(crate) fn other_end(
+    corners: &IndexMap<Place, Corner>,
+    place: Place,
+    stroke: usize,
+) -> Option<End>
+    ensures { result ≡ other_end (get same_place corners.now place) stroke }
+{
+    match corners.get(&place).copied() {
+        Some(Corner::Two(first, second)) => {
+            if first.stroke == stroke {
+                Some(second)
+            } else {
+                Some(first)
+            }
+        }
+        _ => None,
+    }
+}
+
+/// Where an end of a stroke is, and among which strokes.
+pub(crate) fn place_of(stroke: &Stroke, second: bool) -> Place
+    ensures { result ≡ place_of second stroke.now }
+{
+    Place {
+        view: stroke.view,
+        mark: number_of(stroke.mark),
+        point: point_of(stroke, second),
+    }
+}
+
+/// Where the first or the second end of a stroke is.
+pub(crate) fn point_of(stroke: &Stroke, second: bool) -> Point
+    ensures { result ≡ point_of second stroke.now }
+{
+    if second {
+        Point {
+            x: stroke.x2,
+            y: stroke.y2,
+        }
+    } else {
+        Point {
+            x: stroke.x1,
+            y: stroke.y1,
+        }
+    }
+}
+
+/// The number of a mark.
+fn number_of(mark: Mark) -> u8
+    ensures { result ≡ number_of mark }
+{
+    match mark {
+        Mark::Solid => 0,
+        Mark::Dashed => 1,
+        Mark::Chain => 2,
+        Mark::Hatch => 3,
+    }
+}
+
+/// A stroke that is no dot and no line of a hatching.
+pub(crate) fn may_join(stroke: &Stroke) -> bool
+    ensures { IsTrue result ↔ MayJoin stroke.now }
+{
+    if is_dot(stroke) {
+        return false;
+    }
+    match stroke.mark {
+        Mark::Hatch => false,
+        _ => true,
+    }
+}
+
+/// Both ends are one point of the sheet.
+pub(crate) fn is_dot(stroke: &Stroke) -> bool
+    ensures { IsTrue result ↔ IsDot stroke.now }
+{
+    point_of(stroke, false) == point_of(stroke, true)
+}

@@ -1,0 +1,34 @@
+// Paths, and what they are made of.
+use sheet_plan::Mark;
+
+/// A point of a sheet, in hundredths of a millimetre, from the upper left corner to the right and down.
+#[derive(Clone, Copy, PartialEq, Eq, Hash, Debug)]
+pub struct Point {
+    pub x: i64,
+    pub y: i64,
+}
+
+/// An end of a stroke, which goes by its place among the strokes: its second one, or its first.
+#[derive(Clone, Copy, PartialEq, Eq, Debug)]
+pub struct End {
+    pub stroke: usize,
+    pub second: bool,
+}
+
+/// A stroke that is passed, by its place among the strokes: from its first end to its second, or turned, from its second to its
+/// first.
+#[derive(Clone, Copy, PartialEq, Eq, Debug)]
+pub struct Step {
+    pub stroke: usize,
+    pub turned: bool,
+}
+
+/// Strokes of one view and mark, passed one after the other: the points from one to the next. A closed path goes on from its
+/// last point to its first, which isn't there twice.
+#[derive(Debug, Drop)]
+pub struct Path {
+    pub view: u32,
+    pub mark: Mark,
+    pub closed: bool,
+    pub points: Vec<Point>,
+}
