@@ -1,0 +1,3 @@
+pub mod PdfFile
+pub mod PdfTexts
+pub mod Written

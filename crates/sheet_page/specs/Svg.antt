@@ -1,0 +1,115 @@
+-- The text of a page as SVG.
+use Rattle.std.specs.Prelude.{ℕ, zero, suc, ◌==◌, if◌then◌else◌, ℤ, Bool, List, [], ◌∷◌, ◌++◌, Option, Some, None, codes}
+use Rattle.std.specs.List.{flat_map}
+use Rattle.std.specs.Fmt.{decimal, signed_decimal}
+use Rattle.sheet_page.specs.Dashes.{own_dashes, with_decimals}
+use Rattle.sheet_page.specs.declared.dashes.Dashes.{Dashes}
+use Rattle.sheet_page.specs.declared.page.Frame.{Frame}
+use Rattle.sheet_page.specs.declared.page.Item.{Item}
+use Rattle.sheet_page.specs.declared.page.Item.TheVariants as variant
+use Rattle.sheet_page.specs.declared.page.Label.{Label}
+use Rattle.sheet_page.specs.declared.page.Page.{Page}
+use Rattle.sheet_plan.specs.declared.sheet.Mark.{Mark}
+use Rattle.sheet_plan.specs.declared.sheet.Mark.TheVariants.{Solid, Dashed, Chain, Hatch}
+use Rattle.stroke_paths.specs.declared.path.Path.{Path}
+use Rattle.stroke_paths.specs.declared.path.Point.{Point}
+use Rattle.svg_page.specs.Svg.{millimetres, opening, escaped}
+use Rattle.svg_page.specs.Texts.{◌⊕◌}
+
+-- how each class of lines is drawn; only a trace has dashes of its class
+unfoldable pub classes : List ℕ
+classes =
+    codes "path,.frame{fill:none;stroke:black}\n" ⊕ codes "text{font-family:sans-serif}\n" ⊕ codes ".frame{stroke-width:70}\n"
+    ⊕ codes ".visible{stroke-width:50;stroke-linecap:round;stroke-linejoin:round}\n" ⊕ codes ".hidden{stroke-width:35;stroke-linejoin:round}\n"
+    ⊕ codes ".trace{stroke-width:25;stroke-linejoin:round;stroke-dasharray:600 150 75 150}\n" ⊕ codes ".hatch{stroke-width:18}\n</style>\n"
+
+-- a sheet of w by h millimetres is printed as large as it is
+unfoldable pub paper : ℤ → ℤ → List ℕ
+paper w h = codes "<style>\n@page{size:" ⊕ signed_decimal w ⊕ codes "mm " ⊕ signed_decimal h ⊕ codes "mm;margin:0}\n"
+
+-- the white ground
+unfoldable pub ground : ℤ → ℤ → List ℕ
+ground width height = codes "<rect width=\"" ⊕ signed_decimal width ⊕ codes "\" height=\"" ⊕ signed_decimal height ⊕ codes "\" fill=\"white\"/>\n"
+
+-- the beginning of a page
+abbrev pub head : ℤ → ℤ → List ℕ
+head width height =
+    opening (millimetres width) (millimetres height) width height ++ paper (millimetres width) (millimetres height) ++ classes ++ ground width height
+
+-- the line of a frame
+abbrev pub frame_line : Frame → List ℕ
+frame_line f =
+    codes "<rect class=\"frame\" x=\"" ⊕ signed_decimal f.x ⊕ codes "\" y=\"" ⊕ signed_decimal f.y ⊕ codes "\" width=\""
+    ⊕ signed_decimal f.width ⊕ codes "\" height=\"" ⊕ signed_decimal f.height ⊕ codes "\"/>\n"
+
+-- what stands before a text in its line
+abbrev pub before_text : Label → List ℕ
+before_text l =
+    codes "<text x=\"" ⊕ signed_decimal l.x ⊕ codes "\" y=\"" ⊕ signed_decimal l.y ⊕ codes "\" font-size=\"" ⊕ decimal l.size ⊕ codes "\">"
+
+-- the line of a text, each byte by its name where it has one in XML
+abbrev pub label_line : Label → List ℕ
+label_line l = before_text l ++ flat_map escaped l.text ++ codes "</text>\n"
+
+-- a frame or a text; a path stands in the group of its view
+abbrev pub standing : Item → List ℕ
+standing (variant.Frame frame) = frame_line frame
+standing (variant.Label label) = label_line label
+standing (variant.Path path) = []
+
+-- the class of a path
+abbrev pub class_of : Mark → List ℕ
+class_of Solid = codes "visible"
+class_of Dashed = codes "hidden"
+class_of Chain = codes "trace"
+class_of Hatch = codes "hatch"
+
+-- dashes, in hundredths of a millimetre; of a path that is drawn whole, nothing
+abbrev pub dash_array : Option Dashes → List ℕ
+dash_array None = []
+dash_array (Some d) = codes " stroke-dasharray=\"" ⊕ with_decimals d.dash ⊕ codes " " ⊕ with_decimals d.gap ⊕ codes "\""
+
+-- a path begins with its class
+unfoldable pub path_start : Mark → List ℕ
+path_start mark = codes "<path class=\"" ⊕ class_of mark ⊕ codes "\""
+
+-- to a point, by this letter
+abbrev pub to_point : List ℕ → Point → List ℕ
+to_point letter p = letter ⊕ signed_decimal p.x ⊕ codes " " ⊕ signed_decimal p.y
+
+-- back to the first point, where the path is closed
+abbrev pub back : Bool → List ℕ
+back closed = if closed then codes "Z" else []
+
+-- from the first point to the others, and on a closed path back to it
+abbrev pub route : Bool → List Point → List ℕ
+route closed [] = []
+route closed (p ∷ rest) = to_point (codes "M") p ++ flat_map (to_point (codes "L")) rest ++ back closed
+
+-- a path: its class, its dashes and its points
+abbrev pub path_line : Path → List ℕ
+path_line path =
+    path_start path.mark ++ dash_array (own_dashes path.mark path.closed path.points.items) ++ codes " d=\"" ++ route path.closed path.points.items ++ codes "\"/>\n"
+
+-- a path of this view; nothing else stands in its group
+abbrev pub drawn_in : ℕ → Item → List ℕ
+drawn_in view (variant.Frame frame) = []
+drawn_in view (variant.Label label) = []
+drawn_in view (variant.Path path) = if path.view == view then path_line path else []
+
+-- a group begins with the number of its view
+unfoldable pub group_start : ℕ → List ℕ
+group_start view = codes "<g id=\"view-" ⊕ decimal view ⊕ codes "\">\n"
+
+-- the group of a view, also of one without paths
+abbrev pub group : ℕ → List Item → List ℕ
+group view items = group_start view ++ flat_map (drawn_in view) items ++ codes "</g>\n"
+
+-- the groups of the first views
+abbrev pub groups_below : ℕ → List Item → List ℕ
+groups_below zero items = []
+groups_below (suc n) items = groups_below n items ++ group n items
+
+-- the text of a page: its frames and texts in their order, and for each view a group of its paths in their order
+unfoldable pub svg_of : Page → List ℕ
+svg_of page = head page.width page.height ++ flat_map standing page.items.items ++ groups_below page.views page.items.items ++ codes "</svg>\n"

@@ -1,0 +1,53 @@
+// What stands on a page.
+ghost use Rattle.std.specs.Prelude.{◌≡◌, ◌<◌, ◌≤◌, ◌^◌, ◌%◌, pos, ◌≤ℤ◌, unsigned_abs};
+
+use dec_text::Name;
+use stroke_paths::Path;
+
+/// A rectangle that is drawn, from its upper left corner.
+#[derive(Clone, Copy, Debug)]
+pub struct Frame {
+    pub x: i64,
+    pub y: i64,
+    pub width: i64,
+    pub height: i64,
+}
+
+/// A text that begins at a point, on its base line. `size` is that of its letters.
+#[derive(Debug, Drop)]
+pub struct Label {
+    pub x: i64,
+    pub y: i64,
+    pub size: u32,
+    pub text: Name,
+}
+
+/// What stands on a page.
+#[derive(Debug, Drop)]
+pub enum Item {
+    /// A rectangle, as that around a sheet.
+    Frame(Frame),
+    /// A text, as a sheet's title.
+    Label(Label),
+    /// A path of one of the page's views.
+    Path(Path),
+}
+
+/// A page: its name, the number of views that it shows, and what stands on it, in the order in which it is drawn. A PDF tells its
+/// name to the program that opens it; what is to be read on the page is a label.
+///
+/// `width` and `height` are whole millimetres, at least 40 mm and below 2^60 hundredths.
+#[derive(Drop)]
+pub struct Page {
+    pub width: i64,
+    pub height: i64,
+    pub title: Name,
+    pub views: usize,
+    pub items: Vec<Item>,
+    ghost whole_width: { unsigned_abs width % 100 ≡ 0 },
+    ghost whole_height: { unsigned_abs height % 100 ≡ 0 },
+    ghost least_width: { pos 4000 ≤ℤ width },
+    ghost least_height: { pos 4000 ≤ℤ height },
+    ghost width_in_range: { unsigned_abs width < 2 ^ 60 },
+    ghost height_in_range: { unsigned_abs height < 2 ^ 60 },
+}

@@ -1,0 +1,152 @@
+// What a page's items are in PDF.
+ghost use Rattle.std.specs.Prelude.{◌≡◌, ◌++◌, IfOk, OnOk, string_bytes};
+ghost use Rattle.sheet_page.specs.Dashes.{length_of, fitted};
+ghost use Rattle.sheet_page.specs.PdfContent.{points, frame_line, before_words, label_line, dashed_pen, pen, point_line, lines_to, route, stroke, path_lines, item_lines, beginning, content_of};
+
+use crate::dashes::{Dashes, dashes_of, with_decimals};
+use crate::page::{Frame, Item, Label, Page};
+use crate::pdf_words::add_words;
+use exact_frac::OutOfMemory;
+use sheet_plan::Mark;
+use std::alloc::{AllocError, Global};
+use stroke_paths::{Path, Point};
+
+/// What is drawn on a page: its items in their order.
+pub(crate) fn content(alloc: Global, page: &Page) -> Result<Vec<u8>, OutOfMemory>
+    ensures { IfOk result (λ text. text.items ≡ content_of page.now) }
+{
+    let mut text = Vec::new(alloc);
+    text.extend_from_slice(beginning(alloc, page.height)?.as_bytes())?;
+    for item in &page.items {
+        add_item(alloc, &mut text, item)?;
+    }
+    Ok(text)
+}
+
+/// From where and in which units all is drawn on a page of this height: PDF counts in points, from the lower edge up.
+fn beginning(alloc: Global, height: i64) -> Result<String, AllocError>
+    ensures { IfOk result (λ text. string_bytes text ≡ beginning height) }
+{
+    let points = points(alloc, height)?;
+    format!(in alloc; "0.0283464567 0 0 -0.0283464567 0 {points} cm\n0 G 0 g 1 j\n")
+}
+
+/// A length in points.
+pub(crate) fn points(alloc: Global, length: i64) -> Result<String, AllocError>
+    ensures { IfOk result (λ text. string_bytes text ≡ points length) }
+{
+    let n = (72_000 * u128::from(length.unsigned_abs()) + 127) / 254;
+    let whole = n / 10_000;
+    let (first, second) = (n / 1000 % 10, n / 100 % 10);
+    let (third, fourth) = (n / 10 % 10, n % 10);
+    format!(in alloc; "{whole}.{first}{second}{third}{fourth}")
+}
+
+/// Adds an item.
+fn add_item(alloc: Global, text: &mut Vec<u8>, item: &Item) -> Result<(), OutOfMemory>
+    ensures { OnOk result (text.new.items ≡ text.old.items ++ item_lines item.now) }
+{
+    match item {
+        Item::Frame(frame) => text.extend_from_slice(frame_line(alloc, frame)?.as_bytes())?,
+        Item::Label(label) => add_label(alloc, text, label)?,
+        Item::Path(path) => add_path(alloc, text, path)?,
+    }
+    Ok(())
+}
+
+/// The line of a rectangle.
+fn frame_line(alloc: Global, frame: &Frame) -> Result<String, AllocError>
+    ensures { IfOk result (λ text. string_bytes text ≡ frame_line frame.now) }
+{
+    let (x, y) = (frame.x, frame.y);
+    let (width, height) = (frame.width, frame.height);
+    format!(in alloc; "70 w 0 J [] 0 d {x} {y} {width} {height} re S\n")
+}
+
+/// Adds the line of a text.
+fn add_label(alloc: Global, text: &mut Vec<u8>, label: &Label) -> Result<(), OutOfMemory>
+    ensures { OnOk result (text.new.items ≡ text.old.items ++ label_line label.now) }
+{
+    text.extend_from_slice(before_words(alloc, label)?.as_bytes())?;
+    add_words(text, label.text.as_str())?;
+    text.extend_from_slice(") Tj ET\n".as_bytes())?;
+    Ok(())
+}
+
+/// What stands before a text in its line.
+fn before_words(alloc: Global, label: &Label) -> Result<String, AllocError>
+    ensures { IfOk result (λ text. string_bytes text ≡ before_words label.now) }
+{
+    let (size, x, y) = (label.size, label.x, label.y);
+    format!(in alloc; "BT /F1 {size} Tf 1 0 0 -1 {x} {y} Tm (")
+}
+
+/// Adds the lines of a path.
+fn add_path(alloc: Global, text: &mut Vec<u8>, path: &Path) -> Result<(), OutOfMemory>
+    ensures { OnOk result (text.new.items ≡ text.old.items ++ path_lines path.now) }
+{
+    text.extend_from_slice(pen(alloc, path)?.as_bytes())?;
+    add_route(alloc, text, &path.points)?;
+    text.extend_from_slice(stroke(path.closed).as_bytes())?;
+    Ok(())
+}
+
+/// The pen of a path.
+fn pen(alloc: Global, path: &Path) -> Result<String, AllocError>
+    ensures { IfOk result (λ text. string_bytes text ≡ pen path.now.mark (fitted path.now.closed (length_of path.now.closed path.now.points.items))) }
+{
+    match path.mark {
+        Mark::Solid => String::from_str(alloc, "50 w 1 J [] 0 d\n"),
+        Mark::Dashed => dashed_pen(alloc, dashes_of(path)),
+        Mark::Chain => String::from_str(alloc, "25 w 0 J [600 150 75 150] 0 d\n"),
+        Mark::Hatch => String::from_str(alloc, "18 w 0 J [] 0 d\n"),
+    }
+}
+
+/// The pen of a hidden path with these dashes.
+fn dashed_pen(alloc: Global, dashes: Option<Dashes>) -> Result<String, AllocError>
+    ensures { IfOk result (λ text. string_bytes text ≡ dashed_pen dashes) }
+{
+    let Some(dashes) = dashes else {
+        return String::from_str(alloc, "35 w 0 J [] 0 d\n");
+    };
+    let dash = with_decimals(alloc, dashes.dash)?;
+    let gap = with_decimals(alloc, dashes.gap)?;
+    format!(in alloc; "35 w 0 J [{dash} {gap}] 0 d\n")
+}
+
+/// Adds the lines from point to point.
+fn add_route(alloc: Global, text: &mut Vec<u8>, points: &[Point]) -> Result<(), OutOfMemory>
+    ensures { OnOk result (text.new.items ≡ text.old.items ++ route points.now) }
+{
+    let Some((first, rest)) = points.split_first() else {
+        return Ok(());
+    };
+    text.extend_from_slice(point_line(alloc, first, " m\n")?.as_bytes())?;
+    add_lines(alloc, text, rest)
+}
+
+/// Adds a line to each of these points.
+fn add_lines(alloc: Global, text: &mut Vec<u8>, points: &[Point]) -> Result<(), OutOfMemory>
+    ensures { OnOk result (text.new.items ≡ text.old.items ++ lines_to points.now) }
+{
+    for point in points {
+        text.extend_from_slice(point_line(alloc, point, " l\n")?.as_bytes())?;
+    }
+    Ok(())
+}
+
+/// The line of a point.
+fn point_line(alloc: Global, point: &Point, how: &str) -> Result<String, AllocError>
+    ensures { IfOk result (λ text. string_bytes text ≡ point_line how.now point.now) }
+{
+    let (x, y) = (point.x, point.y);
+    format!(in alloc; "{x} {y}{how}")
+}
+
+/// How a path ends: it is drawn, and a closed one goes back to its first point before.
+fn stroke(closed: bool) -> &'static str
+    ensures { result.now ≡ stroke closed }
+{
+    if closed { "h S\n" } else { "S\n" }
+}

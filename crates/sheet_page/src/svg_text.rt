@@ -1,0 +1,275 @@
+// The text of a page as SVG.
+ghost use Rattle.std.specs.Prelude.{◌≡◌, ◌<◌, ◌^◌, ◌++◌, pos, ◌≤ℤ◌, unsigned_abs, IfOk, OnOk, string_bytes};
+ghost use Rattle.std.specs.List.{All, flat_map};
+ghost use Rattle.svg_page.specs.Svg.{escaped, opening};
+ghost use Rattle.sheet_page.specs.Dashes.{own_dashes};
+ghost use Rattle.sheet_page.specs.Pages.{IsInView};
+ghost use Rattle.sheet_page.specs.Svg.{classes, paper, ground, head, frame_line, before_text, label_line, standing, class_of, dash_array, to_point, route, path_line, drawn_in, group, group_start, path_start, svg_of};
+
+use crate::dashes::{Dashes, dashes_of, with_decimals};
+use crate::page::{Frame, Item, Label, Page};
+use exact_frac::OutOfMemory;
+use sheet_plan::Mark;
+use std::alloc::{AllocError, Global};
+use stroke_paths::{Path, Point};
+
+/// The text of a page in SVG (version 1.1): its frames and texts, and for each view a group of its paths, which a program can
+/// show or hide. A hidden path's dashes are fitted to it. Each path is of one of the page's views.
+///
+/// Goes over the items once for each view, and once more.
+pub fn svg(alloc: Global, page: &Page) -> Result<Vec<u8>, OutOfMemory>
+    requires { All (IsInView page.now.views) page.now.items.items }
+    ensures { IfOk result (λ text. text.items ≡ svg_of page.now) }
+{
+    let mut text = Vec::new(alloc);
+    add_head(alloc, &mut text, page.width, page.height)?;
+    add_standing(alloc, &mut text, page.items.as_slice())?;
+    for view in 0..page.views {
+        add_group(alloc, &mut text, view, page.items.as_slice())?;
+    }
+    text.extend_from_slice("</svg>\n".as_bytes())?;
+    Ok(text)
+}
+
+/// Adds the beginning of a page.
+fn add_head(alloc: Global, text: &mut Vec<u8>, width: i64, height: i64) -> Result<(), OutOfMemory>
+    requires least_width { pos 4000 ≤ℤ width }
+    requires least_height { pos 4000 ≤ℤ height }
+    requires width_in_range { unsigned_abs width < 2 ^ 60 }
+    requires height_in_range { unsigned_abs height < 2 ^ 60 }
+    ensures { OnOk result (text.new.items ≡ text.old.items ++ head width height) }
+{
+    let (w, h) = (width.div_euclid(100), height.div_euclid(100));
+    text.extend_from_slice(opening(alloc, w, h, width, height)?.as_bytes())?;
+    text.extend_from_slice(paper(alloc, w, h)?.as_bytes())?;
+    text.extend_from_slice(classes().as_bytes())?;
+    text.extend_from_slice(ground(alloc, width, height)?.as_bytes())?;
+    Ok(())
+}
+
+/// The beginning of a sheet of `w` by `h` millimetres.
+fn opening(alloc: Global, w: i64, h: i64, width: i64, height: i64) -> Result<String, AllocError>
+    ensures { IfOk result (λ text. string_bytes text ≡ opening w h width height) }
+{
+    format!(in alloc;
+        "<?xml version=\"1.0\" encoding=\"UTF-8\"?>\n\
+         <svg xmlns=\"http://www.w3.org/2000/svg\" width=\"{w}mm\" height=\"{h}mm\" viewBox=\"0 0 {width} {height}\">\n"
+    )
+}
+
+/// How large a sheet of `w` by `h` millimetres is printed.
+fn paper(alloc: Global, w: i64, h: i64) -> Result<String, AllocError>
+    ensures { IfOk result (λ text. string_bytes text ≡ paper w h) }
+{
+    format!(in alloc; "<style>\n@page{{size:{w}mm {h}mm;margin:0}}\n")
+}
+
+/// How each class of lines is drawn.
+fn classes() -> &'static str
+    ensures { result.now ≡ classes }
+{
+    "path,.frame{fill:none;stroke:black}\n\
+     text{font-family:sans-serif}\n\
+     .frame{stroke-width:70}\n\
+     .visible{stroke-width:50;stroke-linecap:round;stroke-linejoin:round}\n\
+     .hidden{stroke-width:35;stroke-linejoin:round}\n\
+     .trace{stroke-width:25;stroke-linejoin:round;stroke-dasharray:600 150 75 150}\n\
+     .hatch{stroke-width:18}\n\
+     </style>\n"
+}
+
+/// The white ground of a page.
+fn ground(alloc: Global, width: i64, height: i64) -> Result<String, AllocError>
+    ensures { IfOk result (λ text. string_bytes text ≡ ground width height) }
+{
+    format!(in alloc; "<rect width=\"{width}\" height=\"{height}\" fill=\"white\"/>\n")
+}
+
+/// Adds the frames and the texts.
+fn add_standing(alloc: Global, text: &mut Vec<u8>, items: &[Item]) -> Result<(), OutOfMemory>
+    ensures { OnOk result (text.new.items ≡ text.old.items ++ flat_map standing items.now) }
+{
+    for item in items {
+        match item {
+            Item::Frame(frame) => {
+                text.extend_from_slice(frame_line(alloc, frame)?.as_bytes())?;
+            }
+            Item::Label(label) => add_label(alloc, text, label)?,
+            Item::Path(_) => {}
+        }
+    }
+    Ok(())
+}
+
+/// The line of a frame.
+fn frame_line(alloc: Global, frame: &Frame) -> Result<String, AllocError>
+    ensures { IfOk result (λ text. string_bytes text ≡ frame_line frame.now) }
+{
+    let (x, y) = (frame.x, frame.y);
+    let (width, height) = (frame.width, frame.height);
+    format!(in alloc;
+        "<rect class=\"frame\" x=\"{x}\" y=\"{y}\" width=\"{width}\" height=\"{height}\"/>\n"
+    )
+}
+
+/// Adds the line of a text.
+fn add_label(alloc: Global, text: &mut Vec<u8>, label: &Label) -> Result<(), OutOfMemory>
+    ensures { OnOk result (text.new.items ≡ text.old.items ++ label_line label.now) }
+{
+    text.extend_from_slice(before_text(alloc, label)?.as_bytes())?;
+    add_escaped(text, label.text.as_str())?;
+    text.extend_from_slice("</text>\n".as_bytes())?;
+    Ok(())
+}
+
+/// What stands before a text in its line.
+fn before_text(alloc: Global, label: &Label) -> Result<String, AllocError>
+    ensures { IfOk result (λ text. string_bytes text ≡ before_text label.now) }
+{
+    let (x, y, size) = (label.x, label.y, label.size);
+    format!(in alloc; "<text x=\"{x}\" y=\"{y}\" font-size=\"{size}\">")
+}
+
+/// Adds a text, each byte by its name where it has one in XML.
+fn add_escaped(text: &mut Vec<u8>, written: &str) -> Result<(), OutOfMemory>
+    ensures { OnOk result (text.new.items ≡ text.old.items ++ flat_map escaped written.now) }
+{
+    for byte in written.as_bytes() {
+        add_byte(text, *byte)?;
+    }
+    Ok(())
+}
+
+/// Adds a byte of a text.
+fn add_byte(text: &mut Vec<u8>, byte: u8) -> Result<(), OutOfMemory>
+    ensures { OnOk result (text.new.items ≡ text.old.items ++ escaped byte) }
+{
+    match byte {
+        b'&' => text.extend_from_slice("&amp;".as_bytes())?,
+        b'<' => text.extend_from_slice("&lt;".as_bytes())?,
+        b'>' => text.extend_from_slice("&gt;".as_bytes())?,
+        b'"' => text.extend_from_slice("&quot;".as_bytes())?,
+        _ => text.push(byte)?,
+    }
+    Ok(())
+}
+
+/// Adds the group of a view.
+fn add_group(
+    alloc: Global,
+    text: &mut Vec<u8>,
+    view: usize,
+    items: &[Item],
+) -> Result<(), OutOfMemory>
+    ensures { OnOk result (text.new.items ≡ text.old.items ++ group view items.now) }
+{
+    text.extend_from_slice(group_start(alloc, view)?.as_bytes())?;
+    for item in items {
+        add_drawn(alloc, text, view, item)?;
+    }
+    text.extend_from_slice("</g>\n".as_bytes())?;
+    Ok(())
+}
+
+/// The beginning of the group of a view.
+fn group_start(alloc: Global, view: usize) -> Result<String, AllocError>
+    ensures { IfOk result (λ text. string_bytes text ≡ group_start view) }
+{
+    format!(in alloc; "<g id=\"view-{view}\">\n")
+}
+
+/// Adds the line of an item that is a path of this view.
+fn add_drawn(alloc: Global, text: &mut Vec<u8>, view: usize, item: &Item) -> Result<(), OutOfMemory>
+    ensures { OnOk result (text.new.items ≡ text.old.items ++ drawn_in view item.now) }
+{
+    if let Item::Path(path) = item {
+        if path.view as usize == view {
+            add_path(alloc, text, path)?;
+        }
+    }
+    Ok(())
+}
+
+/// Adds the line of a path.
+fn add_path(alloc: Global, text: &mut Vec<u8>, path: &Path) -> Result<(), OutOfMemory>
+    ensures { OnOk result (text.new.items ≡ text.old.items ++ path_line path.now) }
+{
+    text.extend_from_slice(path_start(alloc, path.mark)?.as_bytes())?;
+    add_dashes(alloc, text, path)?;
+    text.extend_from_slice(" d=\"".as_bytes())?;
+    add_route(alloc, text, path.closed, path.points.as_slice())?;
+    text.extend_from_slice("\"/>\n".as_bytes())?;
+    Ok(())
+}
+
+/// The beginning of the line of a path.
+fn path_start(alloc: Global, mark: Mark) -> Result<String, AllocError>
+    ensures { IfOk result (λ text. string_bytes text ≡ path_start mark) }
+{
+    let class = class_of(mark);
+    format!(in alloc; "<path class=\"{class}\"")
+}
+
+/// The class of a path.
+fn class_of(mark: Mark) -> &'static str
+    ensures { result.now ≡ class_of mark }
+{
+    match mark {
+        Mark::Solid => "visible",
+        Mark::Dashed => "hidden",
+        Mark::Chain => "trace",
+        Mark::Hatch => "hatch",
+    }
+}
+
+/// Adds the dashes of a path, if it has some of its own.
+fn add_dashes(alloc: Global, text: &mut Vec<u8>, path: &Path) -> Result<(), OutOfMemory>
+    ensures { OnOk result (text.new.items ≡ text.old.items ++ dash_array (own_dashes path.now.mark path.now.closed path.now.points.items)) }
+{
+    if let Mark::Dashed = path.mark {
+        if let Some(dashes) = dashes_of(path) {
+            text.extend_from_slice(dash_array(alloc, &dashes)?.as_bytes())?;
+        }
+    }
+    Ok(())
+}
+
+/// Dashes, in hundredths of a millimetre.
+fn dash_array(alloc: Global, dashes: &Dashes) -> Result<String, AllocError>
+    ensures { IfOk result (λ text. string_bytes text ≡ dash_array (Some dashes.now)) }
+{
+    let dash = with_decimals(alloc, dashes.dash)?;
+    let gap = with_decimals(alloc, dashes.gap)?;
+    let (dash, gap) = (dash.as_str(), gap.as_str());
+    format!(in alloc; " stroke-dasharray=\"{dash} {gap}\"")
+}
+
+/// Adds the points of a path.
+fn add_route(
+    alloc: Global,
+    text: &mut Vec<u8>,
+    closed: bool,
+    points: &[Point],
+) -> Result<(), OutOfMemory>
+    ensures { OnOk result (text.new.items ≡ text.old.items ++ route closed points.now) }
+{
+    let Some(first) = points.first() else {
+        return Ok(());
+    };
+    text.extend_from_slice(to_point(alloc, "M", first)?.as_bytes())?;
+    for point in &points[1..] {
+        text.extend_from_slice(to_point(alloc, "L", point)?.as_bytes())?;
+    }
+    if closed {
+        text.extend_from_slice("Z".as_bytes())?;
+    }
+    Ok(())
+}
+
+/// To a point, by this letter.
+fn to_point(alloc: Global, letter: &str, point: &Point) -> Result<String, AllocError>
+    ensures { IfOk result (λ text. string_bytes text ≡ to_point letter.now point.now) }
+{
+    let (x, y) = (point.x, point.y);
+    format!(in alloc; "{letter}{x} {y}")
+}
