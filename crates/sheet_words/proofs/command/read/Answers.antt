@@ -1,0 +1,28 @@
+use Rattle.std.proofs.Common.{◌≡◌, ◌∙◌, true, [], rules, refl, sym, ap, subst}
+use Rattle.clap.specs.Faults.{fault_of, is_simple_and_free}
+use Rattle.clap.specs.Kinds.{HasKind}
+use Rattle.clap.specs.Matches.{found_of}
+use Rattle.clap.specs.Simple.{App, matches_of}
+use Rattle.clap.specs.Walk.{rows_of}
+use Rattle.draw_words.specs.Seen.{texts}
+use Rattle.sheet_words.specs.Grammar.{all_given, refused}
+use Rattle.sheet_words.specs.inner.App.{sheet_app}
+use Rattle.sheet_words.specs.inner.Seen.{reading_by}
+use Rattle.sheet_words.proofs.SentenceLemmas.{answered_sentence, answered_words, taken_words}
+use Rattle.sheet_words.proofs.command.read.Goals as goal
+
+pub returns-in-Ok-clause-read : goal.returns-in-Ok-clause-read
+returns-in-Ok-clause-read c =
+    let fits = subst (λ (a : App). is_simple_and_free a ≡ true → fault_of a (texts c.args.words.now) ≡ []) c.in_ok-command.ensures c.in-Ok.ensures.kinds refl in
+    let rows : rows_of (found_of c.in-Ok.matches) ≡ matches_of sheet_app (texts c.args.words.now) = search rules in
+    taken_words c.args.words.now (rows_of (found_of c.in-Ok.matches)) fits rows ∙ ap all_given (sym c.all_found.ensures)
+
+pub returns-in-Err-clause-read : goal.returns-in-Err-clause-read
+returns-in-Err-clause-read c =
+    let has : HasKind (fault_of sheet_app (texts c.args.words.now)) c.in-Err.error = search rules in
+    answered_sentence c.args.words.now c.in-Err.error c.kind.result c.asked.result has c.kind.ensures c.asked.ensures.said
+
+pub returns-in-Err-clause-usage : goal.returns-in-Err-clause-usage
+returns-in-Err-clause-usage c usage =
+    let has : HasKind (fault_of sheet_app (texts c.args.words.now)) c.in-Err.error = search rules in
+    answered_words c.args.words.now c.in-Err.error refused has (ap reading_by (sym c.kind.ensures) ∙ c.asked.ensures.usage usage)

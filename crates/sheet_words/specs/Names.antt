@@ -1,0 +1,75 @@
+-- What the words ask for.
+use Rattle.std.specs.Prelude.{ℕ, Bool, ◌||◌, List, Option, Some, None, if◌then◌else◌, codes, nat_eq, option_map, unwrap_or}
+use Rattle.std.specs.List.{ends_with}
+use Rattle.std.specs.Str.{bytes_eq}
+use Rattle.draw_words.specs.Names.{is_empty}
+use Rattle.sheet_words.specs.Grammar.{Given, Reading, all_given, asks, for_help, for_version, reading_of, refused}
+use Rattle.sheet_words.specs.declared.words.Hidden.{Hidden}
+use Rattle.sheet_words.specs.declared.words.Hidden.TheVariants.{All, Plain, Never}
+
+-- where a sheet goes: it is said, or it is kept under a name, as SVG or as PDF
+pub data Goal : Type 0 where
+  said : Goal
+  svg_file : List ℕ → Goal
+  pdf_file : List ℕ → Goal
+
+-- the part and the job by their names, where the sheet goes, and in which views hidden lines are drawn
+pub record Named : Type 0 where
+  pub part : List ℕ
+  pub job : Option (List ℕ)
+  pub out : Goal
+  pub hidden : Hidden
+
+-- help, the version, or a sheet
+pub data Asks : Type 0 where
+  help : Asks
+  version : Asks
+  sheet : Named → Asks
+
+-- exactly these bytes stand at the end
+abbrev pub ends_in : List ℕ → List ℕ → Bool
+ends_in ending name = ends_with nat_eq name ending
+
+-- `-`, or a name that ends in `.svg` or `.pdf`
+abbrev pub goal_named : List ℕ → Option Goal
+goal_named name =
+    if bytes_eq name (codes "-") then Some said
+    else (if ends_in (codes ".svg") name then Some (svg_file name)
+    else (if ends_in (codes ".pdf") name then Some (pdf_file name) else None))
+
+-- without `--out` it is `sheet.svg`
+abbrev pub goal_of : Option (List ℕ) → Option Goal
+goal_of out = goal_named (unwrap_or out (codes "sheet.svg"))
+
+-- one of three words
+abbrev pub hidden_named : List ℕ → Option Hidden
+hidden_named word =
+    if bytes_eq word (codes "all") then Some All
+    else (if bytes_eq word (codes "plain") then Some Plain
+    else (if bytes_eq word (codes "none") then Some Never else None))
+
+-- without `--hidden` it is `all`
+abbrev pub hidden_of : Option (List ℕ) → Option Hidden
+hidden_of hidden = hidden_named (unwrap_or hidden (codes "all"))
+
+-- all of them, where none is wrong or missing
+abbrev pub named_by : Option (List ℕ) → Option (List ℕ) → Option Goal → Option Hidden → Option Named
+named_by (Some part) job (Some out) (Some hidden) = Some (record { part = part; job = job; out = out; hidden = hidden })
+named_by _ _ _ _ = None
+
+-- there is a part, no name is empty, and each value is one of those that its option has
+abbrev pub named : Given → Option Named
+named given =
+    if is_empty given.part || is_empty given.job then None
+    else named_by given.part given.job (goal_of given.out) (hidden_of given.hidden)
+
+-- by what the words come to
+abbrev pub asks_of : Reading → Option Asks
+asks_of refused = None
+asks_of (asks for_help) = Some help
+asks_of (asks for_version) = Some version
+asks_of (all_given given) = option_map sheet (named given)
+
+-- what the words ask for; None where they are refused
+unfoldable pub asked_by : List (List ℕ) → Option Asks
+asked_by words = asks_of (reading_of words)

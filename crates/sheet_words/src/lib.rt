@@ -1,0 +1,7 @@
+//! The words behind the program's name: `PART [--job JOB] [--out OUT] [--hidden all|plain|none]`, or `--help` or `--version`.
+#![tactic(auto)]
+
+mod command;
+mod words;
+
+pub use words::{Asked, Hidden, Out, Request, read_words};

@@ -1,0 +1,141 @@
+// What the words of a run ask for.
+ghost use Rattle.std.specs.Prelude.{◌≡◌, IfOk, IsErrOf, Some, None, option_copied};
+ghost use Rattle.draw_words.specs.Names.{is_empty};
+ghost use Rattle.draw_words.specs.Seen.{texts};
+ghost use Rattle.sheet_words.specs.Names.{asked_by, goal_named, hidden_named, named};
+ghost use Rattle.sheet_words.specs.Seen.{asked_seen, goal_seen, named_seen};
+ghost use Rattle.sheet_words.specs.inner.Seen.{found_seen};
+
+use crate::command::{Found, Sentence, read};
+use dec_text::Name;
+use draw_words::WordsError;
+use exact_frac::OutOfMemory;
+use std::alloc::Global;
+
+/// In which views hidden lines are drawn.
+#[derive(Clone, Copy, PartialEq, Eq, Debug)]
+pub enum Hidden {
+    /// In all.
+    All,
+    /// In plain views, and not in cut ones.
+    Plain,
+    /// In none.
+    Never,
+}
+
+/// Where a sheet goes.
+#[derive(Debug, Drop)]
+pub enum Out {
+    /// It is said, as SVG.
+    Said,
+    /// Into the file of this name, as SVG.
+    Svg(Name),
+    /// Into the file of this name, as PDF.
+    Pdf(Name),
+}
+
+/// Which part is drawn, by which job if one is named, where it goes, and which hidden lines are drawn.
+#[derive(Debug, Drop)]
+pub struct Request {
+    pub part: Name,
+    pub job: Option<Name>,
+    pub out: Out,
+    pub hidden: Hidden,
+}
+
+/// What words ask for.
+#[derive(Debug, Drop)]
+pub enum Asked {
+    Help,
+    Version,
+    Sheet(Request),
+}
+
+/// There is a text, and it is empty.
+fn is_empty(text: Option<&str>) -> bool
+    ensures { result ≡ is_empty (option_copied text.entry) }
+{
+    match text {
+        Some(text) => text.is_empty(),
+        None => false,
+    }
+}
+
+/// A copy of the job's name.
+fn job_name(alloc: Global, job: Option<&str>) -> Result<Option<Name>, OutOfMemory>
+    ensures { IfOk result (λ name. name ≡ option_copied job.entry) }
+{
+    match job {
+        Some(job) => Ok(Some(Name::new(alloc, job)?)),
+        None => Ok(None),
+    }
+}
+
+/// Where the sheet goes by a name.
+fn out_named(alloc: Global, name: &str) -> Result<Out, WordsError>
+    ensures goal { IfOk result (λ out. goal_named name.now ≡ Some (goal_seen out)) }
+    ensures usage { IsErrOf result WordsError.Usage → goal_named name.now ≡ None }
+{
+    if name == "-" {
+        Ok(Out::Said)
+    } else if name.ends_with(".svg") {
+        Ok(Out::Svg(Name::new(alloc, name)?))
+    } else if name.ends_with(".pdf") {
+        Ok(Out::Pdf(Name::new(alloc, name)?))
+    } else {
+        Err(WordsError::Usage)
+    }
+}
+
+/// Which hidden lines are drawn by a word.
+fn hidden_named(word: &str) -> Option<Hidden>
+    ensures { result ≡ hidden_named word.now }
+{
+    match word {
+        "all" => Some(Hidden::All),
+        "plain" => Some(Hidden::Plain),
+        "none" => Some(Hidden::Never),
+        _ => None,
+    }
+}
+
+/// What is asked for by the texts that the words give.
+fn request_of(alloc: Global, found: Found<'_>) -> Result<Request, WordsError>
+    ensures named { IfOk result (λ r. named (found_seen found.entry) ≡ Some (named_seen r)) }
+    ensures usage { IsErrOf result WordsError.Usage → named (found_seen found.entry) ≡ None }
+{
+    if is_empty(found.part) || is_empty(found.job) {
+        return Err(WordsError::Usage);
+    }
+    let Some(part) = found.part else {
+        return Err(WordsError::Usage);
+    };
+    let Some(hidden) = hidden_named(found.hidden.unwrap_or("all")) else {
+        return Err(WordsError::Usage);
+    };
+    Ok(Request {
+        part: Name::new(alloc, part)?,
+        job: job_name(alloc, found.job)?,
+        out: out_named(alloc, found.out.unwrap_or("sheet.svg"))?,
+        hidden,
+    })
+}
+
+/// Reads the words behind the program's name, from left to right: `PART`, and `--job JOB`, `--out OUT` and
+/// `--hidden all|plain|none`, or these with `=`. PART is the one plain word, and each option is there at most once. A word
+/// that begins with `-` and is longer is refused where it isn't one of these; a value in a word of its own doesn't begin so.
+/// Behind the first `--` every word is plain. The first of `--help` and `--version` asks for help, or for the version,
+/// whatever follows.
+///
+/// PART and JOB aren't empty. OUT is `-`, or ends in `.svg` or `.pdf`; without it the sheet goes to `sheet.svg`, and without
+/// `--hidden` all hidden lines are drawn. The time goes with the length of the words.
+pub fn read_words(alloc: Global, words: &[String]) -> Result<Asked, WordsError>
+    ensures asked { IfOk result (λ asked. asked_by (texts words.now) ≡ Some (asked_seen asked)) }
+    ensures usage { IsErrOf result WordsError.Usage → asked_by (texts words.now) ≡ None }
+{
+    match read(alloc, words)? {
+        Sentence::Help => Ok(Asked::Help),
+        Sentence::Version => Ok(Asked::Version),
+        Sentence::Texts(found) => Ok(Asked::Sheet(request_of(alloc, found)?)),
+    }
+}
