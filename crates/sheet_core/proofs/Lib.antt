@@ -1,0 +1,5 @@
+pub mod Answered
+pub mod Asked
+pub mod OneAnswer
+pub mod Orders
+pub mod PageItems

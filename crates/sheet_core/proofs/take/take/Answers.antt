@@ -1,0 +1,77 @@
+use Rattle.std.proofs.Common.{ap, subst, inl, inr, ◌∙◌}
+use Rattle.desk.specs.Files.{Files, DeskState}
+use Rattle.draw_core.specs.Drawing.{drawn_in}
+use Rattle.draw_core.specs.Run.{PlansSheet}
+use Rattle.job_file.specs.Seen.{job_seen}
+use Rattle.part_input.specs.Jobs.{TakesReadJob}
+use Rattle.part_input.specs.Parts.{TakesSolid}
+use Rattle.part_input.specs.Steps.{◌and_then◌, Refuses, IsMissing}
+use Rattle.part_input.proofs.Chains.{refuses_as, missing_as, gives_next}
+use Rattle.part_input.proofs.Missing.{solid_missing}
+use Rattle.solid_mesh.specs.Solids.{solid_part}
+use Rattle.std.specs.Prelude.{Ok, Err}
+use Rattle.sheet_core.specs.Run.{DrawsPart}
+use Rattle.sheet_core.proofs.Orders.{job_in_order, part_in_order, sheet_in_order}
+use Rattle.sheet_core.proofs.take.take.Goals as goal
+
+-- the job is refused
+pub returns-in-Err-clause-answer : goal.returns-in-Err-clause-answer
+returns-in-Err-clause-answer g c = λ told.
+    let files = (g.D.Desk.state c.args.desk.now).files in
+    refuses_as (TakesReadJob files c.args.job.now) (DrawsPart files c.args.part.now c.args.job.now) (λ e h. inl h) c.in-Err.fault (c.in-Err.ensures.answer told)
+
+pub returns-in-Err-clause-order : goal.returns-in-Err-clause-order
+returns-in-Err-clause-order g c = λ told.
+    job_in_order (g.D.Desk.state c.args.desk.now).files c.args.part.now c.args.job.now c.in-Err.fault c.in-Err.ensures.of_job
+
+pub returns-in-Err-clause-missing : goal.returns-in-Err-clause-missing
+returns-in-Err-clause-missing g c = λ steady.
+    let files = (g.D.Desk.state c.args.desk.now).files in
+    missing_as (TakesReadJob files c.args.job.now) (DrawsPart files c.args.part.now c.args.job.now) (λ e h. inl h) c.in-Err.fault (c.in-Err.ensures.missing steady)
+
+-- the job was taken, and the part of the same files is refused
+pub returns-in-Err-fetch_solid-clause-answer : goal.returns-in-Err-fetch_solid-clause-answer
+returns-in-Err-fetch_solid-clause-answer g c = λ told.
+    let old = g.D.Desk.state c.args.desk.now in
+    let part = c.args.part.now in
+    let values = job_seen c.in-Ok.job in
+    let fault = c.in-Err-fetch_solid.fault in
+    let tells = ap (λ (s : DeskState). s.tells) c.in-Ok.ensures.changes ∙ told in
+    let P : Files → Type 0 = λ files. Refuses (TakesSolid files part values.decimals) fault in
+    let refused : P old.files = subst P (ap (λ (s : DeskState). s.files) c.in-Ok.ensures.changes) (c.in-Err-fetch_solid.ensures.answer tells) in
+    refuses_as (TakesSolid old.files part values.decimals) (DrawsPart old.files part c.args.job.now) (λ e h. inr (values, c.in-Ok.ensures.answer told, inl h)) fault refused
+
+pub returns-in-Err-fetch_solid-clause-order : goal.returns-in-Err-fetch_solid-clause-order
+returns-in-Err-fetch_solid-clause-order g c = λ told.
+    part_in_order (g.D.Desk.state c.args.desk.now).files c.args.part.now c.args.job.now (job_seen c.in-Ok.job) (c.in-Ok.ensures.answer told) c.in-Err-fetch_solid.fault c.in-Err-fetch_solid.ensures.of_part
+
+pub returns-in-Err-fetch_solid-clause-missing : goal.returns-in-Err-fetch_solid-clause-missing
+returns-in-Err-fetch_solid-clause-missing g c = λ steady.
+    let old = g.D.Desk.state c.args.desk.now in
+    let part = c.args.part.now in
+    let values = job_seen c.in-Ok.job in
+    let fault = c.in-Err-fetch_solid.fault in
+    let told = g.met.D.Desk.steady_tells c.args.desk.now steady in
+    let still = ap (λ (s : DeskState). s.steady) c.in-Ok.ensures.changes ∙ steady in
+    let between = (g.D.Desk.state c.take_job.new.desk).files in
+    let P : Files → Type 0 = λ files. IsMissing (TakesSolid files part values.decimals) fault in
+    let missing : P old.files = subst P (ap (λ (s : DeskState). s.files) c.in-Ok.ensures.changes)
+    (solid_missing between part values.decimals (Err fault) c.in-Err-fetch_solid.ensures.of_part (c.in-Err-fetch_solid.ensures.missing still)) in
+    missing_as (TakesSolid old.files part values.decimals) (DrawsPart old.files part c.args.job.now) (λ e h. inr (values, c.in-Ok.ensures.answer told, inl h)) fault missing
+
+-- both were taken, and the sheet is planned
+pub returns-in-Ok-fetch_solid-clause-answer : goal.returns-in-Ok-fetch_solid-clause-answer
+returns-in-Ok-fetch_solid-clause-answer g c = λ told.
+    let old = g.D.Desk.state c.args.desk.now in
+    let named = c.args.part.now in
+    let values = job_seen c.in-Ok.job in
+    let part = solid_part c.in-Ok-fetch_solid.solid in
+    let tells = ap (λ (s : DeskState). s.tells) c.in-Ok.ensures.changes ∙ told in
+    let P : Files → Type 0 = λ files. TakesSolid files named values.decimals (Ok part) in
+    let taken : P old.files = subst P (ap (λ (s : DeskState). s.files) c.in-Ok.ensures.changes) (c.in-Ok-fetch_solid.ensures.answer tells) in
+    let from_part = gives_next (TakesSolid old.files named values.decimals) (PlansSheet values) part taken drawn_in c.drawing_of.result c.drawing_of.ensures.answer in
+    gives_next (TakesReadJob old.files c.args.job.now) (λ values. TakesSolid old.files named values.decimals and_then PlansSheet values) values (c.in-Ok.ensures.answer told) drawn_in c.drawing_of.result from_part
+
+pub returns-in-Ok-fetch_solid-clause-order : goal.returns-in-Ok-fetch_solid-clause-order
+returns-in-Ok-fetch_solid-clause-order g c = λ told.
+    sheet_in_order (g.D.Desk.state c.args.desk.now).files c.args.part.now c.args.job.now c.drawing_of.result c.drawing_of.ensures.of_sheet

@@ -1,0 +1,5 @@
+pub mod Lines
+pub mod Pages
+pub mod Run
+pub mod Writing
+pub mod inner

@@ -1,0 +1,68 @@
+-- The page of a drawing: its frame, its title, and the paths of its strokes, but for hidden lines that aren't asked for.
+use Rattle.std.specs.Prelude.{◌≡◌, ℕ, Bool, true, false, not, ◌||◌, pos, ℤ, ◌-ℤ◌, List, [], ◌∷◌, ◌++◌, length, map, slice_get}
+use Rattle.std.specs.List.{filter}
+use Rattle.std.specs.Option.{option_map_or}
+use Rattle.job_file.specs.declared.view.JobView.{JobView}
+use Rattle.lattice.specs.declared.pieces.ViewSpec.{ViewSpec}
+use Rattle.lattice.specs.declared.pieces.ViewSpec.TheVariants.{Plain, Section}
+use Rattle.sheet_plan.specs.declared.sheet.Mark.{Mark}
+use Rattle.sheet_plan.specs.declared.sheet.Mark.TheVariants.{Solid, Dashed, Chain, Hatch}
+use Rattle.sheet_plan.specs.declared.sheet.Stroke.{Stroke}
+use Rattle.draw_core.specs.Strokes.{AreStrokes}
+use Rattle.draw_core.specs.declared.drawing.Drawing.{Drawing}
+use Rattle.stroke_paths.specs.Paths.{ArePaths}
+use Rattle.stroke_paths.specs.declared.path.Path.{Path}
+use Rattle.sheet_page.specs.declared.page.Item.{Item}
+use Rattle.sheet_page.specs.declared.page.Item.TheVariants as item
+use Rattle.sheet_page.specs.declared.page.Page.{Page}
+use Rattle.sheet_words.specs.declared.words.Hidden.{Hidden}
+use Rattle.sheet_words.specs.declared.words.Hidden.TheVariants as hide
+
+-- ---- hidden lines
+abbrev pub is_cut : ViewSpec → Bool
+is_cut (Plain direction) = false
+is_cut (Section cut) = true
+
+abbrev pub is_dashed : Mark → Bool
+is_dashed Solid = false
+is_dashed Dashed = true
+is_dashed Chain = false
+is_dashed Hatch = false
+
+-- hidden lines are drawn in a view of this kind
+abbrev pub draws_hidden : Hidden → ViewSpec → Bool
+draws_hidden hide.All spec = true
+draws_hidden hide.Plain spec = not (is_cut spec)
+draws_hidden hide.Never spec = false
+
+-- a path of a mark is drawn in the view of a job with this number: each is, but for hidden lines where they aren't drawn
+abbrev pub is_shown : Hidden → List JobView → ℕ → Mark → Bool
+is_shown hidden views view mark = not (is_dashed mark) || option_map_or (λ (v : JobView). draws_hidden hidden v.spec) (slice_get views view) true
+
+abbrev pub shown_paths : Hidden → List JobView → List Path → List Path
+shown_paths hidden views paths = filter (λ p. is_shown hidden views p.view p.mark) paths
+
+-- ---- the page
+-- the frame of a sheet, 10 mm from its edges
+abbrev pub frame_of : ℤ → ℤ → Item
+frame_of width height = item.Frame (record { x = pos 1000; y = pos 1000; width = width -ℤ pos 2000; height = height -ℤ pos 2000 })
+
+-- the title, if it isn't empty
+abbrev pub title_items : ℤ → List ℕ → List Item
+title_items height [] = []
+title_items height (b ∷ title) = item.Label (record { x = pos 2000; y = height -ℤ pos 1800; size = 700; text = b ∷ title }) ∷ []
+
+abbrev pub items_of : Hidden → Drawing → List Path → List Item
+items_of hidden d paths = (frame_of d.sheet.width d.sheet.height ∷ title_items d.sheet.height d.job.title) ++ map item.Path (shown_paths hidden d.job.views.items paths)
+
+-- the page shows the drawing: its frame, its title, and the paths of its strokes that are drawn, in their order
+pub record IsPageOf (hidden : Hidden) (d : Drawing) (page : Page) : Type 0 where
+  pub strokes : List Stroke
+  pub are_strokes : AreStrokes d.sheet d.views.items strokes
+  pub paths : List Path
+  pub are_paths : ArePaths strokes paths
+  pub width : page.width ≡ d.sheet.width
+  pub height : page.height ≡ d.sheet.height
+  pub title : page.title ≡ d.job.title
+  pub views : page.views ≡ length d.sheet.places.items
+  pub items : page.items.items ≡ items_of hidden d paths
