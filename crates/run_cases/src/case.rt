@@ -2,10 +2,18 @@
 use dec_text::Name;
 use std::alloc::{AllocError, Global};
 
+// The program that runs.
+#[derive(Clone, Copy)]
+pub(crate) enum Program {
+    Draw,
+    Sheet,
+}
+
 // A run by its words, over these files, and what is told of its end.
 #[derive(Drop)]
 pub(crate) struct Case {
     pub(crate) name: String,
+    pub(crate) program: Program,
     pub(crate) words: Vec<String>,
     pub(crate) files: Vec<(Name, Vec<u8>)>,
     pub(crate) fail: Vec<u64>,
@@ -24,6 +32,7 @@ impl Case {
     pub(crate) fn new(alloc: Global, name: &str) -> Result<Case, AllocError> {
         Ok(Case {
             name: String::from_str(alloc, name)?,
+            program: Program::Draw,
             words: Vec::new(alloc),
             files: Vec::new(alloc),
             fail: Vec::new(alloc),
@@ -38,12 +47,18 @@ impl Case {
         })
     }
 
+    // The name of a drawing where none is given.
+    pub(crate) fn drawing(&self) -> &'static str {
+        match self.program {
+            Program::Draw => "drawing.svg",
+            Program::Sheet => "sheet.svg",
+        }
+    }
+
     // It tells that the drawing is there.
     pub(crate) fn has_drawing(&self) -> bool {
-        let kept = self.kept.iter().any(|file| file.0.as_str() == DRAWING);
-        kept || self.made.iter().any(|name| name.as_str() == DRAWING)
+        let drawing = self.drawing();
+        let kept = self.kept.iter().any(|file| file.0.as_str() == drawing);
+        kept || self.made.iter().any(|name| name.as_str() == drawing)
     }
 }
-
-// The name of a drawing where none is given.
-pub(crate) const DRAWING: &str = "drawing.svg";

@@ -1,11 +1,12 @@
 // What comes of the run of a case, beside what the case tells.
 ghost use Rattle.std.specs.Prelude.{◌≤◌, length};
 
-use crate::case::{Case, DRAWING};
+use crate::case::{Case, Program};
 use dec_text::Name;
 use desk::MemoryDesk;
 use draw_core::draw;
 use plot_rack::{ListPlotter, Plotter};
+use sheet_core::sheet;
 use std::alloc::{AllocError, Global};
 use std::io;
 
@@ -32,11 +33,19 @@ fn desk_of(alloc: Global, case: &Case, cut: Option<(&str, usize)>) -> io::Result
     Ok(MemoryDesk::new(alloc, copies, case.fail.clone()?))
 }
 
-// Runs the words over the desk, and answers the status.
-fn run(alloc: Global, words: &[String], desk: &mut MemoryDesk) -> io::Result<u8> {
+// Runs `draw` with the piece list at hand, and answers the status.
+fn run_draw(alloc: Global, words: &[String], desk: &mut MemoryDesk) -> io::Result<u8> {
     let mut extras: Vec<Box<dyn Plotter>> = Vec::new(alloc);
     extras.push(Box::new(alloc, ListPlotter::new(alloc))?)?;
     Ok(draw(alloc, words, desk, extras).status)
+}
+
+// Runs the case's program by its words over the desk, and answers the status.
+fn run(alloc: Global, case: &Case, desk: &mut MemoryDesk) -> io::Result<u8> {
+    match case.program {
+        Program::Draw => run_draw(alloc, &case.words, desk),
+        Program::Sheet => Ok(sheet(alloc, &case.words, desk).status),
+    }
 }
 
 // Adds a word to what differs.
@@ -68,7 +77,7 @@ fn add_found(told: &mut String, names: &[Name], desk: &MemoryDesk, wanted: bool)
 // What differs, each word behind a blank.
 fn differences(alloc: Global, case: &Case) -> io::Result<String> {
     let mut desk = desk_of(alloc, case, None)?;
-    let found = run(alloc, &case.words, &mut desk)?;
+    let found = run(alloc, case, &mut desk)?;
     let mut told = String::new(alloc);
     if found != case.status {
         add(&mut told, "status")?;
@@ -79,8 +88,8 @@ fn differences(alloc: Global, case: &Case) -> io::Result<String> {
     if desk.warned_bytes() != case.warned.as_slice() {
         add(&mut told, "warned")?;
     }
-    if !case.has_drawing() && desk.file(DRAWING).is_some() {
-        add(&mut told, DRAWING)?;
+    if !case.has_drawing() && desk.file(case.drawing()).is_some() {
+        add(&mut told, case.drawing())?;
     }
     add_kept(&mut told, case, &desk)?;
     add_found(&mut told, &case.made, &desk, true)?;
@@ -103,7 +112,7 @@ fn beginnings(alloc: Global, case: &Case, name: &str, most: usize) -> io::Result
     let whole = length_of(case, name);
     for end in 0..=whole {
         let mut desk = desk_of(alloc, case, Some((name, end)))?;
-        let status = run(alloc, &case.words, &mut desk)?;
+        let status = run(alloc, case, &mut desk)?;
         if (status == 0) != (whole - end <= most) {
             add(&mut told, &format!(in alloc; "{end}")?)?;
         }

@@ -1,8 +1,9 @@
-//! Runs cases of `draw` over files in memory, with the piece list at hand, and prints each case that differs, and how many did:
-//! `run_cases FILE ..`. A case is told by lines that begin with `== `, each with a mark, and by the lines behind them, which are
-//! the mark's text. What stands before the first mark is a remark.
+//! Runs cases of `draw`, with the piece list at hand, and of `sheet` over files in memory, and prints each case that differs, and
+//! how many did: `run_cases FILE ..`. A case is told by lines that begin with `== `, each with a mark, and by the lines behind them,
+//! which are the mark's text. What stands before the first mark is a remark.
 //!
 //!     == case NAME               begins a case; the name may have blanks
+//!     == program NAME            the program that runs, `draw` where there is no such line
 //!     == words WORD ..           the words of the run, none where there is no such line
 //!     == file NAME               the text is added to this file of the desk
 //!     == open NAME               the same without the text's last newline
@@ -13,6 +14,7 @@
 //!     == said                    the text is all that is said, and with no such line nothing
 //!     == warned                  the same of what is warned
 //!     == kept NAME               afterwards the desk has this file with this text
+//!     == holds NAME FILE         afterwards the desk has this file with the bytes of a real file
 //!     == made NAME               afterwards the desk has this file
 //!     == gone NAME               afterwards the desk has no such file
 //!     == beginnings NAME COUNT   each beginning of this file is a run: the status is 0 where at most so many bytes are missing,

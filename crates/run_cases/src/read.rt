@@ -1,5 +1,5 @@
 // What the marks of a case tell.
-use crate::case::Case;
+use crate::case::{Case, Program};
 use dec_text::Name;
 use std::alloc::{AllocError, Global};
 use std::rt::Files;
@@ -91,6 +91,15 @@ fn bytes_of<R: Files + AllocGlobal>(
     }
 }
 
+// The program of a name, if there is one.
+fn program_of(name: &str) -> Option<Program> {
+    match name {
+        "draw" => Some(Program::Draw),
+        "sheet" => Some(Program::Sheet),
+        _ => None,
+    }
+}
+
 // Adds what a mark tells of the run. Answers whether it is such a mark.
 fn add_to_run<R: Files + AllocGlobal>(
     rt: &R,
@@ -100,6 +109,13 @@ fn add_to_run<R: Files + AllocGlobal>(
     text: Option<&str>,
 ) -> io::Result<bool> {
     let alloc = rt.alloc();
+    if mark == "program" {
+        let Some(program) = program_of(rest) else {
+            return Ok(false);
+        };
+        case.program = program;
+        return Ok(true);
+    }
     if mark == "words" {
         case.words = words_of(alloc, rest)?;
         return Ok(true);
@@ -121,15 +137,27 @@ fn add_to_run<R: Files + AllocGlobal>(
     }
 }
 
+// Adds a file that the desk has afterwards, with the bytes of a real one. Answers whether both are named.
+fn add_held<R: Files + AllocGlobal>(rt: &R, case: &mut Case, rest: &str) -> io::Result<bool> {
+    let Some((name, file)) = rest.split_once(' ') else {
+        return Ok(false);
+    };
+    let bytes = fs::read(rt, file)?;
+    case.kept.push((name_of(rt.alloc(), name)?, bytes))?;
+    Ok(true)
+}
+
 // Adds what a mark tells of the files afterwards. Answers whether it is such a mark.
-fn add_to_files(
-    alloc: Global,
+fn add_to_files<R: Files + AllocGlobal>(
+    rt: &R,
     case: &mut Case,
     mark: &str,
     rest: &str,
     text: Option<&str>,
 ) -> io::Result<bool> {
+    let alloc = rt.alloc();
     match mark {
+        "holds" => return add_held(rt, case, rest),
         "kept" => case
             .kept
             .push((name_of(alloc, rest)?, lines_of(alloc, text)?))?,
@@ -153,13 +181,14 @@ fn add_beginnings(alloc: Global, case: &mut Case, rest: &str) -> Result<bool, Al
 }
 
 // Adds what a mark tells of the end of the run. Answers whether it is such a mark.
-fn add_to_end(
-    alloc: Global,
+fn add_to_end<R: Files + AllocGlobal>(
+    rt: &R,
     case: &mut Case,
     mark: &str,
     rest: &str,
     text: Option<&str>,
 ) -> io::Result<bool> {
+    let alloc = rt.alloc();
     match mark {
         "said" => case.said = lines_of(alloc, text)?,
         "warned" => case.warned = lines_of(alloc, text)?,
@@ -169,7 +198,7 @@ fn add_to_end(
             Ok(number) => case.status = number,
             Err(_) => return Ok(false),
         },
-        _ => return add_to_files(alloc, case, mark, rest, text),
+        _ => return add_to_files(rt, case, mark, rest, text),
     }
     Ok(true)
 }
@@ -185,5 +214,5 @@ pub(crate) fn add<R: Files + AllocGlobal>(
     if add_to_run(rt, case, mark, rest, text)? {
         return Ok(true);
     }
-    add_to_end(rt.alloc(), case, mark, rest, text)
+    add_to_end(rt, case, mark, rest, text)
 }

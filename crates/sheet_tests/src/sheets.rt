@@ -178,7 +178,7 @@ const TITLED: &str = "<?xml version=\"1.0\" encoding=\"UTF-8\"?>\n\
      </svg>\n";
 
 // A stroke between two points of the sheet.
-fn stroke(view: u8, mark: Mark, from: (i64, i64), to: (i64, i64)) -> Stroke
+pub(crate) fn stroke(view: u8, mark: Mark, from: (i64, i64), to: (i64, i64)) -> Stroke
     ensures { result.view ≡ view }
 {
     let zero = Frac { num: 0, den: 1 }.reduce();
