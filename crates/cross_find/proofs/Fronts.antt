@@ -1,6 +1,8 @@
 -- Next to an end of an edge a face that is not edge-on is nearer exactly where four linear values say so.
-use Rattle.std.proofs.Common.{sym, subst}
+use Rattle.std.proofs.Common.{◌≡◌, inl, inr, sym, subst}
 use Rattle.std.specs.Prelude.{ℤ, pos, ◌<ℤ◌, ◌≤ℤ◌}
+use Rattle.std.proofs.lemmas.Int.{by_lt_z}
+use Rattle.integers.proofs.Comparisons.{zero_between, positive_not_negative, positive_not_zero, negative_not_zero, less_not_at_most}
 use Rattle.lattice.specs.declared.points.Corner.{Corner}
 use Rattle.lattice.specs.Triple.{Triple}
 use Rattle.lattice.specs.Points.{point_of}
@@ -10,6 +12,20 @@ use Rattle.hiding.proofs.Values.{side-share, depth-share}
 use Rattle.hiding.proofs.Hiding.{hides-front, hides-turned}
 use Rattle.cross_find.specs.inner.Ends.{HoldsNext, HidesFrom, IsNotBelow, IsAbove}
 use Rattle.cross_find.proofs.Next.{next_map, next_both, above_next, not_below_next, above_of_next, not_below_of_next}
+
+-- a side's value that is at least 0 at the end, and not 0 there and below 0 at the other end
+pub not_below : (here there : ℤ) → pos 0 ≤ℤ here → ((here ≡ pos 0) × (there <ℤ pos 0) → ⊥) → IsNotBelow here there
+not_below here there least stays =
+    by_lt_z (pos 0) here (λ positive. inl positive)
+    (λ most. let none = zero_between here least most in inr (none, by_lt_z there (pos 0) (λ below. absurd (stays (none, below))) (λ more. more)))
+
+pub inside_of : (here there : ℤ) → IsNotBelow here there → here <ℤ pos 0 → ⊥
+inside_of here there (inl h) below = positive_not_negative here h below
+inside_of here there (inr h) below = negative_not_zero here below h.0
+
+pub stays_of : (here there : ℤ) → IsNotBelow here there → (here ≡ pos 0) × (there <ℤ pos 0) → ⊥
+stays_of here there (inl h) leaves = positive_not_zero here h leaves.0
+stays_of here there (inr h) leaves = less_not_at_most there (pos 0) leaves.1 h.1
 
 -- the order of the corners does not count
 pub from_turned : (d : Triple) (a b c o q : Corner) → HidesFrom d a b c o q → HidesFrom d a c b o q

@@ -4,5 +4,6 @@ pub mod Passes
 pub mod Changes
 pub mod Next
 pub mod Fronts
+pub mod Apart
 pub mod Counted
 pub mod CornerSigns

@@ -1,27 +1,19 @@
 // Whether a triangle is nearer next to an end of an edge, and to which sides of the edge's line it reaches.
 ghost use Rattle.std.specs.Prelude.{◌≡◌, ◌⊎◌, ◌≢◌, ◌↔◌, ◌+◌, ◌<◌, ◌^◌, pos, ◌<ℤ◌, length, unsigned_abs, IsTrue};
-ghost use Rattle.lattice.specs.Points.{of_dir, point_of};
+ghost use Rattle.lattice.specs.Triple.{IsWithin, dot};
+ghost use Rattle.lattice.specs.Points.{of_dir, of_vector, point_of, difference};
 ghost use Rattle.geometry.specs.Faces.{facing_of};
 ghost use Rattle.geometry.specs.Parts.{Edge, Face, IsNumbered};
 ghost use Rattle.hiding.specs.inner.Values.{side_of, depth_of};
 ghost use Rattle.solid_mesh.specs.Solids.{solid_part, edge_halves};
 ghost use Rattle.counting.specs.Counts.{to_left, to_right};
 ghost use Rattle.counting.specs.Covers.{IsCountedNext, IsOneWhere};
-ghost use Rattle.cross_find.specs.inner.Ends.{HidesAt, HidesFrom, IsNotBelow, IsAbove};
+ghost use Rattle.cross_find.specs.inner.Ends.{HidesAt, HidesFrom, IsAbove, IsApart, AreBeside};
 
 use crate::ends::{ends, orientation_of};
 use crate::meter::{End, Meter};
 use lattice::{Corner, Dir, Vector, det3};
 use solid_mesh::Solid;
-
-/// A value that is linear along an edge: `here` at the end that is looked at, `there` at the other.
-#[derive(Clone, Copy)]
-struct Linear {
-    here: i128,
-    there: i128,
-    ghost here_small: { unsigned_abs here < 2 ^ 66 },
-    ghost there_small: { unsigned_abs there < 2 ^ 66 },
-}
 
 /// The corners of a triangle.
 #[derive(Clone, Copy)]
@@ -82,6 +74,10 @@ fn hides_at(d: &Dir, a: &Corner, b: &Corner, at_b: bool, t: &TriangleCorners) ->
 fn hides_next(d: &Dir, o: &Corner, q: &Corner, t: &TriangleCorners) -> bool
     ensures { IsTrue result ↔ ((facing_of (of_dir d.now) t.now.a t.now.b t.now.c ≢ pos 0) × HidesFrom (of_dir d.now) t.now.a t.now.b t.now.c o.now q.now) }
 {
+    // Most triangles are left here, before any determinant is formed.
+    if is_apart(d, o, t) {
+        return false;
+    }
     let facing = orientation_of(d, &t.a, &t.b, &t.c);
     if facing > 0 {
         front_hides_next(d, o, q, t)
@@ -101,63 +97,117 @@ fn hides_next(d: &Dir, o: &Corner, q: &Corner, t: &TriangleCorners) -> bool
     }
 }
 
-/// The same of a triangle whose corners are seen counterclockwise: next to `o` the edge is within its three sides and behind its
-/// plane.
+/// The three corners are strictly to one side of the line of sight of `o`, by a coordinate that is the same all along it or, where
+/// there is none, by U.
+fn is_apart(d: &Dir, o: &Corner, t: &TriangleCorners) -> bool
+    ensures { IsTrue result → IsApart (of_dir d.now) t.now.a t.now.b t.now.c o.now }
+{
+    let v = d.vector();
+    if is_beside(v.x, o.x, t.a.x, t.b.x, t.c.x) {
+        return true;
+    }
+    if is_beside(v.y, o.y, t.a.y, t.b.y, t.c.y) {
+        return true;
+    }
+    if is_beside(v.z, o.z, t.a.z, t.b.z, t.c.z) {
+        return true;
+    }
+    if v.x == 0 || v.y == 0 || v.z == 0 {
+        return false;
+    }
+    is_apart_across(&d.right(), o, t)
+}
+
+/// The direction has the component 0, and three coordinates are above, or all are below, another.
+fn is_beside(component: i64, o: i32, a: i32, b: i32, c: i32) -> bool
+    ensures { IsTrue result ↔ ((component ≡ pos 0) × AreBeside o a b c) }
+{
+    component == 0 && are_beside(o, a, b, c)
+}
+
+/// Three numbers are above, or all are below, another.
+fn are_beside(o: i32, a: i32, b: i32, c: i32) -> bool
+    ensures { IsTrue result ↔ AreBeside o a b c }
+{
+    (a > o && b > o && c > o) || (a < o && b < o && c < o)
+}
+
+/// The three corners are strictly to one side of `o` along an axis.
+fn is_apart_across(axis: &Vector, o: &Corner, t: &TriangleCorners) -> bool
+    requires { IsWithin 162 (of_vector axis.now) }
+    ensures { IsTrue result ↔ AreBeside (pos 0) (dot (of_vector axis.now) (difference o.now t.now.a)) (dot (of_vector axis.now) (difference o.now t.now.b)) (dot (of_vector axis.now) (difference o.now t.now.c)) }
+{
+    have_one_sign(
+        axis.dot(&Vector::between(o, &t.a)),
+        axis.dot(&Vector::between(o, &t.b)),
+        axis.dot(&Vector::between(o, &t.c)),
+    )
+}
+
+/// Three numbers are above 0, or all are below.
+fn have_one_sign(a: i128, b: i128, c: i128) -> bool
+    ensures { IsTrue result ↔ AreBeside (pos 0) a b c }
+{
+    (a > 0 && b > 0 && c > 0) || (a < 0 && b < 0 && c < 0)
+}
+
+/// The same as `hides_next`, of a triangle whose corners are seen counterclockwise: next to `o` the edge is within its three sides
+/// and behind its plane. A value at `q` is formed only where that at `o` is 0.
 fn front_hides_next(d: &Dir, o: &Corner, q: &Corner, t: &TriangleCorners) -> bool
     requires { pos 0 <ℤ facing_of (of_dir d.now) t.now.a t.now.b t.now.c }
     ensures { IsTrue result ↔ HidesFrom (of_dir d.now) t.now.a t.now.b t.now.c o.now q.now }
 {
-    if !is_inward(d, &t.a, &t.b, o, q)
-        || !is_inward(d, &t.b, &t.c, o, q)
-        || !is_inward(d, &t.c, &t.a, o, q)
+    let ab = side(d, &t.a, &t.b, o);
+    if ab < 0 {
+        return false;
+    }
+    let bc = side(d, &t.b, &t.c, o);
+    if bc < 0 {
+        return false;
+    }
+    let ca = side(d, &t.c, &t.a, o);
+    if ca < 0 {
+        return false;
+    }
+    if leaves(d, ab, &t.a, &t.b, q)
+        || leaves(d, bc, &t.b, &t.c, q)
+        || leaves(d, ca, &t.c, &t.a, q)
     {
         return false;
     }
-    is_above(depth(t, o, q))
+    is_behind(t, o, q)
 }
 
-/// Next to `o` the edge is to the left of the line from `k` to `l`, or on it.
-fn is_inward(d: &Dir, k: &Corner, l: &Corner, o: &Corner, q: &Corner) -> bool
-    ensures { IsTrue result ↔ IsNotBelow (side_of (of_dir d.now) k.now l.now (point_of o.now)) (side_of (of_dir d.now) k.now l.now (point_of q.now)) }
+/// How far a corner is to the left of the line from `k` to `l`, as it is seen.
+fn side(d: &Dir, k: &Corner, l: &Corner, p: &Corner) -> i128
+    ensures value { result ≡ side_of (of_dir d.now) k.now l.now (point_of p.now) }
+    ensures size { unsigned_abs result < 2 ^ 48 }
 {
-    is_not_below(side(d, k, l, o, q))
+    orientation_of(d, k, l, p)
 }
 
-/// How far the edge is to the left of the line from `k` to `l`, as it is seen.
-fn side(d: &Dir, k: &Corner, l: &Corner, o: &Corner, q: &Corner) -> Linear
-    ensures here { result.here ≡ side_of (of_dir d.now) k.now l.now (point_of o.now) }
-    ensures there { result.there ≡ side_of (of_dir d.now) k.now l.now (point_of q.now) }
+/// The end of an edge that is `here` to the left of the line from `k` to `l` is on it, and the other end `q` to the right.
+fn leaves(d: &Dir, here: i128, k: &Corner, l: &Corner, q: &Corner) -> bool
+    ensures { IsTrue result ↔ ((here ≡ pos 0) × (side_of (of_dir d.now) k.now l.now (point_of q.now) <ℤ pos 0)) }
 {
-    Linear {
-        here: orientation_of(d, k, l, o),
-        there: orientation_of(d, k, l, q),
-    }
+    here == 0 && side(d, k, l, q) < 0
 }
 
-/// How far the edge is behind the plane of a triangle.
-fn depth(t: &TriangleCorners, o: &Corner, q: &Corner) -> Linear
-    ensures here { result.here ≡ depth_of t.now.a t.now.b t.now.c (point_of o.now) }
-    ensures there { result.there ≡ depth_of t.now.a t.now.b t.now.c (point_of q.now) }
+/// Next to `o` the edge is behind the plane of a triangle.
+fn is_behind(t: &TriangleCorners, o: &Corner, q: &Corner) -> bool
+    ensures { IsTrue result ↔ IsAbove (depth_of t.now.a t.now.b t.now.c (point_of o.now)) (depth_of t.now.a t.now.b t.now.c (point_of q.now)) }
+{
+    let here = depth(t, o);
+    here > 0 || (here == 0 && depth(t, q) > 0)
+}
+
+/// How far a corner is behind the plane of a triangle.
+fn depth(t: &TriangleCorners, p: &Corner) -> i128
+    ensures value { result ≡ depth_of t.now.a t.now.b t.now.c (point_of p.now) }
+    ensures size { unsigned_abs result < 2 ^ 66 }
 {
     let (k, l) = (Vector::between(&t.a, &t.b), Vector::between(&t.a, &t.c));
-    Linear {
-        here: det3(&Vector::between(o, &t.a), &k, &l),
-        there: det3(&Vector::between(q, &t.a), &k, &l),
-    }
-}
-
-/// The value is at least 0 at all small shares.
-fn is_not_below(x: Linear) -> bool
-    ensures { IsTrue result ↔ IsNotBelow x.here x.there }
-{
-    x.here > 0 || (x.here == 0 && x.there >= 0)
-}
-
-/// The value is above 0 at all small shares.
-fn is_above(x: Linear) -> bool
-    ensures { IsTrue result ↔ IsAbove x.here x.there }
-{
-    x.here > 0 || (x.here == 0 && x.there > 0)
+    det3(&Vector::between(p, &t.a), &k, &l)
 }
 
 /// 1 where one of three numbers is above 0, else 0.

@@ -1,5 +1,5 @@
 // Where an outline passes nearer over an edge, and what it changes there of the counts along the edge.
-ghost use Rattle.std.specs.Prelude.{◌≡◌, ◌+◌, ◌<◌, ◌≤◌, ◌^◌, ◌-ℤ◌, ◌*ℤ◌, length, pos, unsigned_abs, MatchOption, IfSome};
+ghost use Rattle.std.specs.Prelude.{◌≡◌, ◌⊎◌, ◌↔◌, ◌+◌, ◌<◌, ◌≤◌, ◌^◌, ◌-ℤ◌, ◌*ℤ◌, ◌<ℤ◌, length, pos, unsigned_abs, MatchOption, IfSome, IsTrue};
 ghost use Rattle.lattice.specs.Points.{of_dir};
 ghost use Rattle.lattice.specs.Triple.{det};
 ghost use Rattle.geometry.specs.Faces.{difference};
@@ -7,9 +7,9 @@ ghost use Rattle.geometry.specs.Parts.{Edge, IsNumbered};
 ghost use Rattle.geometry.specs.Places.{IsPlace};
 ghost use Rattle.geometry.specs.Views.{face_sign};
 ghost use Rattle.solid_mesh.specs.Solids.{solid_part, edge_halves};
-ghost use Rattle.counting.specs.Counts.{to_left, to_right};
-ghost use Rattle.counting.specs.Shares.{mark, change_of, PassesNearer, IsCrossedAt};
-ghost use Rattle.cross_find.specs.inner.Lines.{PassesBy, PassesForward, IsCrossedBy};
+ghost use Rattle.counting.specs.Counts.{to_left, to_right, orientation_of};
+ghost use Rattle.counting.specs.Shares.{mark};
+ghost use Rattle.cross_find.specs.inner.Lines.{PassesBy, IsInner, IsInnerForward, IsCrossedBy};
 ghost use Rattle.cross_find.specs.Crossings.{IsAcross};
 
 use crate::ends::{ends, orientation_of};
@@ -18,15 +18,22 @@ use exact_frac::Frac;
 use lattice::{Corner, Dir, Vector, det3, view_cross};
 use solid_mesh::Solid;
 
-/// Two lines as they are seen: they cross at the place numerator / denominator of the first, where the second is higher by height_numerator / denominator.
+/// Where the ends of an outline are seen: positive to the left of an edge's line, 0 on it.
+#[derive(Clone, Copy)]
+struct Sides {
+    from: i128,
+    to: i128,
+    ghost from_small: { unsigned_abs from < 2 ^ 48 },
+    ghost to_small: { unsigned_abs to < 2 ^ 48 },
+}
+
+/// Two lines as they are seen: they cross at the place numerator / denominator of the first.
 #[derive(Clone, Copy)]
 struct TwoLines {
     denominator: i128,
     numerator: i128,
-    height_numerator: i128,
-    ghost denominator_small: { unsigned_abs denominator < 2 ^ 48 },
+    ghost denominator_small: { unsigned_abs denominator < 2 ^ 49 },
     ghost numerator_small: { unsigned_abs numerator < 2 ^ 48 },
-    ghost height_numerator_small: { unsigned_abs height_numerator < 2 ^ 66 },
 }
 
 /// What is changed of the count to the left, and of the count to the right.
@@ -55,47 +62,88 @@ pub fn cross_test(
     ensures counted { meter.new.tests ≡ meter.old.tests + 1 }
 {
     meter.tests += 1;
-    let Some(at) = passing(solid, d, edge, outline) else {
+    let (a, b) = ends(solid, edge);
+    let (p, q) = ends(solid, outline);
+    let sides = sides_of(d, &a, &b, &p, &q);
+    // Most outlines lie to one side of the edge's line, and no more is formed for them.
+    if are_alike(sides.from, sides.to) {
+        return None;
+    }
+    let Some(at) = passing(d, &a, &b, &p, &q, &sides) else {
         return None;
     };
-    let CountChanges { left, right } = changes(solid, d, edge, outline);
+    let CountChanges { left, right } = changes(solid, d, outline, &sides);
     if left == 0 && right == 0 {
         return None;
     }
     Some(Crossing { at, left, right })
 }
 
-/// The inner place of an edge at which the line of another is seen to cross its own, strictly nearer.
-fn passing(solid: &Solid, d: &Dir, edge: u32, outline: u32) -> Option<Frac>
-    requires edge_in_range { edge < length (edge_halves solid.now) }
-    requires outline_in_range { outline < length (edge_halves solid.now) }
-    ensures place { IfSome result IsPlace }
-    ensures answer { (e o : Edge (solid_part solid.now)) → IsNumbered (edge_halves solid.now) edge e → IsNumbered (edge_halves solid.now) outline o →
-        MatchOption result (¬ PassesNearer (of_dir d.now) e o) (λ r. PassesNearer (of_dir d.now) e o × IsCrossedAt (of_dir d.now) e o r) }
+/// Where `p` and `q` are seen to the line from `a` to `b`.
+fn sides_of(d: &Dir, a: &Corner, b: &Corner, p: &Corner, q: &Corner) -> Sides
+    ensures from { result.from ≡ orientation_of (of_dir d.now) a.now b.now p.now }
+    ensures to { result.to ≡ orientation_of (of_dir d.now) a.now b.now q.now }
 {
-    let (a, b) = ends(solid, edge);
-    let (p, q) = ends(solid, outline);
-    inner_place(&lines(d, &a, &b, &p, &q))
-}
-
-/// How the line from `p` to `q` is seen to cross that from `a` to `b`.
-fn lines(d: &Dir, a: &Corner, b: &Corner, p: &Corner, q: &Corner) -> TwoLines
-    ensures denominator { result.denominator ≡ det (of_dir d.now) (difference a.now b.now) (difference p.now q.now) }
-    ensures numerator { result.numerator ≡ det (of_dir d.now) (difference a.now p.now) (difference p.now q.now) }
-    ensures height_numerator { result.height_numerator ≡ det (difference a.now b.now) (difference p.now q.now) (difference a.now p.now) }
-{
-    let (along, over) = (Vector::between(a, b), Vector::between(p, q));
-    let way = Vector::between(a, p);
-    TwoLines {
-        denominator: view_cross(d, &along, &over),
-        numerator: view_cross(d, &way, &over),
-        height_numerator: det3(&along, &over, &way),
+    Sides {
+        from: orientation_of(d, a, b, p),
+        to: orientation_of(d, a, b, q),
     }
 }
 
-/// The inner place of the first line at which the second crosses it, strictly nearer.
+/// Both numbers are above 0, both below, or both 0: two ends of an outline that are seen so change no count.
+fn are_alike(x: i128, y: i128) -> bool
+    ensures { IsTrue result ↔ (((pos 0 <ℤ x) × (pos 0 <ℤ y)) ⊎ ((x <ℤ pos 0) × (y <ℤ pos 0)) ⊎ ((x ≡ pos 0) × (y ≡ pos 0))) }
+{
+    (x > 0 && y > 0) || (x < 0 && y < 0) || (x == 0 && y == 0)
+}
+
+/// The inner place of the line from `a` to `b` at which that from `p` to `q`, whose ends are seen at these sides, is seen to cross
+/// it, strictly nearer. The height there is formed last, since many lines cross outside.
+fn passing(d: &Dir, a: &Corner, b: &Corner, p: &Corner, q: &Corner, sides: &Sides) -> Option<Frac>
+    ensures place { IfSome result IsPlace }
+    ensures answer { let over = difference p.now q.now in
+        let way = difference a.now p.now in
+        let denominator = sides.now.to -ℤ sides.now.from in
+        let numerator = det (of_dir d.now) way over in
+        let height_numerator = det (difference a.now b.now) over way in
+        MatchOption result (¬ PassesBy denominator numerator height_numerator) (λ r. PassesBy denominator numerator height_numerator × IsCrossedBy denominator numerator r) }
+{
+    let x = lines(d, a, p, q, sides);
+    let Some(at) = inner_place(&x) else {
+        return None;
+    };
+    if !is_nearer(x.denominator, height_numerator(a, b, p, q)) {
+        return None;
+    }
+    Some(at)
+}
+
+/// How the line from `p` to `q`, whose ends are seen at these sides of a line from `a`, is seen to cross that line.
+fn lines(d: &Dir, a: &Corner, p: &Corner, q: &Corner, sides: &Sides) -> TwoLines
+    ensures denominator { result.denominator ≡ sides.now.to -ℤ sides.now.from }
+    ensures numerator { result.numerator ≡ det (of_dir d.now) (difference a.now p.now) (difference p.now q.now) }
+{
+    TwoLines {
+        denominator: sides.to - sides.from,
+        numerator: view_cross(d, &Vector::between(a, p), &Vector::between(p, q)),
+    }
+}
+
+/// How much higher the line from `p` to `q` is than that from `a` to `b` where they are seen to cross, times the denominator there.
+fn height_numerator(a: &Corner, b: &Corner, p: &Corner, q: &Corner) -> i128
+    ensures value { result ≡ det (difference a.now b.now) (difference p.now q.now) (difference a.now p.now) }
+    ensures size { unsigned_abs result < 2 ^ 66 }
+{
+    det3(
+        &Vector::between(a, b),
+        &Vector::between(p, q),
+        &Vector::between(a, p),
+    )
+}
+
+/// The inner place of the first line at which the second is seen to cross it.
 fn inner_place(x: &TwoLines) -> Option<Frac>
-    ensures { MatchOption result (¬ PassesBy x.now.denominator x.now.numerator x.now.height_numerator) (λ r. PassesBy x.now.denominator x.now.numerator x.now.height_numerator × IsCrossedBy x.now.denominator x.now.numerator r) }
+    ensures { MatchOption result (¬ IsInner x.now.denominator x.now.numerator) (λ r. IsInner x.now.denominator x.now.numerator × IsCrossedBy x.now.denominator x.now.numerator r) }
 {
     if x.denominator > 0 {
         place_within(x)
@@ -104,24 +152,22 @@ fn inner_place(x: &TwoLines) -> Option<Frac>
     }
 }
 
-/// The same three with the other sign.
+/// The same two with the other sign.
 fn turned(x: &TwoLines) -> TwoLines
     ensures denominator { result.denominator ≡ pos 0 -ℤ x.now.denominator }
     ensures numerator { result.numerator ≡ pos 0 -ℤ x.now.numerator }
-    ensures height_numerator { result.height_numerator ≡ pos 0 -ℤ x.now.height_numerator }
 {
     TwoLines {
         denominator: -x.denominator,
         numerator: -x.numerator,
-        height_numerator: -x.height_numerator,
     }
 }
 
 /// The same, where denominator is at least 0.
 fn place_within(x: &TwoLines) -> Option<Frac>
-    ensures { MatchOption result (¬ PassesForward x.now.denominator x.now.numerator x.now.height_numerator) (λ r. PassesForward x.now.denominator x.now.numerator x.now.height_numerator × (r.num ≡ x.now.numerator) × (r.den ≡ x.now.denominator)) }
+    ensures { MatchOption result (¬ IsInnerForward x.now.denominator x.now.numerator) (λ r. IsInnerForward x.now.denominator x.now.numerator × (r.num ≡ x.now.numerator) × (r.den ≡ x.now.denominator)) }
 {
-    if x.numerator <= 0 || x.numerator >= x.denominator || x.height_numerator <= 0 {
+    if x.numerator <= 0 || x.numerator >= x.denominator {
         return None;
     }
     Some(Frac {
@@ -130,22 +176,25 @@ fn place_within(x: &TwoLines) -> Option<Frac>
     })
 }
 
-/// What an outline changes of the two counts along an edge.
-fn changes(solid: &Solid, d: &Dir, edge: u32, outline: u32) -> CountChanges
-    requires edge_in_range { edge < length (edge_halves solid.now) }
-    requires outline_in_range { outline < length (edge_halves solid.now) }
-    ensures left { (e o : Edge (solid_part solid.now)) → IsNumbered (edge_halves solid.now) edge e → IsNumbered (edge_halves solid.now) outline o →
-        result.left ≡ change_of to_left (of_dir d.now) e o }
-    ensures right { (e o : Edge (solid_part solid.now)) → IsNumbered (edge_halves solid.now) edge e → IsNumbered (edge_halves solid.now) outline o →
-        result.right ≡ change_of to_right (of_dir d.now) e o }
+/// The quotient of a height's numerator and its denominator is above 0.
+fn is_nearer(denominator: i128, height_numerator: i128) -> bool
+    ensures { IsTrue result ↔ (((pos 0 <ℤ denominator) × (pos 0 <ℤ height_numerator)) ⊎ ((denominator <ℤ pos 0) × (height_numerator <ℤ pos 0))) }
 {
-    let (a, b) = ends(solid, edge);
-    let (p, q) = ends(solid, outline);
+    (denominator > 0 && height_numerator > 0) || (denominator < 0 && height_numerator < 0)
+}
+
+/// What an outline, whose ends are seen at these sides of an edge's line, changes of the two counts along the edge.
+fn changes(solid: &Solid, d: &Dir, outline: u32, sides: &Sides) -> CountChanges
+    requires { outline < length (edge_halves solid.now) }
+    ensures left { (o : Edge (solid_part solid.now)) → IsNumbered (edge_halves solid.now) outline o →
+        result.left ≡ (face_sign (of_dir d.now) o.left -ℤ face_sign (of_dir d.now) o.right) *ℤ (mark to_left sides.now.from -ℤ mark to_left sides.now.to) }
+    ensures right { (o : Edge (solid_part solid.now)) → IsNumbered (edge_halves solid.now) outline o →
+        result.right ≡ (face_sign (of_dir d.now) o.left -ℤ face_sign (of_dir d.now) o.right) *ℤ (mark to_right sides.now.from -ℤ mark to_right sides.now.to) }
+{
     let turn = turn_of(solid, d, outline);
-    let (from, to) = (orientation_of(d, &a, &b, &p), orientation_of(d, &a, &b, &q));
     CountChanges {
-        left: times(turn, left_mark(from), left_mark(to)),
-        right: times(turn, right_mark(from), right_mark(to)),
+        left: times(turn, left_mark(sides.from), left_mark(sides.to)),
+        right: times(turn, right_mark(sides.from), right_mark(sides.to)),
     }
 }
 

@@ -1,8 +1,8 @@
 -- What holds along an edge next to an end of it.
 use Rattle.std.specs.Prelude.{◌≡◌, ◌⊎◌, ℤ, pos, ◌*ℤ◌, ◌<ℤ◌, ◌≤ℤ◌, Bool, true, false}
 use Rattle.lattice.specs.declared.points.Corner.{Corner}
-use Rattle.lattice.specs.Triple.{Triple}
-use Rattle.geometry.specs.Faces.{share_point, FaceHides}
+use Rattle.lattice.specs.Triple.{Triple, dot}
+use Rattle.geometry.specs.Faces.{difference, share_point, FaceHides}
 
 -- P holds at each inner share below some share of the edge
 pub record HoldsNext (P : ℤ → ℤ → Type 0) : Type 0 where
@@ -28,3 +28,15 @@ IsNotBelow here there = (pos 0 <ℤ here) ⊎ ((here ≡ pos 0) × (pos 0 ≤ℤ
 -- and is above 0 there
 abbrev pub IsAbove : ℤ → ℤ → Type 0
 IsAbove here there = (pos 0 <ℤ here) ⊎ ((here ≡ pos 0) × (pos 0 <ℤ there))
+
+-- three corners are all strictly past o along an axis at right angles to the direction, and so none is seen there
+pub record IsApart (d : Triple) (a b c o : Corner) : Type 0 where
+  pub axis : Triple
+  pub level : dot axis d ≡ pos 0
+  pub first : pos 0 <ℤ dot axis (difference o a)
+  pub second : pos 0 <ℤ dot axis (difference o b)
+  pub third : pos 0 <ℤ dot axis (difference o c)
+
+-- three numbers are all above another, or all below it
+abbrev pub AreBeside : ℤ → ℤ → ℤ → ℤ → Type 0
+AreBeside o a b c = ((o <ℤ a) × (o <ℤ b) × (o <ℤ c)) ⊎ ((a <ℤ o) × (b <ℤ o) × (c <ℤ o))

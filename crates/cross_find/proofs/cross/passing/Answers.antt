@@ -1,22 +1,37 @@
-use Rattle.lattice.specs.Points.{of_dir}
-use Rattle.cross_find.proofs.Passes.{match_map, some_of}
-use Rattle.cross_find.proofs.Changes.{passes_nearer, passes_by, crossed_at}
+use Rattle.std.proofs.Common.{◌⊎◌, true≢false, sym, subst, ◌∙◌}
+use Rattle.std.specs.Prelude.{pos, ◌<ℤ◌, ◌↔◌, IsTrue}
+use Rattle.cross_find.specs.inner.Lines.{IsInner, IsCrossedBy}
+use Rattle.cross_find.proofs.Passed.{passed_difference, passed_height}
+use Rattle.cross_find.proofs.Passes.{nearer_of_signs, signs_of_nearer}
 use Rattle.cross_find.proofs.cross.passing.Goals as goal
 
-pub returns-clause-place : goal.returns-clause-place
-returns-clause-place c = some_of _ c.inner_place.result (λ r h. h.1.place) c.inner_place.ensures
+pub returns-in_default-clause-answer : goal.returns-in_default-clause-answer
+returns-in_default-clause-answer c passes =
+    let is = c.lines-x.ensures in
+    c.in_default.ensures (subst (λ (T : Type 0). T) (sym (λ i. IsInner (is.denominator i) (is.numerator i))) passes.inner)
+
+pub returns-then-not-is_nearer-clause-answer : goal.returns-then-not-is_nearer-clause-answer
+returns-then-not-is_nearer-clause-answer c passes =
+    let x = c.lines-x.result in
+    let denominator = passed_difference x.denominator x.denominator_small ∙ c.lines-x.ensures.denominator in
+    let height = passed_height c.height_numerator.result c.height_numerator.ensures.size ∙ c.height_numerator.ensures.value in
+    let signs = subst (λ (T : Type 0). IsTrue c.is_nearer.result ↔ T) (λ i. ((pos 0 <ℤ denominator i) × (pos 0 <ℤ height i)) ⊎ ((denominator i <ℤ pos 0) × (height i <ℤ pos 0))) c.is_nearer.ensures in
+    true≢false (sym (signs.1 (signs_of_nearer _ _ passes.nearer)) ∙ c.if-not-is_nearer.true)
 
 pub returns-clause-answer : goal.returns-clause-answer
-returns-clause-answer c e o at_e at_o =
-    let d = of_dir c.args.d.now in
-    let (at_a, at_b) = c.ends.ensures e at_e in
-    let (at_p, at_q) = c.ends-2.ensures o at_o in
-    let x = c.lines.result in
-    let is = c.lines.ensures in
-    match_map c.inner_place.result
-    (λ none passes. none (passes_by d e o _ _ _ _ at_a at_b at_p at_q x.denominator x.numerator x.height_numerator is.denominator is.numerator is.height_numerator passes))
-    (λ r h. (
-      passes_nearer d e o _ _ _ _ at_a at_b at_p at_q x.denominator x.numerator x.height_numerator is.denominator is.numerator is.height_numerator h.0,
-      crossed_at d e o _ _ _ _ at_a at_b at_p at_q x.denominator x.numerator x.height_numerator is.denominator is.numerator is.height_numerator r h.1,
-    ))
-    c.inner_place.ensures
+returns-clause-answer c =
+    let x = c.lines-x.result in
+    let is = c.lines-x.ensures in
+    let denominator = passed_difference x.denominator x.denominator_small ∙ is.denominator in
+    let height = passed_height c.height_numerator.result c.height_numerator.ensures.size ∙ c.height_numerator.ensures.value in
+    let signs = subst (λ (T : Type 0). IsTrue c.is_nearer.result ↔ T) (λ i. ((pos 0 <ℤ denominator i) × (pos 0 <ℤ height i)) ⊎ ((denominator i <ℤ pos 0) × (height i <ℤ pos 0))) c.is_nearer.ensures in
+    let (inner, crossed) = c.in-Some.ensures in (
+      record {
+        inner = subst (λ (T : Type 0). T) (λ i. IsInner (is.denominator i) (is.numerator i)) inner;
+        nearer = nearer_of_signs _ _ (signs.0 c.if-not-is_nearer.false);
+      },
+      subst (λ (T : Type 0). T) (λ i. IsCrossedBy (is.denominator i) (is.numerator i) c.in-Some.at) crossed,
+    )
+
+pub returns-clause-place : goal.returns-clause-place
+returns-clause-place c = let (inner, crossed) = c.in-Some.ensures in crossed.place
