@@ -32,10 +32,13 @@ small x h = omega (arith, ints)
 pub smaller : (m : ℤ) → unsigned_abs m ≤ 1 → to_z w8 (of_z w8 m) ≡ m
 smaller m h = omega (arith, ints)
 
+pub turn_passed : (t : ℤ) → unsigned_abs t ≤ 2 → to_z w8 (of_z w8 t) ≡ t
+turn_passed t h = omega (arith, ints)
+
 pub product : (r t m n : ℤ) → unsigned_abs t ≤ 2 → unsigned_abs m ≤ 1 → unsigned_abs n ≤ 1
     → r ≡ to_z w8 (of_z w8 t) *ℤ (to_z w8 (of_z w8 m) -ℤ to_z w8 (of_z w8 n)) → r ≡ t *ℤ (m -ℤ n)
 product r t m n ht hm hn e =
-    let turn : to_z w8 (of_z w8 t) ≡ t = omega (arith, ints) in
+    let turn = turn_passed t ht in
     let from = smaller m hm in
     let to = smaller n hn in
     e ∙ (λ i. turn i *ℤ (from i -ℤ to i))

@@ -1,5 +1,5 @@
 // What an outline changes of the counts in a turn about a corner, from the end of one edge to the end of another.
-ghost use Rattle.std.specs.Prelude.{◌≡◌, ◌↔◌, ◌+◌, ◌<◌, ◌≤◌, ◌^◌, ◌-ℤ◌, ◌*ℤ◌, length, unsigned_abs, IsTrue};
+ghost use Rattle.std.specs.Prelude.{◌≡◌, ◌+◌, ◌<◌, ◌≤◌, ◌^◌, ◌-ℤ◌, ◌*ℤ◌, length, unsigned_abs, IsTrue, MatchOption};
 ghost use Rattle.lattice.specs.Points.{of_dir};
 ghost use Rattle.geometry.specs.Parts.{Edge, IsNumbered};
 ghost use Rattle.solid_mesh.specs.Solids.{solid_part, edge_halves};
@@ -8,7 +8,7 @@ ghost use Rattle.face_counts.specs.inner.Tallies.{IsTally};
 ghost use Rattle.counting.specs.Turns.{way_to, way_from, corner_at, number_at, side_from, HasTurnedAt};
 ghost use Rattle.face_counts.specs.inner.Perturbations.{TwoAreLeft};
 ghost use Rattle.face_counts.specs.inner.CornerTests.{rise_to, IsOver};
-ghost use Rattle.cross_find.specs.inner.Ways.{way_of, side_of};
+ghost use Rattle.cross_find.specs.inner.Ways.{way_of, side_of, IsShare};
 
 use crate::corner::{are_in_line, passes, passes_between, way_to};
 use crate::cross::turn_of;
@@ -17,6 +17,13 @@ use crate::meter::{End, Meter, Turn};
 use crate::ways::Way;
 use lattice::{Corner, Dir, Vector};
 use solid_mesh::Solid;
+
+/// The ways in the view from a corner to the two ends of an outline.
+#[derive(Clone, Copy)]
+struct EndWays {
+    a: Way,
+    b: Way,
+}
 
 /// By how much an outline changes the two counts in the turn about the corner of `from`, counterclockwise and less than once around,
 /// from there to `to`; left and right are those along each edge from its first end. An outline that has the corner, or is not
@@ -41,12 +48,29 @@ pub fn corner_test(
     ensures counted { meter.new.tests ≡ meter.old.tests + 1 }
 {
     meter.tests += 1;
-    if !is_over(solid, d, from, outline) {
+    let Some(ways) = ways_over(solid, d, from, outline) else {
         return Turn { left: 0, right: 0 };
-    }
+    };
+    // The ways along the two edges are formed once, for both sides and both ends of the outline.
+    let (x, y) = (way_from(solid, d, from), way_from(solid, d, to));
+    let turn = turn_of(solid, d, outline);
     Turn {
-        left: share(solid, d, from, to, outline, true),
-        right: share(solid, d, from, to, outline, false),
+        left: share(
+            &x,
+            seen_left(true, from.at_b),
+            &y,
+            seen_left(true, to.at_b),
+            &ways,
+            turn,
+        ),
+        right: share(
+            &x,
+            seen_left(false, from.at_b),
+            &y,
+            seen_left(false, to.at_b),
+            &ways,
+            turn,
+        ),
     }
 }
 
@@ -89,62 +113,44 @@ fn rise_to(d: &Dir, p: &Corner, q: &Corner) -> i128
     d.vector().dot(&Vector::between(p, q))
 }
 
-/// The outline does not have the corner at that end, is not seen end-on, and is strictly nearer over it.
-fn is_over(solid: &Solid, d: &Dir, end: End, outline: u32) -> bool
+/// The ways to the ends of an outline from the corner at that end of an edge, where the outline does not have the corner, is not
+/// seen end-on, and is strictly nearer over it; else none.
+fn ways_over(solid: &Solid, d: &Dir, end: End, outline: u32) -> Option<EndWays>
     requires end_in_range { end.edge < length (edge_halves solid.now) }
     requires outline_in_range { outline < length (edge_halves solid.now) }
     ensures { (e o : Edge (solid_part solid.now)) → IsNumbered (edge_halves solid.now) end.edge e → IsNumbered (edge_halves solid.now) outline o →
-        IsTrue result ↔ IsOver (of_dir d.now) (number_at e end.at_b) (corner_at e end.at_b) o }
+        MatchOption result (¬ IsOver (of_dir d.now) (number_at e end.at_b) (corner_at e end.at_b) o)
+        (λ r. IsOver (of_dir d.now) (number_at e end.at_b) (corner_at e end.at_b) o × (way_of r.a ≡ way_to (of_dir d.now) (corner_at e end.at_b) o.a) × (way_of r.b ≡ way_to (of_dir d.now) (corner_at e end.at_b) o.b)) }
 {
     let number = number_at(solid, end);
     let numbers = solid.edge(outline);
     if numbers.a == number || numbers.b == number {
-        return false;
+        return None;
     }
     let c = corner_at(solid, end);
-    let (a, b) = ends(solid, outline);
-    let (v, w) = (way_to(d, &c, &a), way_to(d, &c, &b));
+    let (p, q) = ends(solid, outline);
+    let (a, b) = (way_to(d, &c, &p), way_to(d, &c, &q));
     // Few outlines are seen in line with a corner, so most tests end here.
-    if !are_in_line(&v, &w) {
-        return false;
+    if !are_in_line(&a, &b) {
+        return None;
     }
-    passes_between(&v, &w, rise_to(d, &c, &a), rise_to(d, &c, &b))
+    if !passes_between(&a, &b, rise_to(d, &c, &p), rise_to(d, &c, &q)) {
+        return None;
+    }
+    Some(EndWays { a, b })
 }
 
-/// What the outline changes of the count on that side, where it is over the corner.
-fn share(solid: &Solid, d: &Dir, from: End, to: End, outline: u32, left: bool) -> i8
-    requires from_in_range { from.edge < length (edge_halves solid.now) }
-    requires to_in_range { to.edge < length (edge_halves solid.now) }
-    requires outline_in_range { outline < length (edge_halves solid.now) }
-    ensures turned { (e f o : Edge (solid_part solid.now)) → IsNumbered (edge_halves solid.now) from.edge e → IsNumbered (edge_halves solid.now) to.edge f →
-        IsNumbered (edge_halves solid.now) outline o → IsOver (of_dir d.now) (number_at e from.at_b) (corner_at e from.at_b) o →
-        HasTurnedAt (side_of left) (of_dir d.now) e from.at_b f to.at_b o result }
+/// What an outline with this turn from face to face, that is over a corner, changes of a count in the turn about the corner, from beside
+/// the way `x` to beside the way `y`.
+fn share(x: &Way, x_left: bool, y: &Way, y_left: bool, ways: &EndWays, turn: i8) -> i8
+    requires { unsigned_abs turn ≤ 2 }
+    ensures share { IsShare turn (TwoAreLeft (side_of x_left) (way_of x.now) (side_of y_left) (way_of y.now) (way_of ways.now.a))
+        (TwoAreLeft (side_of x_left) (way_of x.now) (side_of y_left) (way_of y.now) (way_of ways.now.b)) result }
     ensures size { unsigned_abs result ≤ 4 }
 {
-    let (a, b) = ends(solid, outline);
-    let first = passed(solid, d, from, to, left, &a);
-    let second = passed(solid, d, from, to, left, &b);
-    times_between(turn_of(solid, d, outline), first, second)
-}
-
-/// 1 where the turn on that side passes the way to `p`, else 0.
-fn passed(solid: &Solid, d: &Dir, from: End, to: End, left: bool, p: &Corner) -> i8
-    requires from_in_range { from.edge < length (edge_halves solid.now) }
-    requires to_in_range { to.edge < length (edge_halves solid.now) }
-    ensures tally { (e f : Edge (solid_part solid.now)) → IsNumbered (edge_halves solid.now) from.edge e → IsNumbered (edge_halves solid.now) to.edge f →
-        IsTally (TwoAreLeft (side_from from.at_b (side_of left)) (way_from (of_dir d.now) e from.at_b) (side_from to.at_b (side_of left)) (way_from (of_dir d.now) f to.at_b)
-        (way_to (of_dir d.now) (corner_at e from.at_b) p.now)) result }
-    ensures size { unsigned_abs result ≤ 1 }
-{
-    let (x, y) = (way_from(solid, d, from), way_from(solid, d, to));
-    let w = way_to(d, &corner_at(solid, from), p);
-    one_where(passes(
-        &x,
-        seen_left(left, from.at_b),
-        &y,
-        seen_left(left, to.at_b),
-        &w,
-    ))
+    let first = one_where(passes(x, x_left, y, y_left, &ways.a));
+    let second = one_where(passes(x, x_left, y, y_left, &ways.b));
+    times_between(turn, first, second)
 }
 
 /// Whether the side is the left one as it is seen from an end.

@@ -1,30 +1,52 @@
-use Rattle.std.proofs.Common.{true≢false, sym, subst, ◌∙◌}
-use Rattle.std.specs.Prelude.{ℤ}
+use Rattle.std.proofs.Common.{sym, subst, ◌∙◌}
+use Rattle.std.specs.Prelude.{ℤ, ◌-ℤ◌, ◌*ℤ◌}
 use Rattle.lattice.specs.Points.{of_dir}
 use Rattle.counting.specs.Counts.{to_left, to_right}
 use Rattle.counting.specs.Turns.{way_from, corner_at, number_at, side_from, HasTurnedAt}
-use Rattle.face_counts.proofs.CornerTest.{turned_elsewhere}
-use Rattle.cross_find.proofs.Passed.{small}
+use Rattle.face_counts.specs.inner.Perturbations.{TwoAreLeft}
+use Rattle.face_counts.specs.inner.Tallies.{IsTally}
+use Rattle.face_counts.proofs.CornerTest.{turned_over, turned_elsewhere}
+use Rattle.cross_find.proofs.Passed.{small, turn_passed}
 use Rattle.cross_find.proofs.turns.corner_test.Goals as goal
 
-pub returns-then-not-is_over-clause-left : goal.returns-then-not-is_over-clause-left
-returns-then-not-is_over-clause-left c e f o at_e at_f at_o =
+pub returns-in_default-clause-left : goal.returns-in_default-clause-left
+returns-in_default-clause-left c e f o at_e at_f at_o =
     let d = of_dir c.args.d.now in
     turned_elsewhere d (number_at e c.args.from.at_b) (corner_at e c.args.from.at_b) (side_from c.args.from.at_b to_left) (way_from d e c.args.from.at_b) (side_from c.args.to.at_b to_left) (way_from d f c.args.to.at_b) o
-    (λ v. true≢false (sym ((c.is_over.ensures e o at_e at_o).1 v) ∙ c.if-not-is_over.true))
+    (c.in_default.ensures e o at_e at_o)
+
+pub returns-in_default-clause-right : goal.returns-in_default-clause-right
+returns-in_default-clause-right c e f o at_e at_f at_o =
+    let d = of_dir c.args.d.now in
+    turned_elsewhere d (number_at e c.args.from.at_b) (corner_at e c.args.from.at_b) (side_from c.args.from.at_b to_right) (way_from d e c.args.from.at_b) (side_from c.args.to.at_b to_right) (way_from d f c.args.to.at_b) o
+    (c.in_default.ensures e o at_e at_o)
 
 pub returns-clause-left : goal.returns-clause-left
 returns-clause-left c e f o at_e at_f at_o =
-    subst (λ (z : ℤ). HasTurnedAt to_left (of_dir c.args.d.now) e c.args.from.at_b f c.args.to.at_b o z) (sym (small c.share.result c.share.ensures.size))
-    (c.share.ensures.turned e f o at_e at_f at_o ((c.is_over.ensures e o at_e at_o).0 c.if-not-is_over.false))
-
-pub returns-then-not-is_over-clause-right : goal.returns-then-not-is_over-clause-right
-returns-then-not-is_over-clause-right c e f o at_e at_f at_o =
     let d = of_dir c.args.d.now in
-    turned_elsewhere d (number_at e c.args.from.at_b) (corner_at e c.args.from.at_b) (side_from c.args.from.at_b to_right) (way_from d e c.args.from.at_b) (side_from c.args.to.at_b to_right) (way_from d f c.args.to.at_b) o
-    (λ v. true≢false (sym ((c.is_over.ensures e o at_e at_o).1 v) ∙ c.if-not-is_over.true))
+    let (over, is_a, is_b) = c.in-Some.ensures e o at_e at_o in
+    let k = c.seen_left.ensures in
+    let x = c.way_from-x.ensures e at_e in
+    let l = c.seen_left-2.ensures in
+    let y = c.way_from-y.ensures f at_f in
+    let turn = turn_passed c.turn_of-turn.result c.turn_of-turn.ensures.size ∙ c.turn_of-turn.ensures.value o at_o in
+    let s = c.share.ensures.share in
+    let first = subst (λ (T : Type 0). IsTally T s.first) (λ i. TwoAreLeft (k i) (x i) (l i) (y i) (is_a i)) s.passes_first in
+    let second = subst (λ (T : Type 0). IsTally T s.second) (λ i. TwoAreLeft (k i) (x i) (l i) (y i) (is_b i)) s.passes_second in
+    subst (λ (z : ℤ). HasTurnedAt to_left d e c.args.from.at_b f c.args.to.at_b o z) (sym (small c.share.result c.share.ensures.size ∙ s.is ∙ (λ i. turn i *ℤ (s.second -ℤ s.first))))
+    (turned_over d (number_at e c.args.from.at_b) (corner_at e c.args.from.at_b) (side_from c.args.from.at_b to_left) (way_from d e c.args.from.at_b) (side_from c.args.to.at_b to_left) (way_from d f c.args.to.at_b) o over first second)
 
 pub returns-clause-right : goal.returns-clause-right
 returns-clause-right c e f o at_e at_f at_o =
-    subst (λ (z : ℤ). HasTurnedAt to_right (of_dir c.args.d.now) e c.args.from.at_b f c.args.to.at_b o z) (sym (small c.share-2.result c.share-2.ensures.size))
-    (c.share-2.ensures.turned e f o at_e at_f at_o ((c.is_over.ensures e o at_e at_o).0 c.if-not-is_over.false))
+    let d = of_dir c.args.d.now in
+    let (over, is_a, is_b) = c.in-Some.ensures e o at_e at_o in
+    let k = c.seen_left-3.ensures in
+    let x = c.way_from-x.ensures e at_e in
+    let l = c.seen_left-4.ensures in
+    let y = c.way_from-y.ensures f at_f in
+    let turn = turn_passed c.turn_of-turn.result c.turn_of-turn.ensures.size ∙ c.turn_of-turn.ensures.value o at_o in
+    let s = c.share-2.ensures.share in
+    let first = subst (λ (T : Type 0). IsTally T s.first) (λ i. TwoAreLeft (k i) (x i) (l i) (y i) (is_a i)) s.passes_first in
+    let second = subst (λ (T : Type 0). IsTally T s.second) (λ i. TwoAreLeft (k i) (x i) (l i) (y i) (is_b i)) s.passes_second in
+    subst (λ (z : ℤ). HasTurnedAt to_right d e c.args.from.at_b f c.args.to.at_b o z) (sym (small c.share-2.result c.share-2.ensures.size ∙ s.is ∙ (λ i. turn i *ℤ (s.second -ℤ s.first))))
+    (turned_over d (number_at e c.args.from.at_b) (corner_at e c.args.from.at_b) (side_from c.args.from.at_b to_right) (way_from d e c.args.from.at_b) (side_from c.args.to.at_b to_right) (way_from d f c.args.to.at_b) o over first second)
