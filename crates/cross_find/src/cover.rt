@@ -23,7 +23,8 @@ struct TriangleCorners {
     c: Corner,
 }
 
-/// Whether a triangle is counted to the left, and to the right, next to an end of an edge: 1 or 0. Takes constant time and no memory.
+/// Whether a triangle is counted to the left, and to the right, next to an end of an edge: 1 or 0. Takes constant time and no memory;
+/// a triangle that is strictly to one side of the end, as it is seen, is mostly left by a few comparisons.
 pub fn cover_test(solid: &Solid, d: &Dir, end: End, tri: u32, meter: &mut Meter) -> (u8, u8)
     requires edge_in_range { end.edge < length (edge_halves solid.now) }
     requires tri_in_range { tri < length (solid_part solid.now).triangles }
@@ -98,7 +99,8 @@ fn hides_next(d: &Dir, o: &Corner, q: &Corner, t: &TriangleCorners) -> bool
 }
 
 /// The three corners are strictly to one side of the line of sight of `o`, by a coordinate that is the same all along it or, where
-/// there is none, by U.
+/// there is none, by U. A triangle that touches the line is never so; an answer `false` says nothing. V is not looked at: it would
+/// leave few more, and cost as much as a side.
 fn is_apart(d: &Dir, o: &Corner, t: &TriangleCorners) -> bool
     ensures { IsTrue result → IsApart (of_dir d.now) t.now.a t.now.b t.now.c o.now }
 {
@@ -115,7 +117,7 @@ fn is_apart(d: &Dir, o: &Corner, t: &TriangleCorners) -> bool
     if v.x == 0 || v.y == 0 || v.z == 0 {
         return false;
     }
-    is_apart_across(&d.right(), o, t)
+    is_apart_along(&d.right(), o, t)
 }
 
 /// The direction has the component 0, and three coordinates are above, or all are below, another.
@@ -133,7 +135,7 @@ fn are_beside(o: i32, a: i32, b: i32, c: i32) -> bool
 }
 
 /// The three corners are strictly to one side of `o` along an axis.
-fn is_apart_across(axis: &Vector, o: &Corner, t: &TriangleCorners) -> bool
+fn is_apart_along(axis: &Vector, o: &Corner, t: &TriangleCorners) -> bool
     requires { IsWithin 162 (of_vector axis.now) }
     ensures { IsTrue result ↔ AreBeside (pos 0) (dot (of_vector axis.now) (difference o.now t.now.a)) (dot (of_vector axis.now) (difference o.now t.now.b)) (dot (of_vector axis.now) (difference o.now t.now.c)) }
 {

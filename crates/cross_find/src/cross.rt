@@ -46,7 +46,7 @@ struct CountChanges {
 }
 
 /// Where an outline passes nearer over an inner place of an edge and changes one of the counts along it. Takes constant time and
-/// no memory.
+/// no memory: two determinants where both ends of the outline are seen to one side of the edge's line.
 pub fn cross_test(
     solid: &Solid,
     d: &Dir,

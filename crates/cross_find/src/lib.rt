@@ -25,9 +25,21 @@
 //! 2) all is decided by signs of determinants of whole coordinates, and the place of a crossing is the quotient of two of them,
 //! so nothing is rounded; 3) an outline may pass just over a corner that it doesn't have, and the counts change about it.
 //!
-//! Each test takes constant time and no memory: `cross_test` three determinants, and four more where the outline passes nearer;
-//! `cover_test` at most twelve; `corner_test` one turn between ways and four products, and twelve of each more where the outline
-//! passes nearer. Each raises the count of tests in a `Meter` by one. A `Sight` hands out these tests, the numbers of edges and the
+//! Each test takes constant time and no memory, and most are over early:
+//!
+//! - `cover_test` forms no determinant where the triangle's three corners are strictly to one side of the end, along an axis at right
+//!   angles to the direction: no point of the triangle is then on the line of sight of the end. Along an axis of the part on which
+//!   the direction has the component 0 that takes comparisons of coordinates alone; where there is no such axis, three scalar
+//!   products with the right axis. Else it forms at most eleven determinants: that of the facing, three sides at the end, of which
+//!   the first below 0 is the last, each value at the other end only where that at this end is 0, and three that tell where the
+//!   triangle reaches, only where it is nearer.
+//! - `cross_test` forms two determinants, which tell on which sides of the edge's line the two ends of the outline are seen. Where that
+//!   is one side, or both are on the line, no count changes. Their difference is the denominator of the place. Else it forms a third for
+//!   the place, a fourth for the height where the place is within the edge, and the signs of two faces where the outline is nearer.
+//! - `corner_test` forms four scalar products and a turn between two ways, and for the few outlines that are seen in line with the corner
+//!   three products and two heights; where one is nearer over the corner, four scalar products, twelve turns and twelve products.
+//!
+//! Each test raises the count of tests in a `Meter` by one. A `Sight` hands out these tests, the numbers of edges and the
 //! triangles at a corner, and no coordinate, so that what is found through it is found by counted tests; `SolidSight` is that of a
 //! solid in a direction.
 #![tactic(auto)]

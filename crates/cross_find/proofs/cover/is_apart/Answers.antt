@@ -42,4 +42,4 @@ returns c so =
     let d = of_dir c.args.d.now in
     let t = c.args.t.now in
     let axis = c.right.ensures.axis in
-    apart_along d t.a t.b t.c c.args.o.now _ (ap (λ (s : Triple). dot s d) axis ∙ (right_axis-is d).level) (c.is_apart_across.ensures.0 so)
+    apart_along d t.a t.b t.c c.args.o.now _ (ap (λ (s : Triple). dot s d) axis ∙ (right_axis-is d).level) (c.is_apart_along.ensures.0 so)

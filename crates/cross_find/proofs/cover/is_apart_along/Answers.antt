@@ -4,7 +4,7 @@ use Rattle.lattice.specs.Triple.{dot}
 use Rattle.lattice.specs.Points.{of_vector}
 use Rattle.cross_find.specs.inner.Ends.{AreBeside}
 use Rattle.cross_find.proofs.CornerSigns.{wide_part}
-use Rattle.cross_find.proofs.cover.is_apart_across.Goals as goal
+use Rattle.cross_find.proofs.cover.is_apart_along.Goals as goal
 
 pub returns : goal.returns
 returns c =
