@@ -20,7 +20,7 @@ use Rattle.counting.specs.Shares.{mark, change_of, denominator_of, numerator_of,
 
 -- ---- marks that differ
 -- one is at least 0 and the other at most, and they differ
-abbrev IsAcross : ℤ → ℤ → Type 0
+abbrev pub IsAcross : ℤ → ℤ → Type 0
 IsAcross x y = ((x ≤ℤ pos 0) × (pos 0 ≤ℤ y) × (x <ℤ y)) ⊎ ((y ≤ℤ pos 0) × (pos 0 ≤ℤ x) × (y <ℤ x))
 
 across : (k : Side) (x y : ℤ) → mark k x ≢ mark k y → IsAcross x y
@@ -46,7 +46,7 @@ module _ (d : Triple) {s : Part} (e o : Edge s) where
       none f x y h = (λ i. f *ℤ (h i -ℤ y)) ∙ ring (f ∷ y ∷ []) (var 0 ⊗ (var 1 ⊖ var 1)) (con (pos 0)) refl
 
   -- the outline has its two corners on the two sides of the edge's line
-  goes_across : Changes d e o → IsAcross (orientation_of d e.a e.b o.a) (orientation_of d e.a e.b o.b)
+  pub goes_across : Changes d e o → IsAcross (orientation_of d e.a e.b o.a) (orientation_of d e.a e.b o.b)
   goes_across c = by c.some
     where
       by : (change_of to_left d e o ≢ pos 0) ⊎ (change_of to_right d e o ≢ pos 0) → IsAcross (orientation_of d e.a e.b o.a) (orientation_of d e.a e.b o.b)
@@ -71,23 +71,23 @@ abbrev parts : Expr → Expr → Expr → Expr
 parts a o e = ((dots D (crosses E O) ⊗ a) ⊖ (dots D (crosses E A) ⊗ o)) ⊖ (dots D (crosses A O) ⊗ e)
 
 module _ (d e o a : Triple) where
-  parts_x : ((det d e o *ℤ a.x) -ℤ (det d e a *ℤ o.x)) -ℤ (det d a o *ℤ e.x) ≡ det e o a *ℤ d.x
+  pub parts_x : ((det d e o *ℤ a.x) -ℤ (det d e a *ℤ o.x)) -ℤ (det d a o *ℤ e.x) ≡ det e o a *ℤ d.x
   parts_x = ring (d.x ∷ d.y ∷ d.z ∷ e.x ∷ e.y ∷ e.z ∷ o.x ∷ o.y ∷ o.z ∷ a.x ∷ a.y ∷ a.z ∷ []) (parts A.x O.x E.x) (dots E (crosses O A) ⊗ D.x) refl
 
-  parts_y : ((det d e o *ℤ a.y) -ℤ (det d e a *ℤ o.y)) -ℤ (det d a o *ℤ e.y) ≡ det e o a *ℤ d.y
+  pub parts_y : ((det d e o *ℤ a.y) -ℤ (det d e a *ℤ o.y)) -ℤ (det d a o *ℤ e.y) ≡ det e o a *ℤ d.y
   parts_y = ring (d.x ∷ d.y ∷ d.z ∷ e.x ∷ e.y ∷ e.z ∷ o.x ∷ o.y ∷ o.z ∷ a.x ∷ a.y ∷ a.z ∷ []) (parts A.y O.y E.y) (dots E (crosses O A) ⊗ D.y) refl
 
-  parts_z : ((det d e o *ℤ a.z) -ℤ (det d e a *ℤ o.z)) -ℤ (det d a o *ℤ e.z) ≡ det e o a *ℤ d.z
+  pub parts_z : ((det d e o *ℤ a.z) -ℤ (det d e a *ℤ o.z)) -ℤ (det d a o *ℤ e.z) ≡ det e o a *ℤ d.z
   parts_z = ring (d.x ∷ d.y ∷ d.z ∷ e.x ∷ e.y ∷ e.z ∷ o.x ∷ o.y ∷ o.z ∷ a.x ∷ a.y ∷ a.z ∷ []) (parts A.z O.z E.z) (dots E (crosses O A) ⊗ D.z) refl
 
-  ends_turn : (b : Triple) → b.x ≡ a.x +ℤ o.x → b.y ≡ a.y +ℤ o.y → b.z ≡ a.z +ℤ o.z → det d e b ≡ det d e o +ℤ det d e a
+  pub ends_turn : (b : Triple) → b.x ≡ a.x +ℤ o.x → b.y ≡ a.y +ℤ o.y → b.z ≡ a.z +ℤ o.z → det d e b ≡ det d e o +ℤ det d e a
   ends_turn b x y z =
       (λ i. det d e (record { x = x i; y = y i; z = z i }))
       ∙ ring (d.x ∷ d.y ∷ d.z ∷ e.x ∷ e.y ∷ e.z ∷ o.x ∷ o.y ∷ o.z ∷ a.x ∷ a.y ∷ a.z ∷ [])
       (dots D (crosses E (record { x = A.x ⊕ O.x; y = A.y ⊕ O.y; z = A.z ⊕ O.z }))) (dots D (crosses E O) ⊕ dots D (crosses E A)) refl
 
 -- one coordinate of the outline's point and of the edge's, where σ is 1 or -1
-coordinate : (i j σ turn denominator numerator height_numerator num den oa ob ea eb r : ℤ) → i ≡ σ *ℤ (denominator +ℤ turn) → j ≡ pos 0 -ℤ (σ *ℤ turn) → num *ℤ denominator ≡ numerator *ℤ den
+pub coordinate : (i j σ turn denominator numerator height_numerator num den oa ob ea eb r : ℤ) → i ≡ σ *ℤ (denominator +ℤ turn) → j ≡ pos 0 -ℤ (σ *ℤ turn) → num *ℤ denominator ≡ numerator *ℤ den
     → ((denominator *ℤ (oa -ℤ ea)) -ℤ (turn *ℤ (ob -ℤ oa))) -ℤ (numerator *ℤ (eb -ℤ ea)) ≡ height_numerator *ℤ r
     → pos 1 *ℤ ((((i *ℤ oa) +ℤ (j *ℤ ob)) *ℤ den) -ℤ ((((den -ℤ num) *ℤ ea) +ℤ (num *ℤ eb)) *ℤ (i +ℤ j))) ≡ (σ *ℤ (den *ℤ height_numerator)) *ℤ r
 coordinate i j σ turn denominator numerator height_numerator num den oa ob ea eb r is_i is_j here apart =
@@ -167,14 +167,14 @@ module _ (numerator denominator num den : ℤ) (den_pos : pos 0 <ℤ den) (here 
       more : (x y : ℤ) → pos 0 <ℤ x → x <ℤ y → pos 0 <ℤ y
       more x y h l = omega (arith, ints)
 
-  least : pos 0 <ℤ num
+  pub least : pos 0 <ℤ num
   least =
       pos_of_mul (denominator *ℤ denominator) num square
       (positive_at _ _ (by_one _ _ _ _ denominator
       (ring (numerator ∷ denominator ∷ num ∷ den ∷ []) (((var 1 ⊗ var 1) ⊗ var 2) ⊖ (var 3 ⊗ (var 0 ⊗ var 1))) (((var 2 ⊗ var 1) ⊖ (var 0 ⊗ var 3)) ⊗ var 1) refl) here)
       (mul_pos den (numerator *ℤ denominator) den_pos after))
 
-  most : pos 0 <ℤ (den -ℤ num)
+  pub most : pos 0 <ℤ (den -ℤ num)
   most =
       pos_of_mul (denominator *ℤ denominator) (den -ℤ num) square
       (positive_at _ _ (by_one _ _ _ _ (pos 0 -ℤ denominator)
