@@ -1,0 +1,112 @@
+// Counts through a grid of outlines, with few columns and with many, beside those through all outlines; and an outline that is put
+// by hand.
+use cross_find::SolidSight;
+use edge_pick::{Crease, pick};
+use exact_frac::{Frac, OutOfMemory};
+use fixtures::{
+    BRACKET_TEXT, CORNERS, CUBE_AND_WEDGE, CUBE_TEXT, CUBES, INWARD_TEXT, THIRDS_TEXT, TUBE,
+    TUBE_CORNERS, WELDED_TEXT, solid, solid_of,
+};
+use lattice::Dir;
+use out_grid::{CellMeter, GridOutlines, cell_bound};
+use solid_mesh::Solid;
+use span_count::{AllOutlines, EdgeSpans, bound, spans_counted};
+use std::alloc::{AllocError, Global};
+use std::test::Fail;
+
+// The edge, the ends and the counts of each span, in their order.
+fn told(
+    alloc: Global,
+    entries: &[EdgeSpans],
+) -> Result<Vec<(u32, Frac, Frac, u32, u32)>, AllocError> {
+    let mut all = Vec::new(alloc);
+    for entry in entries {
+        for span in &entry.spans {
+            all.push((entry.edge, span.from, span.to, span.left, span.right))?;
+        }
+    }
+    Ok(all)
+}
+
+// What is told of a view, how many tests were made and may be at most.
+#[derive(Drop)]
+struct Told {
+    spans: Vec<(u32, Frac, Frac, u32, u32)>,
+    tests: u64,
+    most: u64,
+}
+
+// The same, and how many cells were counted and may be at most.
+#[derive(Drop)]
+struct Gridded {
+    view: Told,
+    cells: u64,
+    most_cells: u64,
+}
+
+fn through_all(alloc: Global, solid: &Solid, d: &Dir) -> Result<Told, OutOfMemory> {
+    let picked = pick(alloc, solid, d, Crease::Normal)?;
+    let most = bound(solid, &picked);
+    let mut sight = SolidSight::new(solid, d);
+    let entries = spans_counted(alloc, &mut sight, &picked, &AllOutlines::new(&picked))?;
+    Ok(Told {
+        spans: told(alloc, &entries)?,
+        tests: sight.tests(),
+        most,
+    })
+}
+
+fn through_grid(
+    alloc: Global,
+    solid: &Solid,
+    d: &Dir,
+    columns: u32,
+) -> Result<Gridded, OutOfMemory> {
+    let columns = columns.clamp(1, 256);
+    let picked = pick(alloc, solid, d, Crease::Normal)?;
+    let most = bound(solid, &picked);
+    let mut meter = CellMeter { cells: 0 };
+    let grid = GridOutlines::new(alloc, solid, d, &picked, columns, &mut meter)?;
+    let mut sight = SolidSight::new(solid, d);
+    let entries = spans_counted(alloc, &mut sight, &picked, &grid)?;
+    Ok(Gridded {
+        view: Told {
+            spans: told(alloc, &entries)?,
+            tests: sight.tests(),
+            most,
+        },
+        cells: meter.cells,
+        most_cells: cell_bound(solid, d, &picked, columns),
+    })
+}
+
+#[test]
+fn counts_through_a_grid_are_those_through_all_outlines(rt: HostRuntime) -> Result<(), Fail> {
+    let alloc = rt.alloc();
+    for (name, part, x, y, z) in [
+        ("cubes", solid(alloc, &CORNERS, &CUBES), 0, -1, 0),
+        ("wedge", solid(alloc, &CORNERS, &CUBE_AND_WEDGE), 0, -1, 0),
+        ("thirds", solid_of(alloc, THIRDS_TEXT), 0, -1, 0),
+        ("bracket", solid_of(alloc, BRACKET_TEXT), 1, -2, 1),
+        ("cube", solid_of(alloc, CUBE_TEXT), 1, -1, 1),
+        ("inward", solid_of(alloc, INWARD_TEXT), 1, -1, 1),
+        ("welded", solid_of(alloc, WELDED_TEXT), 0, 0, 1),
+        ("tube", solid(alloc, &TUBE_CORNERS, &TUBE), 1, -2, 3),
+    ] {
+        let part = part.ok_or("no part")?;
+        let d = Dir::new(x, y, z)?;
+        let all = through_all(alloc, &part, &d)?;
+        assert!(rt; all.tests <= all.most, "{name}");
+        for columns in [1, 2, 7, 256] {
+            let Gridded {
+                view,
+                cells,
+                most_cells,
+            } = through_grid(alloc, &part, &d, columns)?;
+            assert_eq!(rt; view.spans, all.spans, "{name}, {columns} columns");
+            assert!(rt; view.tests <= all.tests, "{name}, {columns} columns");
+            assert!(rt; 0 < cells && cells <= most_cells, "{name}, {columns} columns");
+        }
+    }
+    Ok(())
+}
