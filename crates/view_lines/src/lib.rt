@@ -2,6 +2,10 @@
 //!
 //! A view of the whole solid is drawn by counts that are carried along its drawn edges, with the traces of cuts, and the view of a
 //! cut by the plain spans and the section's borders. Both come to strips of lines, which are put together to pieces.
+//!
+//! What may change the counts is found in a grid over the view, of as many columns as the whole square root of the number of
+//! outlines, from 1 to 256, and as many rows: along an edge the outlines of the cells that it passes are tested, and over a corner those
+//! of its cell. To make it at most the view's cell bound of cells are counted, and at most its bound of tests are made.
 #![tactic(auto)]
 
 ghost use Rattle.std.specs.Prelude.{◌≤◌, ◌^◌, map, IfOk};
@@ -40,6 +44,7 @@ pub fn view_lines(
     ensures shows { IfOk result (λ x. ShowsView solid.now crease (map plane_of cuts.now) spacing asked.now x.view) }
     ensures counted { IfOk result (λ x. CountsView solid.now crease asked.now x.numbers) }
     ensures tested { IfOk result (λ x. x.numbers.tests ≤ x.numbers.bound) }
+    ensures celled { IfOk result (λ x. x.numbers.cells ≤ x.numbers.cell_bound) }
     ensures small { IfOk result (λ x. AreBelow (2 ^ 48) x.numbers) }
 {
     match asked {

@@ -1,13 +1,16 @@
 // The numbers of a view.
 ghost use Rattle.std.specs.Prelude.{◌≡◌, ◌^◌};
 
-/// The drawn edges, their runs, the bound and the tests that were made, of one view or of several.
+/// The drawn edges, their runs, the tests that were made and their bound, and the cells that were counted and theirs, of one view or
+/// of several.
 #[derive(Clone, Copy)]
 pub struct ViewNumbers {
     pub edges: u64,
     pub runs: u64,
     pub bound: u64,
     pub tests: u64,
+    pub cell_bound: u64,
+    pub cells: u64,
 }
 
 impl ViewNumbers {
@@ -22,6 +25,8 @@ impl ViewNumbers {
             runs: 0,
             bound: 0,
             tests: 0,
+            cell_bound: 0,
+            cells: 0,
         }
     }
 
@@ -36,6 +41,8 @@ impl ViewNumbers {
             runs: self.runs + more.runs,
             bound: self.bound + more.bound,
             tests: self.tests + more.tests,
+            cell_bound: self.cell_bound + more.cell_bound,
+            cells: self.cells + more.cells,
         }
     }
 }

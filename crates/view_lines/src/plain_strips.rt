@@ -92,8 +92,8 @@ fn view_strips(
 /// The plain view along a direction: visible lines solid, hidden ones dashed and traces of cuts chain lines, in their order, and its
 /// counts and numbers.
 ///
-/// Carries the counts along the drawn edges and around corners, by as many tests as the bound at most, and then sorts the strips
-/// along their lines.
+/// Puts the outlines into a grid, where it counts as many cells as the cell bound at most, carries the counts along the drawn edges
+/// and around corners, by as many tests as the bound at most, and then sorts the strips along their lines.
 pub(crate) fn plain_lines(
     alloc: Global,
     solid: &Solid,
@@ -107,6 +107,7 @@ pub(crate) fn plain_lines(
     ensures hatched { IfOk result (λ x. x.view.hatches.items ≡ []) }
     ensures counts { IfOk result (λ x. AreCountsAlong (of_dir d.now) (fraction_of crease) solid.now x.view.counts.items) }
     ensures tested { IfOk result (λ x. x.numbers.tests ≤ x.numbers.bound) }
+    ensures celled { IfOk result (λ x. x.numbers.cells ≤ x.numbers.cell_bound) }
     ensures counted { IfOk result (λ x. CountsView solid.now crease (ViewSpec.Plain d.now) x.numbers) }
     ensures small { IfOk result (λ x. AreBelow (2 ^ 48) x.numbers) }
 {
