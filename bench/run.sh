@@ -10,10 +10,18 @@ runs=${2:-5}
 work=$(mktemp -d)
 trap 'rm -rf "$work"' EXIT
 for n in 20 40 80; do
-    ./bars.py "$n" >"$work/bars$n.off"
+    ./parts.py bars "$n" >"$work/bars$n.off"
 done
+for n in 10 20 40; do
+    ./parts.py squares "$n" >"$work/squares$n.off"
+done
+./parts.py slivers 2500 >"$work/slivers.off"
+./parts.py comb 700 >"$work/comb.off"
+./parts.py rough 94 >"$work/rough.off"
 cp ../examples/pillow.off ../examples/flange.stl ../examples/pillow.toml ../examples/third-angle.toml "$work"
 cd "$work"
+printf 'sheet = "A0"\n[[view]]\nname = "front"\n' >front.toml
+printf 'sheet = "A0"\n[[view]]\ntoward = [1, -1, 1]\n' >diagonal.toml
 measure() {
     label=$1
     shift
@@ -30,5 +38,13 @@ done
 for n in 20 40 80; do
     measure "$n bars across $n, usual job" "bars$n.off"
 done
+measure "8 by 8 by 8 cubes, one view from the front" sample:8 --job front.toml
+measure "80 bars across 80, one view from the front" bars80.off --job front.toml
+for n in 10 20 40; do
+    measure "a cube, each face in $n by $n squares, one view along (1, -1, 1)" "squares$n.off" --job diagonal.toml
+done
+measure "2,500 slivers along a diagonal, one view from the front" slivers.off --job front.toml
+measure "a comb of 700 teeth, one view from the front" comb.off --job front.toml
+measure "a rough top of 94 by 94 squares, one view from the front" rough.off --job front.toml
 measure "flange.stl, third-angle.toml" flange.stl --job third-angle.toml
 measure "pillow.off, pillow.toml" pillow.off --job pillow.toml

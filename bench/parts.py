@@ -1,0 +1,111 @@
+#!/usr/bin/env python3
+"""Writes a part as OFF: parts.py KIND N.
+
+bars: N bars along x and, above them, N along y: seen from above each bar of one layer crosses each of the other.
+squares: a cube whose faces are divided in N by N squares.
+slivers: N thin tetrahedra side by side along the diagonal of space: the boxes of all of them overlap.
+comb: a comb of N teeth.
+rough: a box with a rough top of N by N squares.
+"""
+import random
+import sys
+
+FACES = ((0, 3, 2, 1), (4, 5, 6, 7), (0, 1, 5, 4), (1, 2, 6, 5), (2, 3, 7, 6), (3, 0, 4, 7))
+
+
+def box(x, y, z, dx, dy, dz):
+    return [(x + i * dx, y + j * dy, z + k * dz) for k in (0, 1) for i, j in ((0, 0), (1, 0), (1, 1), (0, 1))]
+
+
+class Part:
+    """Faces by their corners, in thousandths; equal corners are one."""
+
+    def __init__(self):
+        self.numbers = {}
+        self.faces = []
+
+    def face(self, *corners):
+        self.faces.append([self.numbers.setdefault(corner, len(self.numbers)) for corner in corners])
+
+    def write(self):
+        print("OFF")
+        print(len(self.numbers), len(self.faces), 0)
+        for corner in self.numbers:
+            print(*("%s%d.%03d" % ("-" if c < 0 else "", abs(c) // 1000, abs(c) % 1000) for c in corner))
+        for face in self.faces:
+            print(len(face), *face)
+
+
+def bars(part, n):
+    boxes = [box(0, 10 * i + 3, 0, 10 * n, 4, 4) for i in range(n)]
+    boxes += [box(10 * i + 3, 0, 6, 4, 10 * n, 4) for i in range(n)]
+    for corners in boxes:
+        for face in FACES:
+            part.face(*(tuple(1000 * c for c in corners[k]) for k in face))
+
+
+def squares(part, n):
+    size = 20000
+    at = [size * i // n for i in range(n + 1)]
+    for axis in range(3):
+        for end, flip in ((size, 1), (0, -1)):
+            for i in range(n):
+                for j in range(n):
+                    square = [(at[i], at[j]), (at[i + 1], at[j]), (at[i + 1], at[j + 1]), (at[i], at[j + 1])][::flip]
+                    part.face(*((end, u, v)[-axis:] + (end, u, v)[:-axis] if axis else (end, u, v) for u, v in square))
+
+
+def slivers(part, n):
+    step = 900000 // n
+    width = max(2, step // 4)
+    for i in range(n):
+        o = (i - n // 2) * step
+        a, c = (-500000 + o, -500000 - o, -500000), (500000 + o, 500000 - o, 500000)
+        b, d = (a[0] + width, a[1], a[2]), (c[0], c[1] + width, c[2])
+        for face in ((a, b, c), (a, d, b), (b, d, c), (a, c, d)):
+            part.face(*face)
+
+
+def comb(part, n):
+    depth = 800000
+    at = [900000 // (2 * n) * i for i in range(2 * n + 1)]
+    wall = lambda x, low, high: ((x, depth, low), (x, 0, low), (x, 0, high), (x, depth, high))
+    for i in range(2 * n):
+        x, y = at[i], at[i + 1]
+        levels = (0, 50000, 500000) if i % 2 == 0 else (0, 50000)
+        for low, high in zip(levels, levels[1:]):
+            part.face((x, 0, low), (y, 0, low), (y, 0, high), (x, 0, high))
+            part.face((y, depth, low), (x, depth, low), (x, depth, high), (y, depth, high))
+        part.face((x, depth, 0), (y, depth, 0), (y, 0, 0), (x, 0, 0))
+        part.face((x, 0, levels[-1]), (y, 0, levels[-1]), (y, depth, levels[-1]), (x, depth, levels[-1]))
+        if i % 2 == 0:
+            part.face(*wall(x, 50000, 500000))
+            part.face(*wall(y, 50000, 500000)[::-1])
+    part.face(*wall(0, 0, 50000))
+    part.face(*wall(at[-1], 0, 50000)[::-1])
+
+
+def rough(part, n):
+    step = 900000 // n
+    heights = random.Random(3)
+    top = {}
+    for i in range(n + 1):
+        for j in range(n + 1):
+            inner = 0 < i < n and 0 < j < n
+            top[i, j] = (i * step, j * step, 100000 + (heights.randrange(40000) if inner else 0))
+    for i in range(n):
+        for j in range(n):
+            part.face(top[i, j], top[i + 1, j], top[i + 1, j + 1])
+            part.face(top[i, j], top[i + 1, j + 1], top[i, j + 1])
+    ring = [(i, 0) for i in range(n)] + [(n, j) for j in range(n)]
+    ring += [(i, n) for i in range(n, 0, -1)] + [(0, j) for j in range(n, 0, -1)]
+    middle = (n * step // 2, n * step // 2, 0)
+    for a, b in zip(ring, ring[1:] + ring[:1]):
+        low = lambda k: top[k][:2] + (0,)
+        part.face(low(a), low(b), top[b], top[a])
+        part.face(middle, low(b), low(a))
+
+
+part = Part()
+{"bars": bars, "squares": squares, "slivers": slivers, "comb": comb, "rough": rough}[sys.argv[1]](part, int(sys.argv[2]))
+part.write()
