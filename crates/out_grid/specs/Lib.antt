@@ -1,0 +1,4 @@
+pub mod Bounds
+pub mod Cells
+pub mod Grids
+pub mod inner
