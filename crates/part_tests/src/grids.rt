@@ -15,7 +15,7 @@ use std::alloc::{AllocError, Global};
 use std::test::Fail;
 
 // The edge, the ends and the counts of each span, in their order.
-fn told(
+fn spans_told(
     alloc: Global,
     entries: &[EdgeSpans],
 ) -> Result<Vec<(u32, Frac, Frac, u32, u32)>, AllocError> {
@@ -50,7 +50,7 @@ fn through_all(alloc: Global, solid: &Solid, d: &Dir) -> Result<Told, OutOfMemor
     let mut sight = SolidSight::new(solid, d);
     let entries = spans_counted(alloc, &mut sight, &picked, &AllOutlines::new(&picked))?;
     Ok(Told {
-        spans: told(alloc, &entries)?,
+        spans: spans_told(alloc, &entries)?,
         tests: sight.tests(),
         most,
     })
@@ -71,7 +71,7 @@ fn through_grid(
     let entries = spans_counted(alloc, &mut sight, &picked, &grid)?;
     Ok(Gridded {
         view: Told {
-            spans: told(alloc, &entries)?,
+            spans: spans_told(alloc, &entries)?,
             tests: sight.tests(),
             most,
         },
@@ -105,8 +105,33 @@ fn counts_through_a_grid_are_those_through_all_outlines(rt: HostRuntime) -> Resu
             } = through_grid(alloc, &part, &d, columns)?;
             assert_eq!(rt; view.spans, all.spans, "{name}, {columns} columns");
             assert!(rt; view.tests <= all.tests, "{name}, {columns} columns");
-            assert!(rt; 0 < cells && cells <= most_cells, "{name}, {columns} columns");
+            assert!(rt;
+                0 < cells && cells <= most_cells,
+                "{name}, {columns} columns"
+            );
         }
     }
+    Ok(())
+}
+
+#[test]
+fn a_put_outline_stands_last(rt: HostRuntime) -> Result<(), Fail> {
+    let alloc = rt.alloc();
+    let solid = solid(alloc, &CORNERS, &CUBES).ok_or("no solid")?;
+    let d = Dir::new(0, -1, 0)?;
+    let picked = pick(alloc, &solid, &d, Crease::Normal)?;
+    let most = cell_bound(&solid, &d, &picked, 7);
+    let mut meter = CellMeter { cells: 0 };
+    let mut grid = GridOutlines::new(alloc, &solid, &d, &picked, 7, &mut meter)?;
+    let last = picked.outlines.last().copied().ok_or("no outline")?;
+    // the second cube begins in the second column
+    if grid.cell(0, 0, &mut meter).contains(&last) {
+        return Err("it is there".into());
+    }
+    let before = meter.cells;
+    assert!(rt; before <= most + 1);
+    grid.put(0, 0, last, &mut meter)?;
+    assert_eq!(rt; grid.cell(0, 0, &mut meter).last(), Some(&last));
+    assert_eq!(rt; meter.cells - before, 2);
     Ok(())
 }
