@@ -1,6 +1,7 @@
 // What a run makes.
 use cross_find::Meter;
 use job_file::Job;
+use out_grid::CellMeter;
 use part_input::Fault;
 use sheet_plan::Sheet;
 use solid_mesh::Solid;
@@ -17,6 +18,10 @@ pub struct Drawing {
     pub meter: Meter,
     /// The sum of the bounds of the plain views.
     pub bound: u64,
+    /// The cells that were counted for the grids of all views, at most as many as the cell bound.
+    pub cells: CellMeter,
+    /// The sum of the cell bounds of the plain views.
+    pub cell_bound: u64,
 }
 
 /// How a run ended.

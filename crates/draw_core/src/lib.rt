@@ -20,6 +20,7 @@ pub use edge_pick::Picked;
 pub use keep::warn;
 pub use lines::MEMORY_LINE;
 pub use numbered::drawing_of;
+pub use out_grid::CellMeter;
 pub use part_input::{Fault, Input, Target};
 pub use run::draw;
 pub use span_count::{CountSpan, EdgeSpans, bound};

@@ -13,6 +13,7 @@ use crate::sheets::sheet_of;
 use crate::views::{Views, views_of};
 use cross_find::Meter;
 use job_file::Job;
+use out_grid::CellMeter;
 use part_input::Fault;
 use solid_mesh::Solid;
 use std::alloc::Global;
@@ -56,6 +57,10 @@ pub(crate) fn numbered_drawing(alloc: Global, solid: Solid, job: Job) -> Result<
             tests: numbers.tests,
         },
         bound: numbers.bound,
+        cells: CellMeter {
+            cells: numbers.cells,
+        },
+        cell_bound: numbers.cell_bound,
     };
     Ok(Numbered { drawing, numbers })
 }

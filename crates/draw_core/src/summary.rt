@@ -154,6 +154,8 @@ fn line_of_drawing(
         runs,
         bound,
         tests: _,
+        cell_bound: _,
+        cells: _,
     } = *numbers;
     let solid = pieces_in(&drawing.views, Style::Solid);
     let dashed = pieces_in(&drawing.views, Style::Dashed);

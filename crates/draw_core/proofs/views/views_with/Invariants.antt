@@ -6,7 +6,7 @@ use Rattle.draw_core.specs.Numbers.{SumsViews}
 use Rattle.draw_core.proofs.ViewSums.{AreAtMost}
 use Rattle.draw_core.proofs.views.views_with.Given as goal
 
--- the views so far, the sums of their numbers, and at most as many tests as their bounds allow
+-- the views so far, the sums of their numbers, and at most as many tests and cells as their bounds allow
 abbrev pub invariant-loop-view : goal.invariant-loop-view
 invariant-loop-view l =
     record {
@@ -14,4 +14,5 @@ invariant-loop-view l =
       summed : SumsViews l.solid l.crease (take l.view-index l.asked) l.sums;
       small : AreAtMost (2 ^ 48 * l.view-index) l.sums;
       tested : l.sums.tests ≤ l.sums.bound;
+      celled : l.sums.cells ≤ l.sums.cell_bound;
     }
