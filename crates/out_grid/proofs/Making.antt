@@ -66,4 +66,5 @@ module _ (d : Triple) (s : Part) (halves : List ℕ) (p : Picked) (g : GridOutli
         let h = placed number column row c at inside in
         subst (HoldsThose {s = s} halves p.outlines.items (λ o. HasPointIn d r o column row)) (sym (over_in number column row h.there)) (held column row h.in_column h.in_row);
     over_others = over_past;
+    others_in_none = λ number column row past there. omega (arith, long, past, slice_get_within g.corner_cells.items number _ there);
   }

@@ -1,5 +1,5 @@
 -- The walk over a course's columns: that the cells it comes to are in the grid, and how often it has counted.
-use Rattle.std.proofs.Common.{◌⊎◌, inl, inr, ℕ, ◌+◌, ◌-◌, ◌<◌, ◌≤◌, arith}
+use Rattle.std.proofs.Common.{◌⊎◌, inl, inr, ℕ, ◌+◌, ◌-◌, ◌<◌, ◌≤◌, refl, arith}
 use Rattle.std.proofs.lemmas.Bool.{cases_lt}
 use Rattle.out_grid.specs.declared.course.Course as walked
 use Rattle.out_grid.specs.inner.Courses.{Course, IsCourse, Meets, MeetsRow, first_column, last_column, AreRows, AreBefore, span_of}
@@ -7,7 +7,7 @@ use Rattle.out_grid.specs.inner.Places.{course_of, IsInside}
 use Rattle.out_grid.proofs.CourseCells.{rows_exact}
 use Rattle.out_grid.proofs.CourseCounts.{low_below_high, few_before, few_in_all}
 use Rattle.out_grid.proofs.CourseMixes.{in_row}
-use Rattle.out_grid.proofs.CourseSums.{columns_exact, rising_rows, falling_rows}
+use Rattle.out_grid.proofs.CourseSums.{at_first, columns_exact, rising_rows, falling_rows}
 
 abbrev pub is_course : (c : walked.Course) → IsCourse (course_of c)
 is_course c = record { ordered = c.ordered; wide = c.wide; high = c.high }
@@ -28,6 +28,9 @@ module _ (c : Course) (course : IsCourse c) (n : ℕ) (inside : IsInside n c) wh
       by h = let g = inside.last in omega (arith, h, g)
 
 -- ---- one column
+pub columns_in_order : (c : Course) → IsCourse c → first_column c ≤ last_column c
+columns_in_order c course = let h = (columns_exact c course (first_column c)).0 (1, 0, at_first c.from_u c.to_u c.width (first_column c) course.wide refl) in h.1
+
 module _ (c : Course) (course : IsCourse c) (k low high : ℕ) (first : first_column c ≤ k) (last : k ≤ last_column c) (rows : AreRows c k low high) where
   pub high_inside : (n : ℕ) → IsInside n c → high < n
   high_inside n inside = (met_inside c course n inside k high ((rows_exact c course k low high first last rows high).1 (low_below_high c k low high rows, itself high))).1

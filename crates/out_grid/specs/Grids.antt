@@ -58,3 +58,4 @@ pub record IsGridOf (d : Triple) (s : Part) (halves : List ℕ) (p : Picked) (co
   pub over : (number column row : ℕ) (c : Corner) → slice_get s.corners number ≡ Some c → IsInCell d raster column row (point_of c) →
       HoldsThose {s = s} halves p.outlines.items (λ o. HasPointIn d raster o column row) (over_list g number)
   pub over_others : (number : ℕ) → length s.corners ≤ number → over_list g number ≡ []
+  pub others_in_none : (number column row : ℕ) → length s.corners ≤ number → ¬ IsCornerIn g number column row

@@ -1,5 +1,5 @@
 // The grid and its lists.
-ghost use Rattle.std.specs.Prelude.{◌≡◌, ◌≢◌, ◌⊎◌, ℕ, ◌+◌, ◌*◌, ◌<◌, ◌≤◌, ◌^◌, List, [], ◌∷◌, ◌++◌, All, Contains, length, slice_get, vec_len, OnOk, OnErr, IfOk};
+ghost use Rattle.std.specs.Prelude.{◌≡◌, ◌≢◌, ◌⊎◌, ◌↔◌, ℕ, ◌+◌, ◌*◌, ◌<◌, ◌≤◌, ◌^◌, List, [], ◌∷◌, ◌++◌, All, Contains, length, slice_get, vec_len, OnOk, OnErr, IfOk};
 ghost use Rattle.lattice.specs.Points.{of_dir};
 ghost use Rattle.edge_pick.specs.Picked.{IsPicked};
 ghost use Rattle.solid_mesh.specs.Solids.{solid_part, edge_halves};
@@ -55,6 +55,7 @@ impl GridOutlines {
         ensures grid { IfOk result (IsGridOf (of_dir d.now) (solid_part solid.now) (edge_halves solid.now) picked.now columns) }
         ensures law { IfOk result (λ g. (tests : ℕ) → IsFinder (record { part = solid_part solid.now; halves = edge_halves solid.now; direction = of_dir d.now; tests = tests })
             picked.now (along_list g) (over_list g)) }
+        ensures counted_each { OnOk result (meter.old.cells + (length picked.now.outlines.items + length picked.now.drawn.items) ≤ meter.new.cells) }
         ensures counted_on { meter.old.cells ≤ meter.new.cells }
         ensures counted { (bound : ℕ) → IsCellBound (of_dir d.now) (solid_part solid.now) (edge_halves solid.now) picked.now columns bound →
             meter.new.cells ≤ meter.old.cells + bound }
@@ -97,10 +98,11 @@ impl GridOutlines {
         ensures put { OnOk result (cell_list self.new column row ≡ cell_list self.old column row ++ outline ∷ []) }
         ensures others { OnOk result ((c r : ℕ) → c < self.old.columns → r < self.old.columns → (c ≢ column) ⊎ (r ≢ row) → cell_list self.new c r ≡ cell_list self.old c r) }
         ensures along { (edge : ℕ) → along_list self.new edge ≡ along_list self.old edge }
+        ensures corners { (corner c r : ℕ) → IsCornerIn self.new corner c r ↔ IsCornerIn self.old corner c r }
         ensures over { OnOk result ((corner : ℕ) → IsCornerIn self.old corner column row → over_list self.new corner ≡ over_list self.old corner ++ outline ∷ []) }
         ensures over_others { OnOk result ((corner : ℕ) → (¬ IsCornerIn self.old corner column row) → over_list self.new corner ≡ over_list self.old corner) }
-        ensures law { OnOk result ((x : SightState) (p : Picked) → IsFinder x p (along_list self.old) (over_list self.old) → Contains p.outlines.items outline →
-            IsFinder x p (along_list self.new) (over_list self.new)) }
+        ensures law { (x : SightState) (p : Picked) → IsFinder x p (along_list self.old) (over_list self.old) → Contains p.outlines.items outline →
+            IsFinder x p (along_list self.new) (over_list self.new) }
         ensures unchanged { OnErr result ((c r : ℕ) → cell_list self.new c r ≡ cell_list self.old c r) }
         ensures unchanged_over { OnErr result ((corner : ℕ) → over_list self.new corner ≡ over_list self.old corner) }
         ensures counted { meter.new.cells ≡ meter.old.cells + 1 }

@@ -47,6 +47,7 @@ pub(crate) fn lists_along(
     ensures along { IfOk result (λ lists. (i : ℕ) (e : Edge (solid_part solid.now)) → Contains picked.now.drawn.items i → IsNumbered (edge_halves solid.now) i e →
         HoldsThose {s = solid_part solid.now} (edge_halves solid.now) picked.now.outlines.items (ShareCell (of_dir d.now) (raster_of raster.now) e) (list_at (lists_of lists.items) i)) }
     ensures others { IfOk result (λ lists. (i : ℕ) → (¬ Contains picked.now.drawn.items i) → list_at (lists_of lists.items) i ≡ []) }
+    ensures counted_each { OnOk result (meter.old.cells + length picked.now.drawn.items ≤ meter.new.cells) }
     ensures counted_on { meter.old.cells ≤ meter.new.cells }
     ensures counted { (spans : List ℕ) → AllZip (IsSpanAt (of_dir d.now) (raster_of raster.now) (solid_part solid.now) (edge_halves solid.now)) picked.now.drawn.items spans →
         meter.new.cells ≤ meter.old.cells + sum spans }
@@ -92,6 +93,7 @@ fn list_course(
     ensures marks_long { length marks.new.items ≡ length marks.old.items }
     ensures marked { IfOk result (λ list. IsMarked mark marks.new.items list.items) }
     ensures right { IfOk result (λ list. IsGrown (IsInSome (Meets (course_of course.now)) columns (lists_of cells.now)) [] list.items) }
+    ensures counted_some { OnOk result (meter.old.cells + 1 ≤ meter.new.cells) }
     ensures counted_on { meter.old.cells ≤ meter.new.cells }
     ensures counted { meter.new.cells ≤ meter.old.cells + span_of (course_of course.now) }
 {
@@ -133,6 +135,7 @@ fn list_column(
     ensures marks_long { length marks.new.items ≡ length marks.old.items }
     ensures marked { OnOk result (IsMarked mark marks.new.items list.new.items) }
     ensures right { OnOk result (IsGrown (IsInSome (λ c r. (c ≡ column) × (rows.low ≤ r) × (r ≤ rows.high)) columns (lists_of cells.now)) list.old.items list.new.items) }
+    ensures counted_each { OnOk result (meter.old.cells + ((rows.high - rows.low) + 1) ≤ meter.new.cells) }
     ensures counted_on { meter.old.cells ≤ meter.new.cells }
     ensures counted { meter.new.cells ≤ meter.old.cells + ((rows.high - rows.low) + 1) }
 {

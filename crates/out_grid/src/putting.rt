@@ -41,6 +41,7 @@ pub(crate) fn put_outlines(
     requires room { meter.old.cells < 2 ^ 62 }
     ensures long { vec_len cells.new ≡ columns * columns }
     ensures held { OnOk result (AreHeld (of_dir d.now) (raster_of raster.now) (solid_part solid.now) (edge_halves solid.now) outlines.now columns (lists_of cells.new.items)) }
+    ensures counted_each { OnOk result (meter.old.cells + length outlines.now ≤ meter.new.cells) }
     ensures counted_on { meter.old.cells ≤ meter.new.cells }
     ensures counted { (spans : List ℕ) → AllZip (IsSpanAt (of_dir d.now) (raster_of raster.now) (solid_part solid.now) (edge_halves solid.now)) outlines.now spans →
         meter.new.cells ≤ meter.old.cells + sum spans }
@@ -67,6 +68,7 @@ fn put_course(
     requires room { meter.old.cells + span_of (course_of course.now) < 2 ^ 64 }
     ensures long { vec_len cells.new ≡ columns * columns }
     ensures put { OnOk result (IsPut (Meets (course_of course.now)) columns outline (lists_of cells.old.items) (lists_of cells.new.items)) }
+    ensures counted_some { OnOk result (meter.old.cells + 1 ≤ meter.new.cells) }
     ensures counted_on { meter.old.cells ≤ meter.new.cells }
     ensures counted { meter.new.cells ≤ meter.old.cells + span_of (course_of course.now) }
 {
@@ -93,6 +95,7 @@ fn put_column(
     requires room { meter.old.cells + ((rows.high - rows.low) + 1) < 2 ^ 64 }
     ensures long { vec_len cells.new ≡ columns * columns }
     ensures put { OnOk result (IsPut (λ c r. (c ≡ column) × (rows.low ≤ r) × (r ≤ rows.high)) columns outline (lists_of cells.old.items) (lists_of cells.new.items)) }
+    ensures counted_each { OnOk result (meter.old.cells + ((rows.high - rows.low) + 1) ≤ meter.new.cells) }
     ensures counted_on { meter.old.cells ≤ meter.new.cells }
     ensures counted { meter.new.cells ≤ meter.old.cells + ((rows.high - rows.low) + 1) }
 {

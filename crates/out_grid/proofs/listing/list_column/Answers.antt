@@ -41,3 +41,6 @@ loop-row-preserved c =
 pub returns-clause-right : goal.returns-clause-right
 returns-clause-right c = rows_all c.args.columns (lists_of c.args.cells.now) c.args.column c.args.rows.low c.args.rows.high c.loop-row.row c.args.list.now.items c.loop-row.list.items
     (omega arith) c.loop-row.invariant.right
+
+pub returns-clause-counted_each : goal.returns-clause-counted_each
+returns-clause-counted_each c = omega (arith, c.loop-row.invariant.counted, c.loop-row-test.false, c.loop-row.auto.row-end, c.args.rows.in_order)

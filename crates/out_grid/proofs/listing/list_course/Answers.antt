@@ -6,7 +6,7 @@ use Rattle.out_grid.specs.inner.Places.{course_of}
 use Rattle.out_grid.proofs.CourseCounts.{none_before}
 use Rattle.out_grid.proofs.Gathering.{course_none, course_more, course_all}
 use Rattle.out_grid.proofs.Marks.{marked_none}
-use Rattle.out_grid.proofs.Passing.{is_course, high_inside, counts_before, counts_in_all}
+use Rattle.out_grid.proofs.Passing.{is_course, columns_in_order, high_inside, counts_before, counts_in_all}
 use Rattle.out_grid.proofs.listing.list_course.Goals as goal
 
 pub loop-column-init : goal.loop-column-init
@@ -21,6 +21,7 @@ loop-column-init c =
       right = subst (λ (xs : List ℕ). IsGrown (IsInSome (λ k r. Meets course k r × (k < c.first_column-column.result)) c.args.columns cells) [] xs) (sym items)
           (subst (λ (f : ℕ). IsGrown (IsInSome (λ k r. Meets course k r × (k < f)) c.args.columns cells) [] []) (sym first) (course_none c.args.columns cells course (is_course c.args.course.now) []));
       counted_on = omega arith;
+      each = omega (arith, c.first_column-column.ensures);
       counted = more c.args.meter.now.cells (span_of course);
       before = λ h. subst (λ (f : ℕ). AreBefore course f (c.args.meter.now.cells - c.args.meter.now.cells)) (sym first)
           (subst (AreBefore course (first_column course)) (none c.args.meter.now.cells) (none_before course));
@@ -91,6 +92,7 @@ loop-column-preserved c =
       right = course_more c.args.columns cells course (is_course c.args.course.now) k low high [] c.loop-column.list.items c.list_column.new.list.items first last c.rows_in-rows.ensures
           invariant.right c.in_ok-list_column.ensures.right;
       counted_on = omega (arith, invariant.counted_on, c.list_column.ensures.counted_on);
+      each = omega (arith, invariant.each, c.in_ok-list_column.ensures.counted_each);
       counted = counts_in_all course (is_course c.args.course.now) k low high first last c.rows_in-rows.ensures start now after (invariant.before last) invariant.counted_on c.list_column.ensures.counted;
       before = λ earlier. counts_before course (is_course c.args.course.now) k low high first last c.rows_in-rows.ensures start now after (invariant.before last) invariant.counted_on
           c.list_column.ensures.counted (less k _ earlier);
@@ -116,3 +118,8 @@ returns-clause-right c =
   where
     past : (a b z : ℕ) → b + 1 ≤ a → b ≡ z → z < a
     past a b z h e = omega arith
+
+pub returns-clause-counted_some : goal.returns-clause-counted_some
+returns-clause-counted_some c =
+    let order = columns_in_order (course_of c.args.course.now) (is_course c.args.course.now) in
+    omega (arith, c.loop-column.invariant.each, c.loop-column-test.false, c.last_column-column-end.ensures, order)

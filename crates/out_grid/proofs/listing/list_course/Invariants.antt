@@ -1,6 +1,6 @@
 use Rattle.std.proofs.Common.{◌≡◌, ◌+◌, ◌-◌, ◌<◌, ◌≤◌, [], length}
 use Rattle.solid_mesh.specs.inner.Stars.{lists_of}
-use Rattle.out_grid.specs.inner.Courses.{Meets, last_column, span_of, AreBefore}
+use Rattle.out_grid.specs.inner.Courses.{Meets, first_column, last_column, span_of, AreBefore}
 use Rattle.out_grid.specs.inner.Lists.{IsMarked, IsGrown, IsInSome}
 use Rattle.out_grid.specs.inner.Places.{course_of}
 use Rattle.out_grid.proofs.listing.list_course.Given as goal
@@ -13,4 +13,5 @@ invariant-loop-column l = record {
   counted_on : l.initial.meter.cells ≤ l.meter.cells;
   counted : l.meter.cells ≤ l.initial.meter.cells + span_of (course_of l.course);
   before : l.column ≤ last_column (course_of l.course) → AreBefore (course_of l.course) l.column (l.meter.cells - l.initial.meter.cells);
+  each : l.initial.meter.cells + l.column ≤ l.meter.cells + first_column (course_of l.course);
 }

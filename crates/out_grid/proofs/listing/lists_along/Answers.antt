@@ -100,6 +100,7 @@ loop-edge-preserved c =
           k there e numbered);
       others = λ k none. ap (λ (ls : List (List ℕ)). list_at ls k) now ∙ others_more xs i x turn.0 turn.1 lists list inside invariant.others k none;
       counted_on = omega (arith, invariant.counted_on, c.list_course.ensures.counted_on);
+      each = omega (arith, invariant.each, c.in_ok-list.ensures.counted_some);
       counted = λ spans zip.
           let more = counted_more d r s halves xs spans zip i turn.0 course course_is (λ e n. c.course_along-course.ensures.of_edge e (subst (λ (y : ℕ). IsNumbered halves y e) (sym turn.1) n)) in
           let before = invariant.counted spans zip in
@@ -130,3 +131,9 @@ returns-clause-counted c spans zip =
     let before = c.loop-edge.invariant.counted spans zip in
     let front = front_below spans c.loop-edge.edge-index in
     omega (arith, before, front)
+
+pub returns-clause-counted_each : goal.returns-clause-counted_each
+returns-clause-counted_each c =
+    let xs = c.args.picked.now.drawn.items in
+    let past : length xs ≤ c.loop-edge.edge-index = subst (λ (ys : List ℕ). length ys ≤ c.loop-edge.edge-index) c.deref-edge-items.ensures.value c.loop-edge-test.false in
+    omega (arith, c.loop-edge.invariant.each, past)

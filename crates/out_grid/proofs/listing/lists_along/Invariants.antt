@@ -22,4 +22,5 @@ invariant-loop-edge l = record {
   counted : (spans : List ℕ) → AllZip (IsSpanAt (of_dir l.d) (raster_of l.raster) (solid_part l.solid) (edge_halves l.solid)) l.picked.drawn.items spans →
       l.meter.cells ≤ l.initial.meter.cells + sum (take l.edge-index spans);
   size : l.meter.cells ≤ l.initial.meter.cells + 512 * l.edge-index;
+  each : l.initial.meter.cells + l.edge-index ≤ l.meter.cells;
 }

@@ -64,3 +64,6 @@ returns-clause-counted_on c = c.loop-row.invariant.on
 
 pub returns-clause-counted : goal.returns-clause-counted
 returns-clause-counted c = omega (arith, c.loop-row.invariant.counted, c.loop-row-test.false, c.loop-row.auto.row-end, c.args.rows.in_order)
+
+pub returns-clause-counted_each : goal.returns-clause-counted_each
+returns-clause-counted_each c = omega (arith, c.loop-row.invariant.counted, c.loop-row-test.false, c.loop-row.auto.row-end, c.args.rows.in_order)

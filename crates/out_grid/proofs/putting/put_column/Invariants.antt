@@ -10,5 +10,5 @@ invariant-loop-row l = record {
   from : l.fn.rows.low ≤ l.row;
   put : IsPut (λ x y. (x ≡ l.column) × (l.fn.rows.low ≤ y) × (y < l.row)) l.columns l.outline (lists_of l.fn.cells.items) (lists_of l.cells.items);
   on : l.fn.meter.cells ≤ l.meter.cells;
-  counted : l.meter.cells + l.fn.rows.low ≤ l.fn.meter.cells + l.row;
+  counted : l.meter.cells + l.fn.rows.low ≡ l.fn.meter.cells + l.row;
 }

@@ -6,7 +6,7 @@ use Rattle.out_grid.specs.inner.Places.{course_of}
 use Rattle.out_grid.proofs.CellPuts.{put_none, put_more, put_same}
 use Rattle.out_grid.proofs.CourseCells.{rows_exact}
 use Rattle.out_grid.proofs.CourseSums.{columns_exact}
-use Rattle.out_grid.proofs.Passing.{is_course, high_inside, counts_before, counts_in_all}
+use Rattle.out_grid.proofs.Passing.{is_course, high_inside, columns_in_order, counts_before, counts_in_all}
 use Rattle.out_grid.proofs.putting.put_course.Goals as goal
 
 met_column : (c : Course) → IsCourse c → (column row : ℕ) → Meets c column row → (first_column c ≤ column) × (column ≤ last_column c)
@@ -39,6 +39,7 @@ loop-column-init c =
       on = omega arith;
       before = λ last row enter. omega arith;
       in_all = omega arith;
+      each = omega (arith, c.first_column-column.ensures);
     }
 
 pub put_column-requires-clause-rows : goal.put_column-requires-clause-rows
@@ -93,6 +94,7 @@ loop-column-preserved c =
       on = omega (arith, h.on, c.put_column.ensures.counted_on);
       before = λ next. counts_before course is column low high h.from last rows start now after (h.before last) h.on c.put_column.ensures.counted (omega (arith, next));
       in_all = counts_in_all course is column low high h.from last rows start now after (h.before last) h.on c.put_column.ensures.counted;
+      each = omega (arith, h.each, c.in_ok-put_column.ensures.counted_each);
     }
 
 pub returns-clause-long : goal.returns-clause-long
@@ -111,3 +113,8 @@ returns-clause-counted_on c = c.loop-column.invariant.on
 
 pub returns-clause-counted : goal.returns-clause-counted
 returns-clause-counted c = c.loop-column.invariant.in_all
+
+pub returns-clause-counted_some : goal.returns-clause-counted_some
+returns-clause-counted_some c =
+    let order = columns_in_order (course_of c.args.course.now) (is_course c.args.course.now) in
+    omega (arith, c.loop-column.invariant.each, c.loop-column-test.false, c.last_column-column-end.ensures, order)

@@ -14,4 +14,5 @@ invariant-loop-column l = record {
   on : l.fn.meter.cells ≤ l.meter.cells;
   before : l.column ≤ last_column (course_of l.course) → AreBefore (course_of l.course) l.column (l.meter.cells - l.fn.meter.cells);
   in_all : l.meter.cells ≤ l.fn.meter.cells + span_of (course_of l.course);
+  each : l.fn.meter.cells + l.column ≤ l.meter.cells + first_column (course_of l.course);
 }

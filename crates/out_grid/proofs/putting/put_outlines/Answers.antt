@@ -20,6 +20,7 @@ loop-outline-init c = record {
   on = omega arith;
   counted = λ spans zip. omega arith;
   size = omega arith;
+  each = omega arith;
 }
 
 pub put_course-requires-clause-long : goal.put_course-requires-clause-long
@@ -73,6 +74,7 @@ loop-outline-preserved c =
           let before = h.counted spans zip in
           omega (arith, more, before, c.put_course.ensures.counted);
       size = omega (arith, small, h.size, c.put_course.ensures.counted);
+      each = omega (arith, h.each, c.in_ok-put_course.ensures.counted_some);
     }
 
 pub returns-clause-long : goal.returns-clause-long
@@ -95,3 +97,6 @@ returns-clause-counted c spans zip =
 
 pub returns-clause-size : goal.returns-clause-size
 returns-clause-size c = omega (arith, c.loop-outline.invariant.size, c.loop-outline.auto.outline-index-end)
+
+pub returns-clause-counted_each : goal.returns-clause-counted_each
+returns-clause-counted_each c = omega (arith, c.loop-outline.invariant.each, c.loop-outline-test.false)

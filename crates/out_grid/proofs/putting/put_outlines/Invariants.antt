@@ -16,4 +16,5 @@ invariant-loop-outline l = record {
   on : l.fn.meter.cells ≤ l.meter.cells;
   counted : (spans : List ℕ) → AllZip (IsSpanAt (of_dir l.d) (raster_of l.raster) (solid_part l.solid) (edge_halves l.solid)) l.outlines spans → l.meter.cells ≤ l.fn.meter.cells + sum (take l.outline-index spans);
   size : l.meter.cells ≤ l.fn.meter.cells + 512 * l.outline-index;
+  each : l.fn.meter.cells + l.outline-index ≤ l.meter.cells;
 }

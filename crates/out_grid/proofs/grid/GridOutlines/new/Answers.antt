@@ -59,3 +59,8 @@ returns-clause-counted c bound h =
     all_within (of_dir c.args.d.now) (solid_part c.args.solid.now) (edge_halves c.args.solid.now) c.args.picked.now c.args.columns (raster_of c.raster_over-raster.result)
     c.raster_over-raster.ensures c.deref.result.now c.deref.ensures.value c.args.meter.now.cells c.put_outlines.new.meter.cells bound c.put_outlines.ensures.counted h c.lists_along.new.meter.cells
     c.lists_along.ensures.counted
+
+pub returns-clause-counted_each : goal.returns-clause-counted_each
+returns-clause-counted_each c =
+    let long = ap (length {A = ℕ}) c.deref.ensures.value in
+    omega (arith, long, c.in_ok-put_outlines.ensures.counted_each, c.in_ok-lists.ensures.counted_each)

@@ -1,4 +1,4 @@
-use Rattle.std.proofs.Common.{◌≡◌, ℕ, ◌+◌, ◌*◌, ◌<◌, Result, Ok, Err, OnOk, Vec, Global, length, refl, sym, ◌∙◌, arith}
+use Rattle.std.proofs.Common.{◌≡◌, ℕ, ◌+◌, ◌*◌, ◌<◌, Result, Ok, Err, OnOk, OnErr, inl, [], get_or, Vec, Global, length, refl, sym, ◌∙◌, arith}
 use Rattle.std.proofs.lemmas.List.{length-map}
 use Rattle.solid_mesh.specs.inner.Stars.{lists_of}
 use Rattle.out_grid.specs.Grids.{along_list, over_list}
@@ -9,6 +9,10 @@ use Rattle.out_grid.proofs.grid.GridOutlines.put.Goals as goal
 on_ok : {T E P Q : Type 0} (r : Result T E) → (P → Q) → OnOk r P → OnOk r Q
 on_ok (Ok x) f p = f p
 on_ok (Err x) f p = p
+
+either : {T E P Q R : Type 0} (r : Result T E) → (P → R) → (Q → R) → OnOk r P → OnErr r Q → R
+either (Ok x) f g p q = f p
+either (Err x) f g p q = g q
 
 -- the lists are as many as the vector says
 vec_long : (lists : Vec (Vec ℕ Global) Global) → length lists.items ≡ lists.len
@@ -47,9 +51,12 @@ returns-clause-over_others c =
     before.corner_cells.items (length before.cells.items) (none_is before.cells) (length c.put_in.new.cells.items) (still_none before.cells c.put_in.new.cells c.put_in.ensures.long)) c.put_in.ensures.put
 
 pub returns-clause-law : goal.returns-clause-law
-returns-clause-law c =
+returns-clause-law c x p f listed =
     let before = c.args.self.now in
-    on_ok c.put_in.result (λ is x p f listed. put_law x p (along_list before) (over_list before) _ _ c.args.outline (λ i. refl)
+    let long = still_none before.cells c.put_in.new.cells c.put_in.ensures.long in
+    either c.put_in.result (λ is. put_law x p (along_list before) (over_list before) _ _ c.args.outline (λ i. refl)
     (over_maybe (lists_of before.cells.items) (lists_of c.put_in.new.cells.items) ((c.args.column * before.columns) + c.args.row) c.args.outline
     (inside before.cells before.columns c.args.column c.args.row before.full c.requires.column c.requires.row) is
-    before.corner_cells.items (length before.cells.items) (none_is before.cells) (length c.put_in.new.cells.items) (still_none before.cells c.put_in.new.cells c.put_in.ensures.long) c.requires.not_there) f listed) c.put_in.ensures.put
+    before.corner_cells.items (length before.cells.items) (none_is before.cells) (length c.put_in.new.cells.items) (still_none before.cells c.put_in.new.cells c.put_in.ensures.long) c.requires.not_there) f listed)
+    (λ kept. put_law x p (along_list before) (over_list before) _ _ c.args.outline (λ i. refl) (λ k. inl (λ i. get_or (kept i) (get_or before.corner_cells.items k (long i)) [])) f listed)
+    c.put_in.ensures.put c.put_in.ensures.kept
