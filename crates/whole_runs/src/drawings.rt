@@ -1,4 +1,4 @@
-// What a drawing has: its job, its solid, its views, its counts and its meter.
+// What a drawing has: its job, its solid, its views, its counts and its meters.
 use crate::runs::{desk_of, words_of};
 use cross_find::SolidSight;
 use draw_core::{Drawing, draw, drawing_of};
@@ -6,8 +6,9 @@ use edge_pick::{Crease, pick};
 use exact_frac::Frac;
 use fixtures::{CUBE_TEXT, MOVED_TEXT};
 use lattice::{Dir, Style, ViewSpec};
+use out_grid::{CellMeter, GridOutlines, cell_bound};
 use solid_mesh::Solid;
-use span_count::{AllOutlines, bound, spans_counted};
+use span_count::{bound, spans_counted};
 use std::alloc::Global;
 use std::test::Fail;
 
@@ -24,15 +25,19 @@ fn drawn(alloc: Global, words: &str, part: &str, job: &str) -> Result<Drawing, F
 fn a_drawing_has_its_job(rt: HostRuntime) -> Result<(), Fail> {
     let alloc = rt.alloc();
     let job = "decimals = 0\n[[view]]\nname = \"left\"\n";
-    for (words, digits, x, count, most) in [
-        ("p", 3, 10_000, 3, 864),
-        ("--job j p", 0, 10, 1, 288),
+    for (words, digits, x, count, most, grid_most) in [
+        ("p", 3, 10_000, 3, 864, 96),
+        ("--job j p", 0, 10, 1, 288, 32),
     ] {
         let drawing = drawn(alloc, words, CUBE_TEXT, job)?;
         let part = &drawing.solid;
         let greatest = (0..part.corners()).map(|i| part.corner(i).x).max();
         assert_eq!(rt; (drawing.job.decimals, greatest), (digits, Some(x)));
         assert_eq!(rt; (drawing.views.len(), drawing.bound), (count, most));
+        assert_eq!(rt;
+            (drawing.cell_bound, drawing.cells.cells > 0),
+            (grid_most, true)
+        );
         assert_eq!(rt; drawing.sheet.places.len(), count);
         for view in &drawing.views {
             let visible = view.pieces.iter().all(|piece| piece.style == Style::Solid);
@@ -53,51 +58,97 @@ fn a_drawing_needs_no_desk(rt: HostRuntime) -> Result<(), Fail> {
         views: _,
         meter: _,
         bound: most,
+        cells: _,
+        cell_bound: grid_most,
     } = drawn(alloc, "p", CUBE_TEXT, "")?;
     let again = drawing_of(alloc, solid, job).ok().ok_or("no drawing")?;
-    assert_eq!(rt; (again.views.len(), again.bound), (3, most));
+    assert_eq!(rt;
+        (again.views.len(), again.bound, again.cell_bound),
+        (3, most, grid_most)
+    );
     Ok(())
 }
 
-// How many tests the counts of a plain view take, and its bound.
-fn tests_of(alloc: Global, solid: &Solid, d: &Dir, crease: Crease) -> Result<(u64, u64), Fail> {
-    let picked = pick(alloc, solid, d, crease)?;
-    let most = bound(solid, &picked);
-    let mut sight = SolidSight::new(solid, d);
-    let _entries = spans_counted(alloc, &mut sight, &picked, &AllOutlines::new(&picked))?;
-    Ok((sight.tests(), most))
+// The tests that are made and their bound, and the cells that are counted and theirs.
+#[derive(Clone, Copy, PartialEq, Eq, Debug)]
+struct Costs {
+    tests: u64,
+    most_tests: u64,
+    cells: u64,
+    most_cells: u64,
 }
 
-// How many tests the counts of a drawing's plain views take, and their bounds, added up.
-fn tests_of_views(alloc: Global, drawing: &Drawing) -> Result<(u64, u64), Fail> {
-    let mut tests = 0_u64;
-    let mut most = 0_u64;
+// What the counts of a plain view cost, through a grid of as many columns as the square root of the number of outlines.
+fn costs_of(alloc: Global, solid: &Solid, d: &Dir, crease: Crease) -> Result<Costs, Fail> {
+    let picked = pick(alloc, solid, d, crease)?;
+    let columns = picked.outlines.len().isqrt().clamp(1, 256) as u32;
+    let most_tests = bound(solid, &picked);
+    let most_cells = cell_bound(solid, d, &picked, columns);
+    let mut sight = SolidSight::new(solid, d);
+    let mut meter = CellMeter { cells: 0 };
+    let grid = GridOutlines::new(alloc, solid, d, &picked, columns, &mut meter)?;
+    let _entries = spans_counted(alloc, &mut sight, &picked, &grid)?;
+    Ok(Costs {
+        tests: sight.tests(),
+        most_tests,
+        cells: meter.cells,
+        most_cells,
+    })
+}
+
+// What the counts of a drawing's plain views cost, added up.
+fn costs_of_views(alloc: Global, drawing: &Drawing) -> Result<Costs, Fail> {
+    let mut sums = Costs {
+        tests: 0,
+        most_tests: 0,
+        cells: 0,
+        most_cells: 0,
+    };
     for view in &drawing.views {
         if let ViewSpec::Plain(d) = &view.spec {
-            let (made, allowed) = tests_of(alloc, &drawing.solid, d, drawing.job.crease)?;
-            tests = tests.saturating_add(made);
-            most = most.saturating_add(allowed);
+            let more = costs_of(alloc, &drawing.solid, d, drawing.job.crease)?;
+            sums = Costs {
+                tests: sums.tests.saturating_add(more.tests),
+                most_tests: sums.most_tests.saturating_add(more.most_tests),
+                cells: sums.cells.saturating_add(more.cells),
+                most_cells: sums.most_cells.saturating_add(more.most_cells),
+            };
         }
     }
-    Ok((tests, most))
+    Ok(sums)
 }
 
-// Two plain views and one of a cut, in which no test is counted.
+// Two plain views and one of a cut, in which no test and no cell is counted.
 const THREE_VIEWS: &str =
     "[[view]]\nname = \"front\"\n[[view]]\ntoward = [1, -1, 1]\n[[view]]\ncut = \"y\"\nat = 5000\nfrom = \"low\"\n";
 
-// Tests are added up, and each drawn edge of a plain view has an entry.
+// Tests and cells are added up, and each drawn edge of a plain view has an entry.
 #[test]
-fn tests_are_added_up(rt: HostRuntime) -> Result<(), Fail> {
+fn costs_are_added_up(rt: HostRuntime) -> Result<(), Fail> {
     let alloc = rt.alloc();
     let drawing = drawn(alloc, "--job j p", MOVED_TEXT, THREE_VIEWS)?;
-    let sums = tests_of_views(alloc, &drawing)?;
-    assert_eq!(rt; (drawing.meter.tests, drawing.bound), sums);
+    let told = Costs {
+        tests: drawing.meter.tests,
+        most_tests: drawing.bound,
+        cells: drawing.cells.cells,
+        most_cells: drawing.cell_bound,
+    };
+    assert_eq!(rt; told, costs_of_views(alloc, &drawing)?);
     let mut entries = Vec::new(alloc);
     for view in &drawing.views {
         entries.push(view.counts.len())?;
     }
     assert_eq!(rt; entries.as_slice(), [16, 24, 0].as_slice());
+    Ok(())
+}
+
+// Where outlines are many, as many columns are made as the square root of their number: 14 of 216.
+#[test]
+fn a_sample_has_its_cell_bound(rt: HostRuntime) -> Result<(), Fail> {
+    let alloc = rt.alloc();
+    let drawing = drawn(alloc, "sample:3", "", "")?;
+    assert_eq!(rt; drawing.cell_bound, 4320);
+    assert_eq!(rt; drawing.cells.cells > 0, true);
     Ok(())
 }
 
