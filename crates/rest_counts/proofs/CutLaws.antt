@@ -1,0 +1,51 @@
+-- What outlines and borders have changed of a count along an edge of a cut view by a place, and the lists that a walk along the edge has of them.
+use Rattle.std.specs.Prelude.{◌≡◌, ◌≢◌, ℕ, ◌<◌, Bool, true, false, List, All, AllPairs, Contains, Some, length, slice_get, ℤ, pos, ◌-ℤ◌, ◌*ℤ◌}
+use Rattle.lattice.specs.declared.points.Corner.{Corner}
+use Rattle.lattice.specs.declared.soup.Tri.{Tri}
+use Rattle.lattice.specs.Cuts.{Plane, toward_of}
+use Rattle.geometry.specs.Cuts.{IsCrossed}
+use Rattle.geometry.specs.Parts.{Part, Face, Edge, AreEdges, IsNumbered}
+use Rattle.geometry.specs.Views.{face_sign}
+use Rattle.counting.specs.Counts.{Side}
+use Rattle.counting.specs.Covers.{IsOneWhere}
+use Rattle.face_counts.proofs.Changed.{IsCrossedBefore}
+use Rattle.section_parity.proofs.Xors.{xor}
+use Rattle.rest_counts.specs.CutCovers.{IsCutCoveredNext}
+use Rattle.rest_counts.specs.CutShares.{cut_change_of, PassesInCut, CutChanges}
+use Rattle.rest_counts.proofs.Rests.{HasBorderChange}
+use Rattle.rest_counts.proofs.Rays.{border_ahead}
+
+-- ---- outlines
+-- what the outline has changed of a count by the place n / m
+pub data HasCutChanged (k : Side) (c : Plane) {s : Part} (e o : Edge s) (n m : ℤ) : ℤ → Type 0 where
+  passed : PassesInCut c e o → IsCrossedBefore (toward_of c) e o n m → HasCutChanged k c e o n m (cut_change_of k c e o)
+  not_passed : ¬ (PassesInCut c e o × IsCrossedBefore (toward_of c) e o n m) → HasCutChanged k c e o n m (pos 0)
+
+-- a list of edges, none twice, that has each one which changes a count before the place
+pub record HasEachOutline (c : Plane) {s : Part} (e : Edge s) (n m : ℤ) (halves numbers : List ℕ) : Type 0 where
+  pub edges : AreEdges s halves
+  pub within : All (λ i. i < length halves) numbers
+  pub once : AllPairs ◌≢◌ numbers
+  pub whole : (i : ℕ) (o : Edge s) → IsNumbered halves i o → CutChanges c e o → IsCrossedBefore (toward_of c) e o n m → Contains numbers i
+
+-- ---- borders
+-- whether the triangle's border crosses the edge's line after its first end and not after the place n / m
+abbrev pub border_passed : Side → Plane → (s : Part) → Corner → Edge s → ℤ → ℤ → Tri → Bool
+border_passed k c s o e n m t = xor (border_ahead k c s o e (pos 0) (pos 1) t) (border_ahead k c s o e n m t)
+
+-- what the border has changed by the place of how many faces are counted: the face ends there
+pub data HasBorderChanged (k : Side) (c : Plane) {s : Part} (o : Corner) (e : Edge s) (f : Face s) (n m : ℤ) : ℤ → Type 0 where
+  passed : (change : ℤ) → border_passed k c s o e n m f.tri ≡ true → HasBorderChange k c e f change → HasBorderChanged k c o e f n m (pos 0 -ℤ (face_sign (toward_of c) f *ℤ change))
+  not_passed : border_passed k c s o e n m f.tri ≡ false → HasBorderChanged k c o e f n m (pos 0)
+
+-- a list of triangles, none twice, that has each one with a border
+pub record HasEachBorder (c : Plane) (s : Part) (numbers : List ℕ) : Type 0 where
+  pub within : All (λ i. i < length s.triangles) numbers
+  pub once : AllPairs ◌≢◌ numbers
+  pub whole : (f : Face s) → IsCrossed c f → Contains numbers f.number
+
+-- ---- next to an end of the edge
+-- the list has, for each triangle in its order, 1 where it is counted next to that end and else 0
+pub record AreCutCovers (k : Side) (c : Plane) {s : Part} (e : Edge s) (at_b : Bool) (covers : List ℕ) : Type 0 where
+  pub long : length covers ≡ length s.triangles
+  pub each : (i x : ℕ) → slice_get covers i ≡ Some x → (f : Face s) → f.number ≡ i → IsOneWhere (IsCutCoveredNext k c e at_b f) x

@@ -1,0 +1,5 @@
+pub mod CutCounts
+pub mod CutEnds
+pub mod CutShares
+pub mod BorderShares
+pub mod CutCovers
