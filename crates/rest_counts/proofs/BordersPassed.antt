@@ -112,7 +112,7 @@ qu = (var 2 ⊗ var 5) ⊗ var 8
 abbrev qv : Expr
 qv = (var 2 ⊗ var 5) ⊗ var 9
 
-turn_back : (a b t : Sight) → turn_of b a t ≡ pos 0 -ℤ turn_of a b t
+pub turn_back : (a b t : Sight) → turn_of b a t ≡ pos 0 -ℤ turn_of a b t
 turn_back a b t =
     ring (a.u ∷ a.v ∷ a.w ∷ b.u ∷ b.v ∷ b.w ∷ t.u ∷ t.v ∷ t.w ∷ []) (turns second_seen first_seen third_seen) (con (pos 0) ⊖ turns first_seen second_seen third_seen) refl
 

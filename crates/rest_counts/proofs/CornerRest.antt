@@ -44,7 +44,7 @@ module _ (c : Plane) (x y z : Corner) (ξ_pos : pos 0 <ℤ far c x) (η_pos : po
   abbrev part_area : ℤ
   part_area = area_of (grown (scale_of c x y z) (on (toward_of c) x)) (first_of c x y z) (second_of c x y z)
 
-  part_by : pos 0 <ℤ (((far c z +ℤ far c x) *ℤ far c x) *ℤ ((far c y +ℤ far c x) *ℤ far c x))
+  pub part_by : pos 0 <ℤ (((far c z +ℤ far c x) *ℤ far c x) *ℤ ((far c y +ℤ far c x) *ℤ far c x))
   part_by = mul_pos _ _ (mul_pos _ _ (sum_up _ _ ζ_pos ξ_pos) ξ_pos) (mul_pos _ _ (sum_up _ _ η_pos ξ_pos) ξ_pos)
 
   pub area_is : part_area ≡ (((far c z +ℤ far c x) *ℤ far c x) *ℤ ((far c y +ℤ far c x) *ℤ far c x)) *ℤ areas
@@ -57,11 +57,11 @@ module _ (c : Plane) (x y z : Corner) (ξ_pos : pos 0 <ℤ far c x) (η_pos : po
   some_of_part some e = some (area_is ∙ ap (λ v. (((far c z +ℤ far c x) *ℤ far c x) *ℤ ((far c y +ℤ far c x) *ℤ far c x)) *ℤ v) e
       ∙ ring ((((far c z +ℤ far c x) *ℤ far c x) *ℤ ((far c y +ℤ far c x) *ℤ far c x)) ∷ []) (var 0 ⊗ con (pos 0)) (con (pos 0)) refl)
 
-module _ (k : Side) (c : Plane) {s : Part} (e : Edge s) (f : Face s) (x y z : Corner) (order : AreInOrder f x y z) (n m : ℤ) where
-  -- the part's corners are on that side
-  abbrev pub PartSides : Type 0
-  PartSides = (pos 0 <ℤ sided k (value (toward_of c) e.a e.b x)) ⊎ (pos 0 <ℤ sided k (cut_value k c e x y)) ⊎ (pos 0 <ℤ sided k (cut_value k c e x z))
+-- a corner of the part is on that side
+abbrev pub PartSides : Side → Plane → {s : Part} → Edge s → Corner → Corner → Corner → Type 0
+PartSides k c e x y z = (pos 0 <ℤ sided k (value (toward_of c) e.a e.b x)) ⊎ (pos 0 <ℤ sided k (cut_value k c e x y)) ⊎ (pos 0 <ℤ sided k (cut_value k c e x z))
 
+module _ (k : Side) (c : Plane) {s : Part} (e : Edge s) (f : Face s) (x y z : Corner) (order : AreInOrder f x y z) (n m : ℤ) where
   abbrev pub AddsPart : Type 0
   AddsPart = Adds k (grown (scale_of c x y z) (on (toward_of c) e.a)) (grown (scale_of c x y z) (on (toward_of c) e.b)) (grown (scale_of c x y z) (on (toward_of c) x)) (first_of c x y z) (second_of c x y z) n m
 
@@ -87,7 +87,7 @@ module _ (k : Side) (c : Plane) {s : Part} (e : Edge s) (f : Face s) (x y z : Co
     scale_pos : pos 0 <ℤ scale_of c x y z
     scale_pos = mul_pos _ _ (sum_up _ _ η_pos ξ_pos) (sum_up _ _ ζ_pos ξ_pos)
 
-    over_is : (i j l : ℤ) → over_sum c x y z i j l ≡ pos 0 -ℤ toward X Y Z (far c x) (far c y) (far c z) i j l
+    pub over_is : (i j l : ℤ) → over_sum c x y z i j l ≡ pos 0 -ℤ toward X Y Z (far c x) (far c y) (far c z) i j l
     over_is i j l = (λ r. ((i *ℤ far_beyond c x x_beyond r) +ℤ (j *ℤ far_before c y y_before r)) +ℤ (l *ℤ far_before c z z_before r))
         ∙ ring (i ∷ j ∷ l ∷ far c x ∷ far c y ∷ far c z ∷ []) (((var 0 ⊗ (con (pos 0) ⊖ var 3)) ⊕ (var 1 ⊗ var 4)) ⊕ (var 2 ⊗ var 5))
         (con (pos 0) ⊖ (((var 3 ⊗ var 0) ⊖ (var 4 ⊗ var 1)) ⊖ (var 5 ⊗ var 2))) refl
@@ -98,18 +98,18 @@ module _ (k : Side) (c : Plane) {s : Part} (e : Edge s) (f : Face s) (x y z : Co
     most_of : (u v : ℤ) → u ≡ pos 0 -ℤ v → pos 0 ≤ℤ v → u ≤ℤ pos 0
     most_of u v e h = omega (arith, ints)
 
-    sides_of : RestReachesTo k c e f → PartSides
+    pub sides_of : RestReachesTo k c e f → PartSides k c e x y z
     sides_of h = by (side_from f x y z order (RestOfSideReaches k c e) h)
       where
-        by : RestOfSideReaches k c e x y ⊎ RestOfSideReaches k c e y z ⊎ RestOfSideReaches k c e z x → PartSides
+        by : RestOfSideReaches k c e x y ⊎ RestOfSideReaches k c e y z ⊎ RestOfSideReaches k c e z x → PartSides k c e x y z
         by (inl r) = elim ((reaches_back k c e x y x_beyond y_before).0 r) [ inl a ↦ inl a | inr a ↦ inr (inl (subst (λ (v : ℤ). pos 0 <ℤ sided k v) (cut_value_back k c e y x) a)) ]
         by (inr (inl r)) = absurd (reaches_none k c e y z y_before z_before r)
         by (inr (inr r)) = elim ((reaches_going k c e z x z_before x_beyond).0 r) [ inl a ↦ inr (inr (subst (λ (v : ℤ). pos 0 <ℤ sided k v) (cut_value_back k c e z x) a)) | inr a ↦ inl a ]
 
-    of_sides : PartSides → RestReachesTo k c e f
+    pub of_sides : PartSides k c e x y z → RestReachesTo k c e f
     of_sides h = side_of_from f x y z order (RestOfSideReaches k c e) (by h)
       where
-        by : PartSides → RestOfSideReaches k c e x y ⊎ RestOfSideReaches k c e y z ⊎ RestOfSideReaches k c e z x
+        by : PartSides k c e x y z → RestOfSideReaches k c e x y ⊎ RestOfSideReaches k c e y z ⊎ RestOfSideReaches k c e z x
         by (inl a) = inl ((reaches_back k c e x y x_beyond y_before).1 (inl a))
         by (inr (inl a)) = inl ((reaches_back k c e x y x_beyond y_before).1 (inr (subst (λ (v : ℤ). pos 0 <ℤ sided k v) (cut_value_back k c e x y) a)))
         by (inr (inr a)) = inr (inr ((reaches_going k c e z x z_before x_beyond).1 (inl (subst (λ (v : ℤ). pos 0 <ℤ sided k v) (cut_value_back k c e x z) a))))

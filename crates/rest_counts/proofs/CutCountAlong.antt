@@ -2,7 +2,7 @@
 use Rattle.std.proofs.Common.{◌≡◌, ◌≢◌, ◌⊎◌, inl, inr, ℕ, zero, suc, ◌+◌, ◌*◌, ◌/◌, ◌%◌, ◌<◌, ◌≤◌, Bool, true, false, List, [], ◌∷◌, Contains, Some, length, get_or, slice_get, nat_lt, sum, refl, sym, ap, subst, ◌∙◌, arith, unsigned_abs}
 use Rattle.std.specs.Prelude.{ℤ, pos, negsuc, ◌+ℤ◌, ◌-ℤ◌, ◌*ℤ◌, ◌<ℤ◌, ◌≤ℤ◌}
 use Rattle.std.specs.List.{AllZip}
-use Rattle.std.proofs.lemmas.Bool.{false≢true}
+use Rattle.std.proofs.lemmas.Bool.{false_from_ne_true}
 use Rattle.std.proofs.lemmas.Int.{ints}
 use Rattle.std.proofs.lemmas.Option.{slice_get-get_or, get_or_from_slice_get, slice_get_within}
 use Rattle.integers.proofs.Comparisons.{positive_of_more}
@@ -46,12 +46,17 @@ use Rattle.section_parity.proofs.Xors.{xor, odd_in, odd_in-places}
 use Rattle.rest_counts.specs.CutCounts.{IsCutCounted, HasCutCounted, AreCutCounted}
 use Rattle.rest_counts.specs.CutEnds.{part_change}
 use Rattle.rest_counts.specs.CutShares.{cut_change_of, CutChanges}
-use Rattle.rest_counts.proofs.BordersPassed.{last_turn, border_is, none_passed}
+use Rattle.rest_counts.proofs.BordersPassed.{last_turn, border_is}
 use Rattle.rest_counts.proofs.ClearRests.{clear_valid}
 use Rattle.rest_counts.proofs.CutLaws.{HasCutChanged, HasEachOutline, border_passed, HasBorderChanged, HasEachBorder, AreCutCovers}
 use Rattle.rest_counts.proofs.CutLaws.HasBorderChanged.{passed, not_passed}
-use Rattle.rest_counts.proofs.FaceBorders.{one_first, one_second, one_change, no_change, crossed_or, some_change, some_crossing, border_at, change_at, crosses_at, number_of, number_is}
-use Rattle.rest_counts.proofs.Laws.{HasCornersInRange, AreInTurn, IsPassed, IsValid, AllRestsLaw, ValidRestLaw, RayLaw, NearLaw, IsNextPlace}
+use Rattle.rest_counts.proofs.FaceBorders.{one_first, one_second, one_change, crossed_or, some_change, some_crossing, border_at, change_at, crosses_at, number_of, number_is}
+use Rattle.rest_counts.proofs.AllRests.{all_rests}
+use Rattle.rest_counts.proofs.Laws.{HasCornersInRange, AreInTurn, IsPassed, IsValid, AllRestsLaw, RayLaw, NearLaw, IsNextPlace}
+use Rattle.rest_counts.proofs.NearRests.{near_rests}
+use Rattle.rest_counts.proofs.RestLaw.{rest_law}
+use Rattle.rest_counts.proofs.SectionRays.{ray}
+use Rattle.rest_counts.proofs.ValidRest.{valid_rest}
 use Rattle.rest_counts.proofs.OutlinesPassed.{cut_changed_is, cut_unchanged}
 use Rattle.rest_counts.proofs.Rays.{border_ahead}
 use Rattle.rest_counts.proofs.Rests.{RestCounts, HasBorderChange, BorderCrosses}
@@ -131,7 +136,16 @@ changed_by k c {s} o e f n m own z (not_passed is) own_is =
     nothing x y = ring (x ∷ y ∷ []) (con (pos 0) ⊖ (var 0 ⊗ (var 1 ⊗ con (pos 0)))) (con (pos 0)) refl
 
 -- ---- the law
-module _ (rests : AllRestsLaw) (valid_rest : ValidRestLaw) (near_law : NearLaw) (rays : RayLaw) (c : Plane) (s : Part) (sound : IsSound s) (in_range : HasCornersInRange s) where
+rests : AllRestsLaw
+rests = all_rests rest_law
+
+near_law : NearLaw
+near_law = near_rests
+
+rays : RayLaw
+rays = ray
+
+module _ (c : Plane) (s : Part) (sound : IsSound s) (in_range : HasCornersInRange s) where
   abbrev d : Triple
   d = toward_of c
 
@@ -322,7 +336,7 @@ module _ (rests : AllRestsLaw) (valid_rest : ValidRestLaw) (near_law : NearLaw) 
       negative : ℕ → ℤ
       negative t = pos 0 -ℤ border_share t
 
-      borders_total : {numbers : List ℕ} → HasEachBorder c s numbers → {A : Type 0} (value : A → ℤ) (borders : List A)
+      borders_total : {numbers : List ℕ} → HasEachBorder s (border_passed k c s spare e n m) numbers → {A : Type 0} (value : A → ℤ) (borders : List A)
           → AllZip (λ i x. (f : Face s) → f.number ≡ i → HasBorderChanged k c spare e f n m (value x)) numbers borders → sum_below negative (length s.triangles) ≡ total value borders
       unfolding negative
       borders_total {numbers} each {A} value borders all =
@@ -338,16 +352,17 @@ module _ (rests : AllRestsLaw) (valid_rest : ValidRestLaw) (near_law : NearLaw) 
           elsewhere : (i : ℕ) → i < length s.triangles → ¬ IsIn i numbers → negative i ≡ pos 0
           elsewhere i l out =
               let f = face_of s in_range i l in
-              (λ t. pos 0 -ℤ (sign (3 * i) *ℤ (no_change c f k e (own_is f) (λ crossed. out (place_in numbers i (each.whole f crossed))) t *ℤ border i)))
-              ∙ nothing (sign (3 * i)) (border i)
+              ap (λ v. pos 0 -ℤ v) (border_by f)
+              ∙ (λ t. pos 0 -ℤ (face_sign d f *ℤ (own i *ℤ worth (false_from_ne_true (border_passed k c s spare e n m f.tri) (λ is. out (place_in numbers i (each.whole f is))) t))))
+              ∙ nothing (face_sign d f) (own i)
             where
-              nothing : (x y : ℤ) → pos 0 -ℤ (x *ℤ (pos 0 *ℤ y)) ≡ pos 0
-              nothing x y = ring (x ∷ y ∷ []) (con (pos 0) ⊖ (var 0 ⊗ (con (pos 0) ⊗ var 1))) (con (pos 0)) refl
+              nothing : (x y : ℤ) → pos 0 -ℤ (x *ℤ (y *ℤ pos 0)) ≡ pos 0
+              nothing x y = ring (x ∷ y ∷ []) (con (pos 0) ⊖ (var 0 ⊗ (var 1 ⊗ con (pos 0)))) (con (pos 0)) refl
 
       -- how many faces are counted
       faces_are : {halves numbers : List ℕ} → HasEachOutline c e n m halves numbers → {A : Type 0} (value : A → ℤ) (changes : List A)
           → AllZip (λ i x. (o : Edge s) → IsNumbered halves i o → HasCutChanged k c e o n m (value x)) numbers changes
-          → {triangles : List ℕ} → HasEachBorder c s triangles → {B : Type 0} (share : B → ℤ) (borders : List B)
+          → {triangles : List ℕ} → HasEachBorder s (border_passed k c s spare e n m) triangles → {B : Type 0} (share : B → ℤ) (borders : List B)
           → AllZip (λ i x. (f : Face s) → f.number ≡ i → HasBorderChanged k c spare e f n m (share x)) triangles borders
           → (covers : List ℕ) → AreCutCovers k c e false covers → (all : ℕ) (are : AreCutCounted k c e T all)
           → pos are.faces ≡ (pos (sum covers) +ℤ total value changes) +ℤ total share borders
@@ -361,7 +376,7 @@ module _ (rests : AllRestsLaw) (valid_rest : ValidRestLaw) (near_law : NearLaw) 
           together f c s b x y h e g = omega (arith, ints)
 
     -- ---- the section
-    section_is : ¬ IsEndOn d e → {triangles : List ℕ} → HasEachBorder c s triangles → {B : Type 0} (turns : B → Bool) (borders : List B)
+    section_is : ¬ IsEndOn d e → {triangles : List ℕ} → HasEachBorder s (border_passed k c s spare e n m) triangles → {B : Type 0} (turns : B → Bool) (borders : List B)
         → AllZip (λ i x. (f : Face s) → f.number ≡ i → border_passed k c s spare e n m f.tri ≡ turns x) triangles borders → (section : ℕ) → IsOneWhere (IsInSection c s T) section
         → pos section ≡ worth (xor (odd_in (border_ahead k c s spare e (pos 0) (pos 1)) s.triangles) (odd_in turns borders))
     section_is across {triangles} each {B} turns borders has section inside =
@@ -375,11 +390,7 @@ module _ (rests : AllRestsLaw) (valid_rest : ValidRestLaw) (near_law : NearLaw) 
         at_face f = ap (border_passed k c s spare e n m) (triangle-at d s f)
 
         whole : (i : ℕ) → i < length s.triangles → passes_at i ≡ true → Contains triangles i
-        whole i l is = by (crossed_or c (face_of s in_range i l))
-          where
-            by : IsCrossed c (face_of s in_range i l) ⊎ ¬ IsCrossed c (face_of s in_range i l) → Contains triangles i
-            by (inl h) = each.whole (face_of s in_range i l) h
-            by (inr h) = absurd (false≢true (sym (none_passed k c spare e (face_of s in_range i l) n m h) ∙ sym (at_face (face_of s in_range i l)) ∙ is))
+        whole i l is = let f = face_of s in_range i l in each.whole f (sym (at_face f) ∙ is)
 
         one : (i : ℕ) (x : B) → IsIn i triangles → ((f : Face s) → f.number ≡ i → border_passed k c s spare e n m f.tri ≡ turns x) → passes_at i ≡ turns x
         one i x there same =
@@ -424,10 +435,10 @@ module _ (rests : AllRestsLaw) (valid_rest : ValidRestLaw) (near_law : NearLaw) 
 
     -- ---- both
     -- A count is what is counted next to the first end, with the section there, and what has changed: by a list of outlines that has each one which
-    -- changes a count before the place, by a list of triangles that has each one with a border, and by the section, which turns with each border that is passed.
+    -- changes a count before the place, by a list of triangles that has each one whose border is passed, and by the section, which turns with each border that is passed.
     pub count_in_cut : ¬ IsEndOn d e → {halves numbers : List ℕ} → HasEachOutline c e n m halves numbers → {A : Type 0} (value : A → ℤ) (changes : List A)
         → AllZip (λ i x. (o : Edge s) → IsNumbered halves i o → HasCutChanged k c e o n m (value x)) numbers changes
-        → {triangles : List ℕ} → HasEachBorder c s triangles → {B : Type 0} (changed : B → ℤ) (turns : B → Bool) (borders : List B)
+        → {triangles : List ℕ} → HasEachBorder s (border_passed k c s spare e n m) triangles → {B : Type 0} (changed : B → ℤ) (turns : B → Bool) (borders : List B)
         → AllZip (λ i x. (f : Face s) → f.number ≡ i → HasBorderChanged k c spare e f n m (changed x) × (border_passed k c s spare e n m f.tri ≡ turns x)) triangles borders
         → (covers : List ℕ) → AreCutCovers k c e false covers → (all : ℕ) → AreCutCounted k c e T all
         → (let start = odd_in (border_ahead k c s spare e (pos 0) (pos 1)) s.triangles in

@@ -33,12 +33,12 @@ use Rattle.rest_counts.proofs.FaceBorder.{border_one}
 use Rattle.rest_counts.proofs.CornerRest.{whole_some, turned_of, part_some, some_of_part, PartSides, AddsPart}
 
 -- the turn of a place to the cut's two ends
-turn_cut : (x y z s : Screen) (t w ξ η ζ : ℤ)
+turn_cut : (x y z s : Screen) (ξ η ζ : ℤ)
     → turn_of record { u = (η +ℤ ξ) *ℤ (ζ +ℤ ξ) *ℤ s.u; v = (η +ℤ ξ) *ℤ (ζ +ℤ ξ) *ℤ s.v; h = pos 0; w = s.w }
     record { u = ((((η +ℤ ξ) *ℤ (ζ +ℤ ξ)) -ℤ ((ζ +ℤ ξ) *ℤ ξ)) *ℤ x.u) +ℤ (((ζ +ℤ ξ) *ℤ ξ) *ℤ y.u); v = ((((η +ℤ ξ) *ℤ (ζ +ℤ ξ)) -ℤ ((ζ +ℤ ξ) *ℤ ξ)) *ℤ x.v) +ℤ (((ζ +ℤ ξ) *ℤ ξ) *ℤ y.v); h = pos 0; w = pos 1 }
     record { u = ((((η +ℤ ξ) *ℤ (ζ +ℤ ξ)) -ℤ ((η +ℤ ξ) *ℤ ξ)) *ℤ x.u) +ℤ (((η +ℤ ξ) *ℤ ξ) *ℤ z.u); v = ((((η +ℤ ξ) *ℤ (ζ +ℤ ξ)) -ℤ ((η +ℤ ξ) *ℤ ξ)) *ℤ x.v) +ℤ (((η +ℤ ξ) *ℤ ξ) *ℤ z.v); h = pos 0; w = pos 1 }
     ≡ (((η +ℤ ξ) *ℤ (ζ +ℤ ξ)) *ℤ ξ) *ℤ (((ξ *ℤ turn_of s y z) -ℤ (η *ℤ turn_of s z x)) -ℤ (ζ *ℤ turn_of s x y))
-turn_cut x y z s t w ξ η ζ =
+turn_cut x y z s ξ η ζ =
     let S = var 1 ⊕ var 0 in
     let R = var 2 ⊕ var 0 in
     let W = S ⊗ R in
@@ -120,11 +120,11 @@ module _ (k : Side) (c : Plane) {s : Part} (e : Edge s) (f : Face s) (x y z : Co
   rest_sums : RestSides ≡ ((pos 0 <ℤ vy) ⊎ (pos 0 <ℤ vz) ⊎ (pos 0 <ℤ ((η *ℤ vx) +ℤ (ξ *ℤ vy))) ⊎ (pos 0 <ℤ ((ζ *ℤ vx) +ℤ (ξ *ℤ vz))))
   rest_sums = λ r. (pos 0 <ℤ vy) ⊎ (pos 0 <ℤ vz) ⊎ (pos 0 <ℤ first_sum r) ⊎ (pos 0 <ℤ second_sum r)
 
-  part_sums : PartSides k c e f x y z order (pos 0) (pos 0) ≡ ((pos 0 <ℤ vx) ⊎ (pos 0 <ℤ ((η *ℤ vx) +ℤ (ξ *ℤ vy))) ⊎ (pos 0 <ℤ ((ζ *ℤ vx) +ℤ (ξ *ℤ vz))))
+  part_sums : PartSides k c e x y z ≡ ((pos 0 <ℤ vx) ⊎ (pos 0 <ℤ ((η *ℤ vx) +ℤ (ξ *ℤ vy))) ⊎ (pos 0 <ℤ ((ζ *ℤ vx) +ℤ (ξ *ℤ vz))))
   part_sums = λ r. (pos 0 <ℤ vx) ⊎ (pos 0 <ℤ first_sum r) ⊎ (pos 0 <ℤ second_sum r)
 
   module _ (ξ_pos : pos 0 <ℤ ξ) (η_pos : pos 0 <ℤ η) (ζ_pos : pos 0 <ℤ ζ) where
-    pub part_to_whole : PartSides k c e f x y z order (pos 0) (pos 0) → WholeSides
+    pub part_to_whole : PartSides k c e x y z → WholeSides
     part_to_whole h = corner_whole vx vy vz ξ η ζ (pos 0) (pos 0) (pos 0) ξ_pos η_pos ζ_pos (subst (λ t. t) part_sums h)
 
     pub rest_to_whole : RestSides → WholeSides
@@ -137,7 +137,7 @@ module _ (k : Side) (c : Plane) {s : Part} (e : Edge s) (f : Face s) (x y z : Co
       even : ((v.i *ℤ vx) +ℤ (v.j *ℤ vy)) +ℤ (v.k *ℤ vz) ≡ pos 0
       even = sided_even k v.i v.j v.k (value (toward_of c) e.a e.b x) (value (toward_of c) e.a e.b y) (value (toward_of c) e.a e.b z) (evenly P Q X Y Z n m m_pos v)
 
-      pub whole_to_part : pos 0 <ℤ level → WholeSides → PartSides k c e f x y z order (pos 0) (pos 0)
+      pub whole_to_part : pos 0 <ℤ level → WholeSides → PartSides k c e x y z
       whole_to_part over h = subst (λ t. t) (sym part_sums) (whole_corner vx vy vz ξ η ζ v.i v.j v.k ξ_pos η_pos ζ_pos v.j_least v.k_least even over h)
 
       pub whole_to_rest : level <ℤ pos 0 → WholeSides → RestSides
@@ -157,7 +157,7 @@ module _ (k : Side) (c : Plane) {s : Part} (e : Edge s) (f : Face s) (x y z : Co
     scale_pos : pos 0 <ℤ scale_of c x y z
     scale_pos = mul_pos _ _ (sum_up _ _ y_far x_far) (sum_up _ _ z_far x_far)
 
-    over_is : (i j l : ℤ) → over_sum c x y z i j l ≡ toward X Y Z ξ η ζ i j l
+    pub over_is : (i j l : ℤ) → over_sum c x y z i j l ≡ toward X Y Z ξ η ζ i j l
     over_is i j l = (λ r. ((i *ℤ far_before c x x_before r) +ℤ (j *ℤ far_beyond c y y_beyond r)) +ℤ (l *ℤ far_beyond c z z_beyond r))
         ∙ ring (i ∷ j ∷ l ∷ ξ ∷ η ∷ ζ ∷ []) (((var 0 ⊗ var 3) ⊕ (var 1 ⊗ (con (pos 0) ⊖ var 4))) ⊕ (var 2 ⊗ (con (pos 0) ⊖ var 5)))
         (((var 3 ⊗ var 0) ⊖ (var 4 ⊗ var 1)) ⊖ (var 5 ⊗ var 2)) refl
@@ -226,15 +226,15 @@ module _ (k : Side) (c : Plane) {s : Part} (e : Edge s) (f : Face s) (x y z : Co
       second_at : IsOnSide k (Big P) (Big Q) (second_of c x y z) ↔ (pos 0 <ℤ sided k (cut_value k c e x z))
       second_at = second_side k P Q X Y Z ξ η ζ scale_pos (sum_up _ _ y_far x_far) (sum_up _ _ z_far x_far)
 
-      off_sides : CountsAt k (Big P) (Big Q) (Big X) (first_of c x y z) (second_of c x y z) n m → PartSides k c e f x y z order (pos 0) (pos 0)
+      off_sides : CountsAt k (Big P) (Big Q) (Big X) (first_of c x y z) (second_of c x y z) n m → PartSides k c e x y z
       off_sides (covers, inl a) = inl (corner_at.0 a)
       off_sides (covers, inr (inl a)) = inr (inl (first_at.0 a))
       off_sides (covers, inr (inr a)) = inr (inr (second_at.0 a))
 
-      off_of : ¬ (area ≡ pos 0) → (v : Covers X Y Z (place_of P Q n m)) → pos 0 ≤ℤ toward X Y Z ξ η ζ v.i v.j v.k → PartSides k c e f x y z order (pos 0) (pos 0) → Off
+      off_of : ¬ (area ≡ pos 0) → (v : Covers X Y Z (place_of P Q n m)) → pos 0 ≤ℤ toward X Y Z ξ η ζ v.i v.j v.k → PartSides k c e x y z → Off
       off_of some v least h = (part_some c x y z x_far y_far z_far some, (part_covers X Y Z ξ η ζ P Q n m x_far y_far z_far v least, by h))
         where
-          by : PartSides k c e f x y z order (pos 0) (pos 0) → IsOnSide k (Big P) (Big Q) (Big X) ⊎ IsOnSide k (Big P) (Big Q) (first_of c x y z) ⊎ IsOnSide k (Big P) (Big Q) (second_of c x y z)
+          by : PartSides k c e x y z → IsOnSide k (Big P) (Big Q) (Big X) ⊎ IsOnSide k (Big P) (Big Q) (first_of c x y z) ⊎ IsOnSide k (Big P) (Big Q) (second_of c x y z)
           by (inl a) = inl (corner_at.1 a)
           by (inr (inl a)) = inr (inl (first_at.1 a))
           by (inr (inr a)) = inr (inr (second_at.1 a))
@@ -304,7 +304,7 @@ module _ (k : Side) (c : Plane) {s : Part} (e : Edge s) (f : Face s) (x y z : Co
         turn_none : (area *ℤ turns) ≡ pos 0 → turn_of (place_of (Big P) (Big Q) n m) (first_of c x y z) (second_of c x y z) ≡ pos 0
         turn_none h =
             (λ r. turn_of record { u = at_grown (scale_of c x y z) P.u Q.u r; v = at_grown (scale_of c x y z) P.v Q.v r; h = pos 0; w = m } (first_of c x y z) (second_of c x y z))
-            ∙ turn_cut X Y Z (place_of P Q n m) (pos 0) (pos 0) ξ η ζ
+            ∙ turn_cut X Y Z (place_of P Q n m) ξ η ζ
             ∙ ap (λ v. (((η +ℤ ξ) *ℤ (ζ +ℤ ξ)) *ℤ ξ) *ℤ v) (turns_none h)
             ∙ times_none (((η +ℤ ξ) *ℤ (ζ +ℤ ξ)) *ℤ ξ)
 
@@ -434,7 +434,7 @@ module _ (k : Side) (c : Plane) {s : Part} (e : Edge s) (f : Face s) (x y z : Co
               some_rest down (inr (inl b)) = inl b
               some_rest down (inr (inr b)) = inr (inl b)
 
-              no_part : sided k fv ≡ pos 0 → sided k gv ≡ pos 0 → vx ≤ℤ pos 0 → ¬ PartSides k c e f x y z order (pos 0) (pos 0)
+              no_part : sided k fv ≡ pos 0 → sided k gv ≡ pos 0 → vx ≤ℤ pos 0 → ¬ PartSides k c e x y z
               no_part f g down (inl b) = clash _ b down
               no_part f g down (inr (inl b)) = clash_zero _ b f
               no_part f g down (inr (inr b)) = clash_zero _ b g

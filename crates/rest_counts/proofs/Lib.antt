@@ -1,3 +1,4 @@
+pub mod AddsDecided
 pub mod AllRests
 pub mod BorderPlaces
 pub mod BorderRows
@@ -11,18 +12,23 @@ pub mod CutCountAlong
 pub mod CutEndsApart
 pub mod CutLaws
 pub mod CutPlaces
+pub mod CutWalks
 pub mod Difference
 pub mod FaceBorder
 pub mod FaceBorders
+pub mod FaceOrders
+pub mod FlatBorders
 pub mod HiddenInCut
 pub mod HighestThat
 pub mod Laws
 pub mod NearRests
 pub mod OutlinesPassed
+pub mod PartChanges
 pub mod PartMarks
 pub mod Parts
 pub mod Rays
 pub mod RestCovers
+pub mod RestLaw
 pub mod RestSides
 pub mod Rests
 pub mod ScaledScreens
@@ -32,5 +38,8 @@ pub mod SectionRays
 pub mod SectionSegments
 pub mod SectionSums
 pub mod SideDrops
+pub mod TurnedCuts
+pub mod TurnedWalks
 pub mod TwinSums
+pub mod ValidRest
 pub mod Wedges

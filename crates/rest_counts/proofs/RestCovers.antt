@@ -6,11 +6,11 @@ use Rattle.integers.proofs.Absolutes.{natural_not_negative}
 use Rattle.lattice.specs.declared.points.Corner.{Corner}
 use Rattle.lattice.specs.Triple.{right_axis, up_axis}
 use Rattle.lattice.specs.Points.{Point, across_of, upward_of, height_of, OnOneSight, IsNearer}
-use Rattle.lattice.specs.Cuts.{Plane, toward_of, plane_height, IsBeforePlane}
-use Rattle.geometry.specs.Cuts.{over_of, start_corner, end_corner}
+use Rattle.lattice.specs.Cuts.{Plane, toward_of, plane_height, IsBeyond, IsBeforePlane}
+use Rattle.geometry.specs.Cuts.{over_of, start_corner, end_corner, FaceHidesInCut}
 use Rattle.geometry.specs.Faces.{face_sum, share_point, IsPointOfFace}
 use Rattle.geometry.specs.Parts.{Part, Face, Edge}
-use Rattle.geometry.proofs.Borders.{face_rise, rise_before}
+use Rattle.geometry.proofs.Borders.{rise_of, face_rise, rise_before, rise_beyond}
 use Rattle.geometry.proofs.FacePoints.{dot-face_sum, face_point-round}
 use Rattle.hiding.proofs.Screens.{Screen, Covers}
 use Rattle.hiding.proofs.OnScreens.{seen, unpack}
@@ -45,9 +45,6 @@ module _ {s : Part} (f : Face s) where
   side_from x y z (inr (inr (c, a, b))) R (zero, l, h) = inr (inl (subst (λ t. t) (λ r. R (a r) (b r)) h))
   side_from x y z (inr (inr (c, a, b))) R (suc zero, l, h) = inr (inr (subst (λ t. t) (λ r. R (b r) (c r)) h))
   side_from x y z (inr (inr (c, a, b))) R (suc (suc n), l, h) = inl (subst (λ t. t) (λ r. R (c r) (a r)) h)
-
-  in_three : (n : ℕ) → n < 3 → n < 3
-  in_three n l = l
 
   zero_in : 0 < 3
   zero_in = omega arith
@@ -89,10 +86,14 @@ module _ (c : Plane) (x y z : Corner) where
   abbrev pub CoversNotBefore : Screen → Type 0
   CoversNotBefore p = (v : Covers X Y Z p) × (over_sum v.i v.j v.k ≤ℤ pos 0)
 
+  abbrev pub CoversBeyond : Screen → Type 0
+  CoversBeyond p = (v : Covers X Y Z p) × (over_sum v.i v.j v.k <ℤ pos 0)
+
   module _ {s : Part} (f : Face s) (order : AreInOrder f x y z) (p : Point) where
-    covers_of : (i j k : ℕ) → 0 < i + j + k → ¬ IsBeforePlane c (face_sum x y z i j k) → OnOneSight (toward_of c) (face_sum x y z i j k) p
-        → IsNearer (toward_of c) (face_sum x y z i j k) p → CoversNotBefore (seen (toward_of c) p)
-    covers_of i j k some not_before same near = (
+    -- a sum on the line of sight covers, and is as high above the plane as its point
+    covers_of : (i j k : ℕ) → 0 < i + j + k → OnOneSight (toward_of c) (face_sum x y z i j k) p → IsNearer (toward_of c) (face_sum x y z i j k) p
+        → (v : Covers X Y Z (seen (toward_of c) p)) × (rise_of c (face_sum x y z i j k) ≡ over_sum v.i v.j v.k)
+    covers_of i j k some same near = (
       record {
         i = pos i;
         j = pos j;
@@ -105,22 +106,33 @@ module _ (c : Plane) (x y z : Corner) where
         same_v = ap (λ v. v *ℤ p.w) (sym (dot-face_sum (up_axis (toward_of c)) x y z i j k)) ∙ same.upward;
         nearer = subst (λ v. (height_of (toward_of c) p *ℤ pos (i + j + k)) <ℤ (v *ℤ p.w)) (dot-face_sum (toward_of c) x y z i j k) near;
       },
-      subst (λ (v : ℤ). v ≤ℤ pos 0) (face_rise c x y z i j k) (lower (pos 2 *ℤ height_of (toward_of c) (face_sum x y z i j k)) (plane_height c *ℤ pos (i + j + k)) not_before),
+      face_rise c x y z i j k,
     )
       where
         is_some : (i j k : ℕ) → 0 < i + j + k → pos 0 <ℤ ((pos i +ℤ pos j) +ℤ pos k)
         is_some i j k h = omega (arith, ints)
 
-        lower : (u v : ℤ) → ¬ (v <ℤ u) → (u -ℤ v) ≤ℤ pos 0
-        lower u v h = by_lt_z v u (λ l. absurd (h l)) (λ l. most u v l)
-          where
-            most : (u v : ℤ) → u ≤ℤ v → (u -ℤ v) ≤ℤ pos 0
-            most u v l = omega (arith, ints)
+    lower : (u v : ℤ) → ¬ (v <ℤ u) → (u -ℤ v) ≤ℤ pos 0
+    lower u v h = by_lt_z v u (λ l. absurd (h l)) (λ l. most u v l)
+      where
+        most : (u v : ℤ) → u ≤ℤ v → (u -ℤ v) ≤ℤ pos 0
+        most u v l = omega (arith, ints)
 
     pub covers_of_rest : RestHides c f p → CoversNotBefore (seen (toward_of c) p)
     covers_of_rest h =
         let (i, j, k, some, is) = point_from f x y z order h.point h.on_face in
-        covers_of i j k some (subst (λ q. ¬ IsBeforePlane c q) is h.not_before) (subst (λ q. OnOneSight (toward_of c) q p) is h.same_sight) (subst (λ q. IsNearer (toward_of c) q p) is h.nearer)
+        let v = covers_of i j k some (subst (λ q. OnOneSight (toward_of c) q p) is h.same_sight) (subst (λ q. IsNearer (toward_of c) q p) is h.nearer) in (
+          v.0,
+          subst (λ (r : ℤ). r ≤ℤ pos 0) v.1
+              (lower (pos 2 *ℤ height_of (toward_of c) (face_sum x y z i j k)) (plane_height c *ℤ pos (i + j + k)) (subst (λ q. ¬ IsBeforePlane c q) is h.not_before)),
+        )
+
+    -- what hides in the cut covers by a sum beyond the plane
+    pub covers_of_hides : FaceHidesInCut c f p → CoversBeyond (seen (toward_of c) p)
+    covers_of_hides h =
+        let (i, j, k, some, is) = point_from f x y z order h.point h.on_face in
+        let v = covers_of i j k some (subst (λ q. OnOneSight (toward_of c) q p) is h.same_sight) (subst (λ q. IsNearer (toward_of c) q p) is h.nearer) in
+        (v.0, subst (λ (r : ℤ). r <ℤ pos 0) v.1 (rise_beyond c (face_sum x y z i j k) (subst (λ q. IsBeyond c q) is h.beyond)))
 
     rest_of : (i j k : ℕ) → 0 < i + j + k → over_sum (pos i) (pos j) (pos k) ≤ℤ pos 0
         → (((pos i *ℤ X.u) +ℤ (pos j *ℤ Y.u)) +ℤ (pos k *ℤ Z.u)) *ℤ p.w ≡ across_of (toward_of c) p *ℤ pos (i + j + k)
@@ -162,3 +174,6 @@ module _ (c : Plane) (x y z : Corner) where
 
     pub rest_at_place : CoversNotBefore (place_of (on (toward_of c) e.a) (on (toward_of c) e.b) n m) → RestHides c f (share_point e.a e.b n m)
     rest_at_place h = rest_of_covers f order (share_point e.a e.b n m) (subst CoversNotBefore (sym (place_seen (toward_of c) e.a e.b n m)) h)
+
+    pub beyond_at_place : FaceHidesInCut c f (share_point e.a e.b n m) → CoversBeyond (place_of (on (toward_of c) e.a) (on (toward_of c) e.b) n m)
+    beyond_at_place h = subst CoversBeyond (place_seen (toward_of c) e.a e.b n m) (covers_of_hides f order (share_point e.a e.b n m) h)

@@ -104,7 +104,7 @@ abbrev lines : Screen → Screen → Screen → Screen → ℤ → ℤ → ℤ �
 lines p q a b t j i = p.u ∷ p.v ∷ q.u ∷ q.v ∷ a.u ∷ a.v ∷ b.u ∷ b.v ∷ pos 0 ∷ pos 0 ∷ p.h ∷ q.h ∷ a.h ∷ b.h ∷ pos 0 ∷ t ∷ j ∷ i ∷ []
 
 -- the determinant of three ways
-abbrev box : ℤ → ℤ → ℤ → ℤ → ℤ → ℤ → ℤ → ℤ → ℤ → ℤ
+abbrev pub box : ℤ → ℤ → ℤ → ℤ → ℤ → ℤ → ℤ → ℤ → ℤ → ℤ
 box du dv dh eu ev eh fu fv fh = ((((dv *ℤ eh) -ℤ (dh *ℤ ev)) *ℤ fu) +ℤ (((dh *ℤ eu) -ℤ (du *ℤ eh)) *ℤ fv)) +ℤ (((du *ℤ ev) -ℤ (dv *ℤ eu)) *ℤ fh)
 
 boxes : (t j s du dv dh eu ev eh fu fv fh : ℤ)
