@@ -124,14 +124,14 @@ fn a_put_outline_stands_last(rt: HostRuntime) -> Result<(), Fail> {
     let mut meter = CellMeter { cells: 0 };
     let mut grid = GridOutlines::new(alloc, &solid, &d, &picked, 7, &mut meter)?;
     let last = picked.outlines.last().copied().ok_or("no outline")?;
-    // a cell is three units wide, and the part fifteen
-    if grid.cell(6, 6, &mut meter).len() != 0 {
+    // a cell is three units wide; the corners reach from -5 on, and the cubes from 0 on
+    if grid.cell(0, 0, &mut meter).len() != 0 {
         return Err("the corner has an outline".into());
     }
     let before = meter.cells;
     assert!(rt; before <= most + 1);
-    grid.put(6, 6, last, &mut meter)?;
-    assert_eq!(rt; grid.cell(6, 6, &mut meter), [last].as_slice());
+    grid.put(0, 0, last, &mut meter)?;
+    assert_eq!(rt; grid.cell(0, 0, &mut meter), [last].as_slice());
     assert_eq!(rt; meter.cells - before, 2);
     Ok(())
 }
