@@ -18,7 +18,8 @@ use Rattle.face_counts.proofs.NextCounts.{counted_next}
 use Rattle.cross_find.specs.declared.meter.End.{End}
 use Rattle.cross_find.specs.Sights.{SightState, IsSeen}
 use Rattle.span_count.specs.declared.step.Sides.{Sides}
-use Rattle.span_count.specs.inner.Rests.{IsSmall, AreSmall, IsCountNext, AreCountsNext, AreOwn, IsOwnCount, AreOwnCounts, IsRest, AreRests, IsTurnOver, AreTurnsOver}
+use Rattle.span_count.specs.Carries.{IsSmall, AreSmall}
+use Rattle.span_count.specs.inner.Rests.{IsCountNext, AreCountsNext, AreOwn, IsOwnCount, AreOwnCounts, IsRest, AreRests, IsTurnOver, AreTurnsOver}
 use Rattle.span_count.specs.inner.Steps.{IsSeenEdge, AreListedOver}
 use Rattle.span_count.proofs.Stars.{one_star, star_within, star_few, edge_at}
 

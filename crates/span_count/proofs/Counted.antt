@@ -10,7 +10,7 @@ use Rattle.integers.proofs.Signs.{mul_pos, pos_of_mul}
 use Rattle.exact_frac.specs.declared.Frac.{Frac}
 use Rattle.geometry.specs.Faces.{share_point}
 use Rattle.geometry.specs.Parts.{Edge, IsNumbered}
-use Rattle.geometry.specs.Places.{IsPlace, point_at}
+use Rattle.geometry.specs.Places.{IsPlace, IsEarlier, point_at}
 use Rattle.geometry.specs.Views.{IsOrdinary}
 use Rattle.geometry.proofs.PlaceOrder.{between_inner, between_last}
 use Rattle.hiding.proofs.Decisions.{same_or, less_or}
@@ -31,15 +31,16 @@ use Rattle.face_counts.proofs.CrossingPlaces.{crossing_not_ordinary}
 use Rattle.cross_find.specs.declared.meter.Crossing.{Crossing}
 use Rattle.cross_find.specs.Sights.{SightState, IsSeen}
 use Rattle.cross_find.specs.Crossings.{IsCrossing, IsAcross}
+use Rattle.span_count.specs.Carries.{change_before, IsCarried, IsCrossingEnd, AreCarried}
 use Rattle.span_count.specs.inner.Rests.{IsCountNext, AreCountsNext}
-use Rattle.span_count.specs.inner.Steps.{IsSeenEdge, AreListed, IsOutlineAt, IsAnswer, AreCrossings, change_before, IsCarried, IsCrossingEnd, AreCarried}
+use Rattle.span_count.specs.inner.Steps.{IsSeenEdge, AreListed, IsOutlineAt, IsAnswer, AreCrossings}
 use Rattle.span_count.specs.declared.step.Sides.{Sides}
 use Rattle.span_count.specs.declared.span.CountSpan.{CountSpan}
 use Rattle.span_count.specs.CountSpans.{IsRight, AreCountSpans}
 use Rattle.span_count.proofs.Lists.{all_zip_weaker, zip_some, count_few}
 use Rattle.span_count.proofs.Stars.{edge_at}
 use Rattle.span_count.proofs.Sums.{of_option, total_permuted, total_of_options}
-use Rattle.span_count.proofs.Carried.{changed, unchanged}
+use Rattle.span_count.proofs.CarriedCounts.{changed, unchanged}
 
 -- ---- a crossing is before n / m exactly where its place, as it is kept, is
 module _ (numerator denominator num den n m : ℤ) (up : pos 0 <ℤ den) (some : pos 0 <ℤ (denominator *ℤ denominator)) (same : num *ℤ denominator ≡ numerator *ℤ den) where
@@ -199,10 +200,10 @@ module _ (x : SightState) (seen : IsSeen x) (edge : ℕ) (on : IsSeenEdge x edge
       let there : IsOutlineAt x i = All-contains (IsOutlineAt x) outlines i listed.outline c in
       edge_at x seen i there.0
 
-  pub end_apart : (r : Frac) → IsPlace r → IsCrossingEnd sorted r → ¬ IsOrdinary x.direction x.part (point_at e r)
-  end_apart r place (inl at_zero) = not-at-start x.direction x.part e r.num r.den r.positive place.least place.most at_zero
-  end_apart r place (inr (inl one)) = not-at-finish x.direction x.part e r.num r.den r.positive place.least place.most one
-  end_apart r place (inr (inr (y, there, same))) =
+  pub end_apart : (from to : Frac) → from.num ≡ pos 0 → to.num ≡ to.den → (r : Frac) → IsPlace r → IsCrossingEnd from to sorted r → ¬ IsOrdinary x.direction x.part (point_at e r)
+  end_apart from to zero one r place (inl s) = not-at-start x.direction x.part e r.num r.den r.positive place.least place.most (s.0 ∙ zero)
+  end_apart from to zero one r place (inr (inl s)) = not-at-finish x.direction x.part e r.num r.den r.positive place.least place.most (s.0 ∙ one ∙ sym s.1)
+  end_apart from to zero one r place (inr (inr (y, there, same))) =
       let (i, listed_at, answer) = zip_some (IsAnswer x e) outlines found.answers found.each y (subst (λ (ys : List Crossing). Contains ys y) found.all (Contains-permutation sorted crossings y (IsPermutation-sym crossings sorted moved) there)) in
       let (o, o_at) = outline_at i listed_at in
       let across : IsCrossing x.direction e o y = answer o o_at in
@@ -211,7 +212,7 @@ module _ (x : SightState) (seen : IsSeen x) (edge : ℕ) (on : IsSeenEdge x edge
 
   -- ---- the spans are right
   module _ (left right : ℤ) (first_left : IsCountNext to_left x.direction e false left) (first_right : IsCountNext to_right x.direction e false right)
-      (spans : List CountSpan) (carried : AreCarried sorted left right spans) where
+      (from to : Frac) (zero : from.num ≡ pos 0) (one : to.num ≡ to.den) (spans : List CountSpan) (carried : AreCarried from to sorted left right spans) where
     span_right : (y : CountSpan) → IsCarried (λ (z : Crossing). z.left) sorted left y.from y.to y.left → IsCarried (λ (z : Crossing). z.right) sorted right y.from y.to y.right → IsRight x.direction e y
     span_right y l r n m up between ordinary =
         let after = between_inner y.from y.to n m up between y.from_place.least in
@@ -235,15 +236,23 @@ module _ (x : SightState) (seen : IsSeen x) (edge : ℕ) (on : IsSeenEdge x edge
 
     pub spans_right : AreCountSpans x.direction e spans
     spans_right = record {
-      covers = carried.covers;
+      covers = (from, to, zero, one, carried.covers);
       ends = λ k d h.
           let y = get_or spans k d in
           let z = carried.ends k d h in
-          (end_apart y.from y.from_place z.0, end_apart y.to y.to_place z.1);
+          (end_apart from to zero one y.from y.from_place z.0, end_apart from to zero one y.to y.to_place z.1);
       right = λ k d h. span_right (get_or spans k d) (carried.on_left k d h) (carried.on_right k d h);
     }
 
 -- ---- along an edge, from one of its ends
+-- 0 is before 1
+pub whole_edge : (from to : Frac) → from.num ≡ pos 0 → to.num ≡ to.den → IsEarlier from to
+whole_edge from to zero one = subst (λ n. (n *ℤ to.den) <ℤ (to.num *ℤ from.den)) (sym zero) (subst (λ n. (pos 0 *ℤ to.den) <ℤ (n *ℤ from.den)) (sym one)
+    (more to.den (to.den *ℤ from.den) (mul_pos to.den from.den to.positive from.positive)))
+  where
+    more : (x y : ℤ) → pos 0 <ℤ y → (pos 0 *ℤ x) <ℤ y
+    more x y h = omega (arith, ints)
+
 module _ (x : SightState) (seen : IsSeen x) (edge : ℕ) (on : IsSeenEdge x edge) (outlines : List ℕ) (listed : AreListed x edge outlines) (crossings sorted : List Crossing)
     (found : (e : Edge x.part) → IsNumbered x.halves edge e → AreCrossings x e outlines crossings) (moved : IsPermutation crossings sorted)
     (at_b : Bool) (here change : Sides) (next : AreCountsNext x edge at_b here) (left_is : change.left ≡ total (λ y. y.left) sorted) (right_is : change.right ≡ total (λ y. y.right) sorted) where
@@ -264,6 +273,7 @@ module _ (x : SightState) (seen : IsSeen x) (edge : ℕ) (on : IsSeenEdge x edge
     }
 
     -- and the spans
-    pub spans_carried : (e : Edge x.part) → IsNumbered x.halves edge e → (spans : List CountSpan) → AreCarried sorted first.left first.right spans → AreCountSpans x.direction e spans
-    spans_carried e at spans carried =
-        spans_right x seen edge on e at outlines listed crossings sorted (found e at) moved first.left first.right (counts_first.on_left e at) (counts_first.on_right e at) spans carried
+    pub spans_carried : (e : Edge x.part) → IsNumbered x.halves edge e → (from to : Frac) → from.num ≡ pos 0 → to.num ≡ to.den → (spans : List CountSpan) → AreCarried from to sorted first.left first.right spans
+        → AreCountSpans x.direction e spans
+    spans_carried e at from to zero one spans carried =
+        spans_right x seen edge on e at outlines listed crossings sorted (found e at) moved first.left first.right (counts_first.on_left e at) (counts_first.on_right e at) from to zero one spans carried

@@ -1,6 +1,6 @@
 pub mod Lists
 pub mod Sums
-pub mod Carried
+pub mod CarriedCounts
 pub mod Walks
 pub mod Counted
 pub mod Stars

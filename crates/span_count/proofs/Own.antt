@@ -15,7 +15,8 @@ use Rattle.face_counts.specs.inner.Sums.{total}
 use Rattle.cross_find.specs.declared.meter.End.{End}
 use Rattle.cross_find.specs.Sights.{SightState, with_test}
 use Rattle.span_count.specs.declared.step.Sides.{Sides}
-use Rattle.span_count.specs.inner.Rests.{IsSmall, IsOwnCount, AreOwnCounts, IsTurnOver, AreTurnsOver}
+use Rattle.span_count.specs.Carries.{IsSmall}
+use Rattle.span_count.specs.inner.Rests.{IsOwnCount, AreOwnCounts, IsTurnOver, AreTurnsOver}
 use Rattle.span_count.specs.Tests.{with_tests}
 use Rattle.span_count.proofs.Lists.{front_get, all_zip_push}
 use Rattle.span_count.proofs.Stars.{one_star}

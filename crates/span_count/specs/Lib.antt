@@ -1,4 +1,5 @@
 pub mod Bounds
+pub mod Carries
 pub mod CountSpans
 pub mod Entries
 pub mod Finders

@@ -1,10 +1,12 @@
 // Along an edge, from one of its ends to the other.
-ghost use Rattle.std.specs.Prelude.{◌≡◌, ◌+◌, ◌<◌, ◌^◌, ℕ, false, true, not, cond, ◌+ℤ◌, ◌-ℤ◌, length, IfOk};
+ghost use Rattle.std.specs.Prelude.{◌≡◌, ◌+◌, ◌<◌, ◌^◌, ℕ, pos, false, true, not, cond, ◌+ℤ◌, ◌-ℤ◌, length, IfOk};
 ghost use Rattle.geometry.specs.Parts.{Edge, IsNumbered};
+ghost use Rattle.geometry.specs.Places.{IsPlace};
 ghost use Rattle.face_counts.specs.inner.Sums.{total};
 ghost use Rattle.cross_find.specs.Sights.{IsSeen};
+ghost use Rattle.span_count.specs.Carries.{AreSmall};
 ghost use Rattle.span_count.specs.CountSpans.{AreCountSpans};
-ghost use Rattle.span_count.specs.inner.Rests.{IsCornerCount, AreCountsNext, AreRests, AreSmall};
+ghost use Rattle.span_count.specs.inner.Rests.{IsCornerCount, AreCountsNext, AreRests};
 ghost use Rattle.span_count.specs.inner.Steps.{IsSeenEdge, AreListed};
 ghost use Rattle.span_count.specs.Tests.{IsTested};
 
@@ -15,7 +17,7 @@ use crate::finder::Finder;
 use crate::span::CountSpan;
 use crate::step::{Sides, Start, Walked};
 use cross_find::{Crossing, End, Sight};
-use exact_frac::OutOfMemory;
+use exact_frac::{Frac, OutOfMemory};
 use std::alloc::Global;
 
 /// The spans of an edge, and the counts next to its other end.
@@ -79,13 +81,31 @@ fn along_edge<S: Sight, F: Finder>(
     let crossings = ascending(crossings)?;
     let change = change_over(&crossings);
     let first = first_counts_by(end.at_b, counts, change);
-    let spans = carried(alloc, &crossings, first)?;
+    let spans = carried(alloc, &crossings, start(), finish(), first)?;
     let far = far_counts_by(end.at_b, counts, change);
     Ok(Along { spans, far })
 }
 
-/// What the crossings change of the two counts along the whole edge, from its first end to its second.
-fn change_over(crossings: &[Crossing]) -> Sides
+/// The first corner of the edge.
+fn start() -> Frac
+    ensures place { IsPlace result }
+    ensures num { result.num ≡ pos 0 }
+{
+    Frac { num: 0, den: 1 }
+}
+
+/// The second corner of the edge.
+fn finish() -> Frac
+    ensures place { IsPlace result }
+    ensures num { result.num ≡ result.den }
+{
+    Frac { num: 1, den: 1 }
+}
+
+/// What the crossings change of the two counts together: where they are those of an edge, from its first end to its second.
+///
+/// Cost: goes once over them.
+pub fn change_over(crossings: &[Crossing]) -> Sides
     requires few { length crossings.now < 2 ^ 32 }
     ensures left { result.left ≡ total (λ x. x.left) crossings.now }
     ensures right { result.right ≡ total (λ x. x.right) crossings.now }
@@ -101,7 +121,9 @@ fn change_over(crossings: &[Crossing]) -> Sides
 }
 
 /// The counts next to the edge's first end, by those next to one end and what changes along the edge.
-fn first_counts_by(at_b: bool, counts: Sides, change: Sides) -> Sides
+///
+/// Cost: two differences, or none.
+pub fn first_counts_by(at_b: bool, counts: Sides, change: Sides) -> Sides
     requires small { AreSmall counts }
     requires change_small { AreSmall change }
     ensures left { result.left ≡ cond at_b (counts.left -ℤ change.left) counts.left }

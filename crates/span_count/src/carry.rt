@@ -1,10 +1,10 @@
-// From the crossings along an edge to its spans.
+// From the crossings along an edge to the spans of a part of it.
 ghost use Rattle.std.specs.Prelude.{◌≡◌, ℕ, ◌≤◌, ◌<◌, ◌^◌, ◌↔◌, pos, ◌≤ℤ◌, length, IfOk, IsTrue, IsPermutation};
 ghost use Rattle.std.specs.List.Sorted.{IsSortedByKey};
 ghost use Rattle.exact_frac.specs.Frac.{order_of};
 ghost use Rattle.geometry.specs.Places.{IsPlace, IsEarlier};
-ghost use Rattle.span_count.specs.inner.Rests.{AreSmall};
-ghost use Rattle.span_count.specs.inner.Steps.{AreCarried, IsSpanAdded};
+ghost use Rattle.span_count.specs.Carries.{AreSmall, AreCarried};
+ghost use Rattle.span_count.specs.inner.Steps.{IsSpanAdded, IsEndUntil};
 
 use crate::span::CountSpan;
 use crate::step::Sides;
@@ -13,7 +13,9 @@ use exact_frac::{Frac, OutOfMemory};
 use std::alloc::Global;
 
 /// The crossings in the order of their places.
-pub(crate) fn ascending(mut crossings: Vec<Crossing>) -> Result<Vec<Crossing>, OutOfMemory>
+///
+/// Cost: one sort.
+pub fn ascending(mut crossings: Vec<Crossing>) -> Result<Vec<Crossing>, OutOfMemory>
     ensures same { IfOk result (λ sorted. IsPermutation crossings.items sorted.items) }
     ensures sorted { IfOk result (λ sorted. IsSortedByKey (λ x. x.at) order_of sorted.items) }
 {
@@ -21,29 +23,48 @@ pub(crate) fn ascending(mut crossings: Vec<Crossing>) -> Result<Vec<Crossing>, O
     Ok(crossings)
 }
 
-/// The spans between neighbouring places of the crossings, with the counts next to the first end and what the crossings so far
-/// changed of them. Crossings at one place change the counts together. Goes once over the crossings.
-pub(crate) fn carried(
+/// The spans of the part of an edge from a place to a later one, between neighbouring places of the crossings in it. Each has the
+/// counts that are before all crossings, and what the crossings before it change of them. Those at one place change the counts
+/// together, those at the first place or before it are counted from there on, and those at the second or after it change nothing.
+///
+/// Cost: goes once over the crossings, with two comparisons of places for each.
+pub fn carried(
     alloc: Global,
     crossings: &[Crossing],
+    from: Frac,
+    to: Frac,
     first: Sides,
 ) -> Result<Vec<CountSpan>, OutOfMemory>
     requires sorted { IsSortedByKey (λ x. x.at) order_of crossings.now }
     requires few { length crossings.now < 2 ^ 32 }
     requires small { AreSmall first }
-    ensures { IfOk result (λ spans. AreCarried crossings.now first.left first.right spans.items) }
+    requires from { IsPlace from }
+    requires to { IsPlace to }
+    requires some { IsEarlier from to }
+    ensures { IfOk result (λ spans. AreCarried from to crossings.now first.left first.right spans.items) }
 {
     let mut spans = Vec::new(alloc);
-    let mut from = start();
+    let mut at = from;
     let mut left = first.left;
     let mut right = first.right;
     for x in crossings {
-        from = add_span(&mut spans, from, x.at, left, right)?;
+        at = add_span(&mut spans, at, end_until(x.at, to), left, right)?;
         left += i64::from(x.left);
         right += i64::from(x.right);
     }
-    add_span(&mut spans, from, finish(), left, right)?;
+    add_span(&mut spans, at, to, left, right)?;
     Ok(spans)
+}
+
+/// The place at which a span ends: that of a crossing, or the part's end, if this is not later. Where the two are equal it is the
+/// part's end, so that the spans end at its very numbers.
+fn end_until(place: Frac, to: Frac) -> Frac
+    requires place { IsPlace place }
+    requires to { IsPlace to }
+    ensures place { IsPlace result }
+    ensures end { IsEndUntil place to result }
+{
+    if is_earlier(place, to) { place } else { to }
 }
 
 /// Adds the span, if it has an inside. The answer is the place at which the spans then end.
@@ -83,20 +104,4 @@ fn is_earlier(a: Frac, b: Frac) -> bool
     ensures { IsTrue result ↔ IsEarlier a b }
 {
     a < b
-}
-
-/// The first corner of the edge.
-fn start() -> Frac
-    ensures place { IsPlace result }
-    ensures num { result.num ≡ pos 0 }
-{
-    Frac { num: 0, den: 1 }
-}
-
-/// The second corner of the edge.
-fn finish() -> Frac
-    ensures place { IsPlace result }
-    ensures num { result.num ≡ result.den }
-{
-    Frac { num: 1, den: 1 }
 }

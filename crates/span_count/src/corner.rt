@@ -3,7 +3,8 @@ ghost use Rattle.std.specs.Prelude.{◌≡◌, ◌+◌, ◌<◌, ◌^◌, ℕ, l
 ghost use Rattle.geometry.specs.Parts.{Edge, IsNumbered};
 ghost use Rattle.counting.specs.Turns.{number_at};
 ghost use Rattle.cross_find.specs.Sights.{IsSeen};
-ghost use Rattle.span_count.specs.inner.Rests.{IsCornerCount, AreOwnCounts, AreTurnsOver, AreSmall};
+ghost use Rattle.span_count.specs.Carries.{AreSmall};
+ghost use Rattle.span_count.specs.inner.Rests.{IsCornerCount, AreOwnCounts, AreTurnsOver};
 ghost use Rattle.span_count.specs.inner.Steps.{IsSeenEdge, AreListedOver};
 ghost use Rattle.span_count.specs.Tests.{with_tests};
 

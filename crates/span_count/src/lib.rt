@@ -15,6 +15,9 @@
 //! Cost: `bound` tests at most, and sorts. The faces are seen only through a `Sight`, which counts the tests and tells no
 //! coordinate. Besides the spans, memory is taken for the order of the drawn edges, for two pairs of numbers for each of them,
 //! and for the crossings of one edge at a time.
+//!
+//! Where the crossings of an edge are found by other means, as in a cut view, `ascending`, `change_over`, `first_counts_by` and
+//! `carried` make spans of them along the whole edge or a part of it.
 #![tactic(auto)]
 
 ghost use Rattle.std.specs.Prelude.{ℕ, ◌+◌, ◌<◌, ◌^◌, IfOk};
@@ -37,13 +40,16 @@ mod tour;
 
 use crate::order::steps_of;
 use crate::tour::{nothing_found, put, walk_step};
+pub use along::{change_over, first_counts_by};
 pub use bounds::{bound, count_runs};
+pub use carry::{ascending, carried};
 use cross_find::Sight;
 use edge_pick::Picked;
 use exact_frac::OutOfMemory;
 pub use finder::{AllOutlines, Finder};
 pub use span::{CountSpan, EdgeSpans};
 use std::alloc::Global;
+pub use step::Sides;
 
 /// The spans of each drawn edge, in order. The spans of an edge follow one another from 0 to 1, and none of their ends is at
 /// an ordinary point. At each ordinary point within a span, `left` and `right` are the two counts, and the point is hidden

@@ -20,13 +20,13 @@ use std::alloc::Global;
 
 /// Numbers for the left side and for the right side of an edge.
 #[derive(Clone, Copy, PartialEq, Eq, Debug)]
-pub(crate) struct Sides {
-    pub(crate) left: i64,
-    pub(crate) right: i64,
+pub struct Sides {
+    pub left: i64,
+    pub right: i64,
 }
 
 impl Sides {
-    ghost use Rattle.span_count.specs.inner.Rests.{AreSmall};
+    ghost use Rattle.span_count.specs.Carries.{AreSmall};
 
     /// Two counts.
     pub(crate) fn counts(left: u64, right: u64) -> Sides
@@ -42,7 +42,9 @@ impl Sides {
     }
 
     /// The sums, side by side.
-    pub(crate) fn plus(self, more: Sides) -> Sides
+    ///
+    /// Cost: two additions.
+    pub fn plus(self, more: Sides) -> Sides
         requires small { AreSmall self }
         requires more_small { AreSmall more }
         ensures left { result.left ≡ self.left +ℤ more.left }
@@ -55,7 +57,9 @@ impl Sides {
     }
 
     /// The differences, side by side.
-    pub(crate) fn minus(self, part: Sides) -> Sides
+    ///
+    /// Cost: two subtractions.
+    pub fn minus(self, part: Sides) -> Sides
         requires small { AreSmall self }
         requires part_small { AreSmall part }
         ensures left { result.left ≡ self.left -ℤ part.left }

@@ -1,5 +1,5 @@
 -- The counts next to an end of an edge, the part of them that is not of the triangles at its corner, and what outlines change of them in a turn about it.
-use Rattle.std.specs.Prelude.{◌≡◌, ℕ, ◌^◌, ℤ, pos, ◌-ℤ◌, ◌≤ℤ◌, neg_ℤ, Bool, List, length, sum}
+use Rattle.std.specs.Prelude.{◌≡◌, ℕ, ℤ, pos, ◌-ℤ◌, Bool, List, length, sum}
 use Rattle.std.specs.List.{AllZip}
 use Rattle.lattice.specs.Triple.{Triple}
 use Rattle.geometry.specs.Parts.{Part, Edge, IsNumbered}
@@ -11,14 +11,6 @@ use Rattle.face_counts.specs.inner.Sums.{total}
 use Rattle.cross_find.specs.declared.meter.End.{End}
 use Rattle.cross_find.specs.Sights.{SightState}
 use Rattle.span_count.specs.declared.step.Sides.{Sides}
-
--- far within the limits of 64 bits
-abbrev pub IsSmall : ℤ → Type 0
-IsSmall z = (neg_ℤ (pos (2 ^ 45)) ≤ℤ z) × (z ≤ℤ pos (2 ^ 45))
-
-pub record AreSmall (c : Sides) : Type 0 where
-  pub left : IsSmall c.left
-  pub right : IsSmall c.right
 
 -- ---- next to an end
 -- so many faces are counted on that side next to the end

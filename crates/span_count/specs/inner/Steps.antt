@@ -1,20 +1,18 @@
 -- What each step does on the way from tests to spans.
-use Rattle.std.specs.Prelude.{◌≡◌, ◌≢◌, ◌⊎◌, ℕ, ◌<◌, ◌^◌, ℤ, pos, ◌+ℤ◌, ◌*ℤ◌, ◌<ℤ◌, cond, List, [], ◌∷◌, ◌++◌, All, AllPairs, Contains, Option, Some, length, slice_get}
+use Rattle.std.specs.Prelude.{◌≡◌, ◌≢◌, ◌⊎◌, ℕ, ◌<◌, ◌^◌, ℤ, List, [], ◌∷◌, ◌++◌, All, AllPairs, Contains, Option, Some, length, slice_get}
 use Rattle.std.specs.List.{AllZip, filter_map}
-use Rattle.std.specs.Int.Signed.{lt_z}
 use Rattle.exact_frac.specs.declared.Frac.{Frac}
 use Rattle.lattice.specs.declared.points.Corner.{Corner}
 use Rattle.geometry.specs.Parts.{Edge, IsNumbered}
-use Rattle.geometry.specs.Places.{IsEarlier, IsSame, IsBetween}
+use Rattle.geometry.specs.Places.{IsEarlier, IsSame}
 use Rattle.geometry.specs.Views.{IsEndOn, IsOutline}
 use Rattle.counting.specs.Shares.{Changes}
 use Rattle.counting.specs.Turns.{IsNearerOver}
-use Rattle.face_counts.specs.inner.Sums.{total}
 use Rattle.cross_find.specs.declared.meter.Crossing.{Crossing}
 use Rattle.cross_find.specs.Sights.{SightState}
 use Rattle.cross_find.specs.Crossings.{IsAcross}
 use Rattle.span_count.specs.declared.span.CountSpan.{CountSpan}
-use Rattle.span_count.specs.CountSpans.{CoverEdge}
+use Rattle.span_count.specs.Carries.{IsCountOf}
 
 -- ---- the edge, and the outlines that are tested along it
 -- there is such an edge, and it is not seen end-on
@@ -51,29 +49,10 @@ pub record AreCrossings (x : SightState) (e : Edge x.part) (outlines : List ℕ)
   pub each : AllZip (IsAnswer x e) outlines answers
   pub all : crossings ≡ filter_map (λ answer. answer) answers
 
--- ---- sums
--- the change at a crossing, if it is before the place n / m
-abbrev pub change_before : (Crossing → ℤ) → ℤ → ℤ → Crossing → ℤ
-change_before change n m x = cond (lt_z (x.at.num *ℤ m) (n *ℤ x.at.den)) (change x) (pos 0)
-
--- what a sum is as a count
-abbrev pub IsCountOf : ℤ → ℕ → Type 0
-IsCountOf z n = (c : ℕ) → c < 2 ^ 32 → z ≡ pos c → n ≡ c
-
--- strictly between the two places, n is the first count with the changes that are before
-abbrev pub IsCarried : (Crossing → ℤ) → List Crossing → ℤ → Frac → Frac → ℕ → Type 0
-IsCarried change crossings first from to count = (n m : ℤ) → pos 0 <ℤ m → IsBetween from to n m → IsCountOf (first +ℤ total (change_before change n m) crossings) count
-
--- 0, 1, or the place of a crossing
-abbrev pub IsCrossingEnd : List Crossing → Frac → Type 0
-IsCrossingEnd crossings r = (r.num ≡ pos 0) ⊎ (r.num ≡ r.den) ⊎ ((x : Crossing) × Contains crossings x × IsSame r x.at)
-
--- the spans between the crossings, from 0 to 1, with these counts at first
-pub record AreCarried (crossings : List Crossing) (left right : ℤ) (spans : List CountSpan) : Type 0 where
-  pub covers : CoverEdge spans
-  pub ends : All (λ x. IsCrossingEnd crossings x.from × IsCrossingEnd crossings x.to) spans
-  pub on_left : All (λ x. IsCarried (λ y. y.left) crossings left x.from x.to x.left) spans
-  pub on_right : All (λ x. IsCarried (λ y. y.right) crossings right x.from x.to x.right) spans
+-- ---- spans
+-- where a span ends at that place in a part that ends at `to`
+abbrev pub IsEndUntil : Frac → Frac → Frac → Type 0
+IsEndUntil place to end = (IsEarlier place to × IsSame end place) ⊎ ((¬ IsEarlier place to) × IsSame end to)
 
 -- the span from one to the other, if it has an inside, with the sums as counts; `end` is where the spans then end
 abbrev pub IsSpanAdded : Frac → Frac → ℤ → ℤ → List CountSpan → List CountSpan → Frac → Type 0

@@ -2,8 +2,8 @@ use Rattle.std.proofs.Common.{◌≡◌, List, length, false, subst, ap, ◌∙�
 use Rattle.std.proofs.lemmas.List.Sorted.{length_permutation}
 use Rattle.face_counts.specs.inner.Sums.{total}
 use Rattle.cross_find.specs.declared.meter.Crossing.{Crossing}
-use Rattle.span_count.specs.inner.Steps.{AreCarried}
-use Rattle.span_count.proofs.Counted.{counts_over, counts_first, spans_carried}
+use Rattle.span_count.specs.Carries.{AreCarried}
+use Rattle.span_count.proofs.Counted.{counts_over, counts_first, spans_carried, whole_edge}
 use Rattle.span_count.proofs.Around.{counts_small}
 use Rattle.span_count.proofs.along.along_edge.Goals as goal
 
@@ -35,6 +35,9 @@ carried-requires-clause-small g c =
     (c.change_over-change.ensures.left ∙ ap (total (λ (y : Crossing). y.left)) c.deref.ensures.value) (c.change_over-change.ensures.right ∙ ap (total (λ (y : Crossing). y.right)) c.deref.ensures.value)
     c.first_counts_by-first.result c.first_counts_by-first.ensures.left c.first_counts_by-first.ensures.right)
 
+pub carried-requires-clause-some : goal.carried-requires-clause-some
+carried-requires-clause-some g c = whole_edge c.start.result c.finish.result c.start.ensures.num c.finish.ensures.num
+
 pub returns-clause-spans : goal.returns-clause-spans
 returns-clause-spans g c e at =
     let x = g.S.Sight.sight c.args.sight.now in
@@ -42,8 +45,8 @@ returns-clause-spans g c e at =
     spans_carried x c.requires.seen c.args.end.edge c.requires.edge list c.requires.listed c.in_ok-crossings.crossings.items c.in_ok-crossings-2.crossings.items c.in_ok-crossings.ensures.crossings c.in_ok-crossings-2.ensures.same
     c.args.end.at_b c.args.counts c.change_over-change.result c.requires.counts
     (c.change_over-change.ensures.left ∙ ap (total (λ (y : Crossing). y.left)) c.deref.ensures.value) (c.change_over-change.ensures.right ∙ ap (total (λ (y : Crossing). y.right)) c.deref.ensures.value)
-    c.first_counts_by-first.result c.first_counts_by-first.ensures.left c.first_counts_by-first.ensures.right e at c.in_ok-spans.spans.items
-    (subst (λ (xs : List Crossing). AreCarried xs c.first_counts_by-first.result.left c.first_counts_by-first.result.right c.in_ok-spans.spans.items) c.deref-2.ensures.value c.in_ok-spans.ensures)
+    c.first_counts_by-first.result c.first_counts_by-first.ensures.left c.first_counts_by-first.ensures.right e at c.start.result c.finish.result c.start.ensures.num c.finish.ensures.num c.in_ok-spans.spans.items
+    (subst (λ (xs : List Crossing). AreCarried c.start.result c.finish.result xs c.first_counts_by-first.result.left c.first_counts_by-first.result.right c.in_ok-spans.spans.items) c.deref-2.ensures.value c.in_ok-spans.ensures)
 
 pub returns-clause-far : goal.returns-clause-far
 returns-clause-far g c =

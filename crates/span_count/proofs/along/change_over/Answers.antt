@@ -2,7 +2,7 @@ use Rattle.std.proofs.Common.{◌+◌, ◌<◌, ◌^◌, FitsSigned, to_z, w8, w
 use Rattle.std.specs.Prelude.{pos, ◌+ℤ◌}
 use Rattle.std.proofs.lemmas.Int.{ints}
 use Rattle.cross_find.specs.declared.meter.Crossing.{Crossing}
-use Rattle.span_count.proofs.Carried.{AreSums, sums_none, sums_more, sums_all, sums_small, in_byte, addend, sum_fits, sum_read}
+use Rattle.span_count.proofs.CarriedCounts.{AreSums, sums_none, sums_more, sums_all, sums_small, in_byte, addend, sum_fits, sum_read}
 use Rattle.span_count.proofs.along.change_over.Goals as goal
 
 pub loop-x-init : goal.loop-x-init

@@ -1,6 +1,6 @@
 use Rattle.std.specs.Prelude.{pos}
 use Rattle.cross_find.specs.declared.meter.Crossing.{Crossing}
-use Rattle.span_count.proofs.Carried.{AreSums}
+use Rattle.span_count.proofs.CarriedCounts.{AreSums}
 use Rattle.span_count.proofs.along.change_over.Given as goal
 
 -- the sums so far

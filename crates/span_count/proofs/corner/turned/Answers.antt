@@ -7,7 +7,7 @@ use Rattle.counting.specs.Turns.{number_at}
 use Rattle.span_count.specs.inner.Steps.{IsOutlineAt}
 use Rattle.span_count.specs.Tests.{with_tests}
 use Rattle.span_count.proofs.Lists.{none_past}
-use Rattle.span_count.proofs.Carried.{addend, sum_read}
+use Rattle.span_count.proofs.CarriedCounts.{addend, sum_read}
 use Rattle.span_count.proofs.Walks.{still_edge, still_seen, still_outline, still_room}
 use Rattle.span_count.proofs.Own.{AreTurnsSoFar, turns_none, turns_more, turns_all, turn_fits, within_small}
 use Rattle.span_count.proofs.corner.turned.Goals as goal
