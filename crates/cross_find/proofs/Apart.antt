@@ -14,7 +14,7 @@ use Rattle.hiding.specs.inner.Values.{side_of, depth_of}
 use Rattle.hiding.proofs.Names.{ways}
 use Rattle.hiding.proofs.Values.{facing-turned}
 use Rattle.hiding.proofs.Weights.{sides-sum, weigh_x, weigh_y, weigh_z}
-use Rattle.cross_find.specs.inner.Ends.{HidesFrom, IsNotBelow, IsApart, AreBeside}
+use Rattle.cross_find.specs.Ends.{HidesFrom, IsNotBelow, IsApart, AreBeside}
 use Rattle.cross_find.proofs.Fronts.{from_turned, side_next}
 
 -- three numbers above 0, by weights of at least 0 that are not all 0

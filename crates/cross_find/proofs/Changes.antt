@@ -12,7 +12,7 @@ use Rattle.counting.specs.Counts.{Side, orientation_of}
 use Rattle.counting.specs.Shares.{mark, change_of, denominator_of, numerator_of, height_numerator_of, PassesNearer, IsCrossedAt}
 use Rattle.hiding.proofs.Names.{ways}
 use Rattle.exact_frac.specs.declared.Frac.{Frac}
-use Rattle.cross_find.specs.inner.Lines.{PassesBy, IsCrossedBy}
+use Rattle.cross_find.specs.Lines.{PassesBy, IsCrossedBy}
 
 module _ (d : Triple) {s : Part} (e o : Edge s) (a b p q : Corner) (at_a : e.a ≡ a) (at_b : e.b ≡ b) (at_p : o.a ≡ p) (at_q : o.b ≡ q) where
   module _ (denominator numerator height_numerator : ℤ) (is_denominator : denominator ≡ det d (difference a b) (difference p q)) (is_numerator : numerator ≡ det d (difference a p) (difference p q))

@@ -7,7 +7,7 @@ use Rattle.geometry.specs.Faces.{facing_of}
 use Rattle.geometry.specs.Parts.{Part, Edge, Face}
 use Rattle.counting.specs.Counts.{Side, to_left, to_right, orientation_of, ReachesTo}
 use Rattle.counting.specs.Covers.{HidesNext, IsCountedNext, IsOneWhere}
-use Rattle.cross_find.specs.inner.Ends.{HidesAt}
+use Rattle.cross_find.specs.Ends.{HidesAt}
 
 module _ (d : Triple) {s : Part} (e : Edge s) (f : Face s) where
   hides_at : (at_b : Bool) → HidesNext d e at_b f → HidesAt at_b d f.a f.b f.c e.a e.b

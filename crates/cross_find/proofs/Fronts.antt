@@ -10,7 +10,7 @@ use Rattle.geometry.specs.Faces.{FaceHides, facing_of, share_point}
 use Rattle.hiding.specs.inner.Values.{value_at, side_of, depth_of, IsBehind}
 use Rattle.hiding.proofs.Values.{side-share, depth-share}
 use Rattle.hiding.proofs.Hiding.{hides-front, hides-turned}
-use Rattle.cross_find.specs.inner.Ends.{HoldsNext, HidesFrom, IsNotBelow, IsAbove}
+use Rattle.cross_find.specs.Ends.{HoldsNext, HidesFrom, IsNotBelow, IsAbove}
 use Rattle.cross_find.proofs.Next.{next_map, next_both, above_next, not_below_next, above_of_next, not_below_of_next}
 
 -- a side's value that is at least 0 at the end, and not 0 there and below 0 at the other end

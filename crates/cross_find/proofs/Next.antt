@@ -6,7 +6,7 @@ use Rattle.integers.proofs.Comparisons.{not_negative_of_positive, gap_of_at_most
 use Rattle.integers.proofs.Ring.{Expr, var, con, ◌⊕◌, ◌⊖◌, ◌⊗◌, ring, gap_of_less}
 use Rattle.integers.proofs.Signs.{mul_nonneg, mul_pos, pos_of_mul}
 use Rattle.hiding.specs.inner.Values.{value_at}
-use Rattle.cross_find.specs.inner.Ends.{HoldsNext, IsNotBelow, IsAbove}
+use Rattle.cross_find.specs.Ends.{HoldsNext, IsNotBelow, IsAbove}
 
 -- ---- two at once: below the product of the two shares
 module _ (n m v w : ℤ) (n_some : pos 0 <ℤ n) (n_most : n ≤ℤ m) (v_some : pos 0 <ℤ v) (v_most : v ≤ℤ w) where

@@ -6,7 +6,7 @@ use Rattle.integers.proofs.Comparisons.{less_of_gap, times_zero, positive_not_ze
 use Rattle.integers.proofs.Ring.{var, con, ◌⊖◌, ◌⊗◌, ring, gap_of_less, less_by}
 use Rattle.integers.proofs.Signs.{mul_pos, mul_two_neg, pos_of_mul}
 use Rattle.exact_frac.specs.declared.Frac.{Frac}
-use Rattle.cross_find.specs.inner.Lines.{IsInner, IsInnerForward, IsCrossedBy}
+use Rattle.cross_find.specs.Lines.{IsInner, IsInnerForward, IsCrossedBy}
 
 -- ---- from an answer to another
 pub match_map : {A : Type 0} {P P' : Type 0} {Q Q' : A → Type 0} (o : Option A) → (P → P') → ((a : A) → Q a → Q' a) → MatchOption o P Q → MatchOption o P' Q'

@@ -1,4 +1,2 @@
 -- What only this crate's own functions cite.
-pub mod Ends
-pub mod Lines
 pub mod Ways

@@ -8,19 +8,19 @@ ghost use Rattle.hiding.specs.inner.Values.{side_of, depth_of};
 ghost use Rattle.solid_mesh.specs.Solids.{solid_part, edge_halves};
 ghost use Rattle.counting.specs.Counts.{to_left, to_right};
 ghost use Rattle.counting.specs.Covers.{IsCountedNext, IsOneWhere};
-ghost use Rattle.cross_find.specs.inner.Ends.{HidesAt, HidesFrom, IsAbove, IsApart, AreBeside};
+ghost use Rattle.cross_find.specs.Ends.{HidesAt, HidesFrom, IsAbove, IsApart, AreBeside};
 
-use crate::ends::{ends, orientation_of};
+use crate::edges::{ends, orientation_of};
 use crate::meter::{End, Meter};
 use lattice::{Corner, Dir, Vector, det3};
 use solid_mesh::Solid;
 
 /// The corners of a triangle.
 #[derive(Clone, Copy)]
-struct TriangleCorners {
-    a: Corner,
-    b: Corner,
-    c: Corner,
+pub struct TriangleCorners {
+    pub a: Corner,
+    pub b: Corner,
+    pub c: Corner,
 }
 
 /// Whether a triangle is counted to the left, and to the right, next to an end of an edge: 1 or 0. Takes constant time and no memory;
@@ -48,7 +48,7 @@ pub fn cover_test(solid: &Solid, d: &Dir, end: End, tri: u32, meter: &mut Meter)
 }
 
 /// The corners of the triangle with this number.
-fn corners_of(solid: &Solid, tri: u32) -> TriangleCorners
+pub fn corners_of(solid: &Solid, tri: u32) -> TriangleCorners
     requires { tri < length (solid_part solid.now).triangles }
     ensures { (f : Face (solid_part solid.now)) → f.number ≡ tri → (f.a ≡ result.a) × (f.b ≡ result.b) × (f.c ≡ result.c) }
 {
@@ -60,8 +60,9 @@ fn corners_of(solid: &Solid, tri: u32) -> TriangleCorners
     }
 }
 
-/// The triangle is not edge-on, and strictly nearer over some stretch of the edge from `a` to `b`, from `a` on or from `b` on.
-fn hides_at(d: &Dir, a: &Corner, b: &Corner, at_b: bool, t: &TriangleCorners) -> bool
+/// The triangle is not edge-on, and strictly nearer over some stretch of the edge from `a` to `b`, from `a` on or from `b` on. Mostly
+/// told by a few comparisons, else by at most eight determinants.
+pub fn hides_at(d: &Dir, a: &Corner, b: &Corner, at_b: bool, t: &TriangleCorners) -> bool
     ensures { IsTrue result ↔ ((facing_of (of_dir d.now) t.now.a t.now.b t.now.c ≢ pos 0) × HidesAt at_b (of_dir d.now) t.now.a t.now.b t.now.c a.now b.now) }
 {
     if at_b {
@@ -213,14 +214,14 @@ fn depth(t: &TriangleCorners, p: &Corner) -> i128
 }
 
 /// 1 where one of three numbers is above 0, else 0.
-fn any_above(x: i128, y: i128, z: i128) -> u8
+pub fn any_above(x: i128, y: i128, z: i128) -> u8
     ensures { IsOneWhere ((pos 0 <ℤ x) ⊎ (pos 0 <ℤ y) ⊎ (pos 0 <ℤ z)) result }
 {
     if x > 0 || y > 0 || z > 0 { 1 } else { 0 }
 }
 
 /// 1 where one of three numbers is below 0, else 0.
-fn any_below(x: i128, y: i128, z: i128) -> u8
+pub fn any_below(x: i128, y: i128, z: i128) -> u8
     ensures { IsOneWhere ((x <ℤ pos 0) ⊎ (y <ℤ pos 0) ⊎ (z <ℤ pos 0)) result }
 {
     if x < 0 || y < 0 || z < 0 { 1 } else { 0 }

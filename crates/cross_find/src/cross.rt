@@ -9,10 +9,10 @@ ghost use Rattle.geometry.specs.Views.{face_sign};
 ghost use Rattle.solid_mesh.specs.Solids.{solid_part, edge_halves};
 ghost use Rattle.counting.specs.Counts.{to_left, to_right, orientation_of};
 ghost use Rattle.counting.specs.Shares.{mark};
-ghost use Rattle.cross_find.specs.inner.Lines.{PassesBy, IsInner, IsInnerForward, IsCrossedBy};
+ghost use Rattle.cross_find.specs.Lines.{PassesBy, IsInner, IsInnerForward, IsCrossedBy};
 ghost use Rattle.cross_find.specs.Crossings.{IsAcross};
 
-use crate::ends::{ends, orientation_of};
+use crate::edges::{ends, orientation_of};
 use crate::meter::{Crossing, Meter};
 use exact_frac::Frac;
 use lattice::{Corner, Dir, Vector, det3, view_cross};
@@ -20,9 +20,9 @@ use solid_mesh::Solid;
 
 /// Where the ends of an outline are seen: positive to the left of an edge's line, 0 on it.
 #[derive(Clone, Copy)]
-struct Sides {
-    from: i128,
-    to: i128,
+pub struct Sides {
+    pub from: i128,
+    pub to: i128,
     ghost from_small: { unsigned_abs from < 2 ^ 48 },
     ghost to_small: { unsigned_abs to < 2 ^ 48 },
 }
@@ -80,7 +80,7 @@ pub fn cross_test(
 }
 
 /// Where `p` and `q` are seen to the line from `a` to `b`.
-fn sides_of(d: &Dir, a: &Corner, b: &Corner, p: &Corner, q: &Corner) -> Sides
+pub fn sides_of(d: &Dir, a: &Corner, b: &Corner, p: &Corner, q: &Corner) -> Sides
     ensures from { result.from ≡ orientation_of (of_dir d.now) a.now b.now p.now }
     ensures to { result.to ≡ orientation_of (of_dir d.now) a.now b.now q.now }
 {
@@ -99,7 +99,14 @@ fn are_alike(x: i128, y: i128) -> bool
 
 /// The inner place of the line from `a` to `b` at which that from `p` to `q`, whose ends are seen at these sides, is seen to cross
 /// it, strictly nearer. The height there is formed last, since many lines cross outside.
-fn passing(d: &Dir, a: &Corner, b: &Corner, p: &Corner, q: &Corner, sides: &Sides) -> Option<Frac>
+pub fn passing(
+    d: &Dir,
+    a: &Corner,
+    b: &Corner,
+    p: &Corner,
+    q: &Corner,
+    sides: &Sides,
+) -> Option<Frac>
     ensures place { IfSome result IsPlace }
     ensures answer { let over = difference p.now q.now in
         let way = difference a.now p.now in
@@ -199,7 +206,7 @@ fn changes(solid: &Solid, d: &Dir, outline: u32, sides: &Sides) -> CountChanges
 }
 
 /// The sign of the face to the left of an edge, less that of the face to its right.
-pub(crate) fn turn_of(solid: &Solid, d: &Dir, edge: u32) -> i8
+pub fn turn_of(solid: &Solid, d: &Dir, edge: u32) -> i8
     requires { edge < length (edge_halves solid.now) }
     ensures value { (e : Edge (solid_part solid.now)) → IsNumbered (edge_halves solid.now) edge e →
         result ≡ face_sign (of_dir d.now) e.left -ℤ face_sign (of_dir d.now) e.right }
@@ -210,7 +217,7 @@ pub(crate) fn turn_of(solid: &Solid, d: &Dir, edge: u32) -> i8
 }
 
 /// 1 where a corner counts as standing to the left for the left count, by the turn to it, else 0.
-fn left_mark(turn: i128) -> i8
+pub fn left_mark(turn: i128) -> i8
     ensures value { result ≡ mark to_left turn }
     ensures size { unsigned_abs result ≤ 1 }
 {
@@ -218,7 +225,7 @@ fn left_mark(turn: i128) -> i8
 }
 
 /// The same for the right count.
-fn right_mark(turn: i128) -> i8
+pub fn right_mark(turn: i128) -> i8
     ensures value { result ≡ mark to_right turn }
     ensures size { unsigned_abs result ≤ 1 }
 {
@@ -226,7 +233,7 @@ fn right_mark(turn: i128) -> i8
 }
 
 /// What an outline changes of a count, by the marks of its two corners.
-fn times(turn: i8, from: i8, to: i8) -> i8
+pub fn times(turn: i8, from: i8, to: i8) -> i8
     requires turn { unsigned_abs turn ≤ 2 }
     requires from { unsigned_abs from ≤ 1 }
     requires to { unsigned_abs to ≤ 1 }

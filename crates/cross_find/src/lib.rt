@@ -37,7 +37,7 @@
 //!   is one side, or both are on the line, no count changes. Their difference is the denominator of the place. Else it forms a third for
 //!   the place, a fourth for the height where the place is within the edge, and the signs of two faces where the outline is nearer.
 //! - `corner_test` forms four scalar products and a turn between two ways, and for the few outlines that are seen in line with the corner
-//!   three products and two heights; where one is nearer over the corner, four scalar products, twelve turns and twelve products.
+//!   four products and two heights; where one is nearer over the corner, four scalar products, twelve turns and twelve products.
 //!
 //! Each test raises the count of tests in a `Meter` by one. A `Sight` hands out these tests, the numbers of edges and the
 //! triangles at a corner, and no coordinate, so that what is found through it is found by counted tests; `SolidSight` is that of a
@@ -47,15 +47,16 @@
 mod corner;
 mod cover;
 mod cross;
-mod ends;
+mod edges;
 mod meter;
 mod sight;
 mod solid_sight;
 mod turns;
 mod ways;
 
-pub use cover::cover_test;
-pub use cross::cross_test;
+pub use cover::{TriangleCorners, any_above, any_below, corners_of, cover_test, hides_at};
+pub use cross::{Sides, cross_test, left_mark, passing, right_mark, sides_of, times, turn_of};
+pub use edges::{ends, orientation_of};
 pub use meter::{Crossing, End, Meter, Turn};
 pub use sight::Sight;
 pub use solid_sight::SolidSight;

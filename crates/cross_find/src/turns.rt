@@ -12,7 +12,7 @@ ghost use Rattle.cross_find.specs.inner.Ways.{way_of, side_of, IsShare};
 
 use crate::corner::{are_in_line, passes, passes_between, way_to};
 use crate::cross::turn_of;
-use crate::ends::ends;
+use crate::edges::ends;
 use crate::meter::{End, Meter, Turn};
 use crate::ways::Way;
 use lattice::{Corner, Dir, Vector};

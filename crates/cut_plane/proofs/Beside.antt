@@ -6,7 +6,7 @@ use Rattle.integers.proofs.Comparisons.{less_not_at_most}
 use Rattle.lattice.specs.Triple.{Triple}
 use Rattle.lattice.specs.Points.{Point, of_spot, across_of, upward_of}
 use Rattle.cut_plane.specs.declared.segments.Segment.{Segment}
-use Rattle.cut_plane.specs.inner.Sides.{IsRightOf, IsNotAbove, IsLower, IsUpwardBetween}
+use Rattle.cut_plane.specs.Sides.{IsRightOf, IsNotAbove, IsLower, IsUpwardBetween}
 use Rattle.cut_plane.proofs.Lists.{not_true}
 
 module _ (d : Triple) where

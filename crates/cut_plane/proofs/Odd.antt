@@ -5,7 +5,7 @@ use Rattle.lattice.specs.Triple.{Triple}
 use Rattle.lattice.specs.Points.{Point}
 use Rattle.geometry.specs.Cuts.{IsCount, nothing}
 use Rattle.cut_plane.specs.declared.segments.Segment.{Segment}
-use Rattle.cut_plane.specs.inner.Sides.{IsRightOf}
+use Rattle.cut_plane.specs.Sides.{IsRightOf}
 use Rattle.cut_plane.proofs.Counting.{count_push, count_pass}
 use Rattle.cut_plane.proofs.Lists.{not_true}
 

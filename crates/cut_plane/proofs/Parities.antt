@@ -15,7 +15,7 @@ use Rattle.geometry.specs.Cuts.{over_of, IsOnBorder, IsCrossed, IsLeftOfBorder, 
 use Rattle.geometry.proofs.Borders.{face_rise, rise_on, over_beyond, over_before, side_of_corner}
 use Rattle.cut_plane.specs.declared.segments.Segment.{Segment}
 use Rattle.cut_plane.specs.Loops.{AreBorders}
-use Rattle.cut_plane.specs.inner.Sides.{IsRightOf, IsNotAbove, IsLower, IsUpwardBetween}
+use Rattle.cut_plane.specs.Sides.{IsRightOf, IsNotAbove, IsLower, IsUpwardBetween}
 use Rattle.cut_plane.proofs.Beside.{not_both}
 use Rattle.cut_plane.proofs.BySegments.{odd_alike}
 use Rattle.cut_plane.proofs.RightOf.{left_of_right, right_of_left}

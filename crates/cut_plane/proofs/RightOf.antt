@@ -17,7 +17,7 @@ use Rattle.geometry.specs.Parts.{Part, Face}
 use Rattle.geometry.specs.Cuts.{IsOnBorder, IsLeftOfBorder}
 use Rattle.cut_plane.specs.declared.segments.Segment.{Segment}
 use Rattle.cut_plane.specs.Loops.{IsSegmentOf}
-use Rattle.cut_plane.specs.inner.Sides.{IsRightOf, IsNotAbove, IsLower, IsUpwardBetween}
+use Rattle.cut_plane.specs.Sides.{IsRightOf, IsNotAbove, IsLower, IsUpwardBetween}
 use Rattle.cut_plane.proofs.BorderPoints.{IsMixOf, AreEnds, border_ends}
 
 -- ---- sums

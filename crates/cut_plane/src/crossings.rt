@@ -12,7 +12,7 @@ use crate::seen::{level, seen_corner, seen_normal};
 use lattice::{Corner, Cut, Line, Spot, Vector, cross};
 
 /// Twice the height of the corner above the plane: never 0.
-pub(crate) fn over(cut: &Cut, k: &Corner) -> i64
+pub fn over(cut: &Cut, k: &Corner) -> i64
     ensures value { result ≡ over_of (plane_of cut.now) k.now }
     ensures size { unsigned_abs result < 2 ^ 23 }
 {

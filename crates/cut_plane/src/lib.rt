@@ -12,7 +12,8 @@ mod parity;
 mod seen;
 mod segments;
 
+pub use crossings::over;
 pub use loops::{Section, borders};
-pub use parity::inside;
+pub use parity::{inside, is_right_of};
 pub use seen::{InView, seen_corner};
 pub use segments::Segment;

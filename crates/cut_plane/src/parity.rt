@@ -6,7 +6,7 @@ ghost use Rattle.lattice.specs.Cuts.{plane_of};
 ghost use Rattle.geometry.specs.Parts.{Part};
 ghost use Rattle.geometry.specs.Cuts.{IsInSection};
 ghost use Rattle.cut_plane.specs.Loops.{AreBorders};
-ghost use Rattle.cut_plane.specs.inner.Sides.{IsRightOf, IsNotAbove};
+ghost use Rattle.cut_plane.specs.Sides.{IsRightOf, IsNotAbove};
 
 use crate::loops::Section;
 use crate::segments::Segment;
@@ -32,8 +32,8 @@ pub fn inside(section: &Section, p: &Spot) -> bool
 }
 
 /// The segment is to the right of the spot: V of the spot is from that of the lower end on, and less than that of the upper
-/// end, and U is less than that of the line at this V.
-fn is_right_of(d: &Dir, segment: &Segment, p: &Spot) -> bool
+/// end, and U is less than that of the line at this V. Takes constant time and no memory.
+pub fn is_right_of(d: &Dir, segment: &Segment, p: &Spot) -> bool
     ensures { IsTrue result ↔ IsRightOf (of_dir d.now) segment.now (of_spot p.now) }
 {
     if is_not_above(d, &segment.a, p) == is_not_above(d, &segment.b, p) {

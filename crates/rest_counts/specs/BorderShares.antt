@@ -9,7 +9,7 @@ use Rattle.geometry.specs.Faces.{facing_of, share_point}
 use Rattle.geometry.specs.Parts.{Part, Face, Edge}
 use Rattle.hiding.specs.inner.Values.{offset}
 use Rattle.counting.specs.Counts.{Side}
-use Rattle.cut_plane.specs.inner.Sides.{IsLower}
+use Rattle.cut_plane.specs.Sides.{IsLower}
 use Rattle.section_parity.specs.Crossings.{CrossesAt}
 use Rattle.rest_counts.specs.CutEnds.{mark_change}
 

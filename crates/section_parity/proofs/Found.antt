@@ -15,8 +15,8 @@ use Rattle.geometry.specs.Cuts.{IsBorderOf}
 use Rattle.geometry.proofs.Shares.{one_place}
 use Rattle.geometry.proofs.Sights.{sight_on}
 use Rattle.cut_plane.specs.Loops.{IsBorderLine}
-use Rattle.section_parity.specs.Crossings.{CrossesAt, IsShort}
-use Rattle.section_parity.specs.inner.Crossings.{line_value, IsSeenBetween, IsRootOf, IsCrossingOf}
+use Rattle.section_parity.specs.Crossings.{CrossesAt, IsShort, IsCrossingOf}
+use Rattle.section_parity.specs.inner.Crossings.{line_value, IsSeenBetween, IsRootOf}
 use Rattle.section_parity.proofs.Segments.{root_of_crossing, crossing_of_root}
 
 -- a place of the same value is crossed too

@@ -16,8 +16,8 @@ use Rattle.cut_plane.specs.Loops.{IsSegmentOf, AreBorders}
 use Rattle.cut_plane.proofs.FaceCorners.{HaveSame, have_same}
 use Rattle.cut_plane.proofs.Lists.{contains_first, contains_cases, contains_none, segment_at}
 use Rattle.cut_plane.proofs.Parities.{crossed_of_point}
-use Rattle.section_parity.specs.Crossings.{CrossesAt, IsShort, AreCrossings}
-use Rattle.section_parity.specs.inner.Crossings.{line_value, IsSeenBetween, IsRootOf, IsCrossingOf}
+use Rattle.section_parity.specs.Crossings.{CrossesAt, IsShort, AreCrossings, IsCrossingOf}
+use Rattle.section_parity.specs.inner.Crossings.{line_value, IsSeenBetween, IsRootOf}
 use Rattle.section_parity.proofs.Found.{crossing_nowhere, crossing_there, crossing_beside}
 
 -- ---- one segment

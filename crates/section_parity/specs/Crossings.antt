@@ -1,5 +1,5 @@
 -- Where the border of a section crosses an edge, as they are seen.
-use Rattle.std.specs.Prelude.{◌≡◌, ◌≢◌, ◌≤◌, ◌^◌, ℤ, pos, ◌*ℤ◌, ◌<ℤ◌, ◌≤ℤ◌, unsigned_abs, List, All, Contains}
+use Rattle.std.specs.Prelude.{◌≡◌, ◌≢◌, ◌≤◌, ◌^◌, ℤ, pos, ◌*ℤ◌, ◌<ℤ◌, ◌≤ℤ◌, unsigned_abs, List, All, Contains, Option, Some, IfSome}
 use Rattle.exact_frac.specs.declared.Frac.{Frac}
 use Rattle.lattice.specs.Triple.{det}
 use Rattle.lattice.specs.Cuts.{Plane, toward_of}
@@ -22,3 +22,8 @@ pub record IsShort (r : Frac) : Type 0 where
 pub record AreCrossings (c : Plane) {s : Part} (e : Edge s) (places : List Frac) : Type 0 where
   pub each : All (λ r. IsShort r × ((f : Face s) × CrossesAt c f e r.num r.den)) places
   pub all : (f : Face s) (n m : ℤ) → pos 0 <ℤ m → pos 0 ≤ℤ n → n ≤ℤ m → CrossesAt c f e n m → (r : Frac) × Contains places r × (n *ℤ r.den ≡ r.num *ℤ m)
+
+-- where the face's border crosses the edge, if it does between its corners
+pub record IsCrossingOf (c : Plane) {s : Part} (f : Face s) (e : Edge s) (found : Option Frac) : Type 0 where
+  pub found_is : IfSome found (λ r. IsShort r × CrossesAt c f e r.num r.den)
+  pub all : (n m : ℤ) → pos 0 <ℤ m → pos 0 ≤ℤ n → n ≤ℤ m → CrossesAt c f e n m → (r : Frac) × (found ≡ Some r) × (n *ℤ r.den ≡ r.num *ℤ m)

@@ -4,4 +4,4 @@
 
 mod places;
 
-pub use places::crossings;
+pub use places::{EdgeAt, crossing, crossings};

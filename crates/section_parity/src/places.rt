@@ -5,8 +5,8 @@ ghost use Rattle.lattice.specs.Cuts.{plane_of, toward_of};
 ghost use Rattle.geometry.specs.Parts.{Edge, IsNumbered};
 ghost use Rattle.solid_mesh.specs.Solids.{solid_part, edge_halves};
 ghost use Rattle.cut_plane.specs.Loops.{IsSegmentOf, AreBorders};
-ghost use Rattle.section_parity.specs.inner.Crossings.{line_value, IsAmid, IsSeenBetween, IsRootOf, IsCrossingOf};
-ghost use Rattle.section_parity.specs.Crossings.{IsShort, AreCrossings};
+ghost use Rattle.section_parity.specs.inner.Crossings.{line_value, IsAmid, IsSeenBetween, IsRootOf};
+ghost use Rattle.section_parity.specs.Crossings.{IsShort, AreCrossings, IsCrossingOf};
 
 use cut_plane::{InView, Section, Segment, seen_corner};
 use exact_frac::{Frac, OutOfMemory};
@@ -17,10 +17,10 @@ use std::cmp::Ordering;
 
 /// An edge of a solid by its number, and its two corners.
 #[derive(Clone, Copy)]
-struct EdgeAt {
-    number: u32,
-    a: Corner,
-    b: Corner,
+pub struct EdgeAt {
+    pub number: u32,
+    pub a: Corner,
+    pub b: Corner,
 }
 
 /// A value that is linear along an edge: what it is at the first corner, and by how much it is more at the second.
@@ -62,8 +62,9 @@ pub fn crossings(
     Ok(places)
 }
 
-/// Where the segment crosses the edge, if it does between the edge's corners.
-fn crossing(solid: &Solid, cut: &Cut, edge: &EdgeAt, segment: &Segment) -> Option<Frac>
+/// Where the segment crosses the edge, if it does between the edge's corners. Takes constant time: a few products, and at most four
+/// comparisons of fractions where the edge crosses the segment's line.
+pub fn crossing(solid: &Solid, cut: &Cut, edge: &EdgeAt, segment: &Segment) -> Option<Frac>
     requires { edge.now.number < length (edge_halves solid.now) }
     ensures { (e : Edge (solid_part solid.now)) → IsNumbered (edge_halves solid.now) edge.now.number e → e.a ≡ edge.now.a → e.b ≡ edge.now.b →
         (at : IsSegmentOf (plane_of cut.now) (solid_part solid.now) segment.now) → IsCrossingOf (plane_of cut.now) at.face e result }

@@ -117,8 +117,9 @@ pub(crate) fn under(edge: &CutEdge, a: &Corner, b: &Corner, c: &Corner) -> Linea
     }
 }
 
-/// How far the face's point over a corner is below the plane.
-fn under_at(cut: &Cut, a: &Corner, b: &Corner, c: &Corner, p: &Corner) -> i128
+/// How far the point over a corner of the face's plane is below that of the cut, times twice the face's area as it is seen, which is
+/// below 0 where the face is turned away.
+pub fn under_at(cut: &Cut, a: &Corner, b: &Corner, c: &Corner, p: &Corner) -> i128
     ensures value { result ≡ under_of (plane_of cut.now) a.now b.now c.now (point_of p.now) }
     ensures small { unsigned_abs result < 2 ^ 68 }
 {

@@ -47,6 +47,8 @@ use intervals::Interval;
 use lattice::Dir;
 use section_parity::crossings;
 use solid_mesh::Solid;
+pub use cut_faces::beyond_plane;
+pub use cut_seen::under_at;
 pub use span::Span;
 use std::alloc::Global;
 pub use view::View;

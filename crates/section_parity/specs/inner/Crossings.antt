@@ -1,12 +1,8 @@
 -- Where a border crosses an edge, in the code's terms.
-use Rattle.std.specs.Prelude.{◌≡◌, ◌≢◌, ◌⊎◌, ℤ, pos, ◌+ℤ◌, ◌-ℤ◌, ◌*ℤ◌, ◌<ℤ◌, ◌≤ℤ◌, Option, Some, IfSome}
-use Rattle.exact_frac.specs.declared.Frac.{Frac}
+use Rattle.std.specs.Prelude.{◌≡◌, ◌≢◌, ◌⊎◌, ℤ, pos, ◌+ℤ◌, ◌-ℤ◌, ◌*ℤ◌, ◌≤ℤ◌}
 use Rattle.lattice.specs.declared.lines.Line.{Line}
 use Rattle.lattice.specs.Triple.{Triple}
 use Rattle.lattice.specs.Points.{Point, across_of, upward_of}
-use Rattle.lattice.specs.Cuts.{Plane}
-use Rattle.geometry.specs.Parts.{Part, Face, Edge}
-use Rattle.section_parity.specs.Crossings.{CrossesAt, IsShort}
 
 -- what a U + b V is worth at the point beyond c, times w: 0 on the line
 abbrev pub line_value : Triple → Line → Point → ℤ
@@ -25,8 +21,3 @@ pub record IsSeenBetween (d : Triple) (p q r : Point) : Type 0 where
 pub record IsRootOf (x y n m : ℤ) : Type 0 where
   pub root : ((m -ℤ n) *ℤ x) +ℤ (n *ℤ y) ≡ pos 0
   pub changes : x ≢ y
-
--- where the face's border crosses the edge, if it does between its corners
-pub record IsCrossingOf (c : Plane) {s : Part} (f : Face s) (e : Edge s) (found : Option Frac) : Type 0 where
-  pub found_is : IfSome found (λ r. IsShort r × CrossesAt c f e r.num r.den)
-  pub all : (n m : ℤ) → pos 0 <ℤ m → pos 0 ≤ℤ n → n ≤ℤ m → CrossesAt c f e n m → (r : Frac) × (found ≡ Some r) × (n *ℤ r.den ≡ r.num *ℤ m)

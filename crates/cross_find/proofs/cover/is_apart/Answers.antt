@@ -2,7 +2,7 @@ use Rattle.std.proofs.Common.{sym, subst, ap, ◌∙◌}
 use Rattle.lattice.specs.Triple.{Triple, dot}
 use Rattle.lattice.specs.Points.{of_dir}
 use Rattle.lattice.proofs.SightLines.{right_axis-is}
-use Rattle.cross_find.specs.inner.Ends.{AreBeside}
+use Rattle.cross_find.specs.Ends.{AreBeside}
 use Rattle.cross_find.proofs.Passed.{component_passed, coordinate_passed}
 use Rattle.cross_find.proofs.Apart.{apart_along, apart_by_x, apart_by_y, apart_by_z}
 use Rattle.cross_find.proofs.cover.is_apart.Goals as goal

@@ -2,7 +2,7 @@ use Rattle.std.proofs.Common.{subst, ◌∙◌}
 use Rattle.std.specs.Prelude.{pos, ◌↔◌, IsTrue}
 use Rattle.lattice.specs.Triple.{dot}
 use Rattle.lattice.specs.Points.{of_vector}
-use Rattle.cross_find.specs.inner.Ends.{AreBeside}
+use Rattle.cross_find.specs.Ends.{AreBeside}
 use Rattle.cross_find.proofs.CornerSigns.{wide_part}
 use Rattle.cross_find.proofs.cover.is_apart_along.Goals as goal
 

@@ -1,7 +1,7 @@
 use Rattle.std.proofs.Common.{◌≡◌, ◌↔◌, subst, arith}
 use Rattle.std.specs.Prelude.{pos, IsTrue}
 use Rattle.std.proofs.lemmas.Int.{ints, to_z-of_z}
-use Rattle.cross_find.specs.inner.Ends.{AreBeside}
+use Rattle.cross_find.specs.Ends.{AreBeside}
 use Rattle.cross_find.proofs.cover.is_beside.Goals as goal
 
 pub returns-then-component-eq0 : goal.returns-then-component-eq0

@@ -1,7 +1,7 @@
 use Rattle.std.proofs.Common.{◌≡◌, refl, sym, subst, ◌∙◌, arith}
 use Rattle.std.specs.Prelude.{pos, ◌-ℤ◌, ◌*ℤ◌, ◌≤ℤ◌}
 use Rattle.std.proofs.lemmas.Int.{ints}
-use Rattle.cross_find.specs.inner.Lines.{IsInner}
+use Rattle.cross_find.specs.Lines.{IsInner}
 use Rattle.cross_find.proofs.Passes.{match_map, forward_of_inner, inner_of_forward, inner_turned, inner_back, place_by, turned_same}
 use Rattle.cross_find.proofs.cross.inner_place.Goals as goal
 

@@ -1,6 +1,6 @@
 use Rattle.std.proofs.Common.{◌⊎◌, true≢false, sym, subst, ◌∙◌}
 use Rattle.std.specs.Prelude.{pos, ◌<ℤ◌, ◌↔◌, IsTrue}
-use Rattle.cross_find.specs.inner.Lines.{IsInner, IsCrossedBy}
+use Rattle.cross_find.specs.Lines.{IsInner, IsCrossedBy}
 use Rattle.cross_find.proofs.Passed.{passed_difference, passed_height}
 use Rattle.cross_find.proofs.Passes.{nearer_of_signs, signs_of_nearer}
 use Rattle.cross_find.proofs.cross.passing.Goals as goal

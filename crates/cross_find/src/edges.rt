@@ -8,8 +8,8 @@ ghost use Rattle.counting.specs.Counts.{orientation_of};
 use lattice::{Corner, Dir, Vector, view_cross};
 use solid_mesh::Solid;
 
-/// The two corners of an edge, its first one first.
-pub(crate) fn ends(solid: &Solid, edge: u32) -> (Corner, Corner)
+/// The two corners of an edge, its first one first. Takes constant time.
+pub fn ends(solid: &Solid, edge: u32) -> (Corner, Corner)
     requires { edge < length (edge_halves solid.now) }
     ensures { (e : Edge (solid_part solid.now)) → IsNumbered (edge_halves solid.now) edge e → (e.a ≡ result.0) × (e.b ≡ result.1) }
 {
@@ -17,8 +17,8 @@ pub(crate) fn ends(solid: &Solid, edge: u32) -> (Corner, Corner)
     (solid.corner(numbers.a), solid.corner(numbers.b))
 }
 
-/// Positive where `c` is seen to the left of the line from `a` to `b`, 0 where it is seen on the line.
-pub(crate) fn orientation_of(d: &Dir, a: &Corner, b: &Corner, c: &Corner) -> i128
+/// Positive where `c` is seen to the left of the line from `a` to `b`, 0 where it is seen on the line: a determinant of whole coordinates.
+pub fn orientation_of(d: &Dir, a: &Corner, b: &Corner, c: &Corner) -> i128
     ensures value { result ≡ orientation_of (of_dir d.now) a.now b.now c.now }
     ensures size { unsigned_abs result < 2 ^ 48 }
 {
