@@ -16,7 +16,7 @@ pub struct End {
     pub at_b: bool,
 }
 
-/// The place of an edge at which an outline passes nearer, a share of the way from 0 to 1 with a denominator below 2^69, and by how
+/// The place of an edge at which an outline passes nearer, or in the view of a cut the border of a face, a share of the way from 0 to 1 with a denominator below 2^69, and by how
 /// much the counts to its left and to its right change there.
 #[derive(Clone, Copy, Debug)]
 pub struct Crossing {

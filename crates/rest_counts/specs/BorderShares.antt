@@ -14,7 +14,7 @@ use Rattle.section_parity.specs.Crossings.{CrossesAt}
 use Rattle.rest_counts.specs.CutEnds.{mark_change}
 
 -- ---- on which side of its border the face is
--- positive where the corner is seen to the left of the way from p to q, times both their divisors
+-- positive where the corner is seen to the left of the way from p to q; it has the divisors of p and q as factors
 abbrev pub way_turn : Triple → Point → Point → Corner → ℤ
 way_turn d p q k = det d (offset k p) (offset k q)
 

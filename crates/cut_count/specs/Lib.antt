@@ -1,0 +1,4 @@
+pub mod Bounds
+pub mod Crossings
+pub mod CutSpans
+pub mod inner

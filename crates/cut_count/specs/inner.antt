@@ -1,0 +1,4 @@
+-- What only this crate's own functions cite.
+pub mod Borders
+pub mod Rests
+pub mod Walks
