@@ -14,6 +14,8 @@ pub record AreAtMost (limit : ℕ) (n : ViewNumbers) : Type 0 where
   pub runs : n.runs ≤ limit
   pub bound : n.bound ≤ limit
   pub tests : n.tests ≤ limit
+  pub cut_bound : n.cut_bound ≤ limit
+  pub cut_tests : n.cut_tests ≤ limit
   pub cell_bound : n.cell_bound ≤ limit
   pub cells : n.cells ≤ limit
 
@@ -23,6 +25,8 @@ below_of k n few h = record {
   runs = omega (arith, h.runs);
   bound = omega (arith, h.bound);
   tests = omega (arith, h.tests);
+  cut_bound = omega (arith, h.cut_bound);
+  cut_tests = omega (arith, h.cut_tests);
   cell_bound = omega (arith, h.cell_bound);
   cells = omega (arith, h.cells);
 }
@@ -33,6 +37,8 @@ wider n h = record {
   runs = omega (arith, h.runs);
   bound = omega (arith, h.bound);
   tests = omega (arith, h.tests);
+  cut_bound = omega (arith, h.cut_bound);
+  cut_tests = omega (arith, h.cut_tests);
   cell_bound = omega (arith, h.cell_bound);
   cells = omega (arith, h.cells);
 }
@@ -43,21 +49,23 @@ at_most_plus k m n h g = record {
   runs = omega (arith, h.runs, g.runs);
   bound = omega (arith, h.bound, g.bound);
   tests = omega (arith, h.tests, g.tests);
+  cut_bound = omega (arith, h.cut_bound, g.cut_bound);
+  cut_tests = omega (arith, h.cut_tests, g.cut_tests);
   cell_bound = omega (arith, h.cell_bound, g.cell_bound);
   cells = omega (arith, h.cells, g.cells);
 }
 
 -- ---- sums
 same_numbers : (m n : ViewNumbers) → m.edges ≡ n.edges → m.runs ≡ n.runs → m.bound ≡ n.bound → m.tests ≡ n.tests
-    → m.cell_bound ≡ n.cell_bound → m.cells ≡ n.cells → m ≡ n
-same_numbers m n edges runs bound tests cell_bound cells =
-    λ i. record { edges = edges i; runs = runs i; bound = bound i; tests = tests i; cell_bound = cell_bound i; cells = cells i }
+    → m.cut_bound ≡ n.cut_bound → m.cut_tests ≡ n.cut_tests → m.cell_bound ≡ n.cell_bound → m.cells ≡ n.cells → m ≡ n
+same_numbers m n edges runs bound tests cut_bound cut_tests cell_bound cells =
+    λ i. record { edges = edges i; runs = runs i; bound = bound i; tests = tests i; cut_bound = cut_bound i; cut_tests = cut_tests i; cell_bound = cell_bound i; cells = cells i }
 
 plus_none : (n : ViewNumbers) → plus no_numbers n ≡ plus n no_numbers
-plus_none n = same_numbers (plus no_numbers n) (plus n no_numbers) (omega arith) (omega arith) (omega arith) (omega arith) (omega arith) (omega arith)
+plus_none n = same_numbers (plus no_numbers n) (plus n no_numbers) (omega arith) (omega arith) (omega arith) (omega arith) (omega arith) (omega arith) (omega arith) (omega arith)
 
 plus_plus : (a b c : ViewNumbers) → plus (plus a b) c ≡ plus a (plus b c)
-plus_plus a b c = same_numbers (plus (plus a b) c) (plus a (plus b c)) (omega arith) (omega arith) (omega arith) (omega arith) (omega arith) (omega arith)
+plus_plus a b c = same_numbers (plus (plus a b) c) (plus a (plus b c)) (omega arith) (omega arith) (omega arith) (omega arith) (omega arith) (omega arith) (omega arith) (omega arith)
 
 sum_push : (xs : List ViewNumbers) (x : ViewNumbers) → plus (sum_of xs) x ≡ sum_of (xs ++ x ∷ [])
 sum_push [] x = plus_none x

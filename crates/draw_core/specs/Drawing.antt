@@ -44,13 +44,14 @@ ShowsJobView solid crease cuts spacing asked view = ShowsView solid crease cuts 
 abbrev pub spacing_on : Sheet → ℕ
 spacing_on sheet = spacing_of sheet.scale.num sheet.scale.den sheet.decimals
 
--- each view of the job is there, in their order, with the traces of the job's cuts, the sheet is the job's for the solid, the two bounds are the sums of those of the
--- plain views, and there were at most as many tests, and at most as many cells were counted
+-- each view of the job is there, in their order, with the traces of the job's cuts, the sheet is the job's for the solid, the bounds are the sums of those of the
+-- views, and there were at most as many tests, of plain views and of those of cuts, and at most as many cells were counted
 pub record IsDrawing (d : Drawing) : Type 0 where
   pub views : AllZip (ShowsJobView d.solid d.job.crease (planes_in d.job.views.items) (spacing_on d.sheet)) d.job.views.items d.views.items
   pub sheet : IsSheetOf d.job (solid_part d.solid).corners d.sheet
-  pub bound : (sums : ViewNumbers) × SumsViews d.solid d.job.crease d.job.views.items sums × (d.bound ≡ sums.bound) × (d.cell_bound ≡ sums.cell_bound)
+  pub bound : (sums : ViewNumbers) × SumsViews d.solid d.job.crease d.job.views.items sums × (d.bound ≡ sums.bound) × (d.cut_bound ≡ sums.cut_bound) × (d.cell_bound ≡ sums.cell_bound)
   pub tested : d.meter.tests ≤ d.bound
+  pub cut_tested : d.cut_meter.tests ≤ d.cut_bound
   pub celled : d.cells.cells ≤ d.cell_bound
 
 -- what it draws

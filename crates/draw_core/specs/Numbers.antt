@@ -11,7 +11,7 @@ abbrev pub sum_of : List ViewNumbers → ViewNumbers
 sum_of [] = no_numbers
 sum_of (x ∷ xs) = plus x (sum_of xs)
 
--- the sums over the views that are asked for; a cut view adds nothing
+-- the sums over the views that are asked for
 pub record SumsViews (solid : Solid) (crease : Crease) (asked : List JobView) (n : ViewNumbers) : Type 0 where
   pub each : List ViewNumbers
   pub counted : AllZip (λ view. CountsView solid crease view.spec) asked each

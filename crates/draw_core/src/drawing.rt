@@ -14,13 +14,17 @@ pub struct Drawing {
     pub job: Job,
     pub sheet: Sheet,
     pub views: Vec<ViewDrawing>,
-    /// The tests that were made for the counts of all views, at most as many as the bound.
+    /// The tests that were made for the counts of the plain views, at most as many as the bound.
     pub meter: Meter,
     /// The sum of the bounds of the plain views.
     pub bound: u64,
+    /// The tests that were made for the counts of the views of cuts, at most as many as the cut bound.
+    pub cut_meter: Meter,
+    /// The sum of the cut bounds of the views of cuts.
+    pub cut_bound: u64,
     /// The cells that were counted for the grids of all views, at most as many as the cell bound.
     pub cells: CellMeter,
-    /// The sum of the cell bounds of the plain views.
+    /// The sum of the cell bounds of all views.
     pub cell_bound: u64,
 }
 

@@ -57,6 +57,10 @@ pub(crate) fn numbered_drawing(alloc: Global, solid: Solid, job: Job) -> Result<
             tests: numbers.tests,
         },
         bound: numbers.bound,
+        cut_meter: Meter {
+            tests: numbers.cut_tests,
+        },
+        cut_bound: numbers.cut_bound,
         cells: CellMeter {
             cells: numbers.cells,
         },

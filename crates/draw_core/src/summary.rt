@@ -154,6 +154,8 @@ fn line_of_drawing(
         runs,
         bound,
         tests: _,
+        cut_bound: _,
+        cut_tests: _,
         cell_bound: _,
         cells: _,
     } = *numbers;

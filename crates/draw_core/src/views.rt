@@ -55,6 +55,7 @@ fn views_with(
     ensures shows { IfOk result (λ x. AllZip (ShowsJobView solid.now crease (map plane_of cuts.now) spacing) asked.now x.views.items) }
     ensures sums { IfOk result (λ x. SumsViews solid.now crease asked.now x.numbers) }
     ensures tested { IfOk result (λ x. x.numbers.tests ≤ x.numbers.bound) }
+    ensures cut_tested { IfOk result (λ x. x.numbers.cut_tests ≤ x.numbers.cut_bound) }
     ensures celled { IfOk result (λ x. x.numbers.cells ≤ x.numbers.cell_bound) }
 {
     let mut views = Vec::new(alloc);
@@ -85,6 +86,7 @@ pub(crate) fn views_of(
     ensures shows { IfOk result (λ x. AllZip (ShowsJobView solid.now crease (planes_in asked.now) spacing) asked.now x.views.items) }
     ensures sums { IfOk result (λ x. SumsViews solid.now crease asked.now x.numbers) }
     ensures tested { IfOk result (λ x. x.numbers.tests ≤ x.numbers.bound) }
+    ensures cut_tested { IfOk result (λ x. x.numbers.cut_tests ≤ x.numbers.cut_bound) }
     ensures celled { IfOk result (λ x. x.numbers.cells ≤ x.numbers.cell_bound) }
 {
     let cuts = cuts_in(alloc, asked)?;

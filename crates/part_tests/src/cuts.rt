@@ -1,4 +1,6 @@
 // Cuts of a tube, of a cube with a cavity, and one that takes nothing away; and where edges beneath a section cross its border.
+use cross_find::Meter;
+use cut_count::border_cover;
 use cut_plane::{Section, borders, inside};
 use exact_frac::Frac;
 use fixtures::{
@@ -88,6 +90,16 @@ fn ends_of_segments(rt: HostRuntime) -> Result<(), Fail> {
     Ok(())
 }
 
+// An odd number of segments count for the spot.
+fn is_counted_odd(section: &Section, p: &Spot) -> bool {
+    let mut odd = false;
+    for segment in 0..u32::try_from(section.segments.len()).unwrap_or(0) {
+        let mut meter = Meter { tests: 0 };
+        odd = odd != border_cover(section, p, segment, &mut meter);
+    }
+    odd
+}
+
 #[test]
 fn inside_and_outside(rt: HostRuntime) -> Result<(), Fail> {
     let tube = tube(rt.alloc(), Axis::Z, 10_000, true)?;
@@ -112,6 +124,11 @@ fn inside_and_outside(rt: HostRuntime) -> Result<(), Fail> {
     for ([x, y], expected) in rows {
         let p = above(x, y);
         assert_eq!(rt; inside(&tube, &p), expected, "in the tube at {x}, {y}");
+        assert_eq!(rt;
+            is_counted_odd(&tube, &p),
+            expected,
+            "of the tube at {x}, {y}"
+        );
         assert_eq!(rt; inside(&shells, &p), expected, "in the shells at {x}, {y}");
     }
     Ok(())

@@ -5,6 +5,8 @@
 #[cfg(test)]
 mod changes;
 #[cfg(test)]
+mod cut_counts;
+#[cfg(test)]
 mod cuts;
 #[cfg(test)]
 mod grids;

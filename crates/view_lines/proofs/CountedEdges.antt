@@ -22,12 +22,15 @@ use Rattle.span_count.specs.CountSpans.{AreCountSpans}
 use Rattle.span_count.specs.Entries.{IsEntry}
 use Rattle.span_count.specs.Tests.{IsTested}
 use Rattle.span_count.specs.declared.span.EdgeSpans.{EdgeSpans}
-use Rattle.span_slow.specs.declared.span.Span.{Span}
-use Rattle.view_lines.specs.Counts.{AreCountsAlong}
-use Rattle.view_lines.specs.inner.Told.{IsToldBy}
-use Rattle.view_lines.specs.inner.Strips.{TellHidden}
-use Rattle.view_lines.proofs.CountedSpans.{told_spans}
-use Rattle.view_lines.proofs.SpanPlaces.{all_earlier}
+use Rattle.span_count.specs.declared.span.CountSpan.{CountSpan}
+use Rattle.lattice.specs.Cuts.{Plane, toward_of}
+use Rattle.lattice.specs.declared.pieces.Strip.{Strip}
+use Rattle.cut_count.specs.CutSpans.{AreCutCountSpans, IsCutEntry}
+use Rattle.view_lines.specs.Counts.{AreCountsAlong, AreCountsBeyond}
+use Rattle.view_lines.specs.inner.Told.{AreTold}
+use Rattle.view_lines.specs.inner.Strips.{TellHidden, TellHiddenInCut, AreEdgeStrips}
+use Rattle.view_lines.proofs.CountedSpans.{edge_earlier, beyond_earlier, told_spans, told_cut_spans}
+use Rattle.view_lines.proofs.StripLists.{edges_weaker}
 
 -- the solid in this direction, before any test
 abbrev pub seen_from : Solid → Triple → SightState
@@ -54,13 +57,16 @@ module _ (solid : Solid) (d : Triple) (picked : Picked) where
       below : (a b n m : ℕ) → a ≡ b + n → b ≡ 0 → n ≤ m → a ≤ m
       below a b n m is none most = omega arith
 
+-- ---- the entries of the drawn edges are the counts along them
+same_edges : (R : ℕ → EdgeSpans → Type 0) → ((i : ℕ) (y : EdgeSpans) → R i y → y.edge ≡ i) → (numbers : List ℕ) (entries : List EdgeSpans) → AllZip R numbers entries → map (λ y. y.edge) entries ≡ numbers
+same_edges R edge [] [] zip = refl
+same_edges R edge [] (y ∷ ys) zip = absurd zip
+same_edges R edge (i ∷ is) [] zip = absurd zip
+same_edges R edge (i ∷ is) (y ∷ ys) (here, more) = λ k. edge i y here k ∷ same_edges R edge is ys more k
+
 module _ (solid : Solid) (d : Triple) (fraction : ℕ) (picked : Picked) (are : IsPicked d fraction (solid_part solid) (edge_halves solid) picked) where
-  -- ---- the entries of the drawn edges are the counts along them
-  same_edges : (x : SightState) (numbers : List ℕ) (entries : List EdgeSpans) → AllZip (IsEntry x) numbers entries → map (λ y. y.edge) entries ≡ numbers
-  same_edges x [] [] zip = refl
-  same_edges x [] (y ∷ ys) zip = absurd zip
-  same_edges x (i ∷ is) [] zip = absurd zip
-  same_edges x (i ∷ is) (y ∷ ys) (here, more) = λ k. here.edge k ∷ same_edges x is ys more k
+  drawn_entries : (entries : List EdgeSpans) → map (λ y. y.edge) entries ≡ picked.drawn.items → AreDrawnEdges d fraction (solid_part solid) (edge_halves solid) (map (λ y. y.edge) entries)
+  drawn_entries entries same = subst (λ (ns : List ℕ). AreDrawnEdges d fraction (solid_part solid) (edge_halves solid) ns) (sym same) are.drawn
 
   pub counts_of_entries : (x : SightState) (entries : List EdgeSpans) → x ≡ seen_from solid d → AllZip (IsEntry x) picked.drawn.items entries → AreCountsAlong d fraction solid entries
   counts_of_entries x entries is zip =
@@ -68,34 +74,70 @@ module _ (solid : Solid) (d : Triple) (fraction : ℕ) (picked : Picked) (are : 
       let numbers = picked.drawn.items in
       let zipped = subst (λ (y : SightState). AllZip (IsEntry y) numbers entries) is zip in
       record {
-        edges = subst (λ (ns : List ℕ). AreDrawnEdges d fraction (solid_part solid) (edge_halves solid) ns) (sym (same_edges seen numbers entries zipped)) are.drawn;
+        edges = drawn_entries entries (same_edges (IsEntry seen) (λ i y here. here.edge) numbers entries zipped);
         spans = λ k z within.
             let y = get_or entries k z in
             let (i, listed, here) = zip_right (IsEntry seen) numbers entries zipped y (Contains-get_or entries k z within) in
             λ e n. here.spans e (subst (λ (j : ℕ). IsNumbered (edge_halves solid) j e) here.edge n);
       }
 
+module _ (solid : Solid) (c : Plane) (fraction : ℕ) (picked : Picked) (are : IsPicked (toward_of c) fraction (solid_part solid) (edge_halves solid) picked) where
+  abbrev IsOfCut : ℕ → EdgeSpans → Type 0
+  IsOfCut = IsCutEntry c (solid_part solid) (edge_halves solid)
+
+  pub counts_of_cut_entries : (entries : List EdgeSpans) → AllZip IsOfCut picked.drawn.items entries → AreCountsBeyond c fraction solid entries
+  counts_of_cut_entries entries zip = record {
+    edges = drawn_entries solid (toward_of c) fraction picked are entries (same_edges IsOfCut (λ i y here. here.edge) picked.drawn.items entries zip);
+    spans = λ k z within.
+        let y = get_or entries k z in
+        let (i, listed, here) = zip_right IsOfCut picked.drawn.items entries zip y (Contains-get_or entries k z within) in
+        λ e n. here.spans e (subst (λ (j : ℕ). IsNumbered (edge_halves solid) j e) here.edge n);
+  }
+
 -- ---- an entry's edge
 pub edges_more : (entries : List EdgeSpans) (k : ℕ) (x : EdgeSpans) → k < length entries → x ≡ get_or entries k x
     → map (λ y. y.edge) (take (k + 1) entries) ≡ map (λ y. y.edge) (take k entries) ++ x.edge ∷ []
 edges_more entries k x less is = map_more (λ (y : EdgeSpans). y.edge) entries k x less ∙ ap (λ (y : EdgeSpans). map (λ z. z.edge) (take k entries) ++ y.edge ∷ []) (sym is)
 
-module _ (d : Triple) (fraction : ℕ) (solid : Solid) (entries : List EdgeSpans) (are : AreCountsAlong d fraction solid entries) (x : EdgeSpans) (listed : Contains entries x) where
+module _ (d : Triple) (fraction : ℕ) (solid : Solid) (entries : List EdgeSpans) (drawn : AreDrawnEdges d fraction (solid_part solid) (edge_halves solid) (map (λ y. y.edge) entries))
+    (x : EdgeSpans) (listed : Contains entries x) where
   in_edges : Contains (map (λ y. y.edge) entries) x.edge
   in_edges = map_contains (λ (y : EdgeSpans). y.edge) entries x listed
 
   pub edge_within : x.edge < length (edge_halves solid)
-  edge_within = All-contains (λ i. i < length (edge_halves solid)) (map (λ y. y.edge) entries) x.edge are.edges.within in_edges
+  edge_within = All-contains (λ i. i < length (edge_halves solid)) (map (λ y. y.edge) entries) x.edge drawn.within in_edges
 
   pub edge_seen : OfEdge solid x.edge (λ e. ¬ IsEndOn d e)
-  edge_seen e n = ((are.edges.exactly x.edge e n).0 in_edges).1
+  edge_seen e n = ((drawn.exactly x.edge e n).0 in_edges).1
 
-  module _ (spans : List Span) (told : AllZip IsToldBy x.spans.items spans) where
-    pub edge_told : OfEdge solid x.edge (λ e. TellHidden d e spans)
-    edge_told e n = told_spans d e x.spans.items spans told (All-contains (λ y. OfEdge solid y.edge (λ e. AreCountSpans d e y.spans.items)) entries x are.spans listed e n)
+-- ---- the spans that the counts tell
+abbrev pub AreEarlier : List CountSpan → Type 0
+AreEarlier xs = All (λ x. IsEarlier x.from x.to) xs
 
-    pub edge_ordered : All (λ y. IsEarlier y.from y.to) spans
-    edge_ordered =
-        let (e, n) = edge_there solid x.edge edge_within in
-        let (from, to, zero_is, one_is, follow) = (edge_told e n).covers in
-        all_earlier from to spans follow
+module _ (d : Triple) (fraction : ℕ) (solid : Solid) (entries : List EdgeSpans) (are : AreCountsAlong d fraction solid entries) where
+  pub along_earlier : All (λ y. AreEarlier y.spans.items) entries
+  along_earlier k z within =
+      let y = get_or entries k z in
+      let listed = Contains-get_or entries k z within in
+      let (e, n) = edge_there solid y.edge (edge_within d fraction solid entries are.edges y listed) in
+      edge_earlier y.spans.items (All-contains (λ y. OfEdge solid y.edge (λ e. AreCountSpans d e y.spans.items)) entries y are.spans listed e n).covers
+
+  pub told_along : (strips : List Strip) → AreEdgeStrips d {s = solid_part solid} (AreTold entries (edge_halves solid)) (edge_halves solid) (map (λ y. y.edge) entries) strips
+      → AreEdgeStrips d {s = solid_part solid} (TellHidden d) (edge_halves solid) (map (λ y. y.edge) entries) strips
+  told_along = edges_weaker d (AreTold entries (edge_halves solid)) (TellHidden d) (edge_halves solid)
+      (λ e spans told. told_spans d e told.entry.spans.items spans told.each
+      (All-contains (λ y. OfEdge solid y.edge (λ e. AreCountSpans d e y.spans.items)) entries told.entry are.spans told.listed e told.numbered)) (map (λ y. y.edge) entries)
+
+module _ (c : Plane) (fraction : ℕ) (solid : Solid) (entries : List EdgeSpans) (are : AreCountsBeyond c fraction solid entries) where
+  pub beyond_cut_earlier : All (λ y. AreEarlier y.spans.items) entries
+  beyond_cut_earlier k z within =
+      let y = get_or entries k z in
+      let listed = Contains-get_or entries k z within in
+      let (e, n) = edge_there solid y.edge (edge_within (toward_of c) fraction solid entries are.edges y listed) in
+      beyond_earlier c e y.spans.items (All-contains (λ y. OfEdge solid y.edge (λ e. AreCutCountSpans c e y.spans.items)) entries y are.spans listed e n).covers
+
+  pub told_beyond : (strips : List Strip) → AreEdgeStrips (toward_of c) {s = solid_part solid} (AreTold entries (edge_halves solid)) (edge_halves solid) (map (λ y. y.edge) entries) strips
+      → AreEdgeStrips (toward_of c) {s = solid_part solid} (TellHiddenInCut c) (edge_halves solid) (map (λ y. y.edge) entries) strips
+  told_beyond = edges_weaker (toward_of c) (AreTold entries (edge_halves solid)) (TellHiddenInCut c) (edge_halves solid)
+      (λ e spans told. told_cut_spans c e told.entry.spans.items spans told.each
+      (All-contains (λ y. OfEdge solid y.edge (λ e. AreCutCountSpans c e y.spans.items)) entries told.entry are.spans told.listed e told.numbered)) (map (λ y. y.edge) entries)

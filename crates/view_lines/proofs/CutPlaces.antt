@@ -1,20 +1,16 @@
 -- The spans of an edge in a cut view: they are within its part beyond the plane, and cover it.
-use Rattle.std.proofs.Common.{◌⊎◌, inl, inr, List, [], All, Contains, get_or, subst, arith}
+use Rattle.std.proofs.Common.{◌⊎◌, inl, inr, List, [], Contains, subst, arith}
 use Rattle.std.specs.Prelude.{ℤ, pos, ◌<ℤ◌}
-use Rattle.std.proofs.lemmas.List.Elements.{Contains-get_or}
-use Rattle.lattice.specs.Cuts.{Plane, plane_of, toward_of, IsBeyond}
+use Rattle.lattice.specs.Cuts.{Plane, toward_of, IsBeyond}
 use Rattle.geometry.specs.Faces.{share_point}
 use Rattle.geometry.specs.Parts.{Part, Edge}
 use Rattle.geometry.specs.Cuts.{IsOrdinaryInCut}
 use Rattle.geometry.proofs.BorderSteps.{ordinary_along_cut}
 use Rattle.span_slow.specs.declared.span.Span.{Span}
-use Rattle.span_slow.specs.declared.view.View.{View}
-use Rattle.span_slow.specs.declared.view.View.TheVariants.{Plain, Section}
 use Rattle.geometry.specs.Places.{IsEarlier, IsBetween, HasNoEndAt}
-use Rattle.span_slow.specs.CutSpans.{CoverBeyond, AreCutSpans}
-use Rattle.span_slow.specs.Views.{AreSpansIn}
+use Rattle.span_slow.specs.CutSpans.{CoverBeyond}
 use Rattle.span_slow.proofs.CutCovers.{CoverNothing, CoverBetween, cover_cases}
-use Rattle.view_lines.proofs.SpanPlaces.{earlier_in, all_earlier, between_chain, find, weak, inner_of_between}
+use Rattle.view_lines.proofs.SpanPlaces.{earlier_in, between_chain, find, weak, inner_of_between}
 
 module _ (c : Plane) {s : Part} (e : Edge s) where
   -- the span is within the part
@@ -35,9 +31,6 @@ module _ (c : Plane) {s : Part} (e : Edge s) where
             (h.exactly n m strict.0 strict.1).1 wide;
       }
 
-  pub cut_earlier : (spans : List Span) → AreCutSpans c e spans → All (λ x. IsEarlier x.from x.to) spans
-  cut_earlier spans right k x within = (in_part spans right.covers (get_or spans k x) (Contains-get_or spans k x within)).earlier
-
   -- a place beyond the plane that is at no end of a span is within one
   pub span_beyond : (n m : ℤ) → pos 0 <ℤ m → IsOrdinaryInCut c s (share_point e.a e.b n m) → (pos 0 <ℤ n) × (n <ℤ m) → IsBeyond c (share_point e.a e.b n m)
       → (spans : List Span) → CoverBeyond c e spans → ((x : Span) → Contains spans x → HasNoEndAt (IsOrdinaryInCut c s) e x.from x.to)
@@ -49,8 +42,3 @@ module _ (c : Plane) {s : Part} (e : Edge s) where
       by (inr h) =
           let here = (h.exactly n m strict.0 strict.1).0 beyond in
           find (toward_of c) (IsOrdinaryInCut c s) (ordinary_along_cut c s) e n m positive ordinary h.from h.to spans h.follow apart here.0 (weak _ _ here.1)
-
--- in each view a span begins before it ends
-pub view_earlier : (v : View) {s : Part} (e : Edge s) (spans : List Span) → AreSpansIn v e spans → All (λ x. IsEarlier x.from x.to) spans
-view_earlier (Plain d) e spans right = let (from, to, zero_is, one_is, follow) = right.covers in all_earlier from to spans follow
-view_earlier (Section x) e spans right = cut_earlier (plane_of x.now.cut) e spans right

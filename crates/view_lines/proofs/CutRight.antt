@@ -21,6 +21,7 @@ use Rattle.geometry.proofs.Borders.{on_plane_is_visible}
 use Rattle.geometry.proofs.BorderSteps.{ordinary_along_cut}
 use Rattle.geometry.proofs.StepLines.{RunsAlong, one_line}
 use Rattle.geometry.proofs.OnLines.{on_line_between}
+use Rattle.geometry.proofs.Sights.{sight_on}
 use Rattle.geometry.specs.Places.{IsBetween, HasNoEndAt}
 use Rattle.hiding.proofs.CutPlanes.{ordinary-in-plain}
 use Rattle.hiding.proofs.FrontEnds.{not-at-start, not-at-finish}
@@ -29,15 +30,16 @@ use Rattle.line_merge.specs.Merging.{AreStrips, LiesOnStrip, IsClear, AreMerged}
 use Rattle.cut_plane.specs.declared.segments.Segment.{Segment}
 use Rattle.cut_plane.specs.Loops.{IsSegmentOf, AreBorders}
 use Rattle.solid_mesh.proofs.SpotLemmas.{share_on_edge}
-use Rattle.span_slow.specs.CutSpans.{IsAnswerInCut, AreCutSpans}
+use Rattle.section_parity.specs.Diagonals.{IsUnderBorder}
 use Rattle.span_slow.specs.declared.span.Span.{Span}
-use Rattle.view_lines.specs.inner.Strips.{IsBorderStrip, AreCutStrips}
+use Rattle.view_lines.specs.inner.Strips.{IsFreeAnswer, TellHiddenInCut, IsBorderStrip, AreCutStrips}
 use Rattle.view_lines.proofs.BorderWays.{segment_of_point}
 use Rattle.view_lines.proofs.BorderStrips.{border_strip_ends, strip_runs, off_border_ends, point_of_border, strip_of_border}
 use Rattle.view_lines.proofs.EdgeScenes.{IsKeptPlace, edge_origin, strip_of_edge_point}
 use Rattle.view_lines.proofs.EdgeStrips.{IsSpanOf, Origin, origin_ends, origin_runs, off_strip_ends, point_of_strip, edge_under}
-use Rattle.view_lines.proofs.SpanPlaces.{weak, inner_of_between}
-use Rattle.view_lines.proofs.StripScenes.{TellsOf, Shows, ShowAt, right_of_merged}
+use Rattle.view_lines.proofs.SpanPlaces.{StaysAlong, weak, inner_of_between}
+use Rattle.view_lines.proofs.StripScenes.{TellsOf, Shows, ShowAt, ShowVisible, right_of_merged}
+use Rattle.view_lines.proofs.StripsDecided.{strip_or, some_strip_or}
 use Rattle.view_lines.proofs.CutPlaces.{in_part, span_beyond}
 
 -- ---- all strips
@@ -57,12 +59,22 @@ module _ (c : Plane) (fraction : ℕ) (s : Part) (halves numbers : List ℕ) (se
   abbrev Ordinary : Point → Type 0
   Ordinary = IsOrdinaryInCut c s
 
+  -- an ordinary point with no border on its line of sight: there a span's answer is right
+  abbrev Told : Point → Type 0
+  Told p = Ordinary p × ¬ IsUnderBorder c s p
+
+  told_along : StaysAlong d Told
+  told_along p q positive sight told = (
+    ordinary_along_cut c s p q positive sight told.0,
+    λ under. let (f, (r, on, seen)) = under in told.1 (f, (r, on, sight_on d r q p positive seen sight)),
+  )
+
   -- a strip of an edge's span, or of a segment
   data Source (y : Strip) : Type 0 where
-    of_edge : Origin d Drawn Hidden Ordinary s y → Source y
+    of_edge : Origin d Drawn Hidden Ordinary Told s y → Source y
     of_border : (x : Segment) → IsSegmentOf c s x → IsBorderStrip x y → Source y
 
-  right : (e : Edge s) → IsDrawn d fraction e → (spans : List Span) → AreCutSpans c e spans → (x : Span) → Contains spans x → IsSpanOf d Drawn Hidden Ordinary e x
+  right : (e : Edge s) → IsDrawn d fraction e → (spans : List Span) → TellHiddenInCut c e spans → (x : Span) → Contains spans x → IsSpanOf d Drawn Hidden Ordinary Told e x
   right e is_drawn spans cut x listed =
       let within = in_part c e spans cut.covers x listed in
       record {
@@ -72,7 +84,7 @@ module _ (c : Plane) (fraction : ℕ) (s : Part) (halves numbers : List ℕ) (se
         drawn = λ n m positive between.
             let strict = inner_of_between x.from x.to n m positive x.from_place x.to_place between in
             inl (e, is_drawn, share_on_edge e.a e.b n m (weak (pos 0) n strict.0) (weak n m strict.1) positive, within.within n m positive between);
-        answer = All-contains (IsAnswerInCut c e) spans x cut.answers listed;
+        answer = λ n m positive between told. All-contains (IsFreeAnswer c e) spans x cut.answers listed n m positive between told.0 told.1;
       }
 
   -- an ordinary point of an edge is not at its corners
@@ -88,13 +100,13 @@ module _ (c : Plane) (fraction : ℕ) (s : Part) (halves numbers : List ℕ) (se
       equal : (x y : ℤ) → x ≤ℤ y → y ≤ℤ x → x ≡ y
       equal x y h g = omega (arith, ints)
 
-  find : (e : Edge s) (spans : List Span) → AreCutSpans c e spans → (n m : ℤ) → IsKeptPlace Ordinary (IsBeyond c) e n m → (x : Span) × Contains spans x × IsBetween x.from x.to n m
+  find : (e : Edge s) (spans : List Span) → TellHiddenInCut c e spans → (n m : ℤ) → IsKeptPlace Ordinary (IsBeyond c) e n m → (x : Span) × Contains spans x × IsBetween x.from x.to n m
   find e spans cut n m at =
       span_beyond c e n m at.positive at.ordinary (strict_place e n m at.positive at.least at.most at.ordinary) at.kept spans cut.covers
       (λ x listed. All-contains (λ x. HasNoEndAt Ordinary e x.from x.to) spans x cut.ends listed)
 
-  origin : (y : Strip) → Contains given.of_edges y → Origin d Drawn Hidden Ordinary s y
-  origin = edge_origin d Drawn Hidden Ordinary (IsBeyond c) fraction s halves numbers there drawn (AreCutSpans c) right find given.of_edges given.edges
+  origin : (y : Strip) → Contains given.of_edges y → Origin d Drawn Hidden Ordinary Told s y
+  origin = edge_origin d Drawn Hidden Ordinary Told (IsBeyond c) fraction s halves numbers there drawn (TellHiddenInCut c) right find given.of_edges given.edges
 
   source : (y : Strip) → Contains strips y → Source y
   source y listed = by (Contains-append_cases given.of_edges given.of_borders y (subst (λ ys. Contains ys y) given.together listed))
@@ -106,7 +118,7 @@ module _ (c : Plane) (fraction : ℕ) (s : Part) (halves numbers : List ℕ) (se
           of_border x (All-contains (IsSegmentOf c s) segments x borders.each in_segments) is
 
   source_ends : (y : Strip) → Source y → AreStripEnds d y.line y.a y.b
-  source_ends y (of_edge o) = origin_ends d Drawn Hidden Ordinary s y o
+  source_ends y (of_edge o) = origin_ends d Drawn Hidden Ordinary Told s y o
   source_ends y (of_border x h is) = border_strip_ends c s closed in_range x h y is
 
   pub are_cut_strips : AreStrips d strips
@@ -118,7 +130,7 @@ module _ (c : Plane) (fraction : ℕ) (s : Part) (halves numbers : List ℕ) (se
     Shown y q = Shows d Drawn Hidden y p q
 
     off_source_ends : (y : Strip) → Source y → (¬ OnOneSight d (of_spot y.a) p) × (¬ OnOneSight d (of_spot y.b) p)
-    off_source_ends y (of_edge o) = off_strip_ends d Drawn Hidden Ordinary s y o (ordinary_along_cut c s) p ordinary
+    off_source_ends y (of_edge o) = off_strip_ends d Drawn Hidden Ordinary Told s y o (ordinary_along_cut c s) p ordinary
     off_source_ends y (of_border x h is) = off_border_ends c s closed in_range x h y is p ordinary
 
     -- the edge or the border that a strip is of: its line runs along it
@@ -130,8 +142,8 @@ module _ (c : Plane) (fraction : ℕ) (s : Part) (halves numbers : List ℕ) (se
     way_of : (y : Strip) → Source y → LiesOnStrip d y p → Way y
     way_of y (of_edge o) on = record {
       way = edge o.edge;
-      under = edge_under d Drawn Hidden Ordinary s y o (ordinary_along_cut c s) p ordinary on;
-      runs = origin_runs d Drawn Hidden Ordinary s y o;
+      under = edge_under d Drawn Hidden Ordinary Told s y o (ordinary_along_cut c s) p ordinary on;
+      runs = origin_runs d Drawn Hidden Ordinary Told s y o;
     }
     way_of y (of_border x h is) on =
         let (q, on_border, sight) = point_of_border c s closed in_range x h y is p on in
@@ -161,12 +173,6 @@ module _ (c : Plane) (fraction : ℕ) (s : Part) (halves numbers : List ℕ) (se
       tells = subst (λ (k : StripKind). TellsOf k (Hidden q)) (sym visible) (on_plane_is_visible c s q on_border.1);
     }
 
-    point_of : (y : Strip) → Source y → LiesOnStrip d y p → (q : Point) × Shown y q
-    point_of y (of_edge o) on = point_of_strip d Drawn Hidden Ordinary s y o (ordinary_along_cut c s) p ordinary on
-    point_of y (of_border x h is) on =
-        let (q, on_border, sight) = point_of_border c s closed in_range x h y is p on in
-        (q, border_shows h.face y q is.kind on_border sight)
-
     -- ---- the strip of a drawn point on the line of sight
     abbrev HasStrip : Point → Type 0
     HasStrip q = (y : Strip) × Contains strips y × LiesOnStrip d y p × Shown y q
@@ -183,25 +189,55 @@ module _ (c : Plane) (fraction : ℕ) (s : Part) (halves numbers : List ℕ) (se
     face_there : (f : Face s) (q : Point) → IsPointOfFace f.a f.b f.c q → IsPoint q
     face_there f q (i, j, k, some, is) = subst IsPoint (sym is) (there_of i j k some)
 
-    strip_of_border_point : (f : Face s) (q : Point) → IsOnBorder c f q → OnOneSight d q p → HasStrip q
-    strip_of_border_point f q on_border sight =
+    -- a border point on the line of sight is on a strip of a segment
+    border_strip_at : (f : Face s) (q : Point) → IsOnBorder c f q → OnOneSight d q p → (y : Strip) × Contains given.of_borders y × (y.kind ≡ Seen) × LiesOnStrip d y p
+    border_strip_at f q on_border sight =
         let (x, in_segments, h, on_its) = segment_of_point c s segments places borders f q on_border in
-        let (k, y, below, at, is) = zip_left IsBorderStrip segments given.of_borders given.borders x in_segments in (
-          y,
-          of_borders y (k, below, at),
-          strip_of_border c s closed in_range x h y is p q (face_there f q on_border.0) on_its sight,
-          border_shows f y q is.kind on_border sight,
-        )
+        let (k, y, below, at, is) = zip_left IsBorderStrip segments given.of_borders given.borders x in_segments in
+        (y, (k, below, at), is.kind, strip_of_border c s closed in_range x h y is p q (face_there f q on_border.0) on_its sight)
 
-    strip_of : (q : Point) → IsSeenAt d Drawn p q → HasStrip q
-    strip_of q (inl (e, is_drawn, on_edge, beyond), sight) =
-        let (y, listed, on, shows) = strip_of_edge_point d Drawn Hidden Ordinary (IsBeyond c) fraction s halves numbers there drawn (AreCutSpans c) right find given.of_edges given.edges
-        closed (ordinary_along_cut c s) p q ordinary (e, is_drawn, on_edge) beyond (inl (e, is_drawn, on_edge, beyond)) sight in
-        (y, of_edges y listed, on, shows)
-    strip_of q (inr (f, on_border), sight) = strip_of_border_point f q on_border sight
+    strip_of_border_point : (f : Face s) (q : Point) → IsOnBorder c f q → OnOneSight d q p → HasStrip q
+    strip_of_border_point f q on_border sight = let (y, listed, visible, on) = border_strip_at f q on_border sight in (y, of_borders y listed, on, border_shows f y q visible on_border sight)
 
-    shown : ShowAt d Drawn Hidden (λ q. ⊥) strips p
-    shown = record { clear = clear; point_of = λ y listed on. inl (point_of y (source y listed) on); strip_of = strip_of; trace_of = λ q at. absurd at.0 }
+    -- whether the strip of some border lies there is decided
+    some_border_or : ((y : Strip) × Contains given.of_borders y × LiesOnStrip d y p) ⊎ ((y : Strip) → Contains given.of_borders y → ¬ LiesOnStrip d y p)
+    some_border_or =
+        some_strip_or d p positive given.of_borders
+        (λ y listed. let of_y = source y (of_borders y listed) in strip_or d p positive y (source_ends y of_y) (off_source_ends y of_y))
+
+    -- where it does a border point is drawn and visible, whatever the edges' strips tell
+    on_border : (y : Strip) → Contains given.of_borders y → LiesOnStrip d y p → ShowVisible d Drawn Hidden strips p
+    on_border y listed on =
+        let (x, in_segments, is) = zip_right IsBorderStrip segments given.of_borders given.borders y listed in
+        let h = All-contains (IsSegmentOf c s) segments x borders.each in_segments in
+        let (q, at, sight) = point_of_border c s closed in_range x h y is p on in
+        record { clear = clear; strip = (y, of_borders y listed, is.kind, on); point = (q, inr (h.face, at), sight, on_plane_is_visible c s q at.1) }
+
+    -- where none does no border is on the line of sight, and the edges' strips tell what is so
+    module _ (free : ¬ IsUnderBorder c s p) where
+      point_of : (y : Strip) → Source y → LiesOnStrip d y p → (q : Point) × Shown y q
+      point_of y (of_edge o) on = point_of_strip d Drawn Hidden Ordinary Told s y o (ordinary_along_cut c s) p ordinary told_along (ordinary, free) on
+      point_of y (of_border x h is) on =
+          let (q, on_border, sight) = point_of_border c s closed in_range x h y is p on in
+          (q, border_shows h.face y q is.kind on_border sight)
+
+      strip_of : (q : Point) → IsSeenAt d Drawn p q → HasStrip q
+      strip_of q (inl (e, is_drawn, on_edge, beyond), sight) =
+          let (y, listed, on, shows) = strip_of_edge_point d Drawn Hidden Ordinary Told (IsBeyond c) fraction s halves numbers there drawn (TellHiddenInCut c) right find given.of_edges given.edges
+          closed (ordinary_along_cut c s) told_along p q ordinary (ordinary, free) (e, is_drawn, on_edge) beyond (inl (e, is_drawn, on_edge, beyond)) sight in
+          (y, of_edges y listed, on, shows)
+      strip_of q (inr (f, on_border), sight) = strip_of_border_point f q on_border sight
+
+      off_borders : ShowAt d Drawn Hidden (λ q. ⊥) strips p
+      off_borders = record { clear = clear; point_of = λ y listed on. inl (point_of y (source y listed) on); strip_of = strip_of; trace_of = λ q at. absurd at.0 }
+
+    shown : ShowAt d Drawn Hidden (λ q. ⊥) strips p ⊎ ShowVisible d Drawn Hidden strips p
+    shown = by some_border_or
+      where
+        by : ((y : Strip) × Contains given.of_borders y × LiesOnStrip d y p) ⊎ ((y : Strip) → Contains given.of_borders y → ¬ LiesOnStrip d y p)
+            → ShowAt d Drawn Hidden (λ q. ⊥) strips p ⊎ ShowVisible d Drawn Hidden strips p
+        by (inl (y, listed, on)) = inr (on_border y listed on)
+        by (inr none) = inl (off_borders (λ under. let (f, (q, at, sight)) = under in let (y, listed, visible, on) = border_strip_at f q at sight in none y listed on))
 
   -- the strips put together are a right list
   pub right_in_cut : (pieces : List Piece) → AreMerged d strips pieces → AreRightInCut c fraction s pieces

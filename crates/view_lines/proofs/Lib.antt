@@ -11,6 +11,7 @@ pub mod SpanSums
 pub mod StripLists
 pub mod StripPlaces
 pub mod StripScenes
+pub mod StripsDecided
 pub mod TraceAxes
 pub mod TraceLists
 pub mod TraceMade

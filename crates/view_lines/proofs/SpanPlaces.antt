@@ -1,8 +1,7 @@
 -- A point of an edge that is at no end of its spans is strictly within one of them. What points are at no end is what a view takes for ordinary.
-use Rattle.std.proofs.Common.{◌≡◌, zero, suc, List, [], ◌∷◌, Contains, All, get_or, refl, sym, subst, ◌∙◌, arith}
+use Rattle.std.proofs.Common.{◌≡◌, zero, suc, List, [], ◌∷◌, Contains, refl, sym, subst, ◌∙◌, arith}
 use Rattle.std.specs.Prelude.{ℤ, pos, ◌-ℤ◌, ◌*ℤ◌, ◌<ℤ◌, ◌≤ℤ◌}
 use Rattle.std.proofs.lemmas.Int.{ints, by_lt_z}
-use Rattle.std.proofs.lemmas.List.Elements.{Contains-get_or}
 use Rattle.integers.proofs.Lists.{Contains-later}
 use Rattle.integers.proofs.Ring.{var, ◌⊖◌, ◌⊗◌, ring}
 use Rattle.integers.proofs.Signs.{mul_nonneg}
@@ -37,9 +36,6 @@ pub earlier_in : (from to : Frac) (spans : List Span) → Follow from spans to �
 earlier_in from to [] h x (k, within, is) = absurd (omega arith)
 earlier_in from to (y ∷ ys) (same, earlier, later) x (zero, within, is) = subst (λ (z : Span). IsEarlier z.from z.to) is earlier
 earlier_in from to (y ∷ ys) (same, earlier, later) x (suc k, within, is) = earlier_in y.to to ys later x (k, omega arith, is)
-
-pub all_earlier : (from to : Frac) (spans : List Span) → Follow from spans to → All (λ x. IsEarlier x.from x.to) spans
-all_earlier from to spans follow k x within = earlier_in from to spans follow (get_or spans k x) (Contains-get_or spans k x within)
 
 -- and is within the chain
 module _ (n m : ℤ) (positive : pos 0 <ℤ m) where

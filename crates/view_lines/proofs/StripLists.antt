@@ -47,3 +47,15 @@ module _ (d : Triple) {s : Part} (Right : Edge s → List Span → Type 0) (halv
   strips_of_edge (k ∷ ks) strips (here, rest, parted, of_k, later) i (suc n, within, is) =
       let (group, within_rest, of_i) = strips_of_edge ks rest later i (n, omega arith, is) in
       (group, λ y c. subst (λ ys. Contains ys y) (sym parted) (Contains-append_right here rest y (within_rest y c)), of_i)
+
+-- what is so of the spans of each edge may be weakened
+pub edges_weaker : (d : Triple) {s : Part} (Right Other : Edge s → List Span → Type 0) (halves : List ℕ) → ((e : Edge s) (spans : List Span) → Right e spans → Other e spans)
+    → (numbers : List ℕ) (strips : List Strip) → AreEdgeStrips d Right halves numbers strips → AreEdgeStrips d Other halves numbers strips
+edges_weaker d Right Other halves weaker [] strips h = h
+edges_weaker d Right Other halves weaker (i ∷ is) strips (here, rest, parted, of_i, later) = (
+  here,
+  rest,
+  parted,
+  λ e n. let group = of_i e n in record { spans = group.spans; right = weaker e group.spans group.right; each = group.each },
+  edges_weaker d Right Other halves weaker is rest later,
+)

@@ -42,6 +42,12 @@ pub record ShowAt (d : Triple) (Drawn Hides Traced : Point → Type 0) (strips :
   pub strip_of : (q : Point) → IsSeenAt d Drawn p q → (y : Strip) × Contains strips y × LiesOnStrip d y p × Shows d Drawn Hides y p q
   pub trace_of : (q : Point) → IsSeenAt d Traced p q → (y : Strip) × Contains strips y × LiesOnStrip d y p × (y.kind ≡ Trace)
 
+-- a strip that is seen lies on the line of sight of p, and so does a drawn point that is not hidden: whatever else lies there
+pub record ShowVisible (d : Triple) (Drawn Hides : Point → Type 0) (strips : List Strip) (p : Point) : Type 0 where
+  pub clear : IsClear d strips p
+  pub strip : LiesOnKind d strips Seen p
+  pub point : SeesVisible d Drawn Hides p
+
 of_kind : (k l : StripKind) (P : Type 0) → k ≡ l → TellsOf k P → TellsOf l P
 of_kind k l P same tells = subst (λ (k : StripKind). TellsOf k P) same tells
 
@@ -126,17 +132,53 @@ module _ (d : Triple) (Drawn Hides Traced : Point → Type 0) (strips : List Str
       },
     )
 
+  module _ (p : Point) (shown : ShowVisible d Drawn Hides strips p) where
+    visible_alike : LiesOnKind d strips Seen p ↔ SeesVisible d Drawn Hides p
+    visible_alike = (λ v. shown.point, λ v. shown.strip)
+
+    hidden_alike : (LiesOnKind d strips Hidden p × ¬ LiesOnKind d strips Seen p) ↔ SeesHiddenAlone d Drawn Hides p
+    hidden_alike = (
+      λ h. absurd (h.1 shown.strip),
+      λ h. let (q, drawn, sight, unseen) = shown.point in absurd (unseen (h.hidden q (drawn, sight))),
+    )
+
+    traced_alike : LiesOnTracesOnly d strips p ↔ SeesTraceAlone d Drawn Traced p
+    traced_alike = (
+      λ h. let (y, c, is, on) = shown.strip in absurd (not_seen y.kind (h.traces y c on) is),
+      λ h. let (q, drawn, sight, unseen) = shown.point in absurd (h.none q (drawn, sight)),
+    )
+
+  -- what the strips show at p, by the one or by the other
+  abbrev pub Shown : Point → Type 0
+  Shown p = ShowAt d Drawn Hides Traced strips p ⊎ ShowVisible d Drawn Hides strips p
+
+  clear_by : (p : Point) → Shown p → IsClear d strips p
+  clear_by p (inl shown) = shown.clear
+  clear_by p (inr shown) = shown.clear
+
+  visible_by : (p : Point) → Shown p → LiesOnKind d strips Seen p ↔ SeesVisible d Drawn Hides p
+  visible_by p (inl shown) = visible p shown
+  visible_by p (inr shown) = visible_alike p shown
+
+  hidden_by : (p : Point) → Shown p → (LiesOnKind d strips Hidden p × ¬ LiesOnKind d strips Seen p) ↔ SeesHiddenAlone d Drawn Hides p
+  hidden_by p (inl shown) = hidden p shown
+  hidden_by p (inr shown) = hidden_alike p shown
+
+  traced_by : (p : Point) → Shown p → LiesOnTracesOnly d strips p ↔ SeesTraceAlone d Drawn Traced p
+  traced_by p (inl shown) = traced p shown
+  traced_by p (inr shown) = traced_alike p shown
+
   both : {A B C : Type 0} → A ↔ B → B ↔ C → A ↔ C
   both f g = (λ a. g.0 (f.0 a), λ c. f.1 (g.1 c))
 
   -- the strips put together are a right list
-  pub right_of_merged : (Ordinary : Point → Type 0) → ((p : Point) → IsPoint p → Ordinary p → ShowAt d Drawn Hides Traced strips p)
+  pub right_of_merged : (Ordinary : Point → Type 0) → ((p : Point) → IsPoint p → Ordinary p → Shown p)
       → (pieces : List Piece) → AreMerged d strips pieces → AreRightIn d Drawn Hides Traced Ordinary pieces
   right_of_merged Ordinary shown pieces merged = record {
     proper = merged.proper;
-    visible = λ p positive ordinary. let at = shown p positive ordinary in both (merged.visible p positive at.clear) (visible p at);
-    hidden = λ p positive ordinary. let at = shown p positive ordinary in both (merged.hidden p positive at.clear) (hidden p at);
-    traced = λ p positive ordinary. let at = shown p positive ordinary in both (merged.traces p positive at.clear) (traced p at);
-    once = λ p positive ordinary. merged.once p positive (shown p positive ordinary).clear;
+    visible = λ p positive ordinary. let at = shown p positive ordinary in both (merged.visible p positive (clear_by p at)) (visible_by p at);
+    hidden = λ p positive ordinary. let at = shown p positive ordinary in both (merged.hidden p positive (clear_by p at)) (hidden_by p at);
+    traced = λ p positive ordinary. let at = shown p positive ordinary in both (merged.traces p positive (clear_by p at)) (traced_by p at);
+    once = λ p positive ordinary. merged.once p positive (clear_by p (shown p positive ordinary));
     whole = merged.whole;
   }

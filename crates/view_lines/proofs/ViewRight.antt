@@ -46,7 +46,7 @@ module _ (d : Triple) (fraction : ℕ) (s : Part) (halves numbers : List ℕ) (c
   abbrev Kept : Point → Type 0
   Kept q = Unit {0}
 
-  right : (e : Edge s) → IsDrawn d fraction e → (spans : List Span) → TellHidden d e spans → (x : Span) → Contains spans x → IsSpanOf d Drawn Hidden Ordinary e x
+  right : (e : Edge s) → IsDrawn d fraction e → (spans : List Span) → TellHidden d e spans → (x : Span) → Contains spans x → IsSpanOf d Drawn Hidden Ordinary Ordinary e x
   right e is_drawn spans told x listed =
       let (from, to, zero_is, one_is, follow) = told.covers in
       record {
@@ -66,11 +66,11 @@ module _ (d : Triple) (fraction : ℕ) (s : Part) (halves numbers : List ℕ) (c
 
   -- a strip of an edge's span, or of a trace
   data Source (y : Strip) : Type 0 where
-    of_edge : Origin d Drawn Hidden Ordinary s y → Source y
+    of_edge : Origin d Drawn Hidden Ordinary Ordinary s y → Source y
     of_trace : (c : Plane) → Contains cuts c → (sight : Axis) → IsTraceStrip d s c sight y → Source y
 
-  origin : (y : Strip) → Contains given.of_edges y → Origin d Drawn Hidden Ordinary s y
-  origin = edge_origin d Drawn Hidden Ordinary Kept fraction s halves numbers there drawn (TellHidden d) right find given.of_edges given.edges
+  origin : (y : Strip) → Contains given.of_edges y → Origin d Drawn Hidden Ordinary Ordinary s y
+  origin = edge_origin d Drawn Hidden Ordinary Ordinary Kept fraction s halves numbers there drawn (TellHidden d) right find given.of_edges given.edges
 
   source : (y : Strip) → Contains strips y → Source y
   source y listed = by (Contains-append_cases given.of_edges given.of_traces y (subst (λ ys. Contains ys y) given.together listed))
@@ -80,7 +80,7 @@ module _ (d : Triple) (fraction : ℕ) (s : Part) (halves numbers : List ℕ) (c
       by (inr here) = let (c, in_cuts, (sight, is)) = given.traces.each y here in of_trace c in_cuts sight is
 
   source_ends : (y : Strip) → Source y → AreStripEnds d y.line y.a y.b
-  source_ends y (of_edge o) = origin_ends d Drawn Hidden Ordinary s y o
+  source_ends y (of_edge o) = origin_ends d Drawn Hidden Ordinary Ordinary s y o
   source_ends y (of_trace c listed sight is) = trace_ends d s c sight y is
 
   pub are_strips : AreStrips d strips
@@ -95,7 +95,7 @@ module _ (d : Triple) (fraction : ℕ) (s : Part) (halves numbers : List ℕ) (c
     Shown y q = Shows d Drawn Hidden y p q
 
     off_source_ends : (y : Strip) → Source y → (¬ OnOneSight d (of_spot y.a) p) × (¬ OnOneSight d (of_spot y.b) p)
-    off_source_ends y (of_edge o) = off_strip_ends d Drawn Hidden Ordinary s y o (ordinary_along d s) p ordinary
+    off_source_ends y (of_edge o) = off_strip_ends d Drawn Hidden Ordinary Ordinary s y o (ordinary_along d s) p ordinary
     off_source_ends y (of_trace c listed sight is) = off_trace_ends d s c sight y is cuts listed p beside
 
     -- the edge or the trace that a strip is of: its line runs along it
@@ -105,8 +105,8 @@ module _ (d : Triple) (fraction : ℕ) (s : Part) (halves numbers : List ℕ) (c
 
     way_of : (y : Strip) → Source y → LiesOnStrip d y p → Way y
     way_of y (of_edge o) on =
-        along_edge o.edge (o.edge, edge_under d Drawn Hidden Ordinary s y o (ordinary_along d s) p ordinary on, λ i. difference o.edge.a o.edge.b)
-        (origin_runs d Drawn Hidden Ordinary s y o)
+        along_edge o.edge (o.edge, edge_under d Drawn Hidden Ordinary Ordinary s y o (ordinary_along d s) p ordinary on, λ i. difference o.edge.a o.edge.b)
+        (origin_runs d Drawn Hidden Ordinary Ordinary s y o)
     way_of y (of_trace c listed sight is) on =
         along_trace (unit_of (third_of c.axis sight)) (c, listed, (sight, point_of_trace d s c sight y is p on, λ i. unit_of (third_of c.axis sight))) (trace_runs d s c sight y is)
 
@@ -143,7 +143,7 @@ module _ (d : Triple) (fraction : ℕ) (s : Part) (halves numbers : List ℕ) (c
     }
 
     point_of : (y : Strip) → Source y → LiesOnStrip d y p → ((q : Point) × Shown y q) ⊎ ShowsTrace d (IsTracePoint d s cuts) y p
-    point_of y (of_edge o) on = inl (point_of_strip d Drawn Hidden Ordinary s y o (ordinary_along d s) p ordinary on)
+    point_of y (of_edge o) on = inl (point_of_strip d Drawn Hidden Ordinary Ordinary s y o (ordinary_along d s) p ordinary (ordinary_along d s) ordinary on)
     point_of y (of_trace c listed sight is) on =
         let (q, on_trace, same) = point_of_trace d s c sight y is p on in
         inr (record { kind = is.kind; seen = (q, ((c, listed, (sight, on_trace)), same)) })
@@ -157,8 +157,8 @@ module _ (d : Triple) (fraction : ℕ) (s : Part) (halves numbers : List ℕ) (c
     -- each drawn point on the line of sight is on a strip
     strip_of : (q : Point) → IsSeenAt d Drawn p q → (y : Strip) × Contains strips y × LiesOnStrip d y p × Shown y q
     strip_of q (on_drawn, sight) =
-        let (y, listed, on, shows) = strip_of_edge_point d Drawn Hidden Ordinary Kept fraction s halves numbers there drawn (TellHidden d) right find given.of_edges given.edges
-        closed (ordinary_along d s) p q ordinary on_drawn tt on_drawn sight in
+        let (y, listed, on, shows) = strip_of_edge_point d Drawn Hidden Ordinary Ordinary Kept fraction s halves numbers there drawn (TellHidden d) right find given.of_edges given.edges
+        closed (ordinary_along d s) (ordinary_along d s) p q ordinary ordinary on_drawn tt on_drawn sight in
         (y, of_edges y listed, on, shows)
 
     -- and so is each point of a trace
@@ -172,4 +172,4 @@ module _ (d : Triple) (fraction : ℕ) (s : Part) (halves numbers : List ℕ) (c
 
   -- the strips put together are a right list
   pub right_view : (pieces : List Piece) → AreMerged d strips pieces → AreRight d fraction s cuts pieces
-  right_view pieces merged = right_of_merged d Drawn Hidden (IsTracePoint d s cuts) strips (IsOrdinaryBeside d s cuts) shown pieces merged
+  right_view pieces merged = right_of_merged d Drawn Hidden (IsTracePoint d s cuts) strips (IsOrdinaryBeside d s cuts) (λ p positive beside. inl (shown p positive beside)) pieces merged

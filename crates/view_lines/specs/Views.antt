@@ -15,7 +15,7 @@ use Rattle.hatch_fill.specs.Hatching.{IsHatching}
 use Rattle.solid_mesh.specs.declared.solid.Solid.{Solid}
 use Rattle.solid_mesh.specs.Solids.{solid_part}
 use Rattle.span_count.specs.declared.span.EdgeSpans.{EdgeSpans}
-use Rattle.view_lines.specs.Counts.{AreCountsAlong}
+use Rattle.view_lines.specs.Counts.{AreCountsAlong, AreCountsBeyond}
 use Rattle.view_lines.specs.declared.view.ViewDrawing.{ViewDrawing}
 
 -- the pieces are right for what the view shows: the whole part, with the traces of these cuts, or what a cut leaves of it
@@ -33,10 +33,10 @@ abbrev pub IsHatchedView : ViewSpec → ℕ → Part → List HatchLine → Type
 IsHatchedView (Plain d) spacing s lines = lines ≡ []
 IsHatchedView (Section c) spacing s lines = IsHatching (plane_of c) s spacing lines
 
--- the counts of what the view shows: those along the drawn edges of the whole part, and none of what a cut leaves of it
+-- the counts of what the view shows: those along the drawn edges of the whole part, or of what a cut leaves of it
 abbrev pub IsCountedView : ViewSpec → ℕ → Solid → List EdgeSpans → Type 0
 IsCountedView (Plain d) fraction solid entries = AreCountsAlong (of_dir d) fraction solid entries
-IsCountedView (Section c) fraction solid entries = entries ≡ []
+IsCountedView (Section c) fraction solid entries = AreCountsBeyond (plane_of c) fraction solid entries
 
 -- the view shows of the solid what was asked for: its pieces are right for it and the crease, and in order, its hatch lines are so
 -- many units apart, and its counts are right

@@ -1,6 +1,6 @@
-// The view of what a cut leaves of the solid: the spans of its drawn edges and the section's borders, as strips that are put
-// together to pieces, and the hatch lines of the section.
-ghost use Rattle.std.specs.Prelude.{◌≡◌, ℕ, ◌≤◌, List, [], ◌++◌, IfOk, OnOk};
+// The view of what a cut leaves of the solid: the spans of its drawn edges by their counts and the section's borders, as strips that
+// are put together to pieces, and the hatch lines of the section.
+ghost use Rattle.std.specs.Prelude.{◌≡◌, ℕ, ◌≤◌, ◌^◌, List, ◌++◌, map, IfOk, OnOk};
 ghost use Rattle.std.specs.List.{AllZip};
 ghost use Rattle.lattice.specs.Creases.{fraction_of};
 ghost use Rattle.lattice.specs.Cuts.{Plane, plane_of, toward_of};
@@ -8,15 +8,15 @@ ghost use Rattle.lattice.specs.declared.pieces.Strip.{Strip};
 ghost use Rattle.geometry.specs.Parts.{Part, IsClosed};
 ghost use Rattle.geometry.specs.Pieces.{AreInOrder};
 ghost use Rattle.geometry.specs.Scenes.{AreRightInCut};
-ghost use Rattle.geometry.specs.Views.{AreDrawnEdges};
 ghost use Rattle.solid_mesh.specs.Solids.{solid_part, edge_halves};
 ghost use Rattle.cut_plane.specs.Loops.{IsSegmentOf, AreBorders};
 ghost use Rattle.hatch_fill.specs.Hatching.{IsHatching};
-ghost use Rattle.view_lines.specs.Numbers.{no_numbers};
+ghost use Rattle.view_lines.specs.Counts.{AreCountsBeyond};
+ghost use Rattle.view_lines.specs.Numbers.{CountsView, AreBelow};
 ghost use Rattle.view_lines.specs.inner.Strips.{IsBorderStrip, AreCutStrips};
 
-use crate::numbers::ViewNumbers;
-use crate::strips::edge_strips;
+use crate::counts::{Counts, counts_beyond};
+use crate::strips::counted_strips;
 use crate::view::{ViewDrawing, ViewLines};
 use cut_plane::{Section, Segment, borders};
 use edge_pick::{Crease, pick};
@@ -25,7 +25,7 @@ use hatch_fill::hatch;
 use lattice::{Cut, Piece, Strip, StripKind, ViewSpec};
 use line_merge::merge;
 use solid_mesh::Solid;
-use span_slow::View;
+use span_count::EdgeSpans;
 use std::alloc::Global;
 
 /// The segment as a strip: a border is never hidden.
@@ -52,45 +52,44 @@ fn add_borders(strips: &mut Vec<Strip>, section: &Section) -> Result<(), OutOfMe
     Ok(())
 }
 
-/// The strips of a cut view: those of the drawn edges, and then the borders.
+/// The strips of a cut view: those of the drawn edges with these counts, and then the borders.
 fn cut_strips(
     alloc: Global,
     solid: &Solid,
     section: &Section,
-    numbers: &[u32],
+    entries: &[EdgeSpans],
 ) -> Result<Vec<Strip>, OutOfMemory>
-    requires drawn { (fraction : ℕ) × AreDrawnEdges (toward_of (plane_of section.now.cut)) fraction (solid_part solid.now) (edge_halves solid.now) numbers.now }
+    requires counts { (fraction : ℕ) × AreCountsBeyond (plane_of section.now.cut) fraction solid.now entries.now }
     requires borders { AreBorders (plane_of section.now.cut) (solid_part solid.now) section.now.segments.items section.now.loops.items }
-    ensures { IfOk result (λ strips. AreCutStrips (plane_of section.now.cut) (solid_part solid.now) (edge_halves solid.now) numbers.now section.now.segments.items strips.items) }
+    ensures { IfOk result (λ strips. AreCutStrips (plane_of section.now.cut) (solid_part solid.now) (edge_halves solid.now) (map (λ x. x.edge) entries.now) section.now.segments.items strips.items) }
 {
-    let view = View::Section(section);
-    let mut strips = edge_strips(alloc, solid, &view, &section.cut.dir(), numbers)?;
+    let mut strips = counted_strips(alloc, solid, &section.cut.dir(), entries)?;
     add_borders(&mut strips, section)?;
     Ok(strips)
 }
 
-/// The pieces of a cut view, visible lines solid and hidden ones dashed, in their order: what the cut leaves of the drawn
-/// edges, and the border of the section.
-///
-/// Finds the spans of each drawn edge over all triangles, with a pass over the borders for each crossing of an edge with one,
-/// and then sorts them and the borders along their lines.
+/// The pieces of a cut view, visible lines solid and hidden ones dashed, in their order: what the cut leaves of the drawn edges, by
+/// these counts, and the border of the section. Sorts the strips of both along their lines.
 fn cut_pieces(
     alloc: Global,
     solid: &Solid,
     section: &Section,
-    crease: Crease,
+    entries: &[EdgeSpans],
 ) -> Result<Vec<Piece>, OutOfMemory>
-    requires { AreBorders (plane_of section.now.cut) (solid_part solid.now) section.now.segments.items section.now.loops.items }
-    ensures right { IfOk result (λ pieces. AreRightInCut (plane_of section.now.cut) (fraction_of crease) (solid_part solid.now) pieces.items) }
+    requires borders { AreBorders (plane_of section.now.cut) (solid_part solid.now) section.now.segments.items section.now.loops.items }
+    requires counts { (fraction : ℕ) × AreCountsBeyond (plane_of section.now.cut) fraction solid.now entries.now }
+    ensures right { IfOk result (λ pieces. (fraction : ℕ) → AreCountsBeyond (plane_of section.now.cut) fraction solid.now entries.now →
+        AreRightInCut (plane_of section.now.cut) fraction (solid_part solid.now) pieces.items) }
     ensures order { IfOk result (λ pieces. AreInOrder (toward_of (plane_of section.now.cut)) pieces.items) }
 {
-    let d = section.cut.dir();
-    let picked = pick(alloc, solid, &d, crease)?;
-    let strips = cut_strips(alloc, solid, section, &picked.drawn)?;
-    merge(alloc, &d, &strips)
+    let strips = cut_strips(alloc, solid, section, entries)?;
+    merge(alloc, &section.cut.dir(), &strips)
 }
 
-/// The view of what a cut leaves of the solid, with hatch lines so many units apart in U. It has neither counts nor numbers.
+/// The view of what a cut leaves of the solid, with hatch lines so many units apart in U, and its counts and numbers.
+///
+/// Puts the outlines into a grid, where it counts as many cells as the cell bound at most, carries the counts along the parts of the
+/// drawn edges beyond the plane, by as many tests as the bound of the cut at most, and then sorts the strips along their lines.
 pub(crate) fn cut_lines(
     alloc: Global,
     solid: &Solid,
@@ -103,18 +102,23 @@ pub(crate) fn cut_lines(
     ensures right { IfOk result (λ x. AreRightInCut (plane_of cut.now) (fraction_of crease) (solid_part solid.now) x.view.pieces.items) }
     ensures order { IfOk result (λ x. AreInOrder (toward_of (plane_of cut.now)) x.view.pieces.items) }
     ensures hatched { IfOk result (λ x. IsHatching (plane_of cut.now) (solid_part solid.now) spacing x.view.hatches.items) }
-    ensures counts { IfOk result (λ x. x.view.counts.items ≡ []) }
-    ensures numbers { IfOk result (λ x. x.numbers ≡ no_numbers) }
+    ensures counts { IfOk result (λ x. AreCountsBeyond (plane_of cut.now) (fraction_of crease) solid.now x.view.counts.items) }
+    ensures tested { IfOk result (λ x. x.numbers.tests ≤ x.numbers.bound) }
+    ensures cut_tested { IfOk result (λ x. x.numbers.cut_tests ≤ x.numbers.cut_bound) }
+    ensures celled { IfOk result (λ x. x.numbers.cells ≤ x.numbers.cell_bound) }
+    ensures counted { IfOk result (λ x. CountsView solid.now crease (ViewSpec.Section cut.now) x.numbers) }
+    ensures small { IfOk result (λ x. AreBelow (2 ^ 48) x.numbers) }
 {
     let section = borders(alloc, solid, cut)?;
-    let pieces = cut_pieces(alloc, solid, &section, crease)?;
+    let picked = pick(alloc, solid, &section.cut.dir(), crease)?;
+    let Counts { entries, numbers } = counts_beyond(alloc, solid, &section, crease, &picked)?;
+    let pieces = cut_pieces(alloc, solid, &section, &entries)?;
     let hatches = hatch(alloc, &section, spacing)?;
     let view = ViewDrawing {
         spec: ViewSpec::Section(*cut),
         pieces,
         hatches,
-        counts: Vec::new(alloc),
+        counts: entries,
     };
-    let numbers = ViewNumbers::none();
     Ok(ViewLines { view, numbers })
 }

@@ -1,7 +1,8 @@
 //! What one view shows of a solid: pieces, hatch lines, counts, and the view's numbers.
 //!
-//! A view of the whole solid is drawn by counts that are carried along its drawn edges, with the traces of cuts, and the view of a
-//! cut by the plain spans and the section's borders. Both come to strips of lines, which are put together to pieces.
+//! A view of the whole solid is drawn by counts that are carried along its drawn edges and around corners, with the traces of cuts,
+//! and the view of a cut by counts that are carried along what the plane leaves of its drawn edges, with the section's borders. Both
+//! come to strips of lines, which are put together to pieces.
 //!
 //! What may change the counts is found in a grid over the view, of as many columns as the whole square root of the number of
 //! outlines, from 1 to 256, and as many rows: along an edge the outlines of the cells that it passes are tested, and over a corner those
@@ -44,6 +45,7 @@ pub fn view_lines(
     ensures shows { IfOk result (λ x. ShowsView solid.now crease (map plane_of cuts.now) spacing asked.now x.view) }
     ensures counted { IfOk result (λ x. CountsView solid.now crease asked.now x.numbers) }
     ensures tested { IfOk result (λ x. x.numbers.tests ≤ x.numbers.bound) }
+    ensures cut_tested { IfOk result (λ x. x.numbers.cut_tests ≤ x.numbers.cut_bound) }
     ensures celled { IfOk result (λ x. x.numbers.cells ≤ x.numbers.cell_bound) }
     ensures small { IfOk result (λ x. AreBelow (2 ^ 48) x.numbers) }
 {

@@ -1,6 +1,5 @@
 // The view of the whole solid: the spans of its drawn edges by their counts, as strips that are put together to pieces.
-ghost use Rattle.std.specs.Prelude.{◌≡◌, ◌≢◌, ◌↔◌, ℕ, ◌+◌, ◌≤◌, ◌^◌, [], map, IfOk, IsTrue};
-ghost use Rattle.std.specs.List.{AllZip};
+ghost use Rattle.std.specs.Prelude.{◌≡◌, ℕ, ◌≤◌, ◌^◌, [], map, IfOk};
 ghost use Rattle.lattice.specs.Creases.{fraction_of};
 ghost use Rattle.lattice.specs.Cuts.{plane_of};
 ghost use Rattle.lattice.specs.Points.{of_dir};
@@ -9,12 +8,10 @@ ghost use Rattle.geometry.specs.Scenes.{AreRight};
 ghost use Rattle.solid_mesh.specs.Solids.{solid_part, edge_halves};
 ghost use Rattle.view_lines.specs.Counts.{AreCountsAlong};
 ghost use Rattle.view_lines.specs.Numbers.{CountsView, AreBelow};
-ghost use Rattle.view_lines.specs.inner.Strips.{TellHidden, AreEdgeStrips};
 ghost use Rattle.view_lines.specs.inner.Traces.{AreViewStrips};
-ghost use Rattle.view_lines.specs.inner.Told.{IsToldBy};
 
 use crate::counts::{Counts, counts_along};
-use crate::strips::add_strips;
+use crate::strips::counted_strips;
 use crate::trace_strips::add_traces;
 use crate::view::{ViewDrawing, ViewLines};
 use edge_pick::{Crease, pick};
@@ -22,56 +19,8 @@ use exact_frac::OutOfMemory;
 use lattice::{Cut, Dir, Strip, ViewSpec};
 use line_merge::merge;
 use solid_mesh::Solid;
-use span_count::{CountSpan, EdgeSpans};
-use span_slow::Span;
+use span_count::EdgeSpans;
 use std::alloc::Global;
-
-/// Some face is counted to the left or to the right.
-fn is_hidden(span: &CountSpan) -> bool
-    ensures { IsTrue result ↔ (span.now.left + span.now.right ≢ 0) }
-{
-    span.left != 0 || span.right != 0
-}
-
-/// The span without its counts.
-fn span_of(span: &CountSpan) -> Span
-    ensures { IsToldBy span.now result }
-{
-    Span {
-        from: span.from,
-        to: span.to,
-        hidden: is_hidden(span),
-    }
-}
-
-/// The spans without their counts.
-fn spans_of(alloc: Global, counts: &[CountSpan]) -> Result<Vec<Span>, OutOfMemory>
-    ensures { IfOk result (λ spans. AllZip IsToldBy counts.now spans.items) }
-{
-    let mut spans = Vec::new(alloc);
-    for span in counts {
-        spans.push(span_of(span))?;
-    }
-    Ok(spans)
-}
-
-/// The strips of the drawn edges with these counts, edge by edge.
-fn counted_strips(
-    alloc: Global,
-    solid: &Solid,
-    d: &Dir,
-    entries: &[EdgeSpans],
-) -> Result<Vec<Strip>, OutOfMemory>
-    requires { (fraction : ℕ) × AreCountsAlong (of_dir d.now) fraction solid.now entries.now }
-    ensures { IfOk result (λ strips. AreEdgeStrips (of_dir d.now) {s = solid_part solid.now} (TellHidden (of_dir d.now)) (edge_halves solid.now) (map (λ x. x.edge) entries.now) strips.items) }
-{
-    let mut strips = Vec::new(alloc);
-    for entry in entries {
-        let spans = spans_of(alloc, &entry.spans)?;
-        add_strips(&mut strips, solid, d, entry.edge, &spans)?;
-    }
-    Ok(strips)
-}
 
 /// The strips of a plain view: those of the drawn edges with these counts, and then the traces of these cuts.
 fn view_strips(
@@ -107,6 +56,7 @@ pub(crate) fn plain_lines(
     ensures hatched { IfOk result (λ x. x.view.hatches.items ≡ []) }
     ensures counts { IfOk result (λ x. AreCountsAlong (of_dir d.now) (fraction_of crease) solid.now x.view.counts.items) }
     ensures tested { IfOk result (λ x. x.numbers.tests ≤ x.numbers.bound) }
+    ensures cut_tested { IfOk result (λ x. x.numbers.cut_tests ≤ x.numbers.cut_bound) }
     ensures celled { IfOk result (λ x. x.numbers.cells ≤ x.numbers.cell_bound) }
     ensures counted { IfOk result (λ x. CountsView solid.now crease (ViewSpec.Plain d.now) x.numbers) }
     ensures small { IfOk result (λ x. AreBelow (2 ^ 48) x.numbers) }

@@ -1,19 +1,20 @@
-// The spans of the drawn edges as strips of lines.
-ghost use Rattle.std.specs.Prelude.{◌≡◌, ℕ, ◌<◌, List, ◌++◌, length, All, IfOk, OnOk};
+// The spans of the drawn edges as strips of lines: a span is hidden where its counts are not both 0.
+ghost use Rattle.std.specs.Prelude.{◌≡◌, ◌≢◌, ◌↔◌, ℕ, ◌+◌, ◌<◌, List, ◌++◌, length, map, All, IfOk, OnOk, IsTrue};
 ghost use Rattle.std.specs.List.{AllZip};
 ghost use Rattle.lattice.specs.declared.pieces.Strip.{Strip};
 ghost use Rattle.lattice.specs.Points.{of_dir};
 ghost use Rattle.geometry.specs.Views.{IsEndOn, AreDrawnEdges};
 ghost use Rattle.solid_mesh.specs.Solids.{solid_part, edge_halves};
 ghost use Rattle.geometry.specs.Places.{IsEarlier};
-ghost use Rattle.span_slow.specs.Views.{direction_in, IsViewOf, AreSpansIn};
 ghost use Rattle.edge_pick.specs.Edges.{OfEdge};
 ghost use Rattle.view_lines.specs.inner.Strips.{kind_of, IsEdgeLine, IsStripOf, AreEdgeStrips};
+ghost use Rattle.view_lines.specs.inner.Told.{IsToldBy, AreTold};
 
 use exact_frac::OutOfMemory;
 use lattice::{Dir, Line, Strip, StripKind};
 use solid_mesh::Solid;
-use span_slow::{Span, View, spans_slow};
+use span_count::{CountSpan, EdgeSpans};
+use span_slow::Span;
 use std::alloc::Global;
 
 /// The line that the edge is seen on.
@@ -54,7 +55,7 @@ fn kind_of(hidden: bool) -> StripKind
 }
 
 /// Adds the spans of an edge as strips.
-pub(crate) fn add_strips(
+fn add_strips(
     strips: &mut Vec<Strip>,
     solid: &Solid,
     d: &Dir,
@@ -74,23 +75,50 @@ pub(crate) fn add_strips(
     Ok(())
 }
 
-/// The strips of the drawn edges of a view along this direction, edge by edge. Finds the spans of each edge over all triangles.
-pub(crate) fn edge_strips(
+/// Some face is counted to the left or to the right.
+fn is_hidden(span: &CountSpan) -> bool
+    ensures { IsTrue result ↔ (span.now.left + span.now.right ≢ 0) }
+{
+    span.left != 0 || span.right != 0
+}
+
+/// The span without its counts.
+fn span_of(span: &CountSpan) -> Span
+    ensures { IsToldBy span.now result }
+{
+    Span {
+        from: span.from,
+        to: span.to,
+        hidden: is_hidden(span),
+    }
+}
+
+/// The spans without their counts.
+fn spans_of(alloc: Global, counts: &[CountSpan]) -> Result<Vec<Span>, OutOfMemory>
+    ensures { IfOk result (λ spans. AllZip IsToldBy counts.now spans.items) }
+{
+    let mut spans = Vec::new(alloc);
+    for span in counts {
+        spans.push(span_of(span))?;
+    }
+    Ok(spans)
+}
+
+/// The strips of the drawn edges of a view with these counts, edge by edge.
+pub(crate) fn counted_strips(
     alloc: Global,
     solid: &Solid,
-    view: &View,
     d: &Dir,
-    numbers: &[u32],
+    entries: &[EdgeSpans],
 ) -> Result<Vec<Strip>, OutOfMemory>
-    requires along { of_dir d.now ≡ direction_in view.now }
-    requires section { IsViewOf view.now (solid_part solid.now) }
-    requires drawn { (fraction : ℕ) × AreDrawnEdges (direction_in view.now) fraction (solid_part solid.now) (edge_halves solid.now) numbers.now }
-    ensures { IfOk result (λ strips. AreEdgeStrips (direction_in view.now) {s = solid_part solid.now} (AreSpansIn view.now) (edge_halves solid.now) numbers.now strips.items) }
+    requires drawn { (fraction : ℕ) × AreDrawnEdges (of_dir d.now) fraction (solid_part solid.now) (edge_halves solid.now) (map (λ x. x.edge) entries.now) }
+    requires ordered { All (λ x. All (λ y. IsEarlier y.from y.to) x.spans.items) entries.now }
+    ensures { IfOk result (λ strips. AreEdgeStrips (of_dir d.now) {s = solid_part solid.now} (AreTold entries.now (edge_halves solid.now)) (edge_halves solid.now) (map (λ x. x.edge) entries.now) strips.items) }
 {
     let mut strips = Vec::new(alloc);
-    for edge in numbers {
-        let spans = spans_slow(alloc, solid, view, *edge)?;
-        add_strips(&mut strips, solid, d, *edge, &spans)?;
+    for entry in entries {
+        let spans = spans_of(alloc, &entry.spans)?;
+        add_strips(&mut strips, solid, d, entry.edge, &spans)?;
     }
     Ok(strips)
 }

@@ -4,7 +4,8 @@ use lattice::{HatchLine, Piece, ViewSpec};
 use span_count::EdgeSpans;
 
 /// One view: its pieces and the hatch lines of its section, in their order, and how many faces are nearer along each drawn edge.
-/// A view of the whole part has no hatch lines, and the view of a cut has no counts.
+/// A view of the whole part has no hatch lines. In the view of a cut the counts are of what the plane leaves of the faces, and of its
+/// section.
 #[derive(Drop)]
 pub struct ViewDrawing {
     pub spec: ViewSpec,

@@ -1,5 +1,5 @@
 -- Strips that are the spans of edges, and those that are the segments of borders.
-use Rattle.std.specs.Prelude.{◌≡◌, ℕ, Bool, true, false, List, [], ◌∷◌, ◌++◌, All}
+use Rattle.std.specs.Prelude.{◌≡◌, ◌↔◌, ℕ, ℤ, pos, ◌<ℤ◌, IsTrue, Bool, true, false, List, [], ◌∷◌, ◌++◌, All}
 use Rattle.std.specs.List.{AllZip}
 use Rattle.lattice.specs.declared.lines.Line.{Line}
 use Rattle.lattice.specs.declared.pieces.Strip.{Strip}
@@ -12,15 +12,29 @@ use Rattle.lattice.specs.Cuts.{Plane, toward_of}
 use Rattle.geometry.specs.Parts.{Part, Edge, IsNumbered}
 use Rattle.cut_plane.specs.declared.segments.Segment.{Segment}
 use Rattle.span_slow.specs.declared.span.Span.{Span}
-use Rattle.geometry.specs.Places.{point_at, HasNoOrdinaryEnd}
+use Rattle.geometry.specs.Cuts.{IsHiddenInCut, IsOrdinaryInCut}
+use Rattle.geometry.specs.Faces.{share_point}
+use Rattle.geometry.specs.Places.{point_at, IsBetween, HasNoEndAt, HasNoOrdinaryEnd}
+use Rattle.section_parity.specs.Diagonals.{IsUnderBorder}
 use Rattle.span_slow.specs.Spans.{CoverEdge, IsAnswer}
-use Rattle.span_slow.specs.CutSpans.{AreCutSpans}
+use Rattle.span_slow.specs.CutSpans.{CoverBeyond}
 
 -- the spans cover the edge, none of their ends is at an ordinary point, and at each ordinary point within a span what it tells is so
 pub record TellHidden (d : Triple) {s : Part} (e : Edge s) (spans : List Span) : Type 0 where
   pub covers : CoverEdge spans
   pub ends : All (λ x. HasNoOrdinaryEnd d e x.from x.to) spans
   pub answers : All (IsAnswer d e) spans
+
+-- at each ordinary point strictly within the span that has no border on its line of sight, what it tells is so
+abbrev pub IsFreeAnswer : Plane → {s : Part} → Edge s → Span → Type 0
+IsFreeAnswer c {s = s} e x = (n m : ℤ) → pos 0 <ℤ m → IsBetween x.from x.to n m → IsOrdinaryInCut c s (share_point e.a e.b n m) → ¬ IsUnderBorder c s (share_point e.a e.b n m) →
+    IsTrue x.hidden ↔ IsHiddenInCut c s (share_point e.a e.b n m)
+
+-- the same in the view of a cut: they cover the part of the edge beyond the plane, and tell what is so where no border is seen
+pub record TellHiddenInCut (c : Plane) {s : Part} (e : Edge s) (spans : List Span) : Type 0 where
+  pub covers : CoverBeyond c e spans
+  pub ends : All (λ x. HasNoEndAt (IsOrdinaryInCut c s) e x.from x.to) spans
+  pub answers : All (IsFreeAnswer c e) spans
 
 -- both corners of the edge are seen on the line
 pub record IsEdgeLine (d : Triple) {s : Part} (e : Edge s) (l : Line) : Type 0 where
@@ -63,5 +77,5 @@ pub record AreCutStrips (c : Plane) (s : Part) (halves numbers : List ℕ) (segm
   pub of_edges : List Strip
   pub of_borders : List Strip
   pub together : strips ≡ of_edges ++ of_borders
-  pub edges : AreEdgeStrips (toward_of c) {s = s} (AreCutSpans c) halves numbers of_edges
+  pub edges : AreEdgeStrips (toward_of c) {s = s} (TellHiddenInCut c) halves numbers of_edges
   pub borders : AllZip IsBorderStrip segments of_borders

@@ -23,8 +23,9 @@ returns-clause-shows c =
     record {
       views = subst (λ (of : List JobView). AllZip (R of (spacing_on c.in-Ok.sheet)) of views) c.deref.ensures.value spaced;
       sheet = c.in-Ok.ensures.sheet;
-      bound = (made.numbers, subst (λ (of : List JobView). SumsViews solid job.crease of made.numbers) c.deref.ensures.value c.in-Ok-views_of.ensures.sums, refl, refl);
+      bound = (made.numbers, subst (λ (of : List JobView). SumsViews solid job.crease of made.numbers) c.deref.ensures.value c.in-Ok-views_of.ensures.sums, refl, refl, refl);
       tested = c.in-Ok-views_of.ensures.tested;
+      cut_tested = c.in-Ok-views_of.ensures.cut_tested;
       celled = c.in-Ok-views_of.ensures.celled;
     }
 

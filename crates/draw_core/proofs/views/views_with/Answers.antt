@@ -30,5 +30,6 @@ loop-view-preserved c =
           (sums_more c.args.solid.now c.args.crease asked k c.view-item.result c.loop-view.sums here c.loop-view-test.true c.view-item.is so_far.summed c.in_ok-view.ensures.counted);
       small = subst (AreAtMost (2 ^ 48 * (k + 1))) is (at_most_plus k c.loop-view.sums here so_far.small c.in_ok-view.ensures.small);
       tested = subst (λ (n : ViewNumbers). n.tests ≤ n.bound) is (omega (arith, so_far.tested, c.in_ok-view.ensures.tested));
+      cut_tested = subst (λ (n : ViewNumbers). n.cut_tests ≤ n.cut_bound) is (omega (arith, so_far.cut_tested, c.in_ok-view.ensures.cut_tested));
       celled = subst (λ (n : ViewNumbers). n.cells ≤ n.cell_bound) is (omega (arith, so_far.celled, c.in_ok-view.ensures.celled));
     }

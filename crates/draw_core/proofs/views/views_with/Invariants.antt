@@ -14,5 +14,6 @@ invariant-loop-view l =
       summed : SumsViews l.solid l.crease (take l.view-index l.asked) l.sums;
       small : AreAtMost (2 ^ 48 * l.view-index) l.sums;
       tested : l.sums.tests ≤ l.sums.bound;
+      cut_tested : l.sums.cut_tests ≤ l.sums.cut_bound;
       celled : l.sums.cells ≤ l.sums.cell_bound;
     }

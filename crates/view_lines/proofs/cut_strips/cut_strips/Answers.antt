@@ -1,17 +1,40 @@
-use Rattle.solid_mesh.specs.Solids.{solid_part}
+use Rattle.std.proofs.Common.{List, map, sym, subst}
+use Rattle.lattice.specs.Cuts.{plane_of}
+use Rattle.lattice.specs.Points.{of_dir}
+use Rattle.lattice.specs.Triple.{Triple}
+use Rattle.geometry.specs.Views.{AreDrawnEdges}
+use Rattle.solid_mesh.specs.Solids.{solid_part, edge_halves}
 use Rattle.solid_mesh.proofs.Facts.{closed}
+use Rattle.view_lines.specs.inner.Strips.{AreEdgeStrips}
+use Rattle.view_lines.specs.inner.Told.{AreTold}
+use Rattle.view_lines.proofs.CountedEdges.{beyond_cut_earlier, told_beyond}
 use Rattle.view_lines.proofs.cut_strips.cut_strips.Goals as goal
+
+pub counted_strips-requires-clause-drawn : goal.counted_strips-requires-clause-drawn
+counted_strips-requires-clause-drawn c =
+    let solid = c.args.solid.now in
+    let (fraction, beyond) = c.requires.counts in
+    (fraction, subst (λ (v : Triple). AreDrawnEdges v fraction (solid_part solid) (edge_halves solid) (map (λ x. x.edge) c.args.entries.now)) (sym c.dir.ensures) beyond.edges)
+
+pub counted_strips-requires-clause-ordered : goal.counted_strips-requires-clause-ordered
+counted_strips-requires-clause-ordered c =
+    let (fraction, beyond) = c.requires.counts in beyond_cut_earlier (plane_of c.args.section.now.cut) fraction c.args.solid.now c.args.entries.now beyond
 
 pub add_borders-requires : goal.add_borders-requires
 add_borders-requires c = (solid_part c.args.solid.now, closed c.args.solid.now, c.requires.borders)
 
 pub returns : goal.returns
 returns c =
+    let solid = c.args.solid.now in
+    let entries = c.args.entries.now in
+    let strips = c.in_ok-strips.strips.items in
+    let (fraction, beyond) = c.requires.counts in
     let (borders, together, each) = c.in_ok-add_borders.ensures in
     record {
-      of_edges = c.in_ok-strips.strips.items;
+      of_edges = strips;
       of_borders = borders;
       together = together;
-      edges = c.in_ok-strips.ensures;
+      edges = told_beyond (plane_of c.args.section.now.cut) fraction solid entries beyond strips
+          (subst (λ (v : Triple). AreEdgeStrips v {s = solid_part solid} (AreTold entries (edge_halves solid)) (edge_halves solid) (map (λ x. x.edge) entries) strips) c.dir.ensures c.in_ok-strips.ensures);
       borders = each;
     }

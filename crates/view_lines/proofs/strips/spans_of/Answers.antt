@@ -3,7 +3,7 @@ use Rattle.std.specs.List.{AllZip}
 use Rattle.line_merge.proofs.Zips.{zip_more}
 use Rattle.span_slow.specs.declared.span.Span.{Span}
 use Rattle.view_lines.specs.inner.Told.{IsToldBy}
-use Rattle.view_lines.proofs.plain_strips.spans_of.Goals as goal
+use Rattle.view_lines.proofs.strips.spans_of.Goals as goal
 
 pub loop-span-preserved : goal.loop-span-preserved
 loop-span-preserved c =

@@ -1,0 +1,177 @@
+// The counts along the edges of cut views, beside the spans that the plain program finds by all faces, on a table of parts and planes;
+// and the single tests, which add up to what changes there.
+ghost use Rattle.std.specs.Prelude.{◌<◌, length};
+ghost use Rattle.lattice.specs.Cuts.{plane_of};
+ghost use Rattle.solid_mesh.specs.Solids.{solid_part, edge_halves};
+ghost use Rattle.cut_plane.specs.Loops.{AreBorders};
+
+use cross_find::{Crossing, Meter};
+use cut_count::{border_cross, cut_bound, cut_cross, spans_cut};
+use cut_plane::{Section, borders};
+use edge_pick::{Crease, Picked, pick};
+use exact_frac::Frac;
+use fixtures::{
+    BENEATH, BENEATH_CORNERS, CORNERS, CUBES, INWARD_TEXT, LEAN, LEAN_CORNERS, SHELL_CORNERS,
+    SHELLS, TUBE, TUBE_CORNERS, is_seen, solid, solid_of,
+};
+use lattice::{Axis, Cut};
+use solid_mesh::Solid;
+use span_count::{AllOutlines, CountSpan, EdgeSpans};
+use span_slow::{Span, View, spans_slow};
+use std::alloc::Global;
+use std::test::Fail;
+
+// The counted spans are hidden where the plain program's are.
+fn is_told(alloc: Global, solid: &Solid, section: &Section, entry: &EdgeSpans) -> Result<bool, Fail>
+    requires borders { AreBorders (plane_of section.now.cut) (solid_part solid.now) section.now.segments.items section.now.loops.items }
+{
+    if !is_seen(solid, &section.cut.dir(), entry.edge) {
+        return Ok(false);
+    }
+    let slow = spans_slow(alloc, solid, &View::Section(section), entry.edge)?;
+    for span in &entry.spans {
+        if !is_within(span, &slow) {
+            return Ok(false);
+        }
+    }
+    Ok(slow.is_empty() == entry.spans.is_empty())
+}
+
+// The span is within one of these that is as hidden.
+fn is_within(span: &CountSpan, slow: &[Span]) -> bool {
+    let hidden = span.left != 0 || span.right != 0;
+    for x in slow {
+        if x.from <= span.from && span.to <= x.to && x.hidden == hidden {
+            return true;
+        }
+    }
+    false
+}
+
+// The sums, and what a crossing changes where it is at this place.
+fn added(sums: (i32, i32), crossing: Option<Crossing>, at: Frac) -> (i32, i32) {
+    match crossing {
+        Some(x) if x.at == at => (
+            sums.0.saturating_add(x.left.into()),
+            sums.1.saturating_add(x.right.into()),
+        ),
+        _ => sums,
+    }
+}
+
+// What outlines change of the two counts of an edge at a place.
+fn by_outlines(solid: &Solid, section: &Section, picked: &Picked, edge: u32, at: Frac) -> (i32, i32)
+    requires edge { edge < length (edge_halves solid.now) }
+{
+    let mut sums = (0, 0);
+    for outline in &picked.outlines {
+        let mut meter = Meter { tests: 0 };
+        if *outline < solid.edges() {
+            sums = added(
+                sums,
+                cut_cross(solid, section, edge, *outline, &mut meter),
+                at,
+            );
+        }
+    }
+    sums
+}
+
+// What outlines and borders change of them.
+fn changes_at(solid: &Solid, section: &Section, picked: &Picked, edge: u32, at: Frac) -> (i32, i32)
+    requires edge { edge < length (edge_halves solid.now) }
+    requires borders { AreBorders (plane_of section.now.cut) (solid_part solid.now) section.now.segments.items section.now.loops.items }
+{
+    let mut sums = by_outlines(solid, section, picked, edge, at);
+    for segment in 0..u32::try_from(section.segments.len()).unwrap_or(0) {
+        let mut meter = Meter { tests: 0 };
+        sums = added(
+            sums,
+            border_cross(solid, section, edge, segment, &mut meter),
+            at,
+        );
+    }
+    sums
+}
+
+// A count has changed by so much.
+fn is_changed(from: u32, to: u32, change: i32) -> bool {
+    i64::from(from).saturating_add(change.into()) == i64::from(to)
+}
+
+// From a span to the next one the counts change by what the single tests say.
+fn is_added_up(solid: &Solid, section: &Section, picked: &Picked, entry: &EdgeSpans) -> bool
+    requires borders { AreBorders (plane_of section.now.cut) (solid_part solid.now) section.now.segments.items section.now.loops.items }
+{
+    if entry.edge >= solid.edges() {
+        return false;
+    }
+    let mut last: Option<CountSpan> = None;
+    for span in &entry.spans {
+        if let Some(x) = last {
+            let (left, right) = changes_at(solid, section, picked, entry.edge, span.from);
+            if !is_changed(x.left, span.left, left) || !is_changed(x.right, span.right, right) {
+                return false;
+            }
+        }
+        last = Some(*span);
+    }
+    true
+}
+
+// The first edge of a cut view at which the counts differ from the plain program, or from the sums of single tests.
+fn first_other(alloc: Global, solid: &Solid, cut: &Cut) -> Result<Option<u32>, Fail> {
+    let section = borders(alloc, solid, cut)?;
+    let picked = pick(alloc, solid, &section.cut.dir(), Crease::Normal)?;
+    let most = cut_bound(solid, &section, &picked);
+    let finder = AllOutlines::new(&picked);
+    let mut meter = Meter { tests: 0 };
+    let entries = spans_cut(alloc, solid, &section, &picked, &finder, &mut meter)?;
+    if meter.tests > most {
+        return Err("too many tests".into());
+    }
+    for entry in &entries {
+        if !is_told(alloc, solid, &section, entry)?
+            || !is_added_up(solid, &section, &picked, entry)
+        {
+            return Ok(Some(entry.edge));
+        }
+    }
+    Ok(None)
+}
+
+#[test]
+fn cut_counts_tell_what_the_plain_program_finds(rt: HostRuntime) -> Result<(), Fail> {
+    let alloc = rt.alloc();
+    let tube = solid(alloc, &TUBE_CORNERS, &TUBE).ok_or("no tube")?;
+    let shells = solid(alloc, &SHELL_CORNERS, &SHELLS).ok_or("no shells")?;
+    let beneath = solid(alloc, &BENEATH_CORNERS, &BENEATH).ok_or("no part")?;
+    // What a cut leaves of this tetrahedron is seen within its section.
+    let mut corners = BENEATH_CORNERS;
+    corners[11] = [10_500, 3_500, -1_000];
+    let narrow = solid(alloc, &corners, &BENEATH).ok_or("no part")?;
+    let lean = solid(alloc, &LEAN_CORNERS, &LEAN).ok_or("no part")?;
+    let cubes = solid(alloc, &CORNERS, &CUBES).ok_or("no cubes")?;
+    let inward = solid_of(alloc, INWARD_TEXT).ok_or("no part")?;
+    for (name, part, axis, at, from_high) in [
+        ("tube", &tube, Axis::Y, 15_000, false),
+        ("tube along its bore's wall", &tube, Axis::Y, 10_000, false),
+        ("tube before", &tube, Axis::Y, -1_000, false),
+        ("tube behind", &tube, Axis::Y, 40_000, false),
+        ("tube from above", &tube, Axis::Z, 10_000, true),
+        ("shells", &shells, Axis::Z, 15_000, true),
+        ("beneath", &beneath, Axis::Z, 5_000, true),
+        ("beneath from below", &beneath, Axis::Z, -2_500, false),
+        ("narrow from below", &narrow, Axis::Z, -1_500, false),
+        ("lean", &lean, Axis::Z, 5, true),
+        ("lean from the low side", &lean, Axis::X, 5, false),
+        ("cubes", &cubes, Axis::Y, 5, false),
+        ("inward", &inward, Axis::X, 15_000, true),
+    ] {
+        let Ok(cut) = Cut::new(axis, at, from_high) else {
+            return Err("no cut".into());
+        };
+        assert_eq!(rt; first_other(alloc, part, &cut)?, None, "{name}");
+    }
+    Ok(())
+}
