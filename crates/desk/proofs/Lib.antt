@@ -1,2 +1,4 @@
 pub mod Fetches
 pub mod Places
+pub mod Slots
+pub mod Torn

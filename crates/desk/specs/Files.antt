@@ -1,11 +1,22 @@
 -- What a desk holds, and what its calls do to it.
-use Rattle.std.specs.Prelude.{◌≡◌, ◌≢◌, ◌<◌, ◌≤◌, ◌-◌, ◌^◌, ◌⊎◌, ◌↔◌, ◌++◌, ℕ, Bool, List, length, take, drop, Option, Some, None, Result, Ok, Err}
+use Rattle.std.specs.Prelude.{◌≡◌, ◌≢◌, ◌<◌, ◌≤◌, ◌-◌, ◌^◌, ◌⊎◌, ◌↔◌, ◌++◌, ℕ, Bool, List, [], ◌∷◌, length, take, drop, option_map, Option, Some, None, Result, Ok, Err, if◌then◌else◌, Vec}
+use Rattle.std.specs.Str.{bytes_eq}
+use Rattle.std.specs.declared.alloc.Global.{Global}
 use Rattle.desk.specs.declared.desk.DeskFault.{DeskFault}
 use Rattle.desk.specs.declared.desk.DeskFault.TheVariants.{Failed, Memory}
 
 -- the bytes under each name, and none where there is no such name
 abbrev pub Files : Type 0
 Files = List ℕ → Option (List ℕ)
+
+-- the first of these with this name
+abbrev pub named_at : {V : Type 0} → List (List ℕ × V) → List ℕ → Option V
+named_at [] name = None
+named_at (one ∷ others) name = if bytes_eq one.0 name then Some one.1 else named_at others name
+
+-- the bytes of the first file with this name
+abbrev pub file_at : List (List ℕ × Vec ℕ Global) → Files
+file_at files name = option_map (λ bytes. bytes.items) (named_at files name)
 
 -- what a desk stands for
 pub record DeskState : Type 0 where

@@ -1,21 +1,15 @@
--- The files of a desk in memory, and what its calls do to it.
-use Rattle.std.specs.Prelude.{◌≡◌, ◌+◌, ◌-◌, ◌^◌, min, ℕ, Bool, true, false, List, [], ◌∷◌, Some, None, Result, Ok, Err, if◌then◌else◌, Vec}
-use Rattle.std.specs.Str.{bytes_eq}
-use Rattle.std.specs.declared.alloc.Global.{Global}
+-- What the calls of a desk in memory do to it.
+use Rattle.std.specs.Prelude.{◌≡◌, ◌+◌, ◌-◌, ◌^◌, ◌++◌, min, ℕ, Bool, true, false, List, [], ◌∷◌, take, Option, Some, None, Result, Ok, Err}
 use Rattle.desk.specs.Files.{Files, Keeps, DeskState}
 use Rattle.desk.specs.declared.desk.DeskFault.{DeskFault}
 use Rattle.desk.specs.declared.desk.DeskFault.TheVariants.{Failed, Memory}
 
--- the bytes of the first file with this name
-abbrev pub file_at : List (List ℕ × Vec ℕ Global) → Files
-file_at [] name = None
-file_at (file ∷ files) name = if bytes_eq file.0 name then Some file.1.items else file_at files name
-
--- its files, the numbers of the calls that are to fail, how many calls there were, what was said and warned, and how many
--- faults there were of each kind
+-- its files, the numbers of the calls that are to fail, how many bytes such a call leaves, if it leaves any, how many calls there
+-- were, what was said and warned, and how many faults there were of each kind
 pub record MemoryState : Type 0 where
   pub files : Files
   pub failing : List ℕ
+  pub left : Option ℕ
   pub calls : ℕ
   pub said : List ℕ
   pub warned : List ℕ
@@ -49,10 +43,27 @@ with_said bytes s = record s { said = bytes }
 abbrev pub with_warned : List ℕ → MemoryState → MemoryState
 with_warned bytes s = record s { warned = bytes }
 
+-- a text to which a failed call has added what it leaves of these bytes
+abbrev pub torn_text : Option ℕ → List ℕ → List ℕ → List ℕ
+torn_text None text bytes = text
+torn_text (Some n) text bytes = text ++ take n bytes
+
+abbrev pub with_torn_said : List ℕ → MemoryState → MemoryState
+with_torn_said bytes s = with_said (torn_text s.left s.said bytes) s
+
+abbrev pub with_torn_warned : List ℕ → MemoryState → MemoryState
+with_torn_warned bytes s = with_warned (torn_text s.left s.warned bytes) s
+
+-- a failed call leaves the files as they were, or under this name the first so many of these bytes
+abbrev pub TearsFile : Option ℕ → Files → Files → List ℕ → List ℕ → Type 0
+TearsFile None old new name bytes = new ≡ old
+TearsFile (Some n) old new name bytes = Keeps old new name (take n bytes)
+
 -- what a keep leaves, by its answer
 abbrev pub LeavesState : {T : Type 0} → Result T DeskFault → MemoryState → MemoryState → List ℕ → List ℕ → Type 0
 LeavesState (Ok done) old new name bytes = (new ≡ record (called old) { files = new.files }) × Keeps old.files new.files name bytes
-LeavesState (Err Failed) old new name bytes = new ≡ with_write_fault (called old)
+LeavesState (Err Failed) old new name bytes =
+    (new ≡ record (with_write_fault (called old)) { files = new.files }) × TearsFile old.left old.files new.files name bytes
 LeavesState (Err (Memory none)) old new name bytes = new ≡ called old
 
 -- what a saying or a warning leaves, by its answer: done, failed, or with no memory found

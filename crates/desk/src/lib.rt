@@ -2,7 +2,11 @@
 #![tactic(auto)]
 
 mod desk;
+mod files;
 mod memory;
+mod room_desk;
+mod rooms;
 
 pub use desk::{Desk, DeskFault, Failed};
 pub use memory::MemoryDesk;
+pub use room_desk::RoomDesk;

@@ -1,9 +1,10 @@
 // A desk in memory, which fails the calls that it is told to fail.
-ghost use Rattle.std.specs.Prelude.{◌≡◌, ◌-◌, ◌<◌, ◌≤◌, ◌⊎◌, ◌↔◌, ◌++◌, refl, [], min, length, take, drop, option_map, Contains, None, IsTrue, IfOk, IfSome, IfNone, OnOk, OnErr, IsErr, IsErrOf, IsSomeAnd};
-ghost use Rattle.desk.specs.Files.{Keeps};
-ghost use Rattle.desk.specs.Memory.{file_at, called, with_read_fault, with_write_fault, with_warn_fault, with_said, with_warned, LeavesState, IsOneOf, told};
-ghost use Rattle.desk.specs.inner.Places.{IsPlaceOf};
+ghost use Rattle.std.specs.Prelude.{◌≡◌, ◌-◌, ◌<◌, ◌≤◌, ◌⊎◌, ◌↔◌, ◌++◌, refl, [], min, length, take, drop, option_map, Contains, None, Some, IsTrue, IfOk, OnOk, OnErr, IsErr, IsErrOf, IsSomeAnd};
+ghost use Rattle.desk.specs.Files.{Keeps, Leaves, file_at};
+ghost use Rattle.desk.specs.Memory.{called, with_read_fault, with_write_fault, with_warn_fault, with_said, with_warned, torn_text, with_torn_said, with_torn_warned, LeavesState, IsOneOf, told};
+ghost use Rattle.desk.specs.inner.Torn.{TearsState};
 
+use crate::files::{copy_from, find, front, place_of};
 use crate::{Desk, DeskFault, Failed};
 use dec_text::Name;
 use exact_frac::OutOfMemory;
@@ -16,47 +17,13 @@ pub struct MemoryDesk {
     alloc: Global,
     files: Vec<(Name, Vec<u8>)>,
     failing: Vec<u64>,
+    left: Option<u64>,
     calls: u64,
     said: Vec<u8>,
     warned: Vec<u8>,
     read_faults: u64,
     write_faults: u64,
     warn_faults: u64,
-}
-
-// The place of the first file with this name.
-fn place_of(files: &[(Name, Vec<u8>)], name: &str) -> Option<usize>
-    ensures found { IfSome result (IsPlaceOf files.now name.now) }
-    ensures missing { IfNone result (file_at files.now name.now ≡ None) }
-{
-    for (i, file) in files.iter().enumerate() {
-        if file.0.as_str() == name {
-            return Some(i);
-        }
-    }
-    None
-}
-
-// The bytes from a place on.
-fn rest(bytes: &[u8], at: u64) -> &[u8]
-    ensures { result.now ≡ drop at bytes.now }
-{
-    if at < bytes.len() as u64 {
-        &bytes[at as usize..]
-    } else {
-        &[]
-    }
-}
-
-// Copies bytes from a place on to the front of `into`, as many as there are and as fit.
-fn copy_from(bytes: &[u8], at: u64, into: &mut [u8]) -> usize
-    ensures count { result ≡ min (length into.old) (length bytes.now - at) }
-    ensures front { take result into.new ≡ take result (drop at bytes.now) }
-{
-    let rest = rest(bytes, at);
-    let n = into.len().min(rest.len());
-    into[..n].copy_from_slice(&rest[..n]);
-    n
 }
 
 // Puts bytes under a name, over what it held.
@@ -87,11 +54,13 @@ fn is_listed(numbers: &[u64], number: u64) -> bool
 impl MemoryDesk {
     ghost use Rattle.desk.specs.MemoryDesk.{state_of};
 
-    /// A desk with these files that fails the calls with these numbers. Of files of one name the first counts.
+    /// A desk with these files that fails the calls with these numbers. A failed call changes nothing but the
+    /// counts. Of files of one name the first counts.
     pub fn new(alloc: Global, files: Vec<(Name, Vec<u8>)>, fail: Vec<u64>) -> MemoryDesk
         ensures { state_of result ≡ record {
           files = file_at files.items;
           failing = fail.items;
+          left = None;
           calls = 0;
           said = [];
           warned = [];
@@ -104,6 +73,36 @@ impl MemoryDesk {
             alloc,
             files,
             failing: fail,
+            left: None,
+            calls: 0,
+            said: Vec::new(alloc),
+            warned: Vec::new(alloc),
+            read_faults: 0,
+            write_faults: 0,
+            warn_faults: 0,
+        }
+    }
+
+    /// As `new`, but a failed `keep` leaves under its name the first `left` bytes, and a failed `say` or `warn` appends as many.
+    /// Where the leaving finds no memory, the call answers that.
+    pub fn torn(alloc: Global, files: Vec<(Name, Vec<u8>)>, fail: Vec<u64>, left: u64) -> MemoryDesk
+        ensures { state_of result ≡ record {
+          files = file_at files.items;
+          failing = fail.items;
+          left = Some left;
+          calls = 0;
+          said = [];
+          warned = [];
+          read_faults = 0;
+          write_faults = 0;
+          warn_faults = 0;
+        } }
+    {
+        MemoryDesk {
+            alloc,
+            files,
+            failing: fail,
+            left: Some(left),
             calls: 0,
             said: Vec::new(alloc),
             warned: Vec::new(alloc),
@@ -117,8 +116,8 @@ impl MemoryDesk {
     pub fn file(&self, name: &str) -> Option<&[u8]>
         ensures { option_map (λ bytes. bytes.now) result ≡ (state_of self.now).files name.now }
     {
-        match place_of(&self.files, name) {
-            Some(i) => Some(self.files[i].1.as_slice()),
+        match find(&self.files, name) {
+            Some(bytes) => Some(bytes.as_slice()),
             None => None,
         }
     }
@@ -172,6 +171,18 @@ impl MemoryDesk {
         self.warn_faults = self.warn_faults.saturating_add(1);
         DeskFault::Failed
     }
+
+    // Leaves of a file what a failed call leaves.
+    fn tear_file(&mut self, name: &str, bytes: &[u8]) -> Result<(), OutOfMemory>
+        ensures ok { OnOk result (TearsState (state_of self.old) (state_of self.new) name.now bytes.now) }
+        ensures err { OnErr result (state_of self.new ≡ state_of self.old) }
+        ensures firm { (state_of self.old).left ≡ None → IsErr result → ⊥ }
+    {
+        match self.left {
+            Some(left) => put(self.alloc, &mut self.files, name, front(bytes, left)),
+            None => Ok(()),
+        }
+    }
 }
 
 // Appends bytes.
@@ -183,6 +194,19 @@ fn append(out: &mut Vec<u8>, bytes: &[u8]) -> Result<(), DeskFault>
     match out.extend_from_slice(bytes) {
         Ok(()) => Ok(()),
         Err(_) => Err(DeskFault::Memory(OutOfMemory)),
+    }
+}
+
+// Appends what a failed call leaves of bytes.
+fn tear(out: &mut Vec<u8>, left: Option<u64>, bytes: &[u8]) -> Result<(), DeskFault>
+    ensures ok { OnOk result (out.new.items ≡ torn_text left out.old.items bytes.now) }
+    ensures err { OnErr result (out.new.items ≡ out.old.items) }
+    ensures memory { IsErrOf result DeskFault.Failed → ⊥ }
+    ensures firm { left ≡ None → IsErr result → ⊥ }
+{
+    match left {
+        Some(left) => append(out, front(bytes, left)),
+        None => Ok(()),
     }
 }
 
@@ -215,17 +239,23 @@ impl Desk for MemoryDesk {
         }
     }
 
-    /// Fails exactly where it is told to. Want of memory changes no file.
+    /// Fails exactly where it is told to, unless there is no memory for what it is to leave. Want of memory changes no file.
+    #[tactic(auto, using(crate::proofs::Torn::tears))]
     fn keep(&mut self, name: &str, bytes: &[u8]) -> Result<(), DeskFault>
-        ensures fails { let s = state_of self.old in
-            IsErrOf result DeskFault.Failed ↔ Contains s.failing s.calls }
+        ensures fails { let s = state_of self.old in IsErrOf result DeskFault.Failed → Contains s.failing s.calls }
+        ensures listed { let s = state_of self.old in Contains s.failing s.calls → IsErr result }
+        ensures exact { let s = state_of self.old in s.left ≡ None → Contains s.failing s.calls → IsErrOf result DeskFault.Failed }
         ensures leaves { LeavesState result (state_of self.old) (state_of self.new) name.now bytes.now }
+        ensures holds { Leaves result (state_of self.old).files (state_of self.new).files name.now bytes.now }
 
         // Above the range of its type the equation alone would let the count fall.
         ensures never_falls { (state_of self.old).write_faults ≤ (state_of self.new).write_faults }
     {
         if self.count_call() {
-            return Err(self.count_write_fault());
+            return match self.tear_file(name, bytes) {
+                Ok(()) => Err(self.count_write_fault()),
+                Err(none) => Err(DeskFault::Memory(none)),
+            };
         }
         match put(self.alloc, &mut self.files, name, bytes) {
             Ok(()) => Ok(()),
@@ -233,34 +263,42 @@ impl Desk for MemoryDesk {
         }
     }
 
-    /// Fails exactly where it is told to.
+    /// Fails exactly where it is told to, unless there is no memory for what it is to leave.
     fn say(&mut self, bytes: &[u8]) -> Result<(), DeskFault>
-        ensures fails { let s = state_of self.old in
-            IsErrOf result DeskFault.Failed ↔ Contains s.failing s.calls }
+        ensures fails { let s = state_of self.old in IsErrOf result DeskFault.Failed → Contains s.failing s.calls }
+        ensures listed { let s = state_of self.old in Contains s.failing s.calls → IsErr result }
+        ensures exact { let s = state_of self.old in s.left ≡ None → Contains s.failing s.calls → IsErrOf result DeskFault.Failed }
         ensures leaves { let s = called (state_of self.old) in
-            IsOneOf result (state_of self.new) (with_said (s.said ++ bytes.now) s) (with_write_fault s) s }
+            IsOneOf result (state_of self.new) (with_said (s.said ++ bytes.now) s) (with_write_fault (with_torn_said bytes.now s)) s }
 
         // Above the range of its type the equation alone would let the count fall.
         ensures never_falls { (state_of self.old).write_faults ≤ (state_of self.new).write_faults }
     {
         if self.count_call() {
-            return Err(self.count_write_fault());
+            return match tear(&mut self.said, self.left, bytes) {
+                Ok(()) => Err(self.count_write_fault()),
+                Err(fault) => Err(fault),
+            };
         }
         append(&mut self.said, bytes)
     }
 
-    /// Fails exactly where it is told to.
+    /// Fails exactly where it is told to, unless there is no memory for what it is to leave.
     fn warn(&mut self, bytes: &[u8]) -> Result<(), DeskFault>
-        ensures fails { let s = state_of self.old in
-            IsErrOf result DeskFault.Failed ↔ Contains s.failing s.calls }
+        ensures fails { let s = state_of self.old in IsErrOf result DeskFault.Failed → Contains s.failing s.calls }
+        ensures listed { let s = state_of self.old in Contains s.failing s.calls → IsErr result }
+        ensures exact { let s = state_of self.old in s.left ≡ None → Contains s.failing s.calls → IsErrOf result DeskFault.Failed }
         ensures leaves { let s = called (state_of self.old) in
-            IsOneOf result (state_of self.new) (with_warned (s.warned ++ bytes.now) s) (with_warn_fault s) s }
+            IsOneOf result (state_of self.new) (with_warned (s.warned ++ bytes.now) s) (with_warn_fault (with_torn_warned bytes.now s)) s }
 
         // Above the range of its type the equation alone would let the count fall.
         ensures never_falls { (state_of self.old).warn_faults ≤ (state_of self.new).warn_faults }
     {
         if self.count_call() {
-            return Err(self.count_warn_fault());
+            return match tear(&mut self.warned, self.left, bytes) {
+                Ok(()) => Err(self.count_warn_fault()),
+                Err(fault) => Err(fault),
+            };
         }
         append(&mut self.warned, bytes)
     }

@@ -2,5 +2,8 @@
 #![tactic(auto)]
 
 mod disk;
+mod identity;
+mod reading;
+mod writing;
 
 pub use disk::DiskDesk;

@@ -9,7 +9,8 @@ pub(crate) enum Program {
     Sheet,
 }
 
-// A run by its words, over these files, and what is told of its end.
+// A run by its words, over these files, and what is told of its end. The desk fails some calls, which may leave a beginning, or it
+// has rooms for what is said and warned, and slots.
 #[derive(Drop)]
 pub(crate) struct Case {
     pub(crate) name: String,
@@ -17,13 +18,17 @@ pub(crate) struct Case {
     pub(crate) words: Vec<String>,
     pub(crate) files: Vec<(Name, Vec<u8>)>,
     pub(crate) fail: Vec<u64>,
+    pub(crate) left: Option<u64>,
+    pub(crate) rooms: Option<(u64, u64)>,
+    pub(crate) slots: Vec<(Name, u64)>,
     pub(crate) status: u8,
     pub(crate) said: Vec<u8>,
     pub(crate) warned: Vec<u8>,
     pub(crate) kept: Vec<(Name, Vec<u8>)>,
     pub(crate) made: Vec<Name>,
     pub(crate) gone: Vec<Name>,
-    pub(crate) beginnings: Option<(Name, usize)>,
+    pub(crate) beginnings: Option<Name>,
+    pub(crate) answers: String,
     pub(crate) differs: String,
 }
 
@@ -36,6 +41,9 @@ impl Case {
             words: Vec::new(alloc),
             files: Vec::new(alloc),
             fail: Vec::new(alloc),
+            left: None,
+            rooms: None,
+            slots: Vec::new(alloc),
             status: 0,
             said: Vec::new(alloc),
             warned: Vec::new(alloc),
@@ -43,6 +51,7 @@ impl Case {
             made: Vec::new(alloc),
             gone: Vec::new(alloc),
             beginnings: None,
+            answers: String::new(alloc),
             differs: String::new(alloc),
         })
     }

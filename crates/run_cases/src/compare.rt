@@ -3,7 +3,7 @@ ghost use Rattle.std.specs.Prelude.{◌≤◌, length};
 
 use crate::case::{Case, Program};
 use dec_text::Name;
-use desk::MemoryDesk;
+use desk::{Desk, MemoryDesk, RoomDesk};
 use draw_core::draw;
 use plot_rack::{ListPlotter, Plotter};
 use sheet_core::sheet;
@@ -20,28 +20,95 @@ fn end_of(name: &str, bytes: &[u8], cut: Option<(&str, usize)>) -> usize
     }
 }
 
-// The desk of a case, of which one file may be cut.
-fn desk_of(alloc: Global, case: &Case, cut: Option<(&str, usize)>) -> io::Result<MemoryDesk> {
+// A desk that shows what it holds.
+pub(crate) trait Shown: Desk {
+    fn file_shown(&self, name: &str) -> Option<&[u8]>;
+
+    fn said_shown(&self) -> &[u8];
+
+    fn warned_shown(&self) -> &[u8];
+}
+
+impl Shown for MemoryDesk {
+    fn file_shown(&self, name: &str) -> Option<&[u8]> {
+        self.file(name)
+    }
+
+    fn said_shown(&self) -> &[u8] {
+        self.said_bytes()
+    }
+
+    fn warned_shown(&self) -> &[u8] {
+        self.warned_bytes()
+    }
+}
+
+impl Shown for RoomDesk {
+    fn file_shown(&self, name: &str) -> Option<&[u8]> {
+        self.file(name)
+    }
+
+    fn said_shown(&self) -> &[u8] {
+        self.said_bytes()
+    }
+
+    fn warned_shown(&self) -> &[u8] {
+        self.warned_bytes()
+    }
+}
+
+fn copy_of(alloc: Global, name: &Name) -> io::Result<Name> {
+    match Name::new(alloc, name.as_str()) {
+        Ok(name) => Ok(name),
+        Err(_) => Err(io::Error::from(io::ErrorKind::OutOfMemory)),
+    }
+}
+
+// The files of a case, of which one may be cut.
+fn files_of(
+    alloc: Global,
+    case: &Case,
+    cut: Option<(&str, usize)>,
+) -> io::Result<Vec<(Name, Vec<u8>)>> {
     let mut copies = Vec::new(alloc);
     for (name, bytes) in &case.files {
         let end = end_of(name.as_str(), bytes, cut);
-        let Ok(name) = Name::new(alloc, name.as_str()) else {
-            return Err(io::Error::from(io::ErrorKind::OutOfMemory));
-        };
-        copies.push((name, bytes[..end].to_vec(alloc)?))?;
+        copies.push((copy_of(alloc, name)?, bytes[..end].to_vec(alloc)?))?;
     }
-    Ok(MemoryDesk::new(alloc, copies, case.fail.clone()?))
+    Ok(copies)
+}
+
+// The desk of a case, of which one file may be cut.
+fn desk_of(alloc: Global, case: &Case, cut: Option<(&str, usize)>) -> io::Result<MemoryDesk> {
+    let files = files_of(alloc, case, cut)?;
+    let fail = case.fail.clone()?;
+    Ok(match case.left {
+        Some(left) => MemoryDesk::torn(alloc, files, fail, left),
+        None => MemoryDesk::new(alloc, files, fail),
+    })
+}
+
+// The desk of a case with rooms.
+fn room_desk_of(alloc: Global, case: &Case, said: u64, warned: u64) -> io::Result<RoomDesk> {
+    let mut slots = Vec::new(alloc);
+    for (name, room) in &case.slots {
+        slots.push((copy_of(alloc, name)?, *room))?;
+    }
+    match RoomDesk::new(alloc, files_of(alloc, case, None)?, slots, said, warned) {
+        Ok(desk) => Ok(desk),
+        Err(_) => Err(io::Error::from(io::ErrorKind::OutOfMemory)),
+    }
 }
 
 // Runs `draw` with the piece list at hand, and answers the status.
-fn run_draw(alloc: Global, words: &[String], desk: &mut MemoryDesk) -> io::Result<u8> {
+fn run_draw<D: Desk>(alloc: Global, words: &[String], desk: &mut D) -> io::Result<u8> {
     let mut extras: Vec<Box<dyn Plotter>> = Vec::new(alloc);
     extras.push(Box::new(alloc, ListPlotter::new(alloc))?)?;
     Ok(draw(alloc, words, desk, extras).status)
 }
 
 // Runs the case's program by its words over the desk, and answers the status.
-fn run(alloc: Global, case: &Case, desk: &mut MemoryDesk) -> io::Result<u8> {
+fn run<D: Desk>(alloc: Global, case: &Case, desk: &mut D) -> io::Result<u8> {
     match case.program {
         Program::Draw => run_draw(alloc, &case.words, desk),
         Program::Sheet => Ok(sheet(alloc, &case.words, desk).status),
@@ -55,9 +122,9 @@ fn add(told: &mut String, word: &str) -> Result<(), AllocError> {
 }
 
 // Adds each file that isn't as the case tells.
-fn add_kept(told: &mut String, case: &Case, desk: &MemoryDesk) -> io::Result<()> {
+fn add_kept<D: Shown>(told: &mut String, case: &Case, desk: &D) -> io::Result<()> {
     for (name, bytes) in &case.kept {
-        if desk.file(name.as_str()) != Some(bytes.as_slice()) {
+        if desk.file_shown(name.as_str()) != Some(bytes.as_slice()) {
             add(told, name.as_str())?;
         }
     }
@@ -65,9 +132,14 @@ fn add_kept(told: &mut String, case: &Case, desk: &MemoryDesk) -> io::Result<()>
 }
 
 // Adds each of these files of which the desk has none, or has one.
-fn add_found(told: &mut String, names: &[Name], desk: &MemoryDesk, wanted: bool) -> io::Result<()> {
+fn add_found<D: Shown>(
+    told: &mut String,
+    names: &[Name],
+    desk: &D,
+    wanted: bool,
+) -> io::Result<()> {
     for name in names {
-        if desk.file(name.as_str()).is_some() != wanted {
+        if desk.file_shown(name.as_str()).is_some() != wanted {
             add(told, name.as_str())?;
         }
     }
@@ -75,20 +147,19 @@ fn add_found(told: &mut String, names: &[Name], desk: &MemoryDesk, wanted: bool)
 }
 
 // What differs, each word behind a blank.
-fn differences(alloc: Global, case: &Case) -> io::Result<String> {
-    let mut desk = desk_of(alloc, case, None)?;
+fn differences<D: Shown + Drop>(alloc: Global, case: &Case, mut desk: D) -> io::Result<String> {
     let found = run(alloc, case, &mut desk)?;
     let mut told = String::new(alloc);
     if found != case.status {
         add(&mut told, "status")?;
     }
-    if desk.said_bytes() != case.said.as_slice() {
+    if desk.said_shown() != case.said.as_slice() {
         add(&mut told, "said")?;
     }
-    if desk.warned_bytes() != case.warned.as_slice() {
+    if desk.warned_shown() != case.warned.as_slice() {
         add(&mut told, "warned")?;
     }
-    if !case.has_drawing() && desk.file(case.drawing()).is_some() {
+    if !case.has_drawing() && desk.file_shown(case.drawing()).is_some() {
         add(&mut told, case.drawing())?;
     }
     add_kept(&mut told, case, &desk)?;
@@ -106,14 +177,38 @@ fn length_of(case: &Case, name: &str) -> usize {
     0
 }
 
-// The lengths of those beginnings of a file whose status is not as it is to be, each behind a blank.
-fn beginnings(alloc: Global, case: &Case, name: &str, most: usize) -> io::Result<String> {
+// The status and the line that the beginning of this length is to have: those of the last line of the answers that counts from it
+// or before.
+fn answer_at(answers: &str, length: usize) -> Option<(u8, &str)> {
+    let mut found = None;
+    for line in answers.lines() {
+        let (from, answer) = line.split_once(' ')?;
+        if from.parse::<usize>().ok()? > length {
+            break;
+        }
+        let (status, told) = answer.split_once(' ').unwrap_or((answer, ""));
+        found = Some((status.parse::<u8>().ok()?, told));
+    }
+    found
+}
+
+// The bytes are this text and a newline, or none where there is no text.
+fn is_line(bytes: &[u8], text: &str) -> bool {
+    match bytes.strip_suffix(b"\n") {
+        Some(line) => !text.is_empty() && line == text.as_bytes(),
+        None => text.is_empty() && bytes.is_empty(),
+    }
+}
+
+// The lengths of those beginnings of a file whose status or line is not as it is to be, each behind a blank.
+fn beginnings(alloc: Global, case: &Case, name: &str) -> io::Result<String> {
     let mut told = String::new(alloc);
-    let whole = length_of(case, name);
-    for end in 0..=whole {
+    for end in 0..=length_of(case, name) {
         let mut desk = desk_of(alloc, case, Some((name, end)))?;
         let status = run(alloc, case, &mut desk)?;
-        if (status == 0) != (whole - end <= most) {
+        let warned = desk.warned_bytes();
+        let wanted = answer_at(case.answers.as_str(), end);
+        if !matches!(wanted, Some((number, text)) if number == status && is_line(warned, text)) {
             add(&mut told, &format!(in alloc; "{end}")?)?;
         }
     }
@@ -122,8 +217,11 @@ fn beginnings(alloc: Global, case: &Case, name: &str, most: usize) -> io::Result
 
 // What differs of what a case tells, each word behind a blank.
 pub(crate) fn told_wrongly(alloc: Global, case: &Case) -> io::Result<String> {
-    match &case.beginnings {
-        Some((name, most)) => beginnings(alloc, case, name.as_str(), *most),
-        None => differences(alloc, case),
+    if let Some(name) = &case.beginnings {
+        return beginnings(alloc, case, name.as_str());
+    }
+    match case.rooms {
+        Some((said, warned)) => differences(alloc, case, room_desk_of(alloc, case, said, warned)?),
+        None => differences(alloc, case, desk_of(alloc, case, None)?),
     }
 }

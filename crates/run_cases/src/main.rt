@@ -10,6 +10,9 @@
 //!     == take NAME FILE          the bytes of a real file are added to this file of the desk
 //!     == bytes NAME BYTE COUNT   so many times this byte are added to this file of the desk
 //!     == fail NUMBER ..          the calls of the desk, from 0, that fail
+//!     == left COUNT              how many bytes a failed call leaves; with no such line it changes nothing
+//!     == rooms SAID WARNED       the desk has rooms of these sizes for what is said and warned, and no call of it is told to fail
+//!     == slot NAME SIZE          a name that may be kept on such a desk, and the room for its bytes
 //!     == status NUMBER           the status, 0 where there is no such line
 //!     == said                    the text is all that is said, and with no such line nothing
 //!     == warned                  the same of what is warned
@@ -17,8 +20,8 @@
 //!     == holds NAME FILE         afterwards the desk has this file with the bytes of a real file
 //!     == made NAME               afterwards the desk has this file
 //!     == gone NAME               afterwards the desk has no such file
-//!     == beginnings NAME COUNT   each beginning of this file is a run: the status is 0 where at most so many bytes are missing,
-//!                                and else it isn't; nothing else is looked at
+//!     == beginnings NAME         each beginning of this file is a run. A line `LENGTH STATUS LINE` of the text tells the status and
+//!                                what is warned, without its newline, from this length on; nothing else is looked at
 //!     == differs WHAT ..         what is told above is wrong in this, so that the comparison itself is tried
 #![tactic(auto)]
 

@@ -100,6 +100,52 @@ fn program_of(name: &str) -> Option<Program> {
     }
 }
 
+// The two numbers of a line.
+fn pair_of(rest: &str) -> Option<(u64, u64)> {
+    let (first, second) = rest.split_once(' ')?;
+    Some((first.parse::<u64>().ok()?, second.parse::<u64>().ok()?))
+}
+
+// Adds a file that may be kept, with its room. Answers whether both are told.
+fn add_slot(alloc: Global, case: &mut Case, rest: &str) -> Result<bool, AllocError> {
+    let Some((name, room)) = rest.split_once(' ') else {
+        return Ok(false);
+    };
+    let Ok(room) = room.parse::<u64>() else {
+        return Ok(false);
+    };
+    case.slots.push((name_of(alloc, name)?, room))?;
+    Ok(true)
+}
+
+// Adds what a mark tells of the desk. Answers whether it is told rightly, if it is such a mark.
+fn add_to_desk(
+    alloc: Global,
+    case: &mut Case,
+    mark: &str,
+    rest: &str,
+) -> Result<Option<bool>, AllocError> {
+    match mark {
+        "fail" => {
+            let Some(numbers) = numbers_of(alloc, rest)? else {
+                return Ok(Some(false));
+            };
+            case.fail = numbers;
+            Ok(Some(true))
+        }
+        "left" => {
+            case.left = rest.parse::<u64>().ok();
+            Ok(Some(case.left.is_some()))
+        }
+        "rooms" => {
+            case.rooms = pair_of(rest);
+            Ok(Some(case.rooms.is_some()))
+        }
+        "slot" => Ok(Some(add_slot(alloc, case, rest)?)),
+        _ => Ok(None),
+    }
+}
+
 // Adds what a mark tells of the run. Answers whether it is such a mark.
 fn add_to_run<R: Files + AllocGlobal>(
     rt: &R,
@@ -120,12 +166,8 @@ fn add_to_run<R: Files + AllocGlobal>(
         case.words = words_of(alloc, rest)?;
         return Ok(true);
     }
-    if mark == "fail" {
-        let Some(numbers) = numbers_of(alloc, rest)? else {
-            return Ok(false);
-        };
-        case.fail = numbers;
-        return Ok(true);
+    if let Some(told) = add_to_desk(alloc, case, mark, rest)? {
+        return Ok(told);
     }
     let (name, rest) = rest.split_once(' ').unwrap_or((rest, ""));
     match bytes_of(rt, mark, rest, text)? {
@@ -168,18 +210,6 @@ fn add_to_files<R: Files + AllocGlobal>(
     Ok(true)
 }
 
-// Takes what a mark tells of beginnings. Answers whether they are told rightly.
-fn add_beginnings(alloc: Global, case: &mut Case, rest: &str) -> Result<bool, AllocError> {
-    let Some((name, count)) = rest.split_once(' ') else {
-        return Ok(false);
-    };
-    let Ok(count) = count.parse::<u16>() else {
-        return Ok(false);
-    };
-    case.beginnings = Some((name_of(alloc, name)?, usize::from(count)));
-    Ok(true)
-}
-
 // Adds what a mark tells of the end of the run. Answers whether it is such a mark.
 fn add_to_end<R: Files + AllocGlobal>(
     rt: &R,
@@ -193,7 +223,10 @@ fn add_to_end<R: Files + AllocGlobal>(
         "said" => case.said = lines_of(alloc, text)?,
         "warned" => case.warned = lines_of(alloc, text)?,
         "differs" => case.differs = format!(in alloc; " {rest}")?,
-        "beginnings" => return Ok(add_beginnings(alloc, case, rest)?),
+        "beginnings" => {
+            case.beginnings = Some(name_of(alloc, rest)?);
+            case.answers = String::from_str(alloc, text.unwrap_or(""))?;
+        }
         "status" => match rest.parse::<u8>() {
             Ok(number) => case.status = number,
             Err(_) => return Ok(false),

@@ -1,9 +1,8 @@
--- Where a file stands in a desk in memory.
-use Rattle.std.specs.Prelude.{◌≡◌, take, option_map, slice_get, ℕ, List, Some, None, Vec}
-use Rattle.std.specs.declared.alloc.Global.{Global}
-use Rattle.desk.specs.Memory.{file_at}
+-- Where a name stands among named things.
+use Rattle.std.specs.Prelude.{◌≡◌, take, option_map, slice_get, ℕ, List, Some, None}
+use Rattle.desk.specs.Files.{named_at}
 
--- the first file with this name stands there
-pub record IsPlaceOf (files : List (List ℕ × Vec ℕ Global)) (name : List ℕ) (i : ℕ) : Type 0 where
-  pub before : file_at (take i files) name ≡ None
-  pub here : option_map (λ file. file.0) (slice_get files i) ≡ Some name
+-- the first with this name stands there
+pub record IsPlaceOf {V : Type 0} (named : List (List ℕ × V)) (name : List ℕ) (i : ℕ) : Type 0 where
+  pub before : named_at (take i named) name ≡ None
+  pub here : option_map (λ one. one.0) (slice_get named i) ≡ Some name
