@@ -6,6 +6,8 @@ squares: a cube whose faces are divided in N by N squares.
 slivers: N thin tetrahedra side by side along the diagonal of space: the boxes of all of them overlap.
 comb: a comb of N teeth.
 rough: a box with a rough top of N by N squares.
+walls: N slanting walls that the plane z = 0 cuts, a plate below them, and N slivers across below that.
+pins: N by N pins over 400 ribs; the plane z = 8 mm cuts each pin.
 """
 import random
 import sys
@@ -106,6 +108,41 @@ def rough(part, n):
         part.face(middle, low(b), low(a))
 
 
+def tetrahedron(part, a, b, c, d):
+    for face in ((a, b, c), (a, d, b), (b, d, c), (a, c, d)):
+        part.face(*face)
+
+
+def solid_box(part, x, y, z, dx, dy, dz):
+    corners = box(x, y, z, dx, dy, dz)
+    for face in FACES:
+        part.face(*(corners[k] for k in face))
+
+
+def walls(part, n):
+    for i in range(n):
+        x = -450000 + 900000 * i // n
+        d = min(300, max(2, 300000 // n))
+        far = [(x + d, 500000, 500), (x + d, -500000, -500), (x, 500000, -500)]
+        tetrahedron(part, (x, -500000, 500), *far)
+    solid_box(part, -501000, -501000, -2000, 1002000, 1002000, 500)
+    for i in range(n):
+        y = -200000 + 400000 * i // n
+        d = min(300, max(2, 400000 // n // 3))
+        far = [(-500000, y + d, -5000), (500000, y, -5000), (500000, y, -5000 - d)]
+        tetrahedron(part, (-500000, y, -5000), *far)
+
+
+def pins(part, n):
+    for i in range(400):
+        solid_box(part, 0, 2000 * i, 0, 800000, 1000, 2000)
+    pitch = 800000 // n
+    for i in range(n):
+        for j in range(n):
+            solid_box(part, pitch * i + 500, pitch * j + 300, 3000, 1000, 1000, 10000)
+
+
 part = Part()
-{"bars": bars, "squares": squares, "slivers": slivers, "comb": comb, "rough": rough}[sys.argv[1]](part, int(sys.argv[2]))
+{"bars": bars, "squares": squares, "slivers": slivers, "comb": comb, "rough": rough,
+ "walls": walls, "pins": pins}[sys.argv[1]](part, int(sys.argv[2]))
 part.write()

@@ -18,10 +18,20 @@ done
 ./parts.py slivers 2500 >"$work/slivers.off"
 ./parts.py comb 700 >"$work/comb.off"
 ./parts.py rough 94 >"$work/rough.off"
+./parts.py walls 200 >"$work/walls.off"
+./parts.py pins 35 >"$work/pins.off"
 cp ../examples/pillow.off ../examples/flange.stl ../examples/pillow.toml ../examples/third-angle.toml "$work"
 cd "$work"
 printf 'sheet = "A0"\n[[view]]\nname = "front"\n' >front.toml
 printf 'sheet = "A0"\n[[view]]\ntoward = [1, -1, 1]\n' >diagonal.toml
+cut() {
+    printf 'sheet = "A0"\n[[view]]\ncut = "%s"\nat = %s\nfrom = "high"\n' "$1" "$2"
+}
+cut z 0 >walls.toml
+cut z 8000 >pins.toml
+cut x 0 >pillow-x.toml
+cut y 0 >pillow-y.toml
+cut z 80000 >pillow-z.toml
 measure() {
     label=$1
     shift
@@ -48,3 +58,8 @@ measure "a comb of 700 teeth, one view from the front" comb.off --job front.toml
 measure "a rough top of 94 by 94 squares, one view from the front" rough.off --job front.toml
 measure "flange.stl, third-angle.toml" flange.stl --job third-angle.toml
 measure "pillow.off, pillow.toml" pillow.off --job pillow.toml
+for axis in x y z; do
+    measure "pillow.off, cut at its middle across $axis" pillow.off --job "pillow-$axis.toml"
+done
+measure "200 walls over 200 slivers, one cut through the walls" walls.off --job walls.toml
+measure "1,225 pins over 400 ribs, one cut through the pins" pins.off --job pins.toml
