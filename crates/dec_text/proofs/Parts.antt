@@ -1,10 +1,11 @@
 -- A number is parted in one way only.
-use Rattle.std.proofs.Common.{◌≡◌, ◌⊎◌, ℕ, ◌+◌, ◌<◌, ◌≤◌, suc, Bool, true, false, ◌||◌, ◌==◌, ℤ, pos, ◌+ℤ◌, ◌-ℤ◌, List, [], ◌∷◌, ◌++◌, length, refl, sym, ◌∙◌, ap, subst, arith, inl, inr, append_assoc}
+use Rattle.std.proofs.Common.{◌≡◌, ◌⊎◌, ℕ, ◌+◌, ◌*◌, ◌<◌, ◌≤◌, suc, Bool, true, false, ◌||◌, ◌==◌, ℤ, pos, ◌+ℤ◌, ◌-ℤ◌, List, [], ◌∷◌, ◌++◌, length, refl, sym, ◌∙◌, ap, subst, arith, inl, inr, append_assoc}
 use Rattle.std.proofs.lemmas.Bool.{and_parts, ne_eqb, or_parts}
 use Rattle.std.proofs.lemmas.List.{length-append}
 use Rattle.std.specs.List.{list_all}
 use Rattle.std.specs.Char.{is_ascii_digit}
-use Rattle.dec_text.specs.Numbers.{AreDigits, value_of, IsSign, signed, HasExponent, IsExponent, IsFraction, Number, rounded, magnitude_of, units_of}
+use Rattle.dec_text.specs.Numbers.{AreDigits, value_of, IsSign, signed, HasExponent, IsExponent, IsFraction, Number, tenths_in, rounded, magnitude_of, units_of}
+use Rattle.dec_text.specs.declared.number.Length.{Length}
 use Rattle.dec_text.specs.inner.Reading.{is_minus, behind_sign, IsDigitEnd, HasFraction}
 use Rattle.dec_text.proofs.Digits.{one_end, digit_size}
 
@@ -161,14 +162,14 @@ all_same bytes n m =
       exponent = one_exponent m.tail n.exponent m.exponent (subst (λ (t : List ℕ). IsExponent t n.exponent) f.1 n.is_exponent) m.is_exponent;
     }
 
-same_rounded : (decimals : ℕ) (whole front fraction behind : List ℕ) (d e : ℤ) → whole ≡ front → fraction ≡ behind → d ≡ e → rounded (value_of (whole ++ fraction)) (d +ℤ pos decimals -ℤ pos (length fraction)) ≡ rounded (value_of (front ++ behind)) (e +ℤ pos decimals -ℤ pos (length behind))
-same_rounded decimals whole front fraction behind d e h k x = rw (h, k, x) refl
+same_rounded : (decimals factor : ℕ) (whole front fraction behind : List ℕ) (d e : ℤ) → whole ≡ front → fraction ≡ behind → d ≡ e → rounded (factor * value_of (whole ++ fraction)) (d +ℤ pos decimals -ℤ pos (length fraction) -ℤ pos 1) ≡ rounded (factor * value_of (front ++ behind)) (e +ℤ pos decimals -ℤ pos (length behind) -ℤ pos 1)
+same_rounded decimals factor whole front fraction behind d e h k x = rw (h, k, x) refl
 
 -- bytes are so many units in one way only
-pub one_value : (decimals : ℕ) (bytes : List ℕ) (n m : Number bytes) → magnitude_of decimals n ≡ magnitude_of decimals m
-one_value decimals bytes n m = let s = all_same bytes n m in same_rounded decimals n.whole m.whole n.fraction m.fraction n.exponent m.exponent s.whole s.fraction s.exponent
+pub one_value : (decimals : ℕ) (unit : Length) (bytes : List ℕ) (n m : Number bytes) → magnitude_of decimals unit n ≡ magnitude_of decimals unit m
+one_value decimals unit bytes n m = let s = all_same bytes n m in same_rounded decimals (tenths_in unit) n.whole m.whole n.fraction m.fraction n.exponent m.exponent s.whole s.fraction s.exponent
 
-pub one_units : (decimals : ℕ) (bytes : List ℕ) (n m : Number bytes) → units_of decimals n ≡ units_of decimals m
-one_units decimals bytes n m =
+pub one_units : (decimals : ℕ) (unit : Length) (bytes : List ℕ) (n m : Number bytes) → units_of decimals unit n ≡ units_of decimals unit m
+one_units decimals unit bytes n m =
     let s = all_same bytes n m in
-    ap (λ (b : Bool). signed b (magnitude_of decimals n)) s.negative ∙ ap (signed m.negative) (one_value decimals bytes n m)
+    ap (λ (b : Bool). signed b (magnitude_of decimals unit n)) s.negative ∙ ap (signed m.negative) (one_value decimals unit bytes n m)

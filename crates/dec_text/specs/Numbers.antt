@@ -2,6 +2,8 @@
 use Rattle.std.specs.Prelude.{◌≡◌, ◌⊎◌, ℕ, ◌+◌, ◌*◌, ◌-◌, ◌^◌, ◌/◌, ◌<◌, ◌≤◌, Bool, true, false, ℤ, pos, negsuc, neg_ℤ, ◌+ℤ◌, ◌-ℤ◌, List, [], ◌∷◌, ◌++◌, length, fold, take, codes}
 use Rattle.std.specs.List.{list_all}
 use Rattle.std.specs.Char.{is_ascii_digit}
+use Rattle.dec_text.specs.declared.number.Length.{Length}
+use Rattle.dec_text.specs.declared.number.Length.TheVariants.{Millimetre, Inch}
 
 -- ---- how a number is written
 abbrev pub AreDigits : List ℕ → Type 0
@@ -59,18 +61,24 @@ pub record Number (bytes : List ℕ) : Type 0 where
   pub all : bytes ≡ sign ++ whole ++ behind ++ tail
 
 -- ---- how many units it is
+-- a length in tenths of a millimetre
+abbrev pub tenths_in : Length → ℕ
+tenths_in Millimetre = 10
+tenths_in Inch = 254
+
 -- m times 10 ^ places, to the nearest whole number, halves up
 abbrev pub rounded : ℕ → ℤ → ℕ
 rounded m (pos n) = m * 10 ^ n
 rounded m (negsuc n) = (2 * m + 10 ^ (n + 1)) / (2 * 10 ^ (n + 1))
 
--- the size of the number in units, 10 ^ decimals to one
-abbrev pub magnitude_of : ℕ → {bytes : List ℕ} → Number bytes → ℕ
-magnitude_of decimals n = rounded (value_of (n.whole ++ n.fraction)) (n.exponent +ℤ pos decimals -ℤ pos (length n.fraction))
+-- the size of the number of such lengths in units, 10 ^ decimals to a millimetre
+abbrev pub magnitude_of : ℕ → Length → {bytes : List ℕ} → Number bytes → ℕ
+magnitude_of decimals unit n =
+    rounded (tenths_in unit * value_of (n.whole ++ n.fraction)) (n.exponent +ℤ pos decimals -ℤ pos (length n.fraction) -ℤ pos 1)
 
 -- the number in units, halves away from zero
-abbrev pub units_of : ℕ → {bytes : List ℕ} → Number bytes → ℤ
-units_of decimals n = signed n.negative (magnitude_of decimals n)
+abbrev pub units_of : ℕ → Length → {bytes : List ℕ} → Number bytes → ℤ
+units_of decimals unit n = signed n.negative (magnitude_of decimals unit n)
 
 -- ---- where bytes cease to be a number
 -- some number begins with these bytes

@@ -6,5 +6,5 @@ mod number;
 mod text;
 
 pub use name::Name;
-pub use number::{NumberFault, fixed};
+pub use number::{Length, NumberFault, fixed};
 pub use text::{push_frac, push_int};

@@ -1,10 +1,19 @@
 // Numbers as texts, read as whole numbers of units.
 ghost use Rattle.std.specs.Prelude.{◌≡◌, ◌↔◌, ℕ, ◌+◌, ◌*◌, ◌-◌, ◌/◌, ◌^◌, ◌<◌, ◌≤◌, ℤ, List, ◌++◌, length, take, drop, fold, MatchOption, Ok, Err};
-ghost use Rattle.dec_text.specs.Numbers.{AreDigits, value_of, Number, IsExponent, IsLongestStart, magnitude_of, units_of};
-ghost use Rattle.dec_text.specs.inner.Reading.{kind_of, step, may_end, is_minus, behind_sign, IsDigitEnd, HasFraction, IsHeld, IsHeldExponent, count_of, tenths_of, IsBelowEnd};
+ghost use Rattle.dec_text.specs.Numbers.{AreDigits, value_of, Number, IsExponent, IsLongestStart, tenths_in, magnitude_of, units_of};
+ghost use Rattle.dec_text.specs.inner.Reading.{kind_of, step, may_end, is_minus, behind_sign, IsDigitEnd, HasFraction, IsHeld, IsHeldExponent, count_of, lead_of, front_of, rest_of, tenths_of, IsBelowEnd};
 
 /// The largest size of a number in units.
 const LARGEST: u32 = 1048576;
+
+/// What a part's lengths are given in.
+#[derive(Clone, Copy, PartialEq, Eq, Debug)]
+pub enum Length {
+    /// Millimetres.
+    Millimetre,
+    /// Inches, of 25.4 millimetres each.
+    Inch,
+}
 
 /// Tenths of a unit from which on a value is over the largest size, however it goes on.
 const TENTHS_END: u32 = 100000000;
@@ -225,10 +234,10 @@ fn with_zeros(value: u32, zeros: usize) -> Option<u32>
 }
 
 /// What the first digits stand for, with zeros behind them where there are fewer, where it is below the end.
-fn tenths(whole: &[u8], fraction: &[u8], count: usize) -> Option<u32>
+fn front(whole: &[u8], fraction: &[u8], count: usize) -> Option<u32>
     requires whole { AreDigits whole.now }
     requires fraction { AreDigits fraction.now }
-    ensures { IsBelowEnd (tenths_of (whole.now ++ fraction.now) count) result }
+    ensures { IsBelowEnd (front_of (whole.now ++ fraction.now) count) result }
 {
     let value = with_digits(0, &whole[..count.min(whole.len())])?;
     let rest = count.saturating_sub(whole.len());
@@ -236,13 +245,48 @@ fn tenths(whole: &[u8], fraction: &[u8], count: usize) -> Option<u32>
     with_zeros(value, rest.saturating_sub(fraction.len()))
 }
 
-/// How many digits there are down to the tenths of a unit, from the first one on.
+/// How many whole ones the digits are behind a point, each times a factor, with so many from what stands behind them.
+fn carried(digits: &[u8], behind: u32, factor: u32) -> u32
+    requires digits { AreDigits digits.now }
+    requires factor { factor ≤ 254 }
+    requires behind { behind < factor }
+    ensures value { result ≡ (factor * value_of digits.now + behind) / 10 ^ length digits.now }
+    ensures size { result < factor }
+{
+    let mut at = digits.len();
+    let mut carry = behind;
+    while at > 0 {
+        at -= 1;
+        carry = (factor * u32::from(digits[at] - b'0') + carry) / 10;
+    }
+    carry
+}
+
+/// How many whole ones the digits behind the first ones are, with zeros before them, each times a factor.
+fn rest(whole: &[u8], fraction: &[u8], count: usize, lead: usize, factor: u32) -> u32
+    requires whole { AreDigits whole.now }
+    requires fraction { AreDigits fraction.now }
+    requires factor { (1 ≤ factor) × (factor ≤ 254) }
+    ensures value { result ≡ rest_of factor (whole.now ++ fraction.now) count lead }
+    ensures size { result < factor }
+{
+    let second = count.saturating_sub(whole.len()).min(fraction.len());
+    let behind = carried(&fraction[second..], 0, factor);
+    let carry = carried(&whole[count.min(whole.len())..], behind, factor);
+    if lead > 2 {
+        0
+    } else {
+        carry / 10u32.pow(lead as u32)
+    }
+}
+
+/// How many digits there are down to the units, from the first one on.
 fn count(whole: usize, decimals: u8, exponent: Exponent) -> usize
     requires whole { whole ≤ 16777216 }
     requires exponent { exponent.size < 2 ^ 30 }
     ensures { result ≡ count_of whole decimals exponent.negative exponent.size }
 {
-    let plain = whole + usize::from(decimals) + 1;
+    let plain = whole + usize::from(decimals);
     if exponent.negative {
         plain.saturating_sub(exponent.size as usize)
     } else {
@@ -250,28 +294,69 @@ fn count(whole: usize, decimals: u8, exponent: Exponent) -> usize
     }
 }
 
-/// The tenths of a unit in a number, where they are below the end.
-fn number_tenths(bytes: &[u8], decimals: u8) -> Option<u32>
+/// How many zeros there are below the units before the first digit.
+fn lead(whole: usize, decimals: u8, exponent: Exponent) -> usize
+    requires whole { whole ≤ 16777216 }
+    ensures { result ≡ lead_of whole decimals exponent.negative exponent.size }
+{
+    if exponent.negative {
+        (exponent.size as usize).saturating_sub(whole + usize::from(decimals))
+    } else {
+        0
+    }
+}
+
+/// A length in tenths of a millimetre.
+fn tenths_in(unit: Length) -> u32
+    ensures { result ≡ tenths_in unit }
+{
+    match unit {
+        Length::Millimetre => 10,
+        Length::Inch => 254,
+    }
+}
+
+/// The tenths of a unit, where they are below the end.
+fn tenths(whole: &[u8], fraction: &[u8], count: usize, lead: usize, factor: u32) -> Option<u32>
+    requires whole { AreDigits whole.now }
+    requires fraction { AreDigits fraction.now }
+    requires factor { (1 ≤ factor) × (factor ≤ 254) }
+    ensures { IsBelowEnd (tenths_of factor (whole.now ++ fraction.now) count lead) result }
+{
+    let front = front(whole, fraction, count)?;
+    let rest = rest(whole, fraction, count, lead, factor);
+    let tenths = u64::from(factor) * u64::from(front) + u64::from(rest);
+    if tenths < u64::from(TENTHS_END) {
+        Some(tenths as u32)
+    } else {
+        None
+    }
+}
+
+/// The tenths of a unit in a number of such lengths, where they are below the end.
+fn number_tenths(bytes: &[u8], decimals: u8, unit: Length) -> Option<u32>
     requires few { decimals ≤ 6 }
     requires short { length bytes.now ≤ 16777216 }
     requires number { Number bytes.now }
-    ensures { (n : Number bytes.now) → MatchOption result (1048576 < magnitude_of decimals n) (λ tenths. (tenths < 10 ^ 8) × (magnitude_of decimals n ≡ (tenths + 5) / 10)) }
+    ensures { (n : Number bytes.now) → MatchOption result (1048576 < magnitude_of decimals unit n) (λ tenths. (tenths < 10 ^ 8) × (magnitude_of decimals unit n ≡ (tenths + 5) / 10)) }
 {
     let (_, behind) = split_sign(bytes);
     let (whole, behind) = split_digits(behind);
     let (fraction, tail) = split_fraction(behind);
     let exponent = exponent_of(tail);
-    tenths(whole, fraction, count(whole.len(), decimals, exponent))
+    let count = count(whole.len(), decimals, exponent);
+    let lead = lead(whole.len(), decimals, exponent);
+    tenths(whole, fraction, count, lead, tenths_in(unit))
 }
 
-/// The units of a number, where there aren't too many.
-fn units(bytes: &[u8], decimals: u8) -> Option<i32>
+/// The units of a number of such lengths, where there aren't too many.
+fn units(bytes: &[u8], decimals: u8, unit: Length) -> Option<i32>
     requires few { decimals ≤ 6 }
     requires short { length bytes.now ≤ 16777216 }
     requires number { Number bytes.now }
-    ensures { (n : Number bytes.now) → MatchOption result (1048576 < magnitude_of decimals n) (λ v. (magnitude_of decimals n ≤ 1048576) × (units_of decimals n ≡ v)) }
+    ensures { (n : Number bytes.now) → MatchOption result (1048576 < magnitude_of decimals unit n) (λ v. (magnitude_of decimals unit n ≤ 1048576) × (units_of decimals unit n ≡ v)) }
 {
-    let magnitude = (number_tenths(bytes, decimals)? + 5) / 10;
+    let magnitude = (number_tenths(bytes, decimals, unit)? + 5) / 10;
     if magnitude > LARGEST {
         return None;
     }
@@ -283,18 +368,18 @@ fn units(bytes: &[u8], decimals: u8) -> Option<i32>
     }
 }
 
-/// The number of units, 10 ^ `decimals` to one, that the bytes are a number of, to the nearest whole one and halves
-/// away from zero. The time goes with the length of the bytes, and no memory is taken.
-pub fn fixed(bytes: &[u8], decimals: u8) -> Result<i32, NumberFault>
+/// The number of units, 10 ^ `decimals` to a millimetre, that the bytes are as a number of such lengths, to the nearest whole
+/// one and halves away from zero. The time goes with the length of the bytes, and no memory is taken.
+pub fn fixed(bytes: &[u8], decimals: u8, unit: Length) -> Result<i32, NumberFault>
     requires few { decimals ≤ 6 }
     requires short { length bytes.now ≤ 16777216 }
-    ensures ok { (v : ℤ) → (result ≡ Ok v) ↔ ((n : Number bytes.now) × (magnitude_of decimals n ≤ 1048576) × (units_of decimals n ≡ v)) }
-    ensures too_large { (result ≡ Err NumberFault.TooLarge) ↔ ((n : Number bytes.now) × (1048576 < magnitude_of decimals n)) }
+    ensures ok { (v : ℤ) → (result ≡ Ok v) ↔ ((n : Number bytes.now) × (magnitude_of decimals unit n ≤ 1048576) × (units_of decimals unit n ≡ v)) }
+    ensures too_large { (result ≡ Err NumberFault.TooLarge) ↔ ((n : Number bytes.now) × (1048576 < magnitude_of decimals unit n)) }
     ensures not_a_number { (at : ℕ) → (result ≡ Err (NumberFault.NotANumber at)) ↔ ((Number bytes.now → ⊥) × IsLongestStart bytes.now at) }
 {
     match fault_place(bytes) {
         Some(at) => Err(NumberFault::NotANumber(at)),
-        None => match units(bytes, decimals) {
+        None => match units(bytes, decimals, unit) {
             Some(units) => Ok(units),
             None => Err(NumberFault::TooLarge),
         },

@@ -1,5 +1,5 @@
 // Worked rows: fractions up to the ends of the type, divisors, roots and roundings, and numbers as texts.
-use dec_text::{NumberFault, fixed, push_frac, push_int};
+use dec_text::{Length, NumberFault, fixed, push_frac, push_int};
 use exact_frac::{Frac, gcd, isqrt, round_half_up};
 use std::cmp::Ordering;
 use std::test::Fail;
@@ -84,6 +84,16 @@ fn numbers_with_three_decimals(rt: HostRuntime) {
     ] {
         let bytes = text.as_bytes();
         assert!(rt; bytes.len() < 100);
-        assert_eq!(rt; fixed(bytes, 3), units, "{text}");
+        assert_eq!(rt; fixed(bytes, 3, Length::Millimetre), units, "{text}");
+    }
+    for (text, units) in [
+        ("1", Ok(25400)),
+        ("0.00002", Ok(1)),
+        ("41.2825", Ok(1048576)),
+        ("41.28254", Err(NumberFault::TooLarge)),
+    ] {
+        let bytes = text.as_bytes();
+        assert!(rt; bytes.len() < 100);
+        assert_eq!(rt; fixed(bytes, 3, Length::Inch), units, "{text}");
     }
 }

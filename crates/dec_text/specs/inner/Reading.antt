@@ -1,5 +1,5 @@
 -- How a number is read: byte after byte, and then part after part.
-use Rattle.std.specs.Prelude.{◌≡◌, ◌⊎◌, ℕ, ◌+◌, ◌-◌, ◌*◌, ◌^◌, ◌<◌, ◌≤◌, Bool, true, false, ◌||◌, ◌==◌, if◌then◌else◌, ℤ, List, [], ◌∷◌, ◌++◌, length, take, Option, Some, None, MatchOption}
+use Rattle.std.specs.Prelude.{◌≡◌, ◌⊎◌, ℕ, ◌+◌, ◌-◌, ◌*◌, ◌/◌, ◌^◌, ◌<◌, ◌≤◌, Bool, true, false, ◌||◌, ◌==◌, if◌then◌else◌, ℤ, List, [], ◌∷◌, ◌++◌, length, take, drop, Option, Some, None, MatchOption}
 use Rattle.std.specs.Char.{is_ascii_digit}
 use Rattle.dec_text.specs.Numbers.{AreDigits, value_of, signed, IsExponent, IsFraction}
 use Rattle.dec_text.specs.declared.number.Kind.{Kind}
@@ -74,14 +74,26 @@ pub record IsHeldExponent (exponent : ℤ) (held : Exponent) : Type 0 where
   pub is_held : IsHeld size held.size
 
 -- ---- tenths of a unit
--- how many digits there are down to the tenths, from the first one on
+-- how many digits there are down to the units, from the first one on
 abbrev pub count_of : ℕ → ℕ → Bool → ℕ → ℕ
-count_of whole decimals true size = whole + decimals + 1 - size
-count_of whole decimals false size = whole + decimals + 1 + size
+count_of whole decimals true size = whole + decimals - size
+count_of whole decimals false size = whole + decimals + size
+
+-- how many zeros there are below the units before the first digit
+abbrev pub lead_of : ℕ → ℕ → Bool → ℕ → ℕ
+lead_of whole decimals true size = size - (whole + decimals)
+lead_of whole decimals false size = 0
 
 -- what the first digits stand for, with zeros behind where there are fewer
-abbrev pub tenths_of : List ℕ → ℕ → ℕ
-tenths_of digits count = value_of (take count digits) * 10 ^ (count - length digits)
+abbrev pub front_of : List ℕ → ℕ → ℕ
+front_of digits count = value_of (take count digits) * 10 ^ (count - length digits)
+
+-- how many whole ones the digits behind them are, with zeros before, each times a factor
+abbrev pub rest_of : ℕ → List ℕ → ℕ → ℕ → ℕ
+rest_of factor digits count lead = (factor * value_of (drop count digits)) / 10 ^ (length digits - count + lead)
+
+abbrev pub tenths_of : ℕ → List ℕ → ℕ → ℕ → ℕ
+tenths_of factor digits count lead = factor * front_of digits count + rest_of factor digits count lead
 
 -- the value, where it is below 10 ^ 8
 abbrev pub IsBelowEnd : ℕ → Option ℕ → Type 0

@@ -10,7 +10,7 @@ negated m h = omega (arith, ints)
 pub returns-then-negative : goal.returns-then-negative
 returns-then-negative c = λ n.
     let k = c.in_ok-magnitude.ensures n in
-    let m = magnitude_of c.args.decimals n in
+    let m = magnitude_of c.args.decimals c.args.unit n in
     let negative : n.negative ≡ true = sym (minus_is c.args.bytes.now n) ∙ sym c.split_sign-negative.ensures.negative ∙ c.if-negative.true in
     let small : m ≤ 1048576 = omega (arith, k.1, c.if-magnitude-gt-LARGEST.false) in (
       small,
