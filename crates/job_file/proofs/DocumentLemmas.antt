@@ -10,6 +10,7 @@ use Rattle.job_file.specs.Documents.{JobValues, usual_views, table_of, job_of, j
 use Rattle.job_file.specs.declared.fault.JobFault.TheVariants.{NotToml}
 use Rattle.job_file.specs.declared.job.Paper.TheVariants.{A3}
 use Rattle.lattice.specs.declared.pieces.Crease.TheVariants.{Normal}
+use Rattle.dec_text.specs.declared.number.Length.TheVariants.{Millimetre}
 
 pub document : (bytes : List ℕ) (ms : Members) → IsUtf8 bytes × (parse_document bytes ≡ Some ms) → job_of_bytes bytes ≡ job_of ms
 document bytes ms h = rw (is_utf8-from_IsUtf8 bytes h.0, h.1) refl
@@ -30,7 +31,7 @@ empty = rw empty_table refl
 
 -- the usual values
 abbrev pub usual_values : JobValues
-usual_values = record { decimals = 3; third = false; paper = A3; scale = None; crease = Normal; title = []; outputs = []; views = usual_views }
+usual_values = record { decimals = 3; third = false; paper = A3; scale = None; crease = Normal; title = []; outputs = []; unit = Millimetre; portrait = false; views = usual_views }
 
 pub usual : job_of no_members ≡ Ok usual_values
 unfolding job_of

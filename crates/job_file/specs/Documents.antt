@@ -3,6 +3,8 @@ use Rattle.std.specs.Prelude.{ℕ, ℤ, pos, negsuc, Bool, true, false, not, ◌
 use Rattle.std.specs.List.{list_all}
 use Rattle.std.specs.Ordering.{int_eq}
 use Rattle.std.specs.Str.{is_utf8}
+use Rattle.dec_text.specs.declared.number.Length.{Length}
+use Rattle.dec_text.specs.declared.number.Length.TheVariants.{Millimetre, Inch}
 use Rattle.lattice.specs.declared.pieces.Crease.{Crease}
 use Rattle.lattice.specs.declared.pieces.Crease.TheVariants.{Fine, Normal, Coarse}
 use Rattle.toml.specs.Data.{Data, table, Members, get_member, as_str, as_integer, as_array}
@@ -15,7 +17,8 @@ use Rattle.job_file.specs.declared.job.Paper.TheVariants.{A0, A1, A2, A3, A4}
 use Rattle.job_file.specs.declared.view.Principal.TheVariants.{Front, Above, Left}
 use Rattle.job_file.specs.Arrays.{values_in}
 use Rattle.job_file.specs.Keys.{unknown_key}
-use Rattle.job_file.specs.declared.table.Kind.TheVariants.{Job}
+use Rattle.job_file.specs.declared.table.Kind.{Kind}
+use Rattle.job_file.specs.declared.table.Kind.TheVariants.{JobOne, JobTwo}
 use Rattle.job_file.specs.Scales.{scales}
 use Rattle.job_file.specs.Steps.{◌>>=◌, unless, key_fault, or_wrong, value_or, look_up}
 use Rattle.job_file.specs.Texts.{is_title, are_outputs}
@@ -31,16 +34,18 @@ pub record JobValues : Type 0 where
   pub crease : Crease
   pub title : List ℕ
   pub outputs : List (List ℕ)
+  pub unit : Length
+  pub portrait : Bool
   pub views : List ViewValues
 
--- the version is 1
-abbrev pub version_fault : Option ℤ → Option JobFault
-version_fault None = Some (Wrong key.Version)
-version_fault (Some n) = if int_eq n (pos 1) then None else Some (Version n)
+-- the version is 1 or 2
+abbrev pub version_of : Option ℤ → Result Kind JobFault
+version_of None = Err (Wrong key.Version)
+version_of (Some n) = if int_eq n (pos 1) then Ok JobOne else if int_eq n (pos 2) then Ok JobTwo else Err (Version n)
 
-abbrev pub version_at : Option Data → Option JobFault
-version_at None = None
-version_at (Some d) = version_fault (as_integer d)
+abbrev pub version_at : Option Data → Result Kind JobFault
+version_at None = Ok JobOne
+version_at (Some d) = version_of (as_integer d)
 
 -- the number of decimals is 0 to 6
 abbrev pub decimals_of : Option ℤ → Option ℕ
@@ -61,6 +66,13 @@ papers = (codes "A0", A0) ∷ (codes "A1", A1) ∷ (codes "A2", A2) ∷ (codes "
 
 abbrev pub creases : List (List ℕ × Crease)
 creases = (codes "fine", Fine) ∷ (codes "normal", Normal) ∷ (codes "coarse", Coarse) ∷ []
+
+abbrev pub lengths : List (List ℕ × Length)
+lengths = (codes "mm", Millimetre) ∷ (codes "inch", Inch) ∷ []
+
+-- upright, or lying
+abbrev pub layouts : List (List ℕ × Bool)
+layouts = (codes "landscape", false) ∷ (codes "portrait", true) ∷ []
 
 -- a scale, or none: the greatest one up to 1:1 at which the views fit the sheet
 abbrev pub fits : List (List ℕ × Option (ℕ × ℕ))
@@ -102,8 +114,8 @@ views_at (Some d) = or_wrong key.View (as_array d) >>= λ items. views_of (value
 -- the values of a table, key by key, or its first fault
 unfoldable pub job_of : Members → Result JobValues JobFault
 job_of ms =
-    unless (version_at (get_member (codes "version") ms)) (
-    unless (key_fault (unknown_key Job ms)) (
+    version_at (get_member (codes "version") ms) >>= λ kind.
+    unless (key_fault (unknown_key kind ms)) (
     value_or 3 key.Decimals (λ d. decimals_of (as_integer d)) (get_member (codes "decimals") ms) >>= λ decimals.
     value_or false key.Angle (choice angles) (get_member (codes "angle") ms) >>= λ third.
     value_or A3 key.Sheet (choice papers) (get_member (codes "sheet") ms) >>= λ paper.
@@ -111,8 +123,10 @@ job_of ms =
     value_or Normal key.Crease (choice creases) (get_member (codes "crease") ms) >>= λ crease.
     value_or (codes "") key.Title title_of (get_member (codes "title") ms) >>= λ title.
     value_or [] key.Outputs outputs_of (get_member (codes "outputs") ms) >>= λ outputs.
+    value_or Millimetre key.Unit (choice lengths) (get_member (codes "unit") ms) >>= λ unit.
+    value_or false key.Layout (choice layouts) (get_member (codes "layout") ms) >>= λ portrait.
     views_at (get_member (codes "view") ms) >>= λ views.
-    Ok (record { decimals = decimals; third = third; paper = paper; scale = scale; crease = crease; title = title; outputs = outputs; views = views })))
+    Ok (record { decimals = decimals; third = third; paper = paper; scale = scale; crease = crease; title = title; outputs = outputs; unit = unit; portrait = portrait; views = views }))
 
 -- the table that bytes are, by the grammar of TOML
 abbrev pub table_of : List ℕ → Option Members

@@ -6,10 +6,13 @@ use Rattle.std.specs.Ordering.{nat_cmp, match_ordering}
 use Rattle.std.specs.Str.{bytes_eq}
 use Rattle.toml.specs.Data.{Members, no_members, member}
 use Rattle.job_file.specs.declared.table.Kind.{Kind}
-use Rattle.job_file.specs.declared.table.Kind.TheVariants.{Job, View}
+use Rattle.job_file.specs.declared.table.Kind.TheVariants.{JobOne, JobTwo, View}
 
 abbrev pub keys_of : Kind → List (List ℕ)
-keys_of Job = codes "version" ∷ codes "decimals" ∷ codes "angle" ∷ codes "sheet" ∷ codes "scale" ∷ codes "crease" ∷ codes "title" ∷ codes "outputs" ∷ codes "view" ∷ []
+keys_of JobOne = codes "version" ∷ codes "decimals" ∷ codes "angle" ∷ codes "sheet" ∷ codes "scale" ∷ codes "crease" ∷ codes "title" ∷ codes "outputs" ∷ codes "view" ∷ []
+keys_of JobTwo =
+    codes "version" ∷ codes "decimals" ∷ codes "angle" ∷ codes "sheet" ∷ codes "scale" ∷ codes "crease" ∷ codes "title" ∷ codes "outputs" ∷ codes "view"
+    ∷ codes "unit" ∷ codes "layout" ∷ []
 keys_of View = codes "name" ∷ codes "toward" ∷ codes "cut" ∷ codes "at" ∷ codes "from" ∷ []
 
 -- the lesser of a key and another one, if there is one, in the order of their bytes

@@ -35,5 +35,7 @@ job_seen job = record {
   crease = job.crease;
   title = job.title;
   outputs = job.outputs.items;
+  unit = job.unit;
+  portrait = job.portrait;
   views = map view_seen job.views.items;
 }

@@ -19,6 +19,8 @@ pub enum Key {
     Crease,
     Title,
     Outputs,
+    Unit,
+    Layout,
     View,
     Name,
     Toward,
@@ -32,7 +34,7 @@ pub enum Key {
 pub enum JobFault {
     /// The bytes are no text of TOML.
     NotToml,
-    /// Another version than 1.
+    /// Another version than 1 and 2.
     Version(i64),
     /// A key that no job, or no view, has: the least one in the order of the bytes.
     UnknownKey(Name),

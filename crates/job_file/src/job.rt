@@ -6,10 +6,10 @@ ghost use Rattle.job_file.specs.Texts.{is_title, are_outputs};
 ghost use Rattle.job_file.specs.Views.{AreNamedApart};
 
 use crate::view::JobView;
-use dec_text::Name;
+use dec_text::{Length, Name};
 use lattice::Crease;
 
-/// A sheet of paper, lying landscape.
+/// A size of paper.
 #[derive(Clone, Copy, PartialEq, Eq, Debug)]
 pub enum Paper {
     A0,
@@ -28,7 +28,7 @@ pub struct Scale {
     ghost listed: { IsTrue (is_scale num den) },
 }
 
-/// What a drawing shows, and how. A unit is 10^-`decimals` mm. The title has at most 120 bytes, without ASCII control
+/// What a drawing shows, and how. A unit is 10^-`decimals` mm; the part's text is read in lengths of `unit`. The title has at most 120 bytes, without ASCII control
 /// characters and what XML doesn't allow. There are at most 8 outputs, all different, each of 1 to 16 bytes from `a` to `z`
 /// and `0` to `9`, and none is `svg`. There are 1 to 12 views, and no two have one name.
 #[derive(Drop)]
@@ -42,6 +42,9 @@ pub struct Job {
     pub crease: Crease,
     pub title: Name,
     pub outputs: Vec<Name>,
+    pub unit: Length,
+    /// The sheet stands upright, and else lies.
+    pub portrait: bool,
     pub views: Vec<JobView>,
     ghost few_decimals: { decimals ≤ 6 },
     ghost proper_title: { IsTrue (is_title title) },

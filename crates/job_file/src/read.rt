@@ -7,8 +7,8 @@ ghost use Rattle.job_file.specs.Steps.{Gives};
 
 use crate::fault::{JobError, JobFault};
 use crate::job::Job;
-use crate::settings::{angle, crease, decimals, paper, scale, version};
-use crate::table::{Kind, unknown_key};
+use crate::settings::{angle, crease, decimals, paper, portrait, scale, unit, version};
+use crate::table::unknown_key;
 use crate::texts::{outputs, title};
 use crate::views::views;
 use dec_text::Name;
@@ -21,10 +21,8 @@ use toml::Table;
 fn job_of(alloc: Global, table: &Table) -> Result<Job, JobError>
     ensures { Gives job_seen result (job_of (table_view table.now)) }
 {
-    if let Some(fault) = version(table) {
-        return Err(JobError::Job(fault));
-    }
-    if let Some(key) = unknown_key(Kind::Job, table) {
+    let kind = version(table)?;
+    if let Some(key) = unknown_key(kind, table) {
         return Err(JobError::Job(JobFault::UnknownKey(Name::new(alloc, key)?)));
     }
     Ok(Job {
@@ -35,13 +33,15 @@ fn job_of(alloc: Global, table: &Table) -> Result<Job, JobError>
         crease: crease(table)?,
         title: title(alloc, table)?,
         outputs: outputs(alloc, table)?,
+        unit: unit(table)?,
+        portrait: portrait(table)?,
         views: views(alloc, table)?,
     })
 }
 
 impl Job {
     /// The job of a text of TOML, or its first fault: the bytes are no such text, then the version, then the least key that
-    /// no job has, then the keys in the order of `Key`, and last the views one by one. The time is that of reading the
+    /// no job of this version has, then the keys in the order of `Key`, and last the views one by one. The time is that of reading the
     /// text as TOML; the rest is linear in its length.
     pub fn read(alloc: Global, bytes: &[u8]) -> Result<Job, JobError>
         ensures { Gives job_seen result (job_of_bytes bytes.now) }
@@ -54,7 +54,7 @@ impl Job {
     }
 
     /// The job of the empty text: 3 decimals, first-angle projection, A3, the greatest scale up to 1:1 that fits, the normal
-    /// crease, no title, no outputs, and views from the front, from above and from the left.
+    /// crease, no title, no outputs, millimetres, a lying sheet, and views from the front, from above and from the left.
     pub fn usual(alloc: Global) -> Result<Job, OutOfMemory>
         ensures { IfOk result (λ job. job_of_bytes [] ≡ Ok (job_seen job)) }
     {

@@ -2,35 +2,37 @@
 ghost use Rattle.std.specs.Prelude.{◌≡◌, ◌≤◌, false, None, IfOk, codes, option_map};
 ghost use Rattle.toml.specs.Data.{get_member, as_integer};
 ghost use Rattle.toml.specs.View.{table_view};
-ghost use Rattle.job_file.specs.Documents.{version_fault, version_at, decimals_of, choice, angles, papers, fits, creases};
+ghost use Rattle.job_file.specs.Documents.{version_of, version_at, decimals_of, choice, angles, papers, fits, creases, lengths, layouts};
 ghost use Rattle.job_file.specs.Seen.{scale_seen};
 ghost use Rattle.job_file.specs.Steps.{look_up, value_or};
 ghost use Rattle.job_file.specs.inner.Steps.{GivesExactly};
 
 use crate::fault::{JobFault, Key};
 use crate::job::{Paper, Scale};
-use crate::table::value_at;
+use crate::table::{Kind, value_at};
+use dec_text::Length;
 use lattice::Crease;
 use toml::Table;
 
-/// Why this isn't version 1.
-fn version_fault(value: Option<i64>) -> Option<JobFault>
-    ensures { result ≡ version_fault value }
+/// What kind of table a job of this version is.
+fn version_of(value: Option<i64>) -> Result<Kind, JobFault>
+    ensures { result ≡ version_of value }
 {
     match value {
-        None => Some(JobFault::Wrong(Key::Version)),
-        Some(1) => None,
-        Some(n) => Some(JobFault::Version(n)),
+        None => Err(JobFault::Wrong(Key::Version)),
+        Some(1) => Ok(Kind::JobOne),
+        Some(2) => Ok(Kind::JobTwo),
+        Some(n) => Err(JobFault::Version(n)),
     }
 }
 
-/// Why the job's version isn't 1.
-pub fn version(table: &Table) -> Option<JobFault>
+/// What kind of table the job is, by its version.
+pub fn version(table: &Table) -> Result<Kind, JobFault>
     ensures { result ≡ version_at (get_member (codes "version") (table_view table.now)) }
 {
     match value_at(table, "version") {
-        None => None,
-        Some(value) => version_fault(value.as_integer()),
+        None => Ok(Kind::JobOne),
+        Some(value) => version_of(value.as_integer()),
     }
 }
 
@@ -163,5 +165,53 @@ pub fn crease(table: &Table) -> Result<Crease, JobFault>
             .as_str()
             .and_then(crease_of)
             .ok_or(JobFault::Wrong(Key::Crease)),
+    }
+}
+
+/// What lengths are given in.
+fn length_of(text: &str) -> Option<Length>
+    ensures { result ≡ look_up lengths text.now }
+{
+    match text {
+        "mm" => Some(Length::Millimetre),
+        "inch" => Some(Length::Inch),
+        _ => None,
+    }
+}
+
+/// What the part's lengths are given in.
+pub fn unit(table: &Table) -> Result<Length, JobFault>
+    ensures { result ≡ value_or Length.Millimetre Key.Unit (choice lengths) (get_member (codes "unit") (table_view table.now)) }
+{
+    match value_at(table, "unit") {
+        None => Ok(Length::Millimetre),
+        Some(value) => value
+            .as_str()
+            .and_then(length_of)
+            .ok_or(JobFault::Wrong(Key::Unit)),
+    }
+}
+
+/// Upright, or lying.
+fn layout_of(text: &str) -> Option<bool>
+    ensures { result ≡ look_up layouts text.now }
+{
+    match text {
+        "landscape" => Some(false),
+        "portrait" => Some(true),
+        _ => None,
+    }
+}
+
+/// Whether the job's sheet stands upright.
+pub fn portrait(table: &Table) -> Result<bool, JobFault>
+    ensures { result ≡ value_or false Key.Layout (choice layouts) (get_member (codes "layout") (table_view table.now)) }
+{
+    match value_at(table, "layout") {
+        None => Ok(false),
+        Some(value) => value
+            .as_str()
+            .and_then(layout_of)
+            .ok_or(JobFault::Wrong(Key::Layout)),
     }
 }

@@ -11,7 +11,10 @@ use toml::{Table, Value};
 /// What a table describes.
 #[derive(Clone, Copy)]
 pub enum Kind {
-    Job,
+    /// A job of version 1.
+    JobOne,
+    /// A job of version 2.
+    JobTwo,
     View,
 }
 
@@ -27,14 +30,15 @@ fn is_key(kind: Kind, key: &str) -> bool
     ensures { result ≡ list_any (bytes_eq key.now) (keys_of kind) }
 {
     match kind {
-        Kind::Job => is_job_key(key),
+        Kind::JobOne => is_job_key(key),
+        Kind::JobTwo => is_job_key(key) || matches!(key, "unit" | "layout"),
         Kind::View => is_view_key(key),
     }
 }
 
-/// A job may have the key.
+/// A job of version 1 may have the key.
 fn is_job_key(key: &str) -> bool
-    ensures { result ≡ list_any (bytes_eq key.now) (keys_of Kind.Job) }
+    ensures { result ≡ list_any (bytes_eq key.now) (keys_of Kind.JobOne) }
 {
     matches!(
         key,
