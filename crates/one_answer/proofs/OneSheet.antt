@@ -19,7 +19,7 @@ use Rattle.sheet_plan.specs.declared.bounds.Extent.{Extent}
 use Rattle.sheet_plan.specs.Extents.{IsLeast, IsGreatest, IsExtent, AreExtents}
 use Rattle.sheet_plan.specs.Layout.{cell_of, across_at, upward_at, shape_of, shapes_of, need_w, need_h, have_w, have_h, Fit}
 use Rattle.sheet_plan.specs.Numbers.{Measure}
-use Rattle.sheet_plan.specs.Plans.{paper_width, paper_height, job_shapes, FitsAt, fit_dens, IsChosen, HasNoRoom, HasNoScale}
+use Rattle.sheet_plan.specs.Plans.{sheet_width, sheet_height, job_shapes, FitsAt, fit_dens, IsChosen, HasNoRoom, HasNoScale}
 
 -- ---- least and greatest values
 least_first : {A : Type 0} (f : A → ℤ) (xs : List A) (m n : ℤ) → IsLeast f xs m → IsLeast f xs n → n ≤ℤ m
@@ -97,6 +97,9 @@ module _ (corners : List Corner) (job other : Job) (extents reach : List Extent)
   paper : job.paper ≡ other.paper
   paper = ap (λ (v : JobValues). v.paper) same
 
+  portrait : job.portrait ≡ other.portrait
+  portrait = ap (λ (v : JobValues). v.portrait) same
+
   scales : option_map scale_seen job.scale ≡ option_map scale_seen other.scale
   scales = ap (λ (v : JobValues). v.scale) same
 
@@ -106,7 +109,7 @@ module _ (corners : List Corner) (job other : Job) (extents reach : List Extent)
       ∙ (λ i. shapes_of ((same i).third) (record { num = num; den = den; decimals = (same i).decimals }) other.views.items reach)
 
   fits : (num den : ℕ) → FitsAt job extents num den → FitsAt other reach num den
-  fits num den h = subst (λ (p : Paper). Fit (job_shapes other reach num den) (paper_width p) (paper_height p)) paper (subst (λ l. Fit l (paper_width job.paper) (paper_height job.paper)) (shapes num den) h)
+  fits num den h = subst (λ (z : ℤ × ℤ). Fit (job_shapes other reach num den) z.0 z.1) (λ i. (sheet_width (paper i) (portrait i), sheet_height (paper i) (portrait i))) (subst (λ l. Fit l (sheet_width job.paper job.portrait) (sheet_height job.paper job.portrait)) (shapes num den) h)
 
   -- at a scale that was chosen, with room
   fits_there : (num den n d : ℕ) → num ≡ n → den ≡ d → FitsAt job extents num den → FitsAt other reach n d
@@ -136,8 +139,8 @@ module _ (corners : List Corner) (job other : Job) (extents reach : List Extent)
           let same : job_shapes job extents num den ≡ job_shapes other reach n d = shapes num den ∙ (λ i. job_shapes other reach (e i) (f i)) in (
             p.need_w_is ∙ ap need_w same ∙ sym q.need_w_is,
             p.need_h_is ∙ ap need_h same ∙ sym q.need_h_is,
-            p.have_w_is ∙ ap (λ (s : Paper). have_w (paper_width s)) paper ∙ sym q.have_w_is,
-            p.have_h_is ∙ ap (λ (s : Paper). have_h (paper_height s)) paper ∙ sym q.have_h_is,
+            p.have_w_is ∙ (λ i. have_w (sheet_width (paper i) (portrait i))) ∙ sym q.have_w_is,
+            p.have_h_is ∙ (λ i. have_h (sheet_height (paper i) (portrait i))) ∙ sym q.have_h_is,
           )
 
       same_lack : (s t : Option Scale) → option_map scale_seen s ≡ option_map scale_seen t → HasNoScale s job extents w h room_w room_h → HasNoScale t other reach x y space_w space_h → (w ≡ x) × (h ≡ y) × (room_w ≡ space_w) × (room_h ≡ space_h)

@@ -10,7 +10,7 @@ use Rattle.sheet_plan.specs.declared.errors.PlanError.{PlanError}
 use Rattle.sheet_plan.specs.declared.errors.PlanError.TheVariants.{DoesNotFit, Memory}
 use Rattle.sheet_plan.specs.Layout.{shapes_of, need_w, need_h, have_w, have_h, HaveRoom}
 use Rattle.sheet_plan.specs.Numbers.{Measure}
-use Rattle.sheet_plan.specs.Plans.{paper_width, paper_height, job_shapes, FitsAt, fit_dens, NoneFits, HasNoRoom, HasNoScale, IsRefused}
+use Rattle.sheet_plan.specs.Plans.{sheet_width, sheet_height, job_shapes, FitsAt, fit_dens, NoneFits, HasNoRoom, HasNoScale, IsRefused}
 use Rattle.sheet_plan.specs.inner.Refusals.{IsRefusedAt}
 
 pub length_shapes_of : (third : Bool) (m : Measure) (vs : List JobView) (es : List Extent) → length vs ≡ length es → length (shapes_of third m vs es) ≡ length vs
@@ -22,7 +22,7 @@ pub as_many : (job : Job) (extents : List Extent) (m : Measure) (shapes : List S
 as_many job extents m shapes count is = ap length is ∙ length_shapes_of job.third m job.views.items extents count
 
 module _ (job : Job) (extents : List Extent) (num den : ℕ) (shapes : List Shape) (nw nh w h : ℤ) (is : shapes ≡ job_shapes job extents num den)
-    (nw_is : nw ≡ need_w shapes) (nh_is : nh ≡ need_h shapes) (w_is : w ≡ paper_width job.paper) (h_is : h ≡ paper_height job.paper) where
+    (nw_is : nw ≡ need_w shapes) (nh_is : nh ≡ need_h shapes) (w_is : w ≡ sheet_width job.paper job.portrait) (h_is : h ≡ sheet_height job.paper job.portrait) where
   need_across : nw ≡ need_w (job_shapes job extents num den)
   need_across = nw_is ∙ ap need_w is
 
@@ -31,8 +31,8 @@ module _ (job : Job) (extents : List Extent) (num den : ℕ) (shapes : List Shap
 
   pub room : HaveRoom nw nh w h → FitsAt job extents num den
   room r = record {
-    across = subst (λ (z : ℤ). z ≤ℤ have_w (paper_width job.paper)) need_across (subst (λ (z : ℤ). nw ≤ℤ have_w z) w_is r.across);
-    down = subst (λ (z : ℤ). z ≤ℤ have_h (paper_height job.paper)) need_down (subst (λ (z : ℤ). nh ≤ℤ have_h z) h_is r.down);
+    across = subst (λ (z : ℤ). z ≤ℤ have_w (sheet_width job.paper job.portrait)) need_across (subst (λ (z : ℤ). nw ≤ℤ have_w z) w_is r.across);
+    down = subst (λ (z : ℤ). z ≤ℤ have_h (sheet_height job.paper job.portrait)) need_down (subst (λ (z : ℤ). nh ≤ℤ have_h z) h_is r.down);
   }
 
   pub no_room : ¬ HaveRoom nw nh w h → HasNoRoom job extents num den nw nh (have_w w) (have_h h)

@@ -1,5 +1,5 @@
 -- The sheet of a job, and when its views don't fit.
-use Rattle.std.specs.Prelude.{◌≡◌, ℕ, ◌<◌, ℤ, pos, List, [], ◌∷◌, Option, None, Some, slice_get}
+use Rattle.std.specs.Prelude.{◌≡◌, ℕ, ◌<◌, ℤ, pos, List, [], ◌∷◌, Option, None, Some, Bool, if◌then◌else◌, slice_get}
 use Rattle.job_file.specs.declared.job.Job.{Job}
 use Rattle.job_file.specs.declared.job.Paper.{Paper}
 use Rattle.job_file.specs.declared.job.Paper.TheVariants.{A0, A1, A2, A3, A4}
@@ -11,7 +11,7 @@ use Rattle.sheet_plan.specs.declared.errors.PlanError.TheVariants.{DoesNotFit, M
 use Rattle.sheet_plan.specs.declared.sheet.Sheet.{Sheet}
 use Rattle.sheet_plan.specs.Layout.{shapes_of, need_w, need_h, have_w, have_h, Fit, AreInPlace}
 
--- sheets lie landscape
+-- the longer side of paper, and the shorter one
 abbrev pub paper_width : Paper → ℤ
 paper_width A0 = pos 118900
 paper_width A1 = pos 84100
@@ -26,12 +26,19 @@ paper_height A2 = pos 42000
 paper_height A3 = pos 29700
 paper_height A4 = pos 21000
 
+-- a sheet lies, or it stands upright
+abbrev pub sheet_width : Paper → Bool → ℤ
+sheet_width paper portrait = if portrait then paper_height paper else paper_width paper
+
+abbrev pub sheet_height : Paper → Bool → ℤ
+sheet_height paper portrait = if portrait then paper_width paper else paper_height paper
+
 -- the shapes of a job's views at the scale num : den
 abbrev pub job_shapes : Job → List Extent → ℕ → ℕ → List Shape
 job_shapes job extents num den = shapes_of job.third (record { num = num; den = den; decimals = job.decimals }) job.views.items extents
 
 abbrev pub FitsAt : Job → List Extent → ℕ → ℕ → Type 0
-FitsAt job extents num den = Fit (job_shapes job extents num den) (paper_width job.paper) (paper_height job.paper)
+FitsAt job extents num den = Fit (job_shapes job extents num den) (sheet_width job.paper job.portrait) (sheet_height job.paper job.portrait)
 
 -- the scales that are tried where none is asked for, one after the other: 1 to each of these
 abbrev pub fit_dens : List ℕ
@@ -55,8 +62,8 @@ IsChosen None job extents num den = IsFirstFitting job extents num den
 
 -- the job's sheet at the scale num : den
 pub record IsSheetAt (job : Job) (extents : List Extent) (num den : ℕ) (sheet : Sheet) : Type 0 where
-  pub width : sheet.width ≡ paper_width job.paper
-  pub height : sheet.height ≡ paper_height job.paper
+  pub width : sheet.width ≡ sheet_width job.paper job.portrait
+  pub height : sheet.height ≡ sheet_height job.paper job.portrait
   pub decimals : sheet.decimals ≡ job.decimals
   pub num_is : sheet.scale.num ≡ num
   pub den_is : sheet.scale.den ≡ den
@@ -75,8 +82,8 @@ pub record HasNoRoom (job : Job) (extents : List Extent) (num den : ℕ) (w h ro
   pub not_fit : ¬ FitsAt job extents num den
   pub need_w_is : w ≡ need_w (job_shapes job extents num den)
   pub need_h_is : h ≡ need_h (job_shapes job extents num den)
-  pub have_w_is : room_w ≡ have_w (paper_width job.paper)
-  pub have_h_is : room_h ≡ have_h (paper_height job.paper)
+  pub have_w_is : room_w ≡ have_w (sheet_width job.paper job.portrait)
+  pub have_h_is : room_h ≡ have_h (sheet_height job.paper job.portrait)
 
 -- the views don't fit at the scale that the job asks for, or else at none that is tried, with the numbers of 1 : 100
 abbrev pub HasNoScale : Option Scale → Job → List Extent → ℤ → ℤ → ℤ → ℤ → Type 0

@@ -1,4 +1,4 @@
-// The formats of sheets of paper, lying landscape.
+// The formats of sheets of paper.
 ghost use Rattle.std.specs.Prelude.{◌≡◌, ◌<◌, ◌^◌, ◌%◌, pos, ◌≤ℤ◌, unsigned_abs};
 
 /// Width and height of a sheet, in hundredths of a millimetre.

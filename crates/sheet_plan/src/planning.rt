@@ -4,7 +4,7 @@ ghost use Rattle.sheet_plan.specs.Boxes.{ViewsAreApart, ViewsAreWithinMargins, S
 ghost use Rattle.sheet_plan.specs.Layout.{HaveRoom};
 ghost use Rattle.sheet_plan.specs.Numbers.{measure_of};
 ghost use Rattle.sheet_plan.specs.inner.Sizes.{AreShapes};
-ghost use Rattle.sheet_plan.specs.Plans.{paper_width, paper_height, fit_dens, IsSheetAt, IsPlanned, IsRefused};
+ghost use Rattle.sheet_plan.specs.Plans.{paper_width, paper_height, sheet_width, sheet_height, fit_dens, IsSheetAt, IsPlanned, IsRefused};
 ghost use Rattle.sheet_plan.specs.inner.Refusals.{IsRefusedAt};
 
 use crate::bounds::Extent;
@@ -115,7 +115,7 @@ fn sheet_with(
     ensures refused { IfErr result (IsRefusedAt job.now extents.now scale.num scale.den) }
 {
     let need = need_of(shapes);
-    let format = format_of(job.paper);
+    let format = format_of(job.paper, job.portrait);
     if !fits(&need, &format) {
         return Err(PlanError::DoesNotFit {
             need_w: need.width,
@@ -143,8 +143,24 @@ fn fits(need: &Need, format: &Format) -> bool
     need.width <= format.width - 4000 && need.height <= format.height - 6000
 }
 
-/// Width and height of a sheet of paper.
-fn format_of(paper: Paper) -> Format
+/// Width and height of a sheet of this paper, which lies, or stands upright.
+fn format_of(paper: Paper, portrait: bool) -> Format
+    ensures width { result.width ≡ sheet_width paper portrait }
+    ensures height { result.height ≡ sheet_height paper portrait }
+{
+    let lying = lying(paper);
+    if portrait {
+        Format {
+            width: lying.height,
+            height: lying.width,
+        }
+    } else {
+        lying
+    }
+}
+
+/// Width and height of a sheet that lies.
+fn lying(paper: Paper) -> Format
     ensures width { result.width ≡ paper_width paper }
     ensures height { result.height ≡ paper_height paper }
 {
