@@ -1,5 +1,6 @@
 -- The fault of a run is that of its steps, unless memory ran out.
 use Rattle.std.proofs.Common.{◌≡◌, ◌⊎◌, inl, inr, ℕ, Bool, true, false, true≢false, List, Option, Some, None, is_some, IfSome, IsSome, Result, Ok, Err, refl, sym, ap, subst, ◌∙◌}
+use Rattle.dec_text.specs.declared.number.Length.{Length}
 use Rattle.desk.specs.Files.{Files, Rose}
 use Rattle.draw_words.specs.Names.{Named, named_by}
 use Rattle.part_input.specs.Faults.{CountsReads}
@@ -47,23 +48,23 @@ module _ (suffixes : List (List ℕ)) (files : Files) (input : Input) where
       (never_then (TakesJob files name) ReadsJob (ReadFault input) (job_there name there) (λ bytes h. not_read input (JobUnread h.0) refl h.1))
       (λ job h. not_read input (NoPlotter h.0) refl h.1)
 
-  part_file_there : (name : List ℕ) (decimals : ℕ) → IsSome (files name) → TakesSoupOr None files name decimals (Err (ReadFault input)) → ⊥
-  part_file_there name decimals there =
-      never_then (TakesFile ThePart files name) (ReadsPart decimals) (ReadFault input) (file_there ThePart name there)
-      (λ bytes. never_then (ReadsText decimals bytes) WeldsPart (ReadFault input) (λ h. not_read input (PartUnread h.0) refl h.1) (λ raw h. not_read input Nothing refl h.0))
+  part_file_there : (name : List ℕ) (decimals : ℕ) (unit : Length) → IsSome (files name) → TakesSoupOr None files name decimals unit (Err (ReadFault input)) → ⊥
+  part_file_there name decimals unit there =
+      never_then (TakesFile ThePart files name) (ReadsPart decimals unit) (ReadFault input) (file_there ThePart name there)
+      (λ bytes. never_then (ReadsText decimals unit bytes) WeldsPart (ReadFault input) (λ h. not_read input (PartUnread h.0) refl h.1) (λ raw h. not_read input Nothing refl h.0))
 
-  soup_there : (size : Option (List ℕ)) (name : List ℕ) (decimals : ℕ) → HasSampleOr size files name → TakesSoupOr size files name decimals (Err (ReadFault input)) → ⊥
-  soup_there (Some size) name decimals there h = not_read input SampleRange refl h.0
-  soup_there None name decimals there h = part_file_there name decimals there h
+  soup_there : (size : Option (List ℕ)) (name : List ℕ) (decimals : ℕ) (unit : Length) → HasSampleOr size files name → TakesSoupOr size files name decimals unit (Err (ReadFault input)) → ⊥
+  soup_there (Some size) name decimals unit there h = not_read input SampleRange refl h.0
+  soup_there None name decimals unit there h = part_file_there name decimals unit there h
 
-  pub part_there : (name : List ℕ) (decimals : ℕ) → HasSampleOr (sample_size name) files name → TakesSolid files name decimals (Err (ReadFault input)) → ⊥
-  part_there name decimals there =
-      never_then (TakesSoup files name decimals) ChecksPart (ReadFault input) (soup_there (sample_size name) name decimals there) (λ part h. not_read input (Mesh h.0) refl h.1)
+  pub part_there : (name : List ℕ) (decimals : ℕ) (unit : Length) → HasSampleOr (sample_size name) files name → TakesSolid files name decimals unit (Err (ReadFault input)) → ⊥
+  part_there name decimals unit there =
+      never_then (TakesSoup files name decimals unit) ChecksPart (ReadFault input) (soup_there (sample_size name) name decimals unit there) (λ part h. not_read input (Mesh h.0) refl h.1)
 
   files_there : (named : Named) → HasFiles files named → DrawsFiles suffixes files named (Err (ReadFault input)) → ⊥
   files_there named (job, part) =
-      never_then (TakesMetJob suffixes files named.job) (λ job. TakesSolid files named.part job.decimals and_then PlansSheet job) (ReadFault input) (met_job_there named.job job)
-      (λ job. never_then (TakesSolid files named.part job.decimals) (PlansSheet job) (ReadFault input) (part_there named.part job.decimals part) (λ part h. h))
+      never_then (TakesMetJob suffixes files named.job) (λ job. TakesSolid files named.part job.decimals job.unit and_then PlansSheet job) (ReadFault input) (met_job_there named.job job)
+      (λ job. never_then (TakesSolid files named.part job.decimals job.unit) (PlansSheet job) (ReadFault input) (part_there named.part job.decimals job.unit part) (λ part h. h))
 
   never_missing : (words : List (List ℕ)) → IfSome (named_by words) (HasFiles files) → Runs suffixes words files (Err (ReadFault input)) → ⊥
   never_missing words there (inl (e, none)) = not_read input Usage refl e

@@ -62,8 +62,8 @@ module _ (job : JobValues) (part : Part) where
 -- ---- the whole
 draws_single : (suffixes : List (List ℕ)) (files : Files) (named : Named) → IsSingle (DrawsFiles suffixes files named)
 draws_single suffixes files named =
-    single_then (TakesMetJob suffixes files named.job) (λ job. TakesSolid files named.part job.decimals and_then PlansSheet job) (met_job_single suffixes files named.job)
-    (λ job. single_then (TakesSolid files named.part job.decimals) (PlansSheet job) (solid_single files named.part job.decimals) (plan_single job))
+    single_then (TakesMetJob suffixes files named.job) (λ job. TakesSolid files named.part job.decimals job.unit and_then PlansSheet job) (met_job_single suffixes files named.job)
+    (λ job. single_then (TakesSolid files named.part job.decimals job.unit) (PlansSheet job) (solid_single files named.part job.decimals job.unit) (plan_single job))
 
 pub one_answer : (suffixes words : List (List ℕ)) (files : Files) (r s : Result Drawn Fault) → Runs suffixes words files r → Runs suffixes words files s → r ≡ s
 one_answer suffixes words files = single_then (NamesFiles words) (DrawsFiles suffixes files) (names_single words) (draws_single suffixes files)

@@ -43,7 +43,7 @@ TakesMetJob suffixes files name = TakesReadJob files name and_then HasPlotters s
 -- what was named gives the job, and then the part
 abbrev pub DrawsFiles : List (List ℕ) → Files → Named → Result Drawn Fault → Type 0
 DrawsFiles suffixes files named =
-    TakesMetJob suffixes files named.job and_then λ job. (TakesSolid files named.part job.decimals and_then PlansSheet job)
+    TakesMetJob suffixes files named.job and_then λ job. (TakesSolid files named.part job.decimals job.unit and_then PlansSheet job)
 
 -- a run with plotters of these suffixes: what is drawn, or the refusal
 abbrev pub Runs : List (List ℕ) → List (List ℕ) → Files → Result Drawn Fault → Type 0

@@ -114,6 +114,8 @@ fn key_text(key: &Key) -> &'static str
         Key::Crease => "crease",
         Key::Title => "title",
         Key::Outputs => "outputs",
+        Key::Unit => "unit",
+        Key::Layout => "layout",
         Key::View => "view",
         Key::Name => "name",
         Key::Toward => "toward",

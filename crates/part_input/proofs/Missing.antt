@@ -1,6 +1,7 @@
 -- Which faults are whose, and a fault of reading is that of a missing file.
 use Rattle.std.proofs.Common.{◌≡◌, ℕ, List, Option, Some, None, IsSome, Result, Ok, Err, inl, refl, sym, subst}
 use Rattle.std.specs.Prelude.{◌↔◌, IfErr, IfSome, IsErrOf}
+use Rattle.dec_text.specs.declared.number.Length.{Length}
 use Rattle.desk.specs.Files.{Files}
 use Rattle.part_input.specs.Jobs.{TakesReadJob, IsOfJobFile}
 use Rattle.part_input.specs.Parts.{sample_size, cubes_along, TakesSoupOr, TakesSoup, TakesSolid, HasSize, IsOfSoupOr, IsOfSoup, IsOfSampleOr, IsOfPart}
@@ -113,16 +114,16 @@ module _ (files : Files) (name : List ℕ) where
     abbrev pub IsMissingFile : Result X Fault → Type 0
     IsMissingFile r = IsErrOf r (ReadFault ThePart) ↔ ((sample_size name ≡ None) × (files name ≡ None))
 
-    pub soup_missing : (decimals : ℕ) (r : Result X Fault) → IfErr r (IsOfPart name) → IsMissingFile r → IfErr r (IsMissing (TakesSoup files name decimals))
-    soup_missing decimals (Ok x) h m = tt
-    soup_missing decimals (Err (ReadFault ThePart)) h m =
+    pub soup_missing : (decimals : ℕ) (unit : Length) (r : Result X Fault) → IfErr r (IsOfPart name) → IsMissingFile r → IfErr r (IsMissing (TakesSoup files name decimals unit))
+    soup_missing decimals unit (Ok x) h m = tt
+    soup_missing decimals unit (Err (ReadFault ThePart)) h m =
         let (none, missing) = m.0 refl in
-        subst (λ (size : Option (List ℕ)). TakesSoupOr size files name decimals (Err (ReadFault ThePart))) (sym none) (inl (inl (refl, missing)))
-    soup_missing decimals (Err (ReadFault TheJob)) h m = absurd (no_job (sample_size name) h)
-    soup_missing decimals (Err e) h m = tt
+        subst (λ (size : Option (List ℕ)). TakesSoupOr size files name decimals unit (Err (ReadFault ThePart))) (sym none) (inl (inl (refl, missing)))
+    soup_missing decimals unit (Err (ReadFault TheJob)) h m = absurd (no_job (sample_size name) h)
+    soup_missing decimals unit (Err e) h m = tt
 
-    pub solid_missing : (decimals : ℕ) (r : Result X Fault) → IfErr r (IsOfPart name) → IsMissingFile r → IfErr r (IsMissing (TakesSolid files name decimals))
-    solid_missing decimals (Ok x) h m = tt
-    solid_missing decimals (Err (ReadFault ThePart)) h m = inl (soup_missing decimals (Err (ReadFault ThePart)) h m)
-    solid_missing decimals (Err (ReadFault TheJob)) h m = absurd (no_job (sample_size name) h)
-    solid_missing decimals (Err e) h m = tt
+    pub solid_missing : (decimals : ℕ) (unit : Length) (r : Result X Fault) → IfErr r (IsOfPart name) → IsMissingFile r → IfErr r (IsMissing (TakesSolid files name decimals unit))
+    solid_missing decimals unit (Ok x) h m = tt
+    solid_missing decimals unit (Err (ReadFault ThePart)) h m = inl (soup_missing decimals unit (Err (ReadFault ThePart)) h m)
+    solid_missing decimals unit (Err (ReadFault TheJob)) h m = absurd (no_job (sample_size name) h)
+    solid_missing decimals unit (Err e) h m = tt

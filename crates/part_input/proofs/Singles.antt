@@ -2,6 +2,7 @@
 use Rattle.std.proofs.Common.{◌≡◌, inl, inr, ℕ, ◌<◌, ◌≤◌, Bool, true, false, List, length, Option, Some, None, IsSomeAnd, Result, Ok, Err, sym, ap, subst, ◌∙◌, unwrap_or, arith}
 use Rattle.lex_lines.specs.declared.token.Token.{Token}
 use Rattle.lex_lines.proofs.Only.{only_tokens}
+use Rattle.dec_text.specs.declared.number.Length.{Length}
 use Rattle.desk.specs.Files.{Files}
 use Rattle.geometry.specs.Parts.{Part}
 use Rattle.weld.specs.Raw.{Raw}
@@ -107,20 +108,20 @@ pub named_job_single : (files : Files) (name : Option (List ℕ)) → IsSingle (
 named_job_single files name = single_then (TakesJob files name) ReadsJob (job_bytes_single files name) job_single
 
 -- ---- the part
-reads_as : (is_stl : Bool) (decimals : ℕ) (bytes : List ℕ) (r s : Result Raw PartFault) → ReadsAs is_stl decimals bytes r → ReadsAs is_stl decimals bytes s → r ≡ s
-reads_as true decimals bytes r s p q = stl.only_reading decimals bytes r s p q
-reads_as false decimals bytes r s p q = off.only_reading decimals bytes r s p q
+reads_as : (is_stl : Bool) (decimals : ℕ) (unit : Length) (bytes : List ℕ) (r s : Result Raw PartFault) → ReadsAs is_stl decimals unit bytes r → ReadsAs is_stl decimals unit bytes s → r ≡ s
+reads_as true decimals unit bytes r s p q = stl.only_reading decimals unit bytes r s p q
+reads_as false decimals unit bytes r s p q = off.only_reading decimals unit bytes r s p q
 
-text_one : (decimals : ℕ) (bytes : List ℕ) (r s : Result Raw PartFault) → ReadsPartText decimals bytes r → ReadsPartText decimals bytes s → r ≡ s
-text_one decimals bytes r s (tokens, a, p) (others, b, q) =
-    reads_as (begins_solid bytes tokens) decimals bytes r s p
-    (subst (λ (l : List Token). ReadsAs (begins_solid bytes l) decimals bytes s) (only_tokens false bytes others tokens b a) q)
+text_one : (decimals : ℕ) (unit : Length) (bytes : List ℕ) (r s : Result Raw PartFault) → ReadsPartText decimals unit bytes r → ReadsPartText decimals unit bytes s → r ≡ s
+text_one decimals unit bytes r s (tokens, a, p) (others, b, q) =
+    reads_as (begins_solid bytes tokens) decimals unit bytes r s p
+    (subst (λ (l : List Token). ReadsAs (begins_solid bytes l) decimals unit bytes s) (only_tokens false bytes others tokens b a) q)
 
-text_single : (decimals : ℕ) (bytes : List ℕ) → IsSingle (ReadsText decimals bytes)
-text_single decimals bytes (Ok x) (Ok y) p q = ap Ok (same_value x y (text_one decimals bytes (Ok x) (Ok y) p q))
-text_single decimals bytes (Ok x) (Err d) p (cause, _, q) = absurd (not_both x cause (text_one decimals bytes (Ok x) (Err cause) p q))
-text_single decimals bytes (Err d) (Ok y) (cause, _, p) q = absurd (not_both y cause (text_one decimals bytes (Ok y) (Err cause) q p))
-text_single decimals bytes (Err d) (Err e) (cause, a, p) (other, b, q) = ap Err (a ∙ ap PartUnread (same_fault cause other (text_one decimals bytes (Err cause) (Err other) p q)) ∙ sym b)
+text_single : (decimals : ℕ) (unit : Length) (bytes : List ℕ) → IsSingle (ReadsText decimals unit bytes)
+text_single decimals unit bytes (Ok x) (Ok y) p q = ap Ok (same_value x y (text_one decimals unit bytes (Ok x) (Ok y) p q))
+text_single decimals unit bytes (Ok x) (Err d) p (cause, _, q) = absurd (not_both x cause (text_one decimals unit bytes (Ok x) (Err cause) p q))
+text_single decimals unit bytes (Err d) (Ok y) (cause, _, p) q = absurd (not_both y cause (text_one decimals unit bytes (Ok y) (Err cause) q p))
+text_single decimals unit bytes (Err d) (Err e) (cause, a, p) (other, b, q) = ap Err (a ∙ ap PartUnread (same_fault cause other (text_one decimals unit bytes (Err cause) (Err other) p q)) ∙ sym b)
 
 weld_single : (raw : Raw) → IsSingle (WeldsPart raw)
 weld_single raw (Ok x) (Ok y) (w, _) (v, _) =
@@ -154,14 +155,14 @@ sample_single size (Ok x) (Err d) p (_, none) = absurd (no_sample (cubes_along s
 sample_single size (Err d) (Ok y) (_, none) q = absurd (no_sample (cubes_along size) y q none)
 sample_single size (Err d) (Err e) (p, _) (q, _) = ap Err (p ∙ sym q)
 
-soup_or_single : (size : Option (List ℕ)) (files : Files) (name : List ℕ) (decimals : ℕ) → IsSingle (TakesSoupOr size files name decimals)
-soup_or_single (Some size) files name decimals = sample_single size
-soup_or_single None files name decimals =
-    single_then (TakesFile ThePart files name) (ReadsPart decimals) (file_single ThePart files name)
-    (λ bytes. single_then (ReadsText decimals bytes) WeldsPart (text_single decimals bytes) weld_single)
+soup_or_single : (size : Option (List ℕ)) (files : Files) (name : List ℕ) (decimals : ℕ) (unit : Length) → IsSingle (TakesSoupOr size files name decimals unit)
+soup_or_single (Some size) files name decimals unit = sample_single size
+soup_or_single None files name decimals unit =
+    single_then (TakesFile ThePart files name) (ReadsPart decimals unit) (file_single ThePart files name)
+    (λ bytes. single_then (ReadsText decimals unit bytes) WeldsPart (text_single decimals unit bytes) weld_single)
 
-pub soup_single : (files : Files) (name : List ℕ) (decimals : ℕ) → IsSingle (TakesSoup files name decimals)
-soup_single files name decimals = soup_or_single (sample_size name) files name decimals
+pub soup_single : (files : Files) (name : List ℕ) (decimals : ℕ) (unit : Length) → IsSingle (TakesSoup files name decimals unit)
+soup_single files name decimals unit = soup_or_single (sample_size name) files name decimals unit
 
-pub solid_single : (files : Files) (name : List ℕ) (decimals : ℕ) → IsSingle (TakesSolid files name decimals)
-solid_single files name decimals = single_then (TakesSoup files name decimals) ChecksPart (soup_single files name decimals) check_single
+pub solid_single : (files : Files) (name : List ℕ) (decimals : ℕ) (unit : Length) → IsSingle (TakesSolid files name decimals unit)
+solid_single files name decimals unit = single_then (TakesSoup files name decimals unit) ChecksPart (soup_single files name decimals unit) check_single

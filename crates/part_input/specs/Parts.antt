@@ -1,5 +1,6 @@
 -- The part that a name stands for, a sample or the part of a file: what is taken, what it says, and what may be at fault.
 use Rattle.std.specs.Prelude.{◌≡◌, ◌<◌, ◌-◌, ◌&&◌, nat_le, ℕ, List, [], ◌∷◌, length, map, codes, Option, Some, None, IfSome, IsSome, IsSomeAnd, Result, Ok, Err, if◌then◌else◌}
+use Rattle.dec_text.specs.declared.number.Length.{Length}
 use Rattle.desk.specs.Files.{Files}
 use Rattle.draw_words.specs.Grammar.{behind}
 use Rattle.geometry.specs.Parts.{Part}
@@ -18,10 +19,10 @@ use Rattle.part_input.specs.declared.fault.Input.TheVariants.{Part as ThePart}
 use Rattle.part_input.specs.declared.fault.Fault.{Fault}
 use Rattle.part_input.specs.declared.fault.Fault.TheVariants.{ReadFault, SampleRange, PartTooLong, Part as PartUnread, Nothing, Mesh, Memory}
 
--- what the part's text says, in units of 10^-decimals mm
-abbrev pub ReadsText : ℕ → (bytes : List ℕ) → Result Raw Fault → Type 0
-ReadsText decimals bytes (Ok raw) = ReadsPartText decimals bytes (Ok raw)
-ReadsText decimals bytes (Err e) = (cause : PartFault) × (e ≡ PartUnread cause) × ReadsPartText decimals bytes (Err cause)
+-- what the part's text says, in lengths of that unit, in units of 10^-decimals mm
+abbrev pub ReadsText : ℕ → Length → (bytes : List ℕ) → Result Raw Fault → Type 0
+ReadsText decimals unit bytes (Ok raw) = ReadsPartText decimals unit bytes (Ok raw)
+ReadsText decimals unit bytes (Err e) = (cause : PartFault) × (e ≡ PartUnread cause) × ReadsPartText decimals unit bytes (Err cause)
 
 -- its weld has a triangle
 abbrev pub WeldsPart : Raw → Result Part Fault → Type 0
@@ -29,8 +30,8 @@ WeldsPart raw (Ok part) = IsWeldOf raw part.corners part.triangles × (0 < lengt
 WeldsPart raw (Err e) = (e ≡ Nothing) × (proper_of raw ≡ [])
 
 -- its text is read, and welded
-abbrev pub ReadsPart : ℕ → List ℕ → Result Part Fault → Type 0
-ReadsPart decimals bytes = ReadsText decimals bytes and_then WeldsPart
+abbrev pub ReadsPart : ℕ → Length → List ℕ → Result Part Fault → Type 0
+ReadsPart decimals unit bytes = ReadsText decimals unit bytes and_then WeldsPart
 
 -- its surface is sound: it is closed, no two triangles have the same corners, and edges meet faces in shared corners only
 abbrev pub ChecksPart : Part → Result Part Fault → Type 0
@@ -57,18 +58,18 @@ abbrev pub MakesSample : List ℕ → Result Part Fault → Type 0
 MakesSample size (Ok part) = IsSomeAnd (cubes_along size) (λ n. IsSample n part)
 MakesSample size (Err e) = (e ≡ SampleRange) × (cubes_along size ≡ None)
 
--- the part is a sample of this size, which is made, or the file of this name, which is taken, read with the job's decimals and welded
-abbrev pub TakesSoupOr : Option (List ℕ) → Files → List ℕ → ℕ → Result Part Fault → Type 0
-TakesSoupOr (Some size) files name decimals = MakesSample size
-TakesSoupOr None files name decimals = TakesFile ThePart files name and_then ReadsPart decimals
+-- the part is a sample of this size, which is made, or the file of this name, which is taken, read with the job's decimals and unit, and welded
+abbrev pub TakesSoupOr : Option (List ℕ) → Files → List ℕ → ℕ → Length → Result Part Fault → Type 0
+TakesSoupOr (Some size) files name decimals unit = MakesSample size
+TakesSoupOr None files name decimals unit = TakesFile ThePart files name and_then ReadsPart decimals unit
 
 -- the part that a name stands for
-abbrev pub TakesSoup : Files → List ℕ → ℕ → Result Part Fault → Type 0
-TakesSoup files name decimals = TakesSoupOr (sample_size name) files name decimals
+abbrev pub TakesSoup : Files → List ℕ → ℕ → Length → Result Part Fault → Type 0
+TakesSoup files name decimals unit = TakesSoupOr (sample_size name) files name decimals unit
 
 -- it is sound
-abbrev pub TakesSolid : Files → List ℕ → ℕ → Result Part Fault → Type 0
-TakesSolid files name decimals = TakesSoup files name decimals and_then ChecksPart
+abbrev pub TakesSolid : Files → List ℕ → ℕ → Length → Result Part Fault → Type 0
+TakesSolid files name decimals unit = TakesSoup files name decimals unit and_then ChecksPart
 
 -- a sample has a size
 abbrev pub HasSize : List ℕ → Type 0

@@ -13,7 +13,7 @@ use crate::fault::{Fault, Input};
 use crate::fetch::{FetchFault, fetch_all};
 use crate::sample::{sample_size, sample_soup};
 use crate::soup::soup_of;
-use dec_text::Name;
+use dec_text::{Length, Name};
 use desk::Desk;
 use job_file::Job;
 use lattice::Soup;
@@ -23,11 +23,11 @@ use std::alloc::Global;
 /// The most bytes that a part may have.
 const PART_LIMIT: usize = 16_777_216;
 
-/// The soup of the file with this name, in units of 10^-`decimals` mm.
-fn file_soup<D: Desk>(alloc: Global, name: &Name, decimals: u8, desk: &mut D) -> Result<Soup, Fault>
+/// The soup of the file with this name in lengths of `unit`, in units of 10^-`decimals` mm.
+fn file_soup<D: Desk>(alloc: Global, name: &Name, decimals: u8, unit: Length, desk: &mut D) -> Result<Soup, Fault>
     requires { decimals ≤ 6 }
     ensures answer { (D.state desk.old).tells ≡ true →
-        Gives part_of (TakesSoupOr None (D.state desk.old).files name.now decimals) result }
+        Gives part_of (TakesSoupOr None (D.state desk.old).files name.now decimals unit) result }
     ensures of_text { IfErr result IsOfPartText }
     ensures some_triangle { IfOk result (λ soup. 0 < length (part_of soup).triangles) }
     ensures few_corners { IfOk result (λ soup. length (part_of soup).corners ≤ 60000) }
@@ -38,7 +38,7 @@ fn file_soup<D: Desk>(alloc: Global, name: &Name, decimals: u8, desk: &mut D) ->
     ensures changes { OnlyReads (D.state desk.old) (D.state desk.new) }
 {
     match fetch_all(alloc, desk, name.as_str(), PART_LIMIT) {
-        Ok(bytes) => soup_of(alloc, &bytes, decimals),
+        Ok(bytes) => soup_of(alloc, &bytes, decimals, unit),
         Err(FetchFault::Failed) => Err(Fault::ReadFault(Input::Part)),
         Err(FetchFault::TooLong) => Err(Fault::PartTooLong),
         Err(FetchFault::Memory) => Err(Fault::Memory),
@@ -53,7 +53,7 @@ fn sample_or_file<D: Desk>(
     desk: &mut D,
 ) -> Result<Soup, Fault>
     ensures answer { (D.state desk.old).tells ≡ true →
-        Gives part_of (TakesSoup (D.state desk.old).files name.now job.now.decimals) result }
+        Gives part_of (TakesSoup (D.state desk.old).files name.now job.now.decimals job.now.unit) result }
     ensures of_soup { IfErr result (IsOfSoup name.now) }
     ensures sized { IfOk result (λ _. HasSize name.now) }
     ensures some_triangle { IfOk result (λ soup. 0 < length (part_of soup).triangles) }
@@ -66,7 +66,7 @@ fn sample_or_file<D: Desk>(
 {
     match sample_size(name.as_str()) {
         Some(size) => sample_soup(alloc, size),
-        None => file_soup(alloc, name, job.decimals, desk),
+        None => file_soup(alloc, name, job.decimals, job.unit, desk),
     }
 }
 
@@ -80,7 +80,7 @@ pub fn fetch_soup<D: Desk>(
 ) -> Result<Soup, Fault>
     // The soup is that of the name, from the files at entry, and each other fault than one of reading comes only where these have it.
     ensures answer { (D.state desk.old).tells ≡ true →
-        Gives part_of (TakesSoup (D.state desk.old).files name.now job.now.decimals) result }
+        Gives part_of (TakesSoup (D.state desk.old).files name.now job.now.decimals job.now.unit) result }
     ensures of_soup { IfErr result (IsOfSoup name.now) }
 
     // It may be checked.
@@ -92,9 +92,9 @@ pub fn fetch_soup<D: Desk>(
     // Where no fault of reading was counted, the answer is that of the name, or want of memory; on a steady desk always.
     ensures complete { (D.state desk.old).tells ≡ true →
         (Rose (D.state desk.old).read_faults (D.state desk.new).read_faults → ⊥) →
-        IsAnswerOf (TakesSoup (D.state desk.old).files name.now job.now.decimals) (result_err result) }
+        IsAnswerOf (TakesSoup (D.state desk.old).files name.now job.now.decimals job.now.unit) (result_err result) }
     ensures exact { (D.state desk.old).steady ≡ true →
-        IsAnswerOf (TakesSoup (D.state desk.old).files name.now job.now.decimals) (result_err result) }
+        IsAnswerOf (TakesSoup (D.state desk.old).files name.now job.now.decimals job.now.unit) (result_err result) }
 
     // A fault of reading is answered exactly where one was counted, on a steady desk exactly where a file is missing.
     ensures reads { CountsReads (result_err result) (D.state desk.old).read_faults (D.state desk.new).read_faults }
@@ -132,16 +132,16 @@ pub fn fetch_solid<D: Desk>(
 ) -> Result<Solid, Fault>
     // The solid is that of the name, from the files at entry, and each other fault than one of reading comes only where these have it.
     ensures answer { (D.state desk.old).tells ≡ true →
-        Gives solid_part (TakesSolid (D.state desk.old).files name.now job.now.decimals) result }
+        Gives solid_part (TakesSolid (D.state desk.old).files name.now job.now.decimals job.now.unit) result }
     ensures of_part { IfErr result (IsOfPart name.now) }
     ensures sized { IfOk result (λ _. HasSize name.now) }
 
     // Where no fault of reading was counted, the answer is that of the name, or want of memory; on a steady desk always.
     ensures complete { (D.state desk.old).tells ≡ true →
         (Rose (D.state desk.old).read_faults (D.state desk.new).read_faults → ⊥) →
-        IsAnswerOf (TakesSolid (D.state desk.old).files name.now job.now.decimals) (result_err result) }
+        IsAnswerOf (TakesSolid (D.state desk.old).files name.now job.now.decimals job.now.unit) (result_err result) }
     ensures exact { (D.state desk.old).steady ≡ true →
-        IsAnswerOf (TakesSolid (D.state desk.old).files name.now job.now.decimals) (result_err result) }
+        IsAnswerOf (TakesSolid (D.state desk.old).files name.now job.now.decimals job.now.unit) (result_err result) }
 
     // A fault of reading is answered exactly where one was counted, on a steady desk exactly where a file is missing.
     ensures reads { CountsReads (result_err result) (D.state desk.old).read_faults (D.state desk.new).read_faults }

@@ -9,6 +9,7 @@ ghost use Rattle.part_input.specs.Steps.{Gives};
 ghost use Rattle.part_input.specs.inner.Texts.{AnswersPart};
 
 use crate::fault::{Fault, Input};
+use dec_text::Length;
 use lattice::Soup;
 use lex_lines::Tokens;
 use off_reader::read_off;
@@ -28,31 +29,31 @@ fn is_stl(bytes: &[u8]) -> bool
     }
 }
 
-/// What the text of a part says, in units of 10^-`decimals` mm.
-fn read_part(alloc: Global, bytes: &[u8], decimals: u8) -> Result<RawPart, PartError>
+/// What the text of a part says in lengths of `unit`, in units of 10^-`decimals` mm.
+fn read_part(alloc: Global, bytes: &[u8], decimals: u8, unit: Length) -> Result<RawPart, PartError>
     requires short { length bytes.now ≤ 16777216 }
     requires few { decimals ≤ 6 }
-    ensures { AnswersPart decimals bytes.now result }
+    ensures { AnswersPart decimals unit bytes.now result }
 {
     if is_stl(bytes) {
-        read_stl(alloc, bytes, decimals)
+        read_stl(alloc, bytes, decimals, unit)
     } else {
-        read_off(alloc, bytes, decimals)
+        read_off(alloc, bytes, decimals, unit)
     }
 }
 
-/// The soup of a part's text, in units of 10^-`decimals` mm.
-pub(crate) fn soup_of(alloc: Global, bytes: &[u8], decimals: u8) -> Result<Soup, Fault>
+/// The soup of a part's text in lengths of `unit`, in units of 10^-`decimals` mm.
+pub(crate) fn soup_of(alloc: Global, bytes: &[u8], decimals: u8, unit: Length) -> Result<Soup, Fault>
     requires short { length bytes.now ≤ 16777216 }
     requires few { decimals ≤ 6 }
-    ensures answer { Gives part_of (ReadsPart decimals bytes.now) result }
+    ensures answer { Gives part_of (ReadsPart decimals unit bytes.now) result }
     ensures of_text { IfErr result IsOfPartText }
     ensures no_read { IsErrOf result (Fault.ReadFault Input.Part) → ⊥ }
     ensures some_triangle { IfOk result (λ soup. 0 < length (part_of soup).triangles) }
     ensures few_corners { IfOk result (λ soup. length (part_of soup).corners ≤ 60000) }
     ensures few_triangles { IfOk result (λ soup. length (part_of soup).triangles ≤ 20000) }
 {
-    let raw = match read_part(alloc, bytes, decimals) {
+    let raw = match read_part(alloc, bytes, decimals, unit) {
         Ok(raw) => raw,
         Err(PartError::Part(fault)) => return Err(Fault::Part(fault)),
         Err(PartError::Memory(_)) => return Err(Fault::Memory),

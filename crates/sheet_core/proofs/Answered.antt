@@ -39,9 +39,9 @@ module _ {A : Type 0} (steps : Result A Fault → Type 0) (one : IsSingle steps)
 module _ (files : Files) (input : Input) where
   never_missing_part : (part : List ℕ) (job : Option (List ℕ)) → HasFiles files part job → DrawsPart files part job (Err (ReadFault input)) → ⊥
   never_missing_part part job (there, held) =
-      never_then (TakesReadJob files job) (λ values. TakesSolid files part values.decimals and_then PlansSheet values) (ReadFault input)
+      never_then (TakesReadJob files job) (λ values. TakesSolid files part values.decimals values.unit and_then PlansSheet values) (ReadFault input)
       (never_then (TakesJob files job) ReadsJob (ReadFault input) (job_there [] files input job there) (λ bytes h. not_read input (JobUnread h.0) refl h.1))
-      (λ values. never_then (TakesSolid files part values.decimals) (PlansSheet values) (ReadFault input) (part_there [] files input part values.decimals held) (λ solid h. h))
+      (λ values. never_then (TakesSolid files part values.decimals values.unit) (PlansSheet values) (ReadFault input) (part_there [] files input part values.decimals values.unit held) (λ solid h. h))
 
   pub never_missing : (asks : Asks) → HasFilesAsked files asks → Draws files asks (Err (ReadFault input)) → ⊥
   never_missing help there h = cc

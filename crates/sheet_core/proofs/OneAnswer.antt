@@ -18,8 +18,8 @@ asks_single words (Err d) (Err e) (p, _) (q, _) = ap Err (p ∙ sym q)
 
 draws_part_single : (files : Files) (part : List ℕ) (job : Option (List ℕ)) → IsSingle (DrawsPart files part job)
 draws_part_single files part job =
-    single_then (TakesReadJob files job) (λ values. TakesSolid files part values.decimals and_then PlansSheet values) (named_job_single files job)
-    (λ values. single_then (TakesSolid files part values.decimals) (PlansSheet values) (solid_single files part values.decimals) (plan_single values))
+    single_then (TakesReadJob files job) (λ values. TakesSolid files part values.decimals values.unit and_then PlansSheet values) (named_job_single files job)
+    (λ values. single_then (TakesSolid files part values.decimals values.unit) (PlansSheet values) (solid_single files part values.decimals values.unit) (plan_single values))
 
 pub draws_single : (files : Files) (asks : Asks) → IsSingle (Draws files asks)
 draws_single files help r s e h = e ∙ sym h

@@ -23,7 +23,7 @@ AsksFor words (Err e) = (e ≡ Usage) × (asked_by words ≡ None)
 -- the job that was named or the usual one, the part, and the sheet
 abbrev pub DrawsPart : Files → List ℕ → Option (List ℕ) → Result Drawn Fault → Type 0
 DrawsPart files part job =
-    TakesReadJob files job and_then λ values. (TakesSolid files part values.decimals and_then PlansSheet values)
+    TakesReadJob files job and_then λ values. (TakesSolid files part values.decimals values.unit and_then PlansSheet values)
 
 -- what is drawn, if anything is
 abbrev pub Draws : Files → Asks → Result (Option Drawn) Fault → Type 0

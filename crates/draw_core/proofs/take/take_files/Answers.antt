@@ -53,10 +53,10 @@ returns-in-Err-fetch_solid-clause-answer g c =
     let suffixes = (map (λ b. ((goal.Plotter-dyn g (b.vtable, b.value)).plot b.value).suffix) c.args.extras.items) in
     let fault = c.in-Err-fetch_solid.fault in
     let tells = ap (λ (s : DeskState). s.tells) c.in-Ok.ensures.changes ∙ told in
-    let P : Files → Type 0 = λ files. Refuses (TakesSolid files named.part job.decimals) fault in
+    let P : Files → Type 0 = λ files. Refuses (TakesSolid files named.part job.decimals job.unit) fault in
     let refused : P old.files = subst P (ap (λ (s : DeskState). s.files) c.in-Ok.ensures.changes) (c.in-Err-fetch_solid.ensures.answer tells) in
     let met : TakesMetJob suffixes old.files named.job (Ok job) = (job, c.in-Ok.ensures.answer told, c.in-Ok-rack_of.ensures.answer) in
-    refuses_as (TakesSolid old.files named.part job.decimals) (DrawsFiles suffixes old.files named) (λ e h. inr (job, met, inl h)) fault refused
+    refuses_as (TakesSolid old.files named.part job.decimals job.unit) (DrawsFiles suffixes old.files named) (λ e h. inr (job, met, inl h)) fault refused
 
 -- both were taken, and the sheet is planned
 pub returns-in-Ok-fetch_solid-clause-answer : goal.returns-in-Ok-fetch_solid-clause-answer
@@ -68,11 +68,11 @@ returns-in-Ok-fetch_solid-clause-answer g c =
     let suffixes = (map (λ b. ((goal.Plotter-dyn g (b.vtable, b.value)).plot b.value).suffix) c.args.extras.items) in
     let part = solid_part c.in-Ok-fetch_solid.solid in
     let tells = ap (λ (s : DeskState). s.tells) c.in-Ok.ensures.changes ∙ told in
-    let P : Files → Type 0 = λ files. TakesSolid files named.part job.decimals (Ok part) in
+    let P : Files → Type 0 = λ files. TakesSolid files named.part job.decimals job.unit (Ok part) in
     let taken : P old.files = subst P (ap (λ (s : DeskState). s.files) c.in-Ok.ensures.changes) (c.in-Ok-fetch_solid.ensures.answer tells) in
     let met : TakesMetJob suffixes old.files named.job (Ok job) = (job, c.in-Ok.ensures.answer told, c.in-Ok-rack_of.ensures.answer) in
-    let from_part = gives_next (TakesSolid old.files named.part job.decimals) (PlansSheet job) part taken drawn_of c.draw_solid.result c.draw_solid.ensures.answer in
-    gives_next (TakesMetJob suffixes old.files named.job) (λ job. TakesSolid old.files named.part job.decimals and_then PlansSheet job) job met drawn_of c.draw_solid.result from_part
+    let from_part = gives_next (TakesSolid old.files named.part job.decimals job.unit) (PlansSheet job) part taken drawn_of c.draw_solid.result c.draw_solid.ensures.answer in
+    gives_next (TakesMetJob suffixes old.files named.job) (λ job. TakesSolid old.files named.part job.decimals job.unit and_then PlansSheet job) job met drawn_of c.draw_solid.result from_part
 
 pub returns-in-Err-clause-order : goal.returns-in-Err-clause-order
 returns-in-Err-clause-order g c = λ told.
@@ -94,8 +94,8 @@ returns-in-Err-fetch_solid-clause-missing g c = λ steady.
     let told = g.met.D.Desk.steady_tells c.args.desk.now steady in
     let still = ap (λ (s : DeskState). s.steady) c.in-Ok.ensures.changes ∙ steady in
     let between = (g.D.Desk.state c.take_job.new.desk).files in
-    let P : Files → Type 0 = λ files. IsMissing (TakesSolid files named.part job.decimals) fault in
+    let P : Files → Type 0 = λ files. IsMissing (TakesSolid files named.part job.decimals job.unit) fault in
     let missing : P old.files = subst P (ap (λ (s : DeskState). s.files) c.in-Ok.ensures.changes)
-    (solid_missing between named.part job.decimals (Err fault) c.in-Err-fetch_solid.ensures.of_part (c.in-Err-fetch_solid.ensures.missing still)) in
+    (solid_missing between named.part job.decimals job.unit (Err fault) c.in-Err-fetch_solid.ensures.of_part (c.in-Err-fetch_solid.ensures.missing still)) in
     let met : TakesMetJob suffixes old.files named.job (Ok job) = (job, c.in-Ok.ensures.answer told, c.in-Ok-rack_of.ensures.answer) in
-    missing_as (TakesSolid old.files named.part job.decimals) (DrawsFiles suffixes old.files named) (λ e h. inr (job, met, inl h)) fault missing
+    missing_as (TakesSolid old.files named.part job.decimals job.unit) (DrawsFiles suffixes old.files named) (λ e h. inr (job, met, inl h)) fault missing

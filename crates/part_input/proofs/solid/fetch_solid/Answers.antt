@@ -12,19 +12,21 @@ returns-in-Ok-clause-complete g c = λ told none.
     let files = (g.D.Desk.state c.args.desk.now).files in
     let name = c.args.name.now in
     let decimals = c.args.job.now.decimals in
+    let unit = c.args.job.now.unit in
     let r = c.checked.result in
-    undisturbed (TakesSolid files name decimals) (solid_single files name decimals) solid_part r (mesh_no_desk r c.checked.ensures.of_mesh)
-    (gives_next (TakesSoup files name decimals) ChecksPart (part_of c.in-Ok.soup) (c.in-Ok.ensures.answer told) solid_part r c.checked.ensures.answer)
+    undisturbed (TakesSolid files name decimals unit) (solid_single files name decimals unit) solid_part r (mesh_no_desk r c.checked.ensures.of_mesh)
+    (gives_next (TakesSoup files name decimals unit) ChecksPart (part_of c.in-Ok.soup) (c.in-Ok.ensures.answer told) solid_part r c.checked.ensures.answer)
 
 pub returns-in-Ok-clause-exact : goal.returns-in-Ok-clause-exact
 returns-in-Ok-clause-exact g c = λ steady.
     let files = (g.D.Desk.state c.args.desk.now).files in
     let name = c.args.name.now in
     let decimals = c.args.job.now.decimals in
+    let unit = c.args.job.now.unit in
     let r = c.checked.result in
     let told = g.met.D.Desk.steady_tells c.args.desk.now steady in
-    undisturbed (TakesSolid files name decimals) (solid_single files name decimals) solid_part r (mesh_no_desk r c.checked.ensures.of_mesh)
-    (gives_next (TakesSoup files name decimals) ChecksPart (part_of c.in-Ok.soup) (c.in-Ok.ensures.answer told) solid_part r c.checked.ensures.answer)
+    undisturbed (TakesSolid files name decimals unit) (solid_single files name decimals unit) solid_part r (mesh_no_desk r c.checked.ensures.of_mesh)
+    (gives_next (TakesSoup files name decimals unit) ChecksPart (part_of c.in-Ok.soup) (c.in-Ok.ensures.answer told) solid_part r c.checked.ensures.answer)
 
 pub returns-in-Err-clause-of_part : goal.returns-in-Err-clause-of_part
 returns-in-Err-clause-of_part g c = of_soup (g.D.Desk.state c.args.desk.now).files c.args.name.now c.in-Err.fault c.in-Err.ensures.of_soup

@@ -37,9 +37,9 @@ returns-in-Err-fetch_solid-clause-answer g c = λ told.
     let values = job_seen c.in-Ok.job in
     let fault = c.in-Err-fetch_solid.fault in
     let tells = ap (λ (s : DeskState). s.tells) c.in-Ok.ensures.changes ∙ told in
-    let P : Files → Type 0 = λ files. Refuses (TakesSolid files part values.decimals) fault in
+    let P : Files → Type 0 = λ files. Refuses (TakesSolid files part values.decimals values.unit) fault in
     let refused : P old.files = subst P (ap (λ (s : DeskState). s.files) c.in-Ok.ensures.changes) (c.in-Err-fetch_solid.ensures.answer tells) in
-    refuses_as (TakesSolid old.files part values.decimals) (DrawsPart old.files part c.args.job.now) (λ e h. inr (values, c.in-Ok.ensures.answer told, inl h)) fault refused
+    refuses_as (TakesSolid old.files part values.decimals values.unit) (DrawsPart old.files part c.args.job.now) (λ e h. inr (values, c.in-Ok.ensures.answer told, inl h)) fault refused
 
 pub returns-in-Err-fetch_solid-clause-order : goal.returns-in-Err-fetch_solid-clause-order
 returns-in-Err-fetch_solid-clause-order g c = λ told.
@@ -54,10 +54,10 @@ returns-in-Err-fetch_solid-clause-missing g c = λ steady.
     let told = g.met.D.Desk.steady_tells c.args.desk.now steady in
     let still = ap (λ (s : DeskState). s.steady) c.in-Ok.ensures.changes ∙ steady in
     let between = (g.D.Desk.state c.take_job.new.desk).files in
-    let P : Files → Type 0 = λ files. IsMissing (TakesSolid files part values.decimals) fault in
+    let P : Files → Type 0 = λ files. IsMissing (TakesSolid files part values.decimals values.unit) fault in
     let missing : P old.files = subst P (ap (λ (s : DeskState). s.files) c.in-Ok.ensures.changes)
-    (solid_missing between part values.decimals (Err fault) c.in-Err-fetch_solid.ensures.of_part (c.in-Err-fetch_solid.ensures.missing still)) in
-    missing_as (TakesSolid old.files part values.decimals) (DrawsPart old.files part c.args.job.now) (λ e h. inr (values, c.in-Ok.ensures.answer told, inl h)) fault missing
+    (solid_missing between part values.decimals values.unit (Err fault) c.in-Err-fetch_solid.ensures.of_part (c.in-Err-fetch_solid.ensures.missing still)) in
+    missing_as (TakesSolid old.files part values.decimals values.unit) (DrawsPart old.files part c.args.job.now) (λ e h. inr (values, c.in-Ok.ensures.answer told, inl h)) fault missing
 
 -- both were taken, and the sheet is planned
 pub returns-in-Ok-fetch_solid-clause-answer : goal.returns-in-Ok-fetch_solid-clause-answer
@@ -67,10 +67,10 @@ returns-in-Ok-fetch_solid-clause-answer g c = λ told.
     let values = job_seen c.in-Ok.job in
     let part = solid_part c.in-Ok-fetch_solid.solid in
     let tells = ap (λ (s : DeskState). s.tells) c.in-Ok.ensures.changes ∙ told in
-    let P : Files → Type 0 = λ files. TakesSolid files named values.decimals (Ok part) in
+    let P : Files → Type 0 = λ files. TakesSolid files named values.decimals values.unit (Ok part) in
     let taken : P old.files = subst P (ap (λ (s : DeskState). s.files) c.in-Ok.ensures.changes) (c.in-Ok-fetch_solid.ensures.answer tells) in
-    let from_part = gives_next (TakesSolid old.files named values.decimals) (PlansSheet values) part taken drawn_in c.drawing_of.result c.drawing_of.ensures.answer in
-    gives_next (TakesReadJob old.files c.args.job.now) (λ values. TakesSolid old.files named values.decimals and_then PlansSheet values) values (c.in-Ok.ensures.answer told) drawn_in c.drawing_of.result from_part
+    let from_part = gives_next (TakesSolid old.files named values.decimals values.unit) (PlansSheet values) part taken drawn_in c.drawing_of.result c.drawing_of.ensures.answer in
+    gives_next (TakesReadJob old.files c.args.job.now) (λ values. TakesSolid old.files named values.decimals values.unit and_then PlansSheet values) values (c.in-Ok.ensures.answer told) drawn_in c.drawing_of.result from_part
 
 pub returns-in-Ok-fetch_solid-clause-order : goal.returns-in-Ok-fetch_solid-clause-order
 returns-in-Ok-fetch_solid-clause-order g c = λ told.
