@@ -5,6 +5,7 @@ use Rattle.std.proofs.lemmas.Bool.{cases_order}
 use Rattle.lattice.specs.declared.soup.Tri.{Tri}
 use Rattle.lattice.specs.Triple.{Triple}
 use Rattle.lex_lines.specs.declared.token.Token.{Token}
+use Rattle.dec_text.specs.declared.number.Length.{Length}
 use Rattle.weld.specs.declared.fault.PartFault.{PartFault}
 use Rattle.weld.specs.declared.fault.PartKind.TheVariants.{BadNumber, TooMany, BadIndex, FaceSize}
 use Rattle.weld.specs.declared.fault.Want.{Want}
@@ -85,11 +86,11 @@ one_faces bytes vertices (suc more) number before =
     one_then (one_face bytes vertices number before) (λ triangles. one_then (one_faces bytes vertices more (number + 1) (before + length triangles)) (λ others. one_given (triangles ++ others)))
 
 -- ---- the whole
-one_whole : (decimals : ℕ) (bytes : List ℕ) → IsSingle (Whole decimals bytes)
-one_whole decimals bytes =
-    one_then (one_header bytes) (λ counts. one_then (one_times counts.0 (Vertex decimals bytes) (one_vertex decimals bytes))
+one_whole : (decimals : ℕ) (unit : Length) (bytes : List ℕ) → IsSingle (Whole decimals unit bytes)
+one_whole decimals unit bytes =
+    one_then (one_header bytes) (λ counts. one_then (one_times counts.0 (Vertex decimals unit bytes) (one_vertex decimals unit bytes))
     (λ vertices. one_then (one_faces bytes vertices counts.1 0 0) (λ triangles. one_computed (at_end (record { vertices = vertices; triangles = triangles })))))
 
 -- what a text says is one thing
-pub only_reading : (decimals : ℕ) (bytes : List ℕ) (r s : Result Raw PartFault) → ReadsOff decimals bytes r → ReadsOff decimals bytes s → r ≡ s
-only_reading decimals bytes r s = one_text true (Whole decimals bytes) bytes (one_whole decimals bytes) r s
+pub only_reading : (decimals : ℕ) (unit : Length) (bytes : List ℕ) (r s : Result Raw PartFault) → ReadsOff decimals unit bytes r → ReadsOff decimals unit bytes s → r ≡ s
+only_reading decimals unit bytes r s = one_text true (Whole decimals unit bytes) bytes (one_whole decimals unit bytes) r s

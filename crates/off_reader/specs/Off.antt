@@ -3,6 +3,7 @@ use Rattle.std.specs.Prelude.{◌≡◌, ℕ, zero, suc, ◌+◌, ◌-◌, true,
 use Rattle.lattice.specs.declared.soup.Tri.{Tri}
 use Rattle.lattice.specs.Triple.{Triple}
 use Rattle.lex_lines.specs.declared.token.Token.{Token}
+use Rattle.dec_text.specs.declared.number.Length.{Length}
 use Rattle.weld.specs.declared.fault.PartError.{PartError}
 use Rattle.weld.specs.declared.fault.PartFault.{PartFault}
 use Rattle.weld.specs.declared.fault.PartKind.TheVariants.{Binary, Prefixed, TooMany, BadIndex, FaceSize, FaceUnseen, Trailing}
@@ -80,10 +81,10 @@ abbrev pub at_end : Raw → List Token → Reading Raw
 at_end raw [] = Ok (raw, [])
 at_end raw (t ∷ tokens) = Err (fault_at t.line Trailing)
 
-module _ (decimals : ℕ) (bytes : List ℕ) where
+module _ (decimals : ℕ) (unit : Length) (bytes : List ℕ) where
   abbrev pub Whole : Step Raw
   Whole =
-      Header bytes then λ counts. Times counts.0 (Vertex decimals bytes) then λ vertices. Faces bytes vertices counts.1 0 0
+      Header bytes then λ counts. Times counts.0 (Vertex decimals unit bytes) then λ vertices. Faces bytes vertices counts.1 0 0
       then λ triangles. Computes (at_end (record { vertices = vertices; triangles = triangles }))
 
   -- what the text says

@@ -7,18 +7,24 @@ ghost use Rattle.part_text.specs.Made.{made};
 use crate::faces::read_faces;
 use crate::header::read_header;
 use crate::vertices::read_vertices;
+use dec_text::Length;
 use lex_lines::Tokens;
 use part_text::{fault, zero_line};
 use std::alloc::Global;
 use weld::{PartError, PartFault, PartKind, RawPart};
 
-/// The part that a text of OFF describes, in units of `10^-decimals` mm, or its one fault, at the first token at which no
-/// reading goes on. At most 16,777,216 bytes. The time grows with the text, and for each face of more than three corners
-/// with the square of their number, at most 64.
-pub fn read_off(alloc: Global, bytes: &[u8], decimals: u8) -> Result<RawPart, PartError>
+/// The part that a text of OFF describes, its lengths in `unit`, read in units of `10^-decimals` mm, or its one fault, at the
+/// first token at which no reading goes on. At most 16,777,216 bytes. The time grows with the text, and for each face of
+/// more than three corners with the square of their number, at most 64.
+pub fn read_off(
+    alloc: Global,
+    bytes: &[u8],
+    decimals: u8,
+    unit: Length,
+) -> Result<RawPart, PartError>
     requires few { decimals ≤ 6 }
     requires short { length bytes.now ≤ 16777216 }
-    ensures { AnswersOff decimals bytes.now result }
+    ensures { AnswersOff decimals unit bytes.now result }
 {
     if let Some(line) = zero_line(bytes) {
         return Err(PartError::Part(fault(line, PartKind::Binary)));
@@ -28,7 +34,7 @@ pub fn read_off(alloc: Global, bytes: &[u8], decimals: u8) -> Result<RawPart, Pa
         Ok(header) => header,
         Err(fault) => return Err(PartError::Part(fault)),
     };
-    let corners = match read_vertices(alloc, bytes, &mut tokens, decimals, header.vertices) {
+    let corners = match read_vertices(alloc, bytes, &mut tokens, decimals, unit, header.vertices) {
         Ok(corners) => corners,
         Err(error) => return Err(error),
     };

@@ -1,6 +1,7 @@
 -- Steps that make one thing of the tokens.
 use Rattle.std.proofs.Common.{◌≡◌, inl, inr, ℕ, zero, suc, ◌<◌, ◌≤◌, ℤ, List, [], ◌∷◌, sym, ap, subst, ◌∙◌, arith, Ok, Err}
 use Rattle.dec_text.specs.Numbers.{magnitude_of}
+use Rattle.dec_text.specs.declared.number.Length.{Length}
 use Rattle.dec_text.proofs.Parts.{one_value, one_units}
 use Rattle.lex_lines.specs.declared.token.Token.{Token}
 use Rattle.weld.specs.declared.fault.PartKind.{PartKind}
@@ -57,27 +58,27 @@ one_next line what = record { one = next_at line what }
 both_sizes : {P : Type 0} (small large : ℕ) → small ≡ large → small ≤ 1048576 → 1048576 < large → P
 both_sizes small large e h k = absurd (omega arith)
 
-units_at : (decimals : ℕ) (text : List ℕ) (line : ℕ) (tokens : List Token) (r s : Reading ℤ) → Units decimals text line tokens r → Units decimals text line tokens s → r ≡ s
-units_at decimals text line tokens r s (inl (n, a, e)) (inl (m, b, h)) = e ∙ ap (λ (z : ℤ). Ok (z, tokens)) (one_units decimals text n m) ∙ sym h
-units_at decimals text line tokens r s (inl (n, a, e)) (inr (inl (m, b, h))) = both_sizes (magnitude_of decimals n) (magnitude_of decimals m) (one_value decimals text n m) a b
-units_at decimals text line tokens r s (inl (n, a, e)) (inr (inr (never, h))) = absurd (never n)
-units_at decimals text line tokens r s (inr (inl (n, a, e))) (inl (m, b, h)) = both_sizes (magnitude_of decimals m) (magnitude_of decimals n) (one_value decimals text m n) b a
-units_at decimals text line tokens r s (inr (inl (n, a, e))) (inr (inl (m, b, h))) = e ∙ sym h
-units_at decimals text line tokens r s (inr (inl (n, a, e))) (inr (inr (never, h))) = absurd (never n)
-units_at decimals text line tokens r s (inr (inr (never, e))) (inl (m, b, h)) = absurd (never m)
-units_at decimals text line tokens r s (inr (inr (never, e))) (inr (inl (m, b, h))) = absurd (never m)
-units_at decimals text line tokens r s (inr (inr (never, e))) (inr (inr (none, h))) = e ∙ sym h
+units_at : (decimals : ℕ) (unit : Length) (text : List ℕ) (line : ℕ) (tokens : List Token) (r s : Reading ℤ) → Units decimals unit text line tokens r → Units decimals unit text line tokens s → r ≡ s
+units_at decimals unit text line tokens r s (inl (n, a, e)) (inl (m, b, h)) = e ∙ ap (λ (z : ℤ). Ok (z, tokens)) (one_units decimals unit text n m) ∙ sym h
+units_at decimals unit text line tokens r s (inl (n, a, e)) (inr (inl (m, b, h))) = both_sizes (magnitude_of decimals unit n) (magnitude_of decimals unit m) (one_value decimals unit text n m) a b
+units_at decimals unit text line tokens r s (inl (n, a, e)) (inr (inr (never, h))) = absurd (never n)
+units_at decimals unit text line tokens r s (inr (inl (n, a, e))) (inl (m, b, h)) = both_sizes (magnitude_of decimals unit m) (magnitude_of decimals unit n) (one_value decimals unit text m n) b a
+units_at decimals unit text line tokens r s (inr (inl (n, a, e))) (inr (inl (m, b, h))) = e ∙ sym h
+units_at decimals unit text line tokens r s (inr (inl (n, a, e))) (inr (inr (never, h))) = absurd (never n)
+units_at decimals unit text line tokens r s (inr (inr (never, e))) (inl (m, b, h)) = absurd (never m)
+units_at decimals unit text line tokens r s (inr (inr (never, e))) (inr (inl (m, b, h))) = absurd (never m)
+units_at decimals unit text line tokens r s (inr (inr (never, e))) (inr (inr (none, h))) = e ∙ sym h
 
-one_units_of : (decimals : ℕ) (text : List ℕ) (line : ℕ) → IsSingle (Units decimals text line)
-one_units_of decimals text line = record { one = units_at decimals text line }
+one_units_of : (decimals : ℕ) (unit : Length) (text : List ℕ) (line : ℕ) → IsSingle (Units decimals unit text line)
+one_units_of decimals unit text line = record { one = units_at decimals unit text line }
 
 -- ---- vertices and lines
-one_coordinate : (decimals : ℕ) (bytes : List ℕ) → IsSingle (Coordinate decimals bytes)
-one_coordinate decimals bytes = one_then (one_next (end bytes) want.Coordinate) (λ t. one_units_of decimals (text_of bytes t) t.line)
+one_coordinate : (decimals : ℕ) (unit : Length) (bytes : List ℕ) → IsSingle (Coordinate decimals unit bytes)
+one_coordinate decimals unit bytes = one_then (one_next (end bytes) want.Coordinate) (λ t. one_units_of decimals unit (text_of bytes t) t.line)
 
-pub one_vertex : (decimals : ℕ) (bytes : List ℕ) → IsSingle (Vertex decimals bytes)
-one_vertex decimals bytes =
-    let c = one_coordinate decimals bytes in
+pub one_vertex : (decimals : ℕ) (unit : Length) (bytes : List ℕ) → IsSingle (Vertex decimals unit bytes)
+one_vertex decimals unit bytes =
+    let c = one_coordinate decimals unit bytes in
     one_then c (λ x. one_then c (λ y. one_then c (λ z. one_given (record { x = x; y = y; z = z }))))
 
 pub one_skip : (line : ℕ) → IsSingle (SkipLine line)

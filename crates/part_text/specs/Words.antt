@@ -3,6 +3,7 @@ use Rattle.std.specs.Prelude.{◌≡◌, ◌⊎◌, ℕ, ◌-◌, ◌<◌, ◌�
 use Rattle.std.specs.Str.{str_eq_ignore_ascii_case}
 use Rattle.lex_lines.specs.declared.token.Token.{Token}
 use Rattle.dec_text.specs.Numbers.{Number, magnitude_of, units_of}
+use Rattle.dec_text.specs.declared.number.Length.{Length}
 use Rattle.weld.specs.declared.fault.PartKind.TheVariants.{Missing, BadNumber, TooLarge}
 use Rattle.weld.specs.declared.fault.Want.{Want}
 use Rattle.part_text.specs.Steps.{Step, fault_at}
@@ -24,8 +25,8 @@ abbrev pub ends_with : List ℕ → List ℕ → Bool
 ends_with word text = is_word word (drop (length text - length word) text)
 
 -- a number in units
-abbrev pub Units : ℕ → List ℕ → ℕ → Step ℤ
-Units decimals text line tokens r =
-    ((n : Number text) × (magnitude_of decimals n ≤ 1048576) × (r ≡ Ok (units_of decimals n, tokens)))
-    ⊎ ((n : Number text) × (1048576 < magnitude_of decimals n) × (r ≡ Err (fault_at line TooLarge)))
+abbrev pub Units : ℕ → Length → List ℕ → ℕ → Step ℤ
+Units decimals unit text line tokens r =
+    ((n : Number text) × (magnitude_of decimals unit n ≤ 1048576) × (r ≡ Ok (units_of decimals unit n, tokens)))
+    ⊎ ((n : Number text) × (1048576 < magnitude_of decimals unit n) × (r ≡ Err (fault_at line TooLarge)))
     ⊎ ((Number text → ⊥) × (r ≡ Err (fault_at line BadNumber)))

@@ -1,6 +1,7 @@
 -- A text of ASCII STL has one reading.
 use Rattle.std.proofs.Common.{◌≡◌, ℕ, zero, suc, ◌+◌, nat_lt, Bool, true, false, List, [], ◌∷◌, Result}
 use Rattle.lex_lines.specs.declared.token.Token.{Token}
+use Rattle.dec_text.specs.declared.number.Length.{Length}
 use Rattle.weld.specs.Raw.{Raw}
 use Rattle.weld.specs.declared.fault.PartFault.{PartFault}
 use Rattle.weld.specs.declared.fault.PartKind.TheVariants.{TooMany, Expected}
@@ -49,19 +50,19 @@ same_either : {X : Type 0} (b : Bool) (first other second last : Step X) → Are
 same_either true first other second last f s = f
 same_either false first other second last f s = s
 
-module _ (decimals : ℕ) (bytes : List ℕ) where
-  one_corner : IsSingle (Corner decimals bytes)
-  one_corner = one_then (one_keyword bytes word.Vertex) (λ _. one_vertex decimals bytes)
+module _ (decimals : ℕ) (unit : Length) (bytes : List ℕ) where
+  one_corner : IsSingle (Corner decimals unit bytes)
+  one_corner = one_then (one_keyword bytes word.Vertex) (λ _. one_vertex decimals unit bytes)
 
-  one_corners : IsSingle (Corners decimals bytes)
+  one_corners : IsSingle (Corners decimals unit bytes)
   one_corners = one_then one_corner (λ a. one_then one_corner (λ b. one_then one_corner (λ c. one_given (a, b, c))))
 
-  one_facet : (before line : ℕ) → IsSingle (Facet decimals bytes before line)
+  one_facet : (before line : ℕ) → IsSingle (Facet decimals unit bytes before line)
   one_facet before line =
       one_then (one_computed (checked (nat_lt before 20000) line line TooMany)) (λ _. one_then (one_opening bytes) (λ _. one_then one_corners (λ f. one_then (one_closing bytes) (λ _. one_given f))))
 
   -- more turns change nothing
-  same_facets : (turns more before : ℕ) → AreSame (Facets decimals bytes turns before) (Facets decimals bytes more before)
+  same_facets : (turns more before : ℕ) → AreSame (Facets decimals unit bytes turns before) (Facets decimals unit bytes more before)
   same_facets zero more before = record { one = λ tokens r s p q. absurd p }
   same_facets (suc turns) zero before = record { one = λ tokens r s p q. absurd q }
   same_facets (suc turns) (suc more) before =
@@ -70,13 +71,13 @@ module _ (decimals : ℕ) (bytes : List ℕ) where
       (same_then (one_skip w.1) (λ _. same_then (one_solid bytes) (λ b. same_either b _ _ _ _ (same_facets turns more before) (one_given [])))))
 
   -- ---- the whole
-  whole_at : (tokens : List Token) (r s : Reading Raw) → Whole decimals bytes tokens r → Whole decimals bytes tokens s → r ≡ s
+  whole_at : (tokens : List Token) (r s : Reading Raw) → Whole decimals unit bytes tokens r → Whole decimals unit bytes tokens s → r ≡ s
   whole_at tokens r s (turns, p) (more, q) =
       (same_then (one_line bytes word.Solid) (λ _. same_then (same_facets turns more 0) (λ facets. one_given (raw_of facets)))).one tokens r s p q
 
-  one_whole : IsSingle (Whole decimals bytes)
+  one_whole : IsSingle (Whole decimals unit bytes)
   one_whole = record { one = whole_at }
 
   -- what a text says is one thing
-  pub only_reading : (r s : Result Raw PartFault) → ReadsStl decimals bytes r → ReadsStl decimals bytes s → r ≡ s
-  only_reading r s = one_text false (Whole decimals bytes) bytes one_whole r s
+  pub only_reading : (r s : Result Raw PartFault) → ReadsStl decimals unit bytes r → ReadsStl decimals unit bytes s → r ≡ s
+  only_reading r s = one_text false (Whole decimals unit bytes) bytes one_whole r s

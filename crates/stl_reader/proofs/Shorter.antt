@@ -3,6 +3,7 @@ use Rattle.std.proofs.Common.{◌≡◌, inl, inr, ℕ, ◌<◌, ◌≤◌, nat_
 use Rattle.std.proofs.lemmas.List.Filters.{length-filter_both}
 use Rattle.lattice.specs.Triple.{Triple}
 use Rattle.lex_lines.specs.declared.token.Token.{Token}
+use Rattle.dec_text.specs.declared.number.Length.{Length}
 use Rattle.weld.specs.declared.fault.PartKind.{PartKind}
 use Rattle.weld.specs.declared.fault.PartKind.TheVariants.{TooMany, Expected}
 use Rattle.weld.specs.declared.fault.Want.{Want}
@@ -54,20 +55,20 @@ next_at line what (t ∷ tokens) r e = rw e (omega arith)
 short_next : (line : ℕ) (what : Want) → IsShort (NextToken line what)
 short_next line what = record { short = next_at line what }
 
-units_at : (decimals : ℕ) (text : List ℕ) (line : ℕ) (tokens : List Token) (r : Reading ℤ) → Units decimals text line tokens r → Within (length tokens) r
-units_at decimals text line tokens r (inl (n, a, e)) = rw e (omega arith)
-units_at decimals text line tokens r (inr (inl (n, a, e))) = rw e (omega arith)
-units_at decimals text line tokens r (inr (inr (never, e))) = rw e (omega arith)
+units_at : (decimals : ℕ) (unit : Length) (text : List ℕ) (line : ℕ) (tokens : List Token) (r : Reading ℤ) → Units decimals unit text line tokens r → Within (length tokens) r
+units_at decimals unit text line tokens r (inl (n, a, e)) = rw e (omega arith)
+units_at decimals unit text line tokens r (inr (inl (n, a, e))) = rw e (omega arith)
+units_at decimals unit text line tokens r (inr (inr (never, e))) = rw e (omega arith)
 
-short_units : (decimals : ℕ) (text : List ℕ) (line : ℕ) → IsShort (Units decimals text line)
-short_units decimals text line = record { short = units_at decimals text line }
+short_units : (decimals : ℕ) (unit : Length) (text : List ℕ) (line : ℕ) → IsShort (Units decimals unit text line)
+short_units decimals unit text line = record { short = units_at decimals unit text line }
 
-short_coordinate : (decimals : ℕ) (bytes : List ℕ) → IsShort (Coordinate decimals bytes)
-short_coordinate decimals bytes = short_then (short_next (end bytes) want.Coordinate) (λ t. short_units decimals (text_of bytes t) t.line)
+short_coordinate : (decimals : ℕ) (unit : Length) (bytes : List ℕ) → IsShort (Coordinate decimals unit bytes)
+short_coordinate decimals unit bytes = short_then (short_next (end bytes) want.Coordinate) (λ t. short_units decimals unit (text_of bytes t) t.line)
 
-short_vertex : (decimals : ℕ) (bytes : List ℕ) → IsShort (Vertex decimals bytes)
-short_vertex decimals bytes =
-    let c = short_coordinate decimals bytes in
+short_vertex : (decimals : ℕ) (unit : Length) (bytes : List ℕ) → IsShort (Vertex decimals unit bytes)
+short_vertex decimals unit bytes =
+    let c = short_coordinate decimals unit bytes in
     short_then c (λ x. short_then c (λ y. short_then c (λ z. short_given (record { x = x; y = y; z = z }))))
 
 -- ---- facets
@@ -86,14 +87,14 @@ module _ (bytes : List ℕ) where
   short_closing : IsShort (Closing bytes)
   short_closing = short_then (short_keyword word.Endloop) (λ _. short_then (short_keyword word.Endfacet) (λ _. short_given tt))
 
-module _ (decimals : ℕ) (bytes : List ℕ) where
-  short_corner : IsShort (Corner decimals bytes)
-  short_corner = short_then (short_keyword bytes word.Vertex) (λ _. short_vertex decimals bytes)
+module _ (decimals : ℕ) (unit : Length) (bytes : List ℕ) where
+  short_corner : IsShort (Corner decimals unit bytes)
+  short_corner = short_then (short_keyword bytes word.Vertex) (λ _. short_vertex decimals unit bytes)
 
-  short_corners : IsShort (Corners decimals bytes)
+  short_corners : IsShort (Corners decimals unit bytes)
   short_corners = short_then short_corner (λ a. short_then short_corner (λ b. short_then short_corner (λ c. short_given (a, b, c))))
 
-  short_facet : (before line : ℕ) → IsShort (Facet decimals bytes before line)
+  short_facet : (before line : ℕ) → IsShort (Facet decimals unit bytes before line)
   short_facet before line =
       short_then (short_check (nat_lt before 20000) line line TooMany) (λ _. short_then (short_opening bytes) (λ _. short_then short_corners (λ f. short_then (short_closing bytes) (λ _. short_given f))))
 
@@ -133,11 +134,11 @@ module _ (bytes : List ℕ) where
       omega (arith, left)
 
 -- ---- a turn
-module _ (decimals : ℕ) (bytes : List ℕ) (tokens mid : List Token) (w : Bool × ℕ) (word : FacetOrEnd bytes tokens (Ok (w, mid))) where
-  pub facet_taken : (before line : ℕ) (f : Triple × Triple × Triple) (rest : List Token) → Facet decimals bytes before line mid (Ok (f, rest)) → length rest < length tokens
+module _ (decimals : ℕ) (unit : Length) (bytes : List ℕ) (tokens mid : List Token) (w : Bool × ℕ) (word : FacetOrEnd bytes tokens (Ok (w, mid))) where
+  pub facet_taken : (before line : ℕ) (f : Triple × Triple × Triple) (rest : List Token) → Facet decimals unit bytes before line mid (Ok (f, rest)) → length rest < length tokens
   facet_taken before line f rest facet =
       let taken = word_taken bytes tokens mid w word in
-      let left = (short_facet decimals bytes before line).short mid (Ok (f, rest)) facet in
+      let left = (short_facet decimals unit bytes before line).short mid (Ok (f, rest)) facet in
       omega (arith, taken, left)
 
   pub solid_taken : (line : ℕ) (next rest : List Token) (more : Bool) → next ≡ filter (λ t. nat_lt line t.line) mid → AnotherSolid bytes next (Ok (more, rest)) → length rest < length tokens

@@ -3,6 +3,7 @@ use Rattle.std.proofs.Common.{◌≡◌, ℕ, suc, ◌+◌, nat_lt, Bool, true, 
 use Rattle.std.proofs.lemmas.List.{append_assoc, append-nil}
 use Rattle.lattice.specs.Triple.{Triple}
 use Rattle.lex_lines.specs.declared.token.Token.{Token}
+use Rattle.dec_text.specs.declared.number.Length.{Length}
 use Rattle.weld.specs.declared.fault.PartFault.{PartFault}
 use Rattle.part_text.specs.Steps.{Reading, After, Gives}
 use Rattle.part_text.specs.Vertices.{SkipLine}
@@ -26,10 +27,10 @@ gives_behind : (f : Three) (r : Reading (List Three)) → After (λ others. Give
 gives_behind f (Ok (xs, left)) = refl
 gives_behind f (Err fault) = refl
 
-module _ (decimals : ℕ) (bytes : List ℕ) where
+module _ (decimals : ℕ) (unit : Length) (bytes : List ℕ) where
   -- the facets in some number of turns
   abbrev pub Read : ℕ → List Token → Reading (List Three) → Type 0
-  Read before tokens r = (turns : ℕ) × Facets decimals bytes turns before tokens r
+  Read before tokens r = (turns : ℕ) × Facets decimals unit bytes turns before tokens r
 
   -- these facets are read: whatever follows them stands behind them
   pub record IsDone (start left : List Token) (done : List Three) : Type 0 where
@@ -41,18 +42,18 @@ module _ (decimals : ℕ) (bytes : List ℕ) where
     said b e = subst (λ (b : Bool). FacetOrEnd bytes left (Ok ((b, line), mid))) e word
 
     module _ (is : facet ≡ true) (before : ℕ) (same : before ≡ length done) where
-      here : (r : Reading Three) → Facet decimals bytes before line mid r → Facet decimals bytes (length done) line mid r
-      here r p = subst (λ (n : ℕ). Facet decimals bytes n line mid r) same p
+      here : (r : Reading Three) → Facet decimals unit bytes before line mid r → Facet decimals unit bytes (length done) line mid r
+      here r p = subst (λ (n : ℕ). Facet decimals unit bytes n line mid r) same p
 
-      pub facet_done : (f : Three) (rest : List Token) → Facet decimals bytes before line mid (Ok (f, rest)) → IsDone start rest (done ++ f ∷ [])
+      pub facet_done : (f : Three) (rest : List Token) → Facet decimals unit bytes before line mid (Ok (f, rest)) → IsDone start rest (done ++ f ∷ [])
       facet_done f rest p = record { goes_on = λ r q. subst (Read 0 start) (behind_both done (f ∷ []) r) (h.goes_on (behind (f ∷ []) r) (more r q)) }
         where
           more : (r : Reading (List Three)) → Read (length (done ++ f ∷ [])) rest r → Read (length done) left (behind (f ∷ []) r)
           more r (turns, q) =
-              let others : Facets decimals bytes turns (length done + 1) rest r = subst (λ (n : ℕ). Facets decimals bytes turns n rest r) (length-append done (f ∷ [])) q in
+              let others : Facets decimals unit bytes turns (length done + 1) rest r = subst (λ (n : ℕ). Facets decimals unit bytes turns n rest r) (length-append done (f ∷ [])) q in
               (suc turns, (Ok ((true, line), mid), said true is, (Ok (f, rest), here (Ok (f, rest)) p, (r, others, gives_behind f r))))
 
-      pub facet_fails : (fault : PartFault) → Facet decimals bytes before line mid (Err fault) → Read 0 start (Err fault)
+      pub facet_fails : (fault : PartFault) → Facet decimals unit bytes before line mid (Err fault) → Read 0 start (Err fault)
       facet_fails fault p = h.goes_on (Err fault) (1, (Ok ((true, line), mid), said true is, (Err fault, here (Err fault) p, refl)))
 
     module _ (is : facet ≡ false) (now : ℕ) (next rest : List Token) (same : now ≡ line) (passed : next ≡ filter (λ t. nat_lt now t.line) mid) where

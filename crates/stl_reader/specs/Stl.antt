@@ -4,6 +4,7 @@ use Rattle.std.specs.List.{flat_map, range_with_len}
 use Rattle.lattice.specs.declared.soup.Tri.{Tri}
 use Rattle.lattice.specs.Triple.{Triple}
 use Rattle.lex_lines.specs.declared.token.Token.{Token}
+use Rattle.dec_text.specs.declared.number.Length.{Length}
 use Rattle.weld.specs.declared.fault.PartError.{PartError}
 use Rattle.weld.specs.declared.fault.PartFault.{PartFault}
 use Rattle.weld.specs.declared.fault.PartKind.TheVariants.{TooMany, Expected}
@@ -65,10 +66,10 @@ abbrev pub Either : {X : Type 0} → Bool → Step X → Step X → Step X
 Either true first second = first
 Either false first second = second
 
-module _ (decimals : ℕ) (bytes : List ℕ) where
+module _ (decimals : ℕ) (unit : Length) (bytes : List ℕ) where
   -- a corner of a facet
   abbrev pub Corner : Step Triple
-  Corner = Keyword bytes word.Vertex then λ _. Vertex decimals bytes
+  Corner = Keyword bytes word.Vertex then λ _. Vertex decimals unit bytes
 
   abbrev pub Corners : Step (Triple × Triple × Triple)
   Corners = Corner then λ a. Corner then λ b. Corner then λ c. Gives (a, b, c)
@@ -97,9 +98,9 @@ triangle_at i = record { a = 3 * i; b = 3 * i + 1; c = 3 * i + 2 }
 abbrev pub raw_of : List (Triple × Triple × Triple) → Raw
 raw_of facets = record { vertices = vertices_of facets; triangles = map triangle_at (range_with_len 0 (length facets)) }
 
-module _ (decimals : ℕ) (bytes : List ℕ) where
+module _ (decimals : ℕ) (unit : Length) (bytes : List ℕ) where
   abbrev pub Whole : Step Raw
-  Whole tokens r = (turns : ℕ) × (WordLine bytes word.Solid then λ _. Facets decimals bytes turns 0 then λ facets. Gives (raw_of facets)) tokens r
+  Whole tokens r = (turns : ℕ) × (WordLine bytes word.Solid then λ _. Facets decimals unit bytes turns 0 then λ facets. Gives (raw_of facets)) tokens r
 
   -- what the text says
   abbrev pub ReadsStl : Result Raw PartFault → Type 0

@@ -6,6 +6,7 @@ ghost use Rattle.stl_reader.specs.Stl.{Numbers, Corner as CornerStep, Opening, C
 ghost use Rattle.stl_reader.specs.inner.Views.{of_facet};
 
 use crate::keywords::{another_solid, read_facet_or_end, read_keyword};
+use dec_text::Length;
 use lattice::Corner;
 use lex_lines::Tokens;
 use part_text::{fault, next_token, read_vertex};
@@ -45,28 +46,38 @@ fn read_opening(bytes: &[u8], tokens: &mut Tokens<'_>) -> Result<(), PartFault>
 }
 
 /// Reads a corner.
-fn read_corner(bytes: &[u8], tokens: &mut Tokens<'_>, decimals: u8) -> Result<Corner, PartFault>
+fn read_corner(
+    bytes: &[u8],
+    tokens: &mut Tokens<'_>,
+    decimals: u8,
+    unit: Length,
+) -> Result<Corner, PartFault>
     requires same { tokens.old.text ≡ bytes.now }
     requires few { decimals ≤ 6 }
     requires short { length bytes.now ≤ 16777216 }
-    ensures step { CornerStep decimals bytes.now tokens.old.left (made of_corner result tokens.new.left) }
+    ensures step { CornerStep decimals unit bytes.now tokens.old.left (made of_corner result tokens.new.left) }
     ensures text { tokens.new.text ≡ tokens.old.text }
 {
     read_keyword(bytes, tokens, Word::Vertex)?;
-    read_vertex(bytes, tokens, decimals)
+    read_vertex(bytes, tokens, decimals, unit)
 }
 
 /// Reads the three corners.
-fn read_corners(bytes: &[u8], tokens: &mut Tokens<'_>, decimals: u8) -> Result<Facet, PartFault>
+fn read_corners(
+    bytes: &[u8],
+    tokens: &mut Tokens<'_>,
+    decimals: u8,
+    unit: Length,
+) -> Result<Facet, PartFault>
     requires same { tokens.old.text ≡ bytes.now }
     requires few { decimals ≤ 6 }
     requires short { length bytes.now ≤ 16777216 }
-    ensures step { Corners decimals bytes.now tokens.old.left (made of_facet result tokens.new.left) }
+    ensures step { Corners decimals unit bytes.now tokens.old.left (made of_facet result tokens.new.left) }
     ensures text { tokens.new.text ≡ tokens.old.text }
 {
-    let a = read_corner(bytes, tokens, decimals)?;
-    let b = read_corner(bytes, tokens, decimals)?;
-    let c = read_corner(bytes, tokens, decimals)?;
+    let a = read_corner(bytes, tokens, decimals, unit)?;
+    let b = read_corner(bytes, tokens, decimals, unit)?;
+    let c = read_corner(bytes, tokens, decimals, unit)?;
     Ok(Facet { a, b, c })
 }
 
@@ -86,13 +97,14 @@ fn read_facet(
     bytes: &[u8],
     tokens: &mut Tokens<'_>,
     decimals: u8,
+    unit: Length,
     before: usize,
     line: u32,
 ) -> Result<Facet, PartFault>
     requires same { tokens.old.text ≡ bytes.now }
     requires few { decimals ≤ 6 }
     requires short { length bytes.now ≤ 16777216 }
-    ensures step { FacetStep decimals bytes.now before line tokens.old.left (made of_facet result tokens.new.left) }
+    ensures step { FacetStep decimals unit bytes.now before line tokens.old.left (made of_facet result tokens.new.left) }
     ensures text { tokens.new.text ≡ tokens.old.text }
     ensures room { IfOk result (λ _. before < 20000) }
 {
@@ -100,7 +112,7 @@ fn read_facet(
         return Err(fault(line, PartKind::TooMany));
     }
     read_opening(bytes, tokens)?;
-    let facet = read_corners(bytes, tokens, decimals)?;
+    let facet = read_corners(bytes, tokens, decimals, unit)?;
     read_closing(bytes, tokens)?;
     Ok(facet)
 }
@@ -111,11 +123,12 @@ pub(crate) fn read_facets(
     bytes: &[u8],
     tokens: &mut Tokens<'_>,
     decimals: u8,
+    unit: Length,
 ) -> Result<Vec<Facet>, PartError>
     requires same { tokens.old.text ≡ bytes.now }
     requires few { decimals ≤ 6 }
     requires short { length bytes.now ≤ 16777216 }
-    ensures step { IsMade (λ v. map of_facet v.items) (λ r. (turns : ℕ) × Facets decimals bytes.now turns 0 tokens.old.left r) result tokens.new.left }
+    ensures step { IsMade (λ v. map of_facet v.items) (λ r. (turns : ℕ) × Facets decimals unit bytes.now turns 0 tokens.old.left r) result tokens.new.left }
     ensures most { IfOk result (λ v. length v.items ≤ 20000) }
 {
     let mut facets = Vec::new(alloc);
@@ -125,7 +138,7 @@ pub(crate) fn read_facets(
             Err(fault) => return Err(PartError::Part(fault)),
         };
         if follows.facet {
-            match read_facet(bytes, tokens, decimals, facets.len(), follows.line) {
+            match read_facet(bytes, tokens, decimals, unit, facets.len(), follows.line) {
                 Ok(facet) => facets.push(facet)?,
                 Err(fault) => return Err(PartError::Part(fault)),
             }

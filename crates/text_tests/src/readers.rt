@@ -1,4 +1,5 @@
 // What words, a job and the texts of parts give. Their faults are shown by whole runs.
+use dec_text::Length;
 use draw_words::read_words;
 use job_file::{Job, JobView};
 use lattice::{Corner, Soup, Tri, ViewSpec};
@@ -129,7 +130,7 @@ const PLATE: &[u8] =
 
 #[test]
 fn a_plate_is_a_fan(rt: HostRuntime) -> Result<(), Fail> {
-    let Ok(part) = read_off(rt.alloc(), PLATE, 3) else {
+    let Ok(part) = read_off(rt.alloc(), PLATE, 3, Length::Millimetre) else {
         return Err("no part".into());
     };
     are(
@@ -152,7 +153,7 @@ fn a_plate_is_a_fan(rt: HostRuntime) -> Result<(), Fail> {
 fn two_solids_are_one_part(rt: HostRuntime) -> Result<(), Fail> {
     let text =
         b"solid # a\nendsolid a b\nSOLID\nFacet normal # 0 nan\nouter loop vertex 1 2 3\nvertex 4 5 6 vertex -7 8 9 endloop\nendfacet endsolid".as_slice();
-    let Ok(part) = read_stl(rt.alloc(), text, 0) else {
+    let Ok(part) = read_stl(rt.alloc(), text, 0, Length::Millimetre) else {
         return Err("no part".into());
     };
     let corners = [(1, 2, 3), (4, 5, 6), (-7, 8, 9)];
@@ -171,7 +172,7 @@ const MIXED: &[u8] =
 
 #[test]
 fn triangles_of_two_places_are_dropped(rt: HostRuntime) -> Result<(), Fail> {
-    let Ok(part) = read_off(rt.alloc(), MIXED, 0) else {
+    let Ok(part) = read_off(rt.alloc(), MIXED, 0, Length::Millimetre) else {
         return Err("no part".into());
     };
     let Soup { corners, triangles } = part.weld(rt.alloc())?;

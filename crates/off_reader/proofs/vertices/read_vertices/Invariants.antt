@@ -6,7 +6,7 @@ use Rattle.off_reader.proofs.vertices.read_vertices.Given as goal
 
 abbrev pub invariant-loop : goal.invariant-loop
 invariant-loop l = record {
-  read : Times l.counter (Vertex l.decimals l.bytes) l.fn.tokens.left (Ok (map of_corner l.vertices.items, l.tokens.left));
+  read : Times l.counter (Vertex l.decimals l.unit l.bytes) l.fn.tokens.left (Ok (map of_corner l.vertices.items, l.tokens.left));
   count : vec_len l.vertices ≡ l.counter;
   text : l.tokens.text ≡ l.fn.tokens.text;
   comments : l.tokens.comments ≡ l.fn.tokens.comments;

@@ -8,7 +8,7 @@ decreases-loop-follows l = length l.tokens.left
 
 abbrev pub invariant-loop-follows : goal.invariant-loop-follows
 invariant-loop-follows l = record {
-  done : IsDone l.decimals l.bytes l.fn.tokens.left l.tokens.left (map of_facet l.facets.items);
+  done : IsDone l.decimals l.unit l.bytes l.fn.tokens.left l.tokens.left (map of_facet l.facets.items);
   text : l.tokens.text ≡ l.bytes;
   most : length l.facets.items ≤ 20000;
 }
