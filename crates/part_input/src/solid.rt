@@ -24,7 +24,13 @@ use std::alloc::Global;
 const PART_LIMIT: usize = 16_777_216;
 
 /// The soup of the file with this name in lengths of `unit`, in units of 10^-`decimals` mm.
-fn file_soup<D: Desk>(alloc: Global, name: &Name, decimals: u8, unit: Length, desk: &mut D) -> Result<Soup, Fault>
+fn file_soup<D: Desk>(
+    alloc: Global,
+    name: &Name,
+    decimals: u8,
+    unit: Length,
+    desk: &mut D,
+) -> Result<Soup, Fault>
     requires { decimals ≤ 6 }
     ensures answer { (D.state desk.old).tells ≡ true →
         Gives part_of (TakesSoupOr None (D.state desk.old).files name.now decimals unit) result }
