@@ -9,7 +9,6 @@ use Rattle.edge_pick.specs.Edges.{OfEdge}
 use Rattle.edge_pick.specs.Picked.{IsPicked}
 use Rattle.edge_pick.specs.declared.Picked.{Picked}
 use Rattle.geometry.specs.Parts.{IsNumbered}
-use Rattle.geometry.specs.Places.{IsEarlier}
 use Rattle.geometry.specs.Views.{IsEndOn, AreDrawnEdges}
 use Rattle.lattice.specs.Triple.{Triple}
 use Rattle.line_merge.proofs.Lists.{map_contains}
@@ -22,14 +21,13 @@ use Rattle.span_count.specs.CountSpans.{AreCountSpans}
 use Rattle.span_count.specs.Entries.{IsEntry}
 use Rattle.span_count.specs.Tests.{IsTested}
 use Rattle.span_count.specs.declared.span.EdgeSpans.{EdgeSpans}
-use Rattle.span_count.specs.declared.span.CountSpan.{CountSpan}
 use Rattle.lattice.specs.Cuts.{Plane, toward_of}
 use Rattle.lattice.specs.declared.pieces.Strip.{Strip}
 use Rattle.cut_count.specs.CutSpans.{AreCutCountSpans, IsCutEntry}
 use Rattle.view_lines.specs.Counts.{AreCountsAlong, AreCountsBeyond}
-use Rattle.view_lines.specs.inner.Told.{AreTold}
+use Rattle.view_lines.specs.inner.Told.{AreChained, AreTold}
 use Rattle.view_lines.specs.inner.Strips.{TellHidden, TellHiddenInCut, AreEdgeStrips}
-use Rattle.view_lines.proofs.CountedSpans.{edge_earlier, beyond_earlier, told_spans, told_cut_spans}
+use Rattle.view_lines.proofs.CountedSpans.{edge_chained, beyond_chained, told_spans, told_cut_spans}
 use Rattle.view_lines.proofs.StripLists.{edges_weaker}
 
 -- the solid in this direction, before any test
@@ -111,33 +109,30 @@ module _ (d : Triple) (fraction : ℕ) (solid : Solid) (entries : List EdgeSpans
   edge_seen e n = ((drawn.exactly x.edge e n).0 in_edges).1
 
 -- ---- the spans that the counts tell
-abbrev pub AreEarlier : List CountSpan → Type 0
-AreEarlier xs = All (λ x. IsEarlier x.from x.to) xs
-
 module _ (d : Triple) (fraction : ℕ) (solid : Solid) (entries : List EdgeSpans) (are : AreCountsAlong d fraction solid entries) where
-  pub along_earlier : All (λ y. AreEarlier y.spans.items) entries
-  along_earlier k z within =
+  pub along_chained : All (λ y. AreChained y.spans.items) entries
+  along_chained k z within =
       let y = get_or entries k z in
       let listed = Contains-get_or entries k z within in
       let (e, n) = edge_there solid y.edge (edge_within d fraction solid entries are.edges y listed) in
-      edge_earlier y.spans.items (All-contains (λ y. OfEdge solid y.edge (λ e. AreCountSpans d e y.spans.items)) entries y are.spans listed e n).covers
+      edge_chained y.spans.items (All-contains (λ y. OfEdge solid y.edge (λ e. AreCountSpans d e y.spans.items)) entries y are.spans listed e n).covers
 
   pub told_along : (strips : List Strip) → AreEdgeStrips d {s = solid_part solid} (AreTold entries (edge_halves solid)) (edge_halves solid) (map (λ y. y.edge) entries) strips
       → AreEdgeStrips d {s = solid_part solid} (TellHidden d) (edge_halves solid) (map (λ y. y.edge) entries) strips
   told_along = edges_weaker d (AreTold entries (edge_halves solid)) (TellHidden d) (edge_halves solid)
-      (λ e spans told. told_spans d e told.entry.spans.items spans told.each
+      (λ e spans told. told_spans d e told.entry.spans.items spans told.told
       (All-contains (λ y. OfEdge solid y.edge (λ e. AreCountSpans d e y.spans.items)) entries told.entry are.spans told.listed e told.numbered)) (map (λ y. y.edge) entries)
 
 module _ (c : Plane) (fraction : ℕ) (solid : Solid) (entries : List EdgeSpans) (are : AreCountsBeyond c fraction solid entries) where
-  pub beyond_cut_earlier : All (λ y. AreEarlier y.spans.items) entries
-  beyond_cut_earlier k z within =
+  pub beyond_cut_chained : All (λ y. AreChained y.spans.items) entries
+  beyond_cut_chained k z within =
       let y = get_or entries k z in
       let listed = Contains-get_or entries k z within in
       let (e, n) = edge_there solid y.edge (edge_within (toward_of c) fraction solid entries are.edges y listed) in
-      beyond_earlier c e y.spans.items (All-contains (λ y. OfEdge solid y.edge (λ e. AreCutCountSpans c e y.spans.items)) entries y are.spans listed e n).covers
+      beyond_chained c e y.spans.items (All-contains (λ y. OfEdge solid y.edge (λ e. AreCutCountSpans c e y.spans.items)) entries y are.spans listed e n).covers
 
   pub told_beyond : (strips : List Strip) → AreEdgeStrips (toward_of c) {s = solid_part solid} (AreTold entries (edge_halves solid)) (edge_halves solid) (map (λ y. y.edge) entries) strips
       → AreEdgeStrips (toward_of c) {s = solid_part solid} (TellHiddenInCut c) (edge_halves solid) (map (λ y. y.edge) entries) strips
   told_beyond = edges_weaker (toward_of c) (AreTold entries (edge_halves solid)) (TellHiddenInCut c) (edge_halves solid)
-      (λ e spans told. told_cut_spans c e told.entry.spans.items spans told.each
+      (λ e spans told. told_cut_spans c e told.entry.spans.items spans told.told
       (All-contains (λ y. OfEdge solid y.edge (λ e. AreCutCountSpans c e y.spans.items)) entries told.entry are.spans told.listed e told.numbered)) (map (λ y. y.edge) entries)

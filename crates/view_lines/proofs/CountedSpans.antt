@@ -1,5 +1,5 @@
 -- Spans that are hidden where their counts are not both 0 tell where the edge is hidden, in a plain view and in the view of a cut.
-use Rattle.std.proofs.Common.{◌≡◌, ◌≢◌, ◌↔◌, ◌+◌, ◌∙◌, zero, suc, List, [], ◌∷◌, All, Contains, get_or, refl, sym, subst, IsTrue, arith}
+use Rattle.std.proofs.Common.{◌≡◌, ◌≢◌, ◌↔◌, ◌+◌, ◌<◌, Bool, List, [], ◌∷◌, All, Contains, length, ap, get_or, refl, sym, subst, IsTrue, arith}
 use Rattle.std.specs.Prelude.{ℤ}
 use Rattle.std.specs.List.{AllZip}
 use Rattle.std.proofs.lemmas.List.Elements.{All-contains, Contains-get_or}
@@ -11,9 +11,11 @@ use Rattle.geometry.specs.Faces.{share_point}
 use Rattle.geometry.specs.Parts.{Part, Edge}
 use Rattle.geometry.specs.Places.{point_at, IsEarlier, IsSame, HasNoEndAt}
 use Rattle.geometry.specs.Views.{IsHidden, IsOrdinary}
-use Rattle.geometry.proofs.SamePlaces.{same_between, same_earlier}
+use Rattle.geometry.proofs.BorderSteps.{ordinary_along_cut}
+use Rattle.geometry.proofs.Sights.{ordinary_along}
+use Rattle.geometry.proofs.SamePlaces.{same_back, same_trans, same_between, same_earlier}
 use Rattle.intervals.specs.declared.interval.Interval.{Interval}
-use Rattle.lattice.specs.Cuts.{Plane}
+use Rattle.lattice.specs.Cuts.{Plane, toward_of}
 use Rattle.lattice.specs.Points.{Point}
 use Rattle.lattice.specs.Triple.{Triple}
 use Rattle.line_merge.proofs.Zips.{zip_right}
@@ -22,53 +24,57 @@ use Rattle.span_count.specs.CountSpans.{IsRight, AreCountSpans}
 use Rattle.span_count.specs.declared.span.CountSpan.{CountSpan}
 use Rattle.span_slow.specs.CutSpans as cut
 use Rattle.span_slow.specs.Spans as plain
+use Rattle.span_slow.specs.Spans.{IsAnswer}
 use Rattle.span_slow.specs.declared.span.Span.{Span}
-use Rattle.view_lines.specs.inner.Told.{IsToldBy}
-use Rattle.view_lines.specs.inner.Strips.{TellHidden, TellHiddenInCut}
-
-same_back : (x y : Frac) → IsSame x y → IsSame y x
-same_back x y same = (sym same.0, sym same.1)
-
-same_on : (x y z : Frac) → IsSame x y → IsSame y z → IsSame x z
-same_on x y z first second = (first.0 ∙ second.0, first.1 ∙ second.1)
+use Rattle.view_lines.specs.inner.Told.{IsToldBy, AreRuns, AreToldBy, AreChained}
+use Rattle.view_lines.specs.inner.Strips.{TellHidden, IsFreeAnswer, TellHiddenInCut}
+use Rattle.view_lines.proofs.Runs.{HasRun, run_of, run_no_end, runs_follow, runs_of_none, single_within}
+use Rattle.view_lines.proofs.SpanPlaces.{earlier_in}
 
 -- they follow one another from and to the same places
 told_follow : (from start to : Frac) (xs : List CountSpan) (spans : List Span) → AllZip IsToldBy xs spans → IsSame start from → counts.Follow from xs to → plain.Follow start spans to
-told_follow from start to [] [] told same at = same_on start from to same at
+told_follow from start to [] [] told same at = same_trans start from to same at
 told_follow from start to [] (y ∷ ys) told same at = absurd told
 told_follow from start to (x ∷ xs) [] told same at = absurd told
 told_follow from start to (x ∷ xs) (y ∷ ys) (here, more) same (at, earlier, later) = (
-  same_on y.from x.from start here.from (same_on x.from from start at (same_back start from same)),
+  same_trans y.from x.from start here.from (same_trans x.from from start at (same_back start from same)),
   same_earlier x.from x.to y.from y.to (same_back y.from x.from here.from) (same_back y.to x.to here.to) earlier,
   told_follow x.to y.to to xs ys more here.to later,
 )
 
--- each of them begins before it ends, if those that tell them do
-pub told_earlier : (xs : List CountSpan) (spans : List Span) → AllZip IsToldBy xs spans → All (λ x. IsEarlier x.from x.to) xs → All (λ x. IsEarlier x.from x.to) spans
-told_earlier xs spans told earlier k z within =
-    let y = get_or spans k z in
-    let (x, listed, here) = zip_right IsToldBy xs spans told y (Contains-get_or spans k z within) in
-    same_earlier x.from x.to y.from y.to (same_back y.from x.from here.from) (same_back y.to x.to here.to) (All-contains (λ (x : CountSpan). IsEarlier x.from x.to) xs x earlier listed)
+-- none are told by none
+no_spans : (xs : List CountSpan) (spans : List Span) → AllZip IsToldBy xs spans → xs ≡ [] → spans ≡ []
+no_spans xs [] told none = refl
+no_spans xs (y ∷ ys) told none = absurd (subst (λ (xs : List CountSpan). AllZip IsToldBy xs (y ∷ ys)) none told)
 
--- as spans that follow one another do
-earlier_in : (from to : Frac) (xs : List CountSpan) → counts.Follow from xs to → (x : CountSpan) → Contains xs x → IsEarlier x.from x.to
-earlier_in from to [] h x (k, within, is) = absurd (omega arith)
-earlier_in from to (y ∷ ys) (same, earlier, later) x (zero, within, is) = subst (λ (z : CountSpan). IsEarlier z.from z.to) is earlier
-earlier_in from to (y ∷ ys) (same, earlier, later) x (suc k, within, is) = earlier_in y.to to ys later x (k, omega arith, is)
+-- ---- counts that follow one another
+pub edge_chained : (xs : List CountSpan) → counts.CoverEdge xs → AreChained xs
+edge_chained xs (from, to, zero_is, one_is, follow) some = (from, to, follow)
 
-follow_earlier : (from to : Frac) (xs : List CountSpan) → counts.Follow from xs to → All (λ x. IsEarlier x.from x.to) xs
-follow_earlier from to xs follow k z within = earlier_in from to xs follow (get_or xs k z) (Contains-get_or xs k z within)
-
-pub edge_earlier : (xs : List CountSpan) → counts.CoverEdge xs → All (λ x. IsEarlier x.from x.to) xs
-edge_earlier xs (from, to, zero_is, one_is, follow) = follow_earlier from to xs follow
-
-pub beyond_earlier : (c : Plane) {s : Part} (e : Edge s) (xs : List CountSpan) → counted.CoverBeyond c e xs → All (λ x. IsEarlier x.from x.to) xs
-beyond_earlier c e xs (parts, is_part, cover) = by parts cover
+pub beyond_chained : (c : Plane) {s : Part} (e : Edge s) (xs : List CountSpan) → counted.CoverBeyond c e xs → AreChained xs
+beyond_chained c e xs (parts, is_part, cover) some = by parts cover
   where
-    by : (parts : List (Interval Frac)) → counted.CoverPart parts xs → All (λ x. IsEarlier x.from x.to) xs
-    by [] none = subst (λ (ys : List CountSpan). All (λ x. IsEarlier x.from x.to) ys) (sym none) (λ k z within. absurd (omega arith))
-    by (part ∷ []) follow = follow_earlier part.from part.to xs follow
+    no_length : (ys : List CountSpan) → ys ≡ [] → 0 < length ys → ⊥
+    no_length ys is some = let none = ap (λ (zs : List CountSpan). length zs) is in omega (arith, none, some)
+
+    by : (parts : List (Interval Frac)) → counted.CoverPart parts xs → (from : Frac) × (to : Frac) × counts.Follow from xs to
+    by [] none = absurd (no_length xs none some)
+    by (part ∷ []) follow = (part.from, part.to, follow)
     by (part ∷ next ∷ parts) none = absurd none
+
+-- and so each span begins before it ends
+pub told_earlier : (xs : List CountSpan) (spans : List Span) → AreToldBy xs spans → AreChained xs → All (λ x. IsEarlier x.from x.to) spans
+told_earlier xs spans (singles, told, runs) chained = by xs told chained
+  where
+    none : spans ≡ [] → All (λ x. IsEarlier x.from x.to) spans
+    none is = subst (λ (ys : List Span). All (λ x. IsEarlier x.from x.to) ys) (sym is) (λ k z within. absurd (omega (arith, within)))
+
+    by : (xs : List CountSpan) → AllZip IsToldBy xs singles → AreChained xs → All (λ x. IsEarlier x.from x.to) spans
+    by [] told chained = none (runs_of_none singles spans runs (no_spans [] singles told refl))
+    by (x ∷ xs) told chained =
+        let (from, to, follow) = chained (omega arith) in
+        λ k z within.
+        earlier_in from to spans (runs_follow from to singles spans runs (told_follow from from to (x ∷ xs) singles told (refl, refl) follow)) (get_or spans k z) (Contains-get_or spans k z within)
 
 -- ---- at the same places
 module _ (O : Point → Type 0) {s : Part} (e : Edge s) where
@@ -90,8 +96,8 @@ told_hidden x y P told at = (λ h. at.1 (told.hidden.0 h), λ h. told.hidden.1 (
 
 -- ---- in a plain view
 module _ (d : Triple) {s : Part} (e : Edge s) where
-  pub told_spans : (xs : List CountSpan) (spans : List Span) → AllZip IsToldBy xs spans → AreCountSpans d e xs → TellHidden d e spans
-  told_spans xs spans told are =
+  told_singles : (xs : List CountSpan) (spans : List Span) → AllZip IsToldBy xs spans → AreCountSpans d e xs → TellHidden d e spans
+  told_singles xs spans told are =
       let (from, to, zero_is, one_is, follow) = are.covers in
       record {
         covers = (from, to, zero_is, one_is, told_follow from from to xs spans told (refl, refl) follow);
@@ -103,26 +109,49 @@ module _ (d : Triple) {s : Part} (e : Edge s) where
             told_hidden x y (IsHidden d s (share_point e.a e.b n m)) here (right n m positive (same_between y.from y.to x.from x.to n m here.from here.to between) ordinary).hidden;
       }
 
+  pub told_spans : (xs : List CountSpan) (spans : List Span) → AreToldBy xs spans → AreCountSpans d e xs → TellHidden d e spans
+  told_spans xs spans (singles, told, runs) are =
+      let each = told_singles xs singles told are in
+      let (from, to, zero_is, one_is, follow) = each.covers in
+      record {
+        covers = (from, to, zero_is, one_is, runs_follow from to singles spans runs follow);
+        ends = λ k z within. let y = get_or spans k z in run_no_end d (IsOrdinary d s) (ordinary_along d s) e singles each.ends y (run_of from to singles spans runs follow y (Contains-get_or spans k z within));
+        answers = λ k z within n m positive between ordinary.
+            let y = get_or spans k z in
+            let has = run_of from to singles spans runs follow y (Contains-get_or spans k z within) in
+            let (x, listed, inside, as_hidden) = single_within d (IsOrdinary d s) (ordinary_along d s) e singles each.ends n m positive ordinary y has between in
+            subst (λ (b : Bool). IsTrue b ↔ IsHidden d s (share_point e.a e.b n m)) as_hidden (All-contains (IsAnswer d e) singles x each.answers listed n m positive inside ordinary);
+      }
+
 -- ---- in the view of a cut
 module _ (c : Plane) {s : Part} (e : Edge s) where
-  no_spans : (xs : List CountSpan) (spans : List Span) → AllZip IsToldBy xs spans → xs ≡ [] → spans ≡ []
-  no_spans xs [] told none = refl
-  no_spans xs (y ∷ ys) told none = absurd (subst (λ (xs : List CountSpan). AllZip IsToldBy xs (y ∷ ys)) none told)
+  told_part : (parts : List (Interval Frac)) (xs : List CountSpan) (singles spans : List Span) → AllZip IsToldBy xs singles → AreRuns singles spans → counted.CoverPart parts xs
+      → cut.CoverPart parts spans × ((y : Span) → Contains spans y → HasRun singles y)
+  told_part [] xs singles spans told runs none = let empty = runs_of_none singles spans runs (no_spans xs singles told none) in
+      (empty, λ y listed. absurd (let there : Contains [] y = subst (λ (ys : List Span). Contains ys y) empty listed in omega (arith, there.1)))
+  told_part (part ∷ []) xs singles spans told runs follow =
+      let singly = told_follow part.from part.from part.to xs singles told (refl, refl) follow in
+      (runs_follow part.from part.to singles spans runs singly, run_of part.from part.to singles spans runs singly)
+  told_part (part ∷ next ∷ parts) xs singles spans told runs none = absurd none
 
-  told_part : (parts : List (Interval Frac)) (xs : List CountSpan) (spans : List Span) → AllZip IsToldBy xs spans → counted.CoverPart parts xs → cut.CoverPart parts spans
-  told_part [] xs spans told none = no_spans xs spans told none
-  told_part (part ∷ []) xs spans told follow = told_follow part.from part.from part.to xs spans told (refl, refl) follow
-  told_part (part ∷ next ∷ parts) xs spans told none = absurd none
+  free_singles : (xs : List CountSpan) (singles : List Span) → AllZip IsToldBy xs singles → AreCutCountSpans c e xs → All (IsFreeAnswer c e) singles
+  free_singles xs singles told are k z within n m positive between ordinary free =
+      let y = get_or singles k z in
+      let (x, listed, here) = zip_right IsToldBy xs singles told y (Contains-get_or singles k z within) in
+      let right = All-contains (IsRightInCut c e) xs x are.right listed in
+      told_hidden x y (IsHiddenInCut c s (share_point e.a e.b n m)) here (right n m positive (same_between y.from y.to x.from x.to n m here.from here.to between) ordinary free).hidden
 
-  pub told_cut_spans : (xs : List CountSpan) (spans : List Span) → AllZip IsToldBy xs spans → AreCutCountSpans c e xs → TellHiddenInCut c e spans
-  told_cut_spans xs spans told are =
+  pub told_cut_spans : (xs : List CountSpan) (spans : List Span) → AreToldBy xs spans → AreCutCountSpans c e xs → TellHiddenInCut c e spans
+  told_cut_spans xs spans (singles, told, runs) are =
       let (parts, is_part, cover) = are.covers in
+      let (covers, has) = told_part parts xs singles spans told runs cover in
+      let apart = told_ends (IsOrdinaryInCut c s) e xs singles told are.ends in
       record {
-        covers = (parts, is_part, told_part parts xs spans told cover);
-        ends = told_ends (IsOrdinaryInCut c s) e xs spans told are.ends;
+        covers = (parts, is_part, covers);
+        ends = λ k z within. let y = get_or spans k z in run_no_end (toward_of c) (IsOrdinaryInCut c s) (ordinary_along_cut c s) e singles apart y (has y (Contains-get_or spans k z within));
         answers = λ k z within n m positive between ordinary free.
             let y = get_or spans k z in
-            let (x, listed, here) = zip_right IsToldBy xs spans told y (Contains-get_or spans k z within) in
-            let right = All-contains (IsRightInCut c e) xs x are.right listed in
-            told_hidden x y (IsHiddenInCut c s (share_point e.a e.b n m)) here (right n m positive (same_between y.from y.to x.from x.to n m here.from here.to between) ordinary free).hidden;
+            let (x, listed, inside, as_hidden) = single_within (toward_of c) (IsOrdinaryInCut c s) (ordinary_along_cut c s) e singles apart n m positive ordinary y (has y (Contains-get_or spans k z within)) between in
+            subst (λ (b : Bool). IsTrue b ↔ IsHiddenInCut c s (share_point e.a e.b n m)) as_hidden
+            (All-contains (IsFreeAnswer c e) singles x (free_singles xs singles told are) listed n m positive inside ordinary free);
       }

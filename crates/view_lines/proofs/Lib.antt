@@ -6,7 +6,8 @@ pub mod CutPlaces
 pub mod CutRight
 pub mod EdgeScenes
 pub mod EdgeStrips
-pub mod SpanPlaces
+pub mod Runs
+mod SpanPlaces
 pub mod SpanSums
 pub mod StripLists
 pub mod StripPlaces

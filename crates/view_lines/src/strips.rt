@@ -1,14 +1,15 @@
-// The spans of the drawn edges as strips of lines: a span is hidden where its counts are not both 0.
-ghost use Rattle.std.specs.Prelude.{◌≡◌, ◌≢◌, ◌↔◌, ℕ, ◌+◌, ◌<◌, List, ◌++◌, length, map, All, IfOk, OnOk, IsTrue};
+// The spans of the drawn edges as strips of lines: a span is hidden where its counts are not both 0, and neighbours that are all hidden
+// or all visible are one strip.
+ghost use Rattle.std.specs.Prelude.{◌≡◌, ◌≢◌, ◌↔◌, ℕ, ◌+◌, ◌<◌, List, [], ◌∷◌, ◌++◌, length, map, All, IfOk, OnOk, IsTrue};
 ghost use Rattle.std.specs.List.{AllZip};
 ghost use Rattle.lattice.specs.declared.pieces.Strip.{Strip};
 ghost use Rattle.lattice.specs.Points.{of_dir};
 ghost use Rattle.geometry.specs.Views.{IsEndOn, AreDrawnEdges};
 ghost use Rattle.solid_mesh.specs.Solids.{solid_part, edge_halves};
-ghost use Rattle.geometry.specs.Places.{IsEarlier};
+ghost use Rattle.geometry.specs.Places.{IsEarlier, IsSame};
 ghost use Rattle.edge_pick.specs.Edges.{OfEdge};
 ghost use Rattle.view_lines.specs.inner.Strips.{kind_of, IsEdgeLine, IsStripOf, AreEdgeStrips};
-ghost use Rattle.view_lines.specs.inner.Told.{IsToldBy, AreTold};
+ghost use Rattle.view_lines.specs.inner.Told.{IsToldBy, AreRuns, AreToldBy, AreChained, AreTold};
 
 use exact_frac::OutOfMemory;
 use lattice::{Dir, Line, Strip, StripKind};
@@ -93,14 +94,45 @@ fn span_of(span: &CountSpan) -> Span
     }
 }
 
-/// The spans without their counts.
+/// The span from where the first begins to where the next ends.
+fn over_both(first: &Span, next: &Span) -> Span
+    ensures from { IsSame result.from first.now.from }
+    ensures to { IsSame result.to next.now.to }
+    ensures hidden { result.hidden ≡ first.now.hidden }
+{
+    Span {
+        from: first.from,
+        to: next.to,
+        hidden: first.hidden,
+    }
+}
+
+/// Takes the next span. Where both are hidden or both visible, the last one is lengthened to its end; else the last one is added, and
+/// the next one is the last. The answer is the last span, which isn't added yet.
+fn go_on(spans: &mut Vec<Span>, last: Span, next: Span) -> Result<Span, OutOfMemory>
+    ensures { IfOk result (λ longer. (singles : List Span) → AreRuns singles (spans.old.items ++ last ∷ []) →
+        AreRuns (singles ++ next ∷ []) (spans.new.items ++ longer ∷ [])) }
+{
+    if last.hidden == next.hidden {
+        return Ok(over_both(&last, &next));
+    }
+    spans.push(last)?;
+    Ok(next)
+}
+
+/// The spans without their counts, neighbours that are all hidden or all visible as one: more spans would be more strips to sort.
 fn spans_of(alloc: Global, counts: &[CountSpan]) -> Result<Vec<Span>, OutOfMemory>
-    ensures { IfOk result (λ spans. AllZip IsToldBy counts.now spans.items) }
+    ensures { IfOk result (λ spans. AreToldBy counts.now spans.items) }
 {
     let mut spans = Vec::new(alloc);
-    for span in counts {
-        spans.push(span_of(span))?;
+    let Some((first, others)) = counts.split_first() else {
+        return Ok(spans);
+    };
+    let mut last = span_of(first);
+    for span in others {
+        last = go_on(&mut spans, last, span_of(span))?;
     }
+    spans.push(last)?;
     Ok(spans)
 }
 
@@ -112,7 +144,7 @@ pub(crate) fn counted_strips(
     entries: &[EdgeSpans],
 ) -> Result<Vec<Strip>, OutOfMemory>
     requires drawn { (fraction : ℕ) × AreDrawnEdges (of_dir d.now) fraction (solid_part solid.now) (edge_halves solid.now) (map (λ x. x.edge) entries.now) }
-    requires ordered { All (λ x. All (λ y. IsEarlier y.from y.to) x.spans.items) entries.now }
+    requires chained { All (λ x. AreChained x.spans.items) entries.now }
     ensures { IfOk result (λ strips. AreEdgeStrips (of_dir d.now) {s = solid_part solid.now} (AreTold entries.now (edge_halves solid.now)) (edge_halves solid.now) (map (λ x. x.edge) entries.now) strips.items) }
 {
     let mut strips = Vec::new(alloc);

@@ -1,8 +1,10 @@
--- The span that counts tell.
-use Rattle.std.specs.Prelude.{◌≢◌, ◌↔◌, ℕ, ◌+◌, IsTrue, List, Contains}
+-- The spans that counts tell, each over neighbours that are all hidden or all visible.
+use Rattle.std.specs.Prelude.{◌≡◌, ◌≢◌, ◌↔◌, ℕ, ◌+◌, ◌<◌, IsTrue, length, List, [], ◌∷◌, ◌++◌, All, Contains}
 use Rattle.std.specs.List.{AllZip}
 use Rattle.geometry.specs.Parts.{Part, Edge, IsNumbered}
+use Rattle.exact_frac.specs.declared.Frac.{Frac}
 use Rattle.geometry.specs.Places.{IsSame}
+use Rattle.span_count.specs.CountSpans.{Follow}
 use Rattle.span_count.specs.declared.span.CountSpan.{CountSpan}
 use Rattle.span_count.specs.declared.span.EdgeSpans.{EdgeSpans}
 use Rattle.span_slow.specs.declared.span.Span.{Span}
@@ -13,9 +15,35 @@ pub record IsToldBy (x : CountSpan) (span : Span) : Type 0 where
   pub to : IsSame span.to x.to
   pub hidden : IsTrue span.hidden ↔ (x.left + x.right ≢ 0)
 
+-- the span goes over these: from where the first of them begins to where the last of them ends, and where it is hidden all of them are,
+-- where it is visible none is
+pub record IsRun (here : List Span) (span : Span) : Type 0 where
+  pub first : Span
+  pub others : List Span
+  pub begins : here ≡ first ∷ others
+  pub from : IsSame span.from first.from
+  pub before : List Span
+  pub last : Span
+  pub ends : here ≡ before ++ last ∷ []
+  pub to : IsSame span.to last.to
+  pub hidden : All (λ x. x.hidden ≡ span.hidden) here
+
+-- the spans go over these, one after the other, and together over all of them
+abbrev pub AreRuns : List Span → List Span → Type 0
+AreRuns singles [] = singles ≡ []
+AreRuns singles (y ∷ ys) = (here : List Span) × (rest : List Span) × (singles ≡ here ++ rest) × IsRun here y × AreRuns rest ys
+
+-- the spans are those that the counts tell, each over neighbours that are all hidden or all visible
+abbrev pub AreToldBy : List CountSpan → List Span → Type 0
+AreToldBy counts spans = (singles : List Span) × AllZip IsToldBy counts singles × AreRuns singles spans
+
+-- where there are any, they follow one another
+abbrev pub AreChained : List CountSpan → Type 0
+AreChained counts = 0 < length counts → (from : Frac) × (to : Frac) × Follow from counts to
+
 -- the spans are those that the counts of an entry of the edge tell
 pub record AreTold (entries : List EdgeSpans) (halves : List ℕ) {s : Part} (e : Edge s) (spans : List Span) : Type 0 where
   pub entry : EdgeSpans
   pub listed : Contains entries entry
   pub numbered : IsNumbered halves entry.edge e
-  pub each : AllZip IsToldBy entry.spans.items spans
+  pub told : AreToldBy entry.spans.items spans

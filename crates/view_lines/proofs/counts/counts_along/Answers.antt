@@ -1,4 +1,4 @@
-use Rattle.std.proofs.Common.{ℕ, ◌≤◌, List, length, refl, sym, subst, arith}
+use Rattle.std.proofs.Common.{ℕ, ◌≤◌, List, refl, sym, subst, arith}
 use Rattle.lattice.specs.Creases.{fraction_of}
 use Rattle.lattice.specs.Points.{of_dir}
 use Rattle.cross_find.specs.Sights.{SightState}

@@ -1,13 +1,12 @@
-use Rattle.std.proofs.Common.{List, map, sym, subst}
+use Rattle.std.proofs.Common.{map, sym, subst}
 use Rattle.lattice.specs.Cuts.{plane_of}
-use Rattle.lattice.specs.Points.{of_dir}
 use Rattle.lattice.specs.Triple.{Triple}
 use Rattle.geometry.specs.Views.{AreDrawnEdges}
 use Rattle.solid_mesh.specs.Solids.{solid_part, edge_halves}
 use Rattle.solid_mesh.proofs.Facts.{closed}
 use Rattle.view_lines.specs.inner.Strips.{AreEdgeStrips}
 use Rattle.view_lines.specs.inner.Told.{AreTold}
-use Rattle.view_lines.proofs.CountedEdges.{beyond_cut_earlier, told_beyond}
+use Rattle.view_lines.proofs.CountedEdges.{beyond_cut_chained, told_beyond}
 use Rattle.view_lines.proofs.cut_strips.cut_strips.Goals as goal
 
 pub counted_strips-requires-clause-drawn : goal.counted_strips-requires-clause-drawn
@@ -16,9 +15,9 @@ counted_strips-requires-clause-drawn c =
     let (fraction, beyond) = c.requires.counts in
     (fraction, subst (λ (v : Triple). AreDrawnEdges v fraction (solid_part solid) (edge_halves solid) (map (λ x. x.edge) c.args.entries.now)) (sym c.dir.ensures) beyond.edges)
 
-pub counted_strips-requires-clause-ordered : goal.counted_strips-requires-clause-ordered
-counted_strips-requires-clause-ordered c =
-    let (fraction, beyond) = c.requires.counts in beyond_cut_earlier (plane_of c.args.section.now.cut) fraction c.args.solid.now c.args.entries.now beyond
+pub counted_strips-requires-clause-chained : goal.counted_strips-requires-clause-chained
+counted_strips-requires-clause-chained c =
+    let (fraction, beyond) = c.requires.counts in beyond_cut_chained (plane_of c.args.section.now.cut) fraction c.args.solid.now c.args.entries.now beyond
 
 pub add_borders-requires : goal.add_borders-requires
 add_borders-requires c = (solid_part c.args.solid.now, closed c.args.solid.now, c.requires.borders)

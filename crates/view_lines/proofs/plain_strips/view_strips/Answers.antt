@@ -1,12 +1,12 @@
 use Rattle.lattice.specs.Points.{of_dir}
-use Rattle.view_lines.proofs.CountedEdges.{along_earlier, told_along}
+use Rattle.view_lines.proofs.CountedEdges.{along_chained, told_along}
 use Rattle.view_lines.proofs.plain_strips.view_strips.Goals as goal
 
 pub counted_strips-requires-clause-drawn : goal.counted_strips-requires-clause-drawn
 counted_strips-requires-clause-drawn c = let (fraction, along) = c.requires in (fraction, along.edges)
 
-pub counted_strips-requires-clause-ordered : goal.counted_strips-requires-clause-ordered
-counted_strips-requires-clause-ordered c = let (fraction, along) = c.requires in along_earlier (of_dir c.args.d.now) fraction c.args.solid.now c.args.entries.now along
+pub counted_strips-requires-clause-chained : goal.counted_strips-requires-clause-chained
+counted_strips-requires-clause-chained c = let (fraction, along) = c.requires in along_chained (of_dir c.args.d.now) fraction c.args.solid.now c.args.entries.now along
 
 pub returns : goal.returns
 returns c =

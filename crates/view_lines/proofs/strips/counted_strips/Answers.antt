@@ -1,5 +1,4 @@
 use Rattle.std.proofs.Common.{ℕ, List, Contains, All, map, take, sym, subst}
-use Rattle.std.specs.List.{AllZip}
 use Rattle.std.proofs.lemmas.List.Elements.{All-contains, Contains-get_or}
 use Rattle.geometry.specs.Places.{IsEarlier}
 use Rattle.lattice.specs.Points.{of_dir}
@@ -7,7 +6,7 @@ use Rattle.solid_mesh.specs.Solids.{solid_part, edge_halves}
 use Rattle.span_count.specs.declared.span.CountSpan.{CountSpan}
 use Rattle.span_count.specs.declared.span.EdgeSpans.{EdgeSpans}
 use Rattle.span_slow.specs.declared.span.Span.{Span}
-use Rattle.view_lines.specs.inner.Told.{IsToldBy, AreTold}
+use Rattle.view_lines.specs.inner.Told.{AreToldBy, AreChained, AreTold}
 use Rattle.view_lines.specs.inner.Strips.{AreEdgeStrips}
 use Rattle.view_lines.proofs.CountedEdges.{edges_more, edge_within, edge_seen}
 use Rattle.view_lines.proofs.CountedSpans.{told_earlier}
@@ -35,8 +34,8 @@ add_strips-requires-clause-ordered c =
     let spans = c.in_ok-spans.spans.items in
     let listed = subst (Contains entries) (sym c.entry-item.is) (Contains-get_or entries c.loop-entry.entry-index x c.loop-entry-test.true) in
     subst (λ (xs : List Span). All (λ x. IsEarlier x.from x.to) xs) (sym c.deref-in-loop-entry.ensures.value)
-    (told_earlier x.spans.items spans (subst (λ (xs : List CountSpan). AllZip IsToldBy xs spans) c.deref.ensures.value c.in_ok-spans.ensures)
-    (All-contains (λ (y : EdgeSpans). All (λ (z : CountSpan). IsEarlier z.from z.to) y.spans.items) entries x c.requires.ordered listed))
+    (told_earlier x.spans.items spans (subst (λ (xs : List CountSpan). AreToldBy xs spans) c.deref.ensures.value c.in_ok-spans.ensures)
+    (All-contains (λ (y : EdgeSpans). AreChained y.spans.items) entries x c.requires.chained listed))
 
 pub loop-entry-preserved : goal.loop-entry-preserved
 loop-entry-preserved c =
@@ -47,9 +46,9 @@ loop-entry-preserved c =
     let x = c.entry-item.result in
     let spans = c.deref-in-loop-entry.result.now in
     let listed = subst (Contains entries) (sym c.entry-item.is) (Contains-get_or entries k x c.loop-entry-test.true) in
-    let told = subst (λ (xs : List Span). AllZip IsToldBy x.spans.items xs) (sym c.deref-in-loop-entry.ensures.value)
-    (subst (λ (xs : List CountSpan). AllZip IsToldBy xs c.in_ok-spans.spans.items) c.deref.ensures.value c.in_ok-spans.ensures) in
+    let told = subst (λ (xs : List Span). AreToldBy x.spans.items xs) (sym c.deref-in-loop-entry.ensures.value)
+    (subst (λ (xs : List CountSpan). AreToldBy xs c.in_ok-spans.spans.items) c.deref.ensures.value c.in_ok-spans.ensures) in
     let (here, added, zip) = c.in_ok-add_strips.ensures in
     subst (λ (ns : List ℕ). AreEdgeStrips d {s = solid_part c.args.solid.now} (AreTold entries halves) halves ns c.add_strips.new.strips.items) (sym (edges_more entries k x c.loop-entry-test.true c.entry-item.is))
     (edge_added d (AreTold entries halves) halves (map (λ y. y.edge) (take k entries)) c.loop-entry.strips.items c.add_strips.new.strips.items here x.edge spans added
-    (λ e n. record { entry = x; listed = listed; numbered = n; each = told }) zip c.loop-entry.invariant)
+    (λ e n. record { entry = x; listed = listed; numbered = n; told = told }) zip c.loop-entry.invariant)

@@ -1,8 +1,12 @@
-use Rattle.std.proofs.Common.{take}
+use Rattle.std.proofs.Common.{◌≡◌, List, [], ◌∷◌, ◌++◌, take}
 use Rattle.std.specs.List.{AllZip}
-use Rattle.view_lines.specs.inner.Told.{IsToldBy}
+use Rattle.span_count.specs.declared.span.CountSpan.{CountSpan}
+use Rattle.span_slow.specs.declared.span.Span.{Span}
+use Rattle.view_lines.specs.inner.Told.{IsToldBy, AreRuns}
 use Rattle.view_lines.proofs.strips.spans_of.Given as goal
 
--- the spans so far are told by their counts
+-- the spans so far, with the last one, are those that the counts so far tell
 abbrev pub invariant-loop-span : goal.invariant-loop-span
-invariant-loop-span l = AllZip IsToldBy (take l.span-index l.counts) l.spans.items
+invariant-loop-span l =
+    (first : CountSpan) × (l.fn.counts ≡ first ∷ l.others)
+    × (singles : List Span) × AllZip IsToldBy (first ∷ take l.span-index l.others) singles × AreRuns singles (l.spans.items ++ l.last ∷ [])
