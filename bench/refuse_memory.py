@@ -31,7 +31,7 @@ FRONT = '[[view]]\nname = "front"\n'
 CUT = '[[view]]\ncut = "y"\nat = 15000\nfrom = "low"\n'
 RUNS = [
     ("bracket.off", None),
-    ("thirds.off", 'outputs = ["pieces"]\n' + FRONT),
+    ("thirds.off", 'outputs = ["pieces", "hpgl", "dxf"]\n' + FRONT),
     ("tetra.stl", None),
     ("tube.off", CUT),
     ("sample:1", None),

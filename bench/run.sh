@@ -20,7 +20,8 @@ done
 ./parts.py rough 94 >"$work/rough.off"
 ./parts.py walls 200 >"$work/walls.off"
 ./parts.py pins 35 >"$work/pins.off"
-cp ../examples/pillow.off ../examples/flange.stl ../examples/pillow.toml ../examples/third-angle.toml "$work"
+cp ../examples/pillow.off ../examples/flange.stl ../examples/pillow.toml "$work"
+sed /^outputs/d ../examples/third-angle.toml >"$work/third-angle.toml"
 cd "$work"
 printf 'sheet = "A0"\n[[view]]\nname = "front"\n' >front.toml
 printf 'sheet = "A0"\n[[view]]\ntoward = [1, -1, 1]\n' >diagonal.toml

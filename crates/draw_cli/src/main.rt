@@ -4,7 +4,7 @@
 use desk::Desk;
 use disk_desk::DiskDesk;
 use draw_core::{MEMORY_LINE, draw};
-use plot_rack::{ListPlotter, Plotter};
+use plot_rack::{DxfPlotter, HpglPlotter, ListPlotter, Plotter};
 use std::alloc::Global;
 use std::process::ExitCode;
 use std::rt::{Env, Stderr, Stdout};
@@ -41,10 +41,14 @@ fn main(rt: HostRuntime) -> ExitCode {
     let (out, err) = (rt.stdout(), rt.stderr());
     let mut desk: DiskDesk<_, Stdout, Stderr> = DiskDesk::new(alloc, rt, out, err);
     let mut extras: Vec<Box<dyn Plotter>> = Vec::new(alloc);
-    let Ok(list) = Box::new(alloc, ListPlotter::new(alloc)) else {
+    let (Ok(list), Ok(hpgl), Ok(dxf)) = (
+        Box::new(alloc, ListPlotter::new(alloc)),
+        Box::new(alloc, HpglPlotter::new(alloc)),
+        Box::new(alloc, DxfPlotter::new(alloc)),
+    ) else {
         return ExitCode::from(without_memory(&mut desk));
     };
-    if extras.push(list).is_err() {
+    if extras.push(list).is_err() || extras.push(hpgl).is_err() || extras.push(dxf).is_err() {
         return ExitCode::from(without_memory(&mut desk));
     }
     ExitCode::from(status_of(alloc, words, &mut desk, extras))

@@ -1,4 +1,5 @@
 pub mod Drawings
+pub mod Endings
 pub mod Firsts
 pub mod Fractions
 pub mod Texts

@@ -1,5 +1,5 @@
 -- Which of the plotters that are handed in names choose.
-use Rattle.std.specs.Prelude.{◌≡◌, ◌<◌, ℕ, true, List, map, take, slice_get, option_map, Option, Some, None, IsSome}
+use Rattle.std.specs.Prelude.{◌≡◌, ◌<◌, ℕ, List, map, slice_get, option_map, Option, Some, None, IsSome}
 use Rattle.std.specs.List.{find}
 use Rattle.std.specs.Str.{bytes_eq}
 use Rattle.plot_rack.specs.declared.rack.RackError.{RackError}

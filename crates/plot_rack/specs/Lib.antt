@@ -1,4 +1,8 @@
 pub mod Choices
+pub mod Dxf
+pub mod DxfPlotter
+pub mod Hpgl
+pub mod HpglPlotter
 pub mod ListPlotter
 pub mod Lists
 pub mod Plotters

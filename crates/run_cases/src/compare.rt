@@ -5,7 +5,7 @@ use crate::case::{Case, Program};
 use dec_text::Name;
 use desk::{Desk, MemoryDesk, RoomDesk};
 use draw_core::draw;
-use plot_rack::{ListPlotter, Plotter};
+use plot_rack::{DxfPlotter, HpglPlotter, ListPlotter, Plotter};
 use sheet_core::sheet;
 use std::alloc::{AllocError, Global};
 use std::io;
@@ -100,10 +100,12 @@ fn room_desk_of(alloc: Global, case: &Case, said: u64, warned: u64) -> io::Resul
     }
 }
 
-// Runs `draw` with the piece list at hand, and answers the status.
+// Runs `draw` with the plotters that its program hands in, and answers the status.
 fn run_draw<D: Desk>(alloc: Global, words: &[String], desk: &mut D) -> io::Result<u8> {
     let mut extras: Vec<Box<dyn Plotter>> = Vec::new(alloc);
     extras.push(Box::new(alloc, ListPlotter::new(alloc))?)?;
+    extras.push(Box::new(alloc, HpglPlotter::new(alloc))?)?;
+    extras.push(Box::new(alloc, DxfPlotter::new(alloc))?)?;
     Ok(draw(alloc, words, desk, extras).status)
 }
 

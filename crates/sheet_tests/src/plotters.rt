@@ -4,7 +4,7 @@ ghost use Rattle.std.specs.Fmt.{signed_decimal};
 
 use dec_text::{Name, push_int};
 use exact_frac::{Frac, OutOfMemory};
-use plot_rack::{ListPlotter, Plotter, Rack, RackError};
+use plot_rack::{DxfPlotter, HpglPlotter, ListPlotter, Plotter, Rack, RackError};
 use sheet_plan::{Mark, Stroke};
 use std::alloc::Global;
 use std::cell::Cell;
@@ -187,5 +187,75 @@ fn a_name_without_a_plotter(rt: HostRuntime) -> Result<(), Fail> {
         (refused, handed_in.get()),
         (Err(RackError::NoPlotter(1)), DROPPED)
     );
+    Ok(())
+}
+
+// Strokes with these ends on a page of 42,000 by 29,700: over all of it, next to its corners, and beyond its edges.
+const STROKES: [(Mark, i64, i64, i64, i64); 8] = [
+    (Mark::Solid, 0, 0, 42000, 29700),
+    (Mark::Solid, 1, 29699, 2, 29698),
+    (Mark::Dashed, 3, 29697, 4, 29696),
+    (Mark::Dashed, -1, 29701, -2, 29702),
+    (Mark::Chain, -3, 29703, -4, 29704),
+    (Mark::Hatch, -5, 29705, -100, 29800),
+    (Mark::Hatch, 99, 29601, 1000, 28700),
+    (Mark::Solid, 42001, -1, 42002, -250),
+];
+
+const HPGL: &str =
+    "IN;SP1;PU0,11880;PD16800,0;PU0,0;PD1,1;SP2;PU1,1;PD2,2;PU0,0;PD-1,-1;SP4;PU-1,-1;PD-2,-2;\
+    SP3;PU-2,-2;PD-40,-40;PU40,40;PD400,400;SP1;PU16800,11880;PD16801,11980;PU0,0;\n";
+
+const DXF: &str = "0\nSECTION\n2\nENTITIES\n\
+    0\nLINE\n8\nSOLID\n10\n0.00\n20\n297.00\n11\n420.00\n21\n0.00\n\
+    0\nLINE\n8\nSOLID\n10\n0.01\n20\n0.01\n11\n0.02\n21\n0.02\n\
+    0\nLINE\n8\nDASHED\n10\n0.03\n20\n0.03\n11\n0.04\n21\n0.04\n\
+    0\nLINE\n8\nDASHED\n10\n-0.01\n20\n-0.01\n11\n-0.02\n21\n-0.02\n\
+    0\nLINE\n8\nCHAIN\n10\n-0.03\n20\n-0.03\n11\n-0.04\n21\n-0.04\n\
+    0\nLINE\n8\nHATCH\n10\n-0.05\n20\n-0.05\n11\n-1.00\n21\n-1.00\n\
+    0\nLINE\n8\nHATCH\n10\n0.99\n20\n0.99\n11\n10.00\n21\n10.00\n\
+    0\nLINE\n8\nSOLID\n10\n420.01\n20\n297.01\n11\n420.02\n21\n299.50\n\
+    0\nENDSEC\n0\nEOF\n";
+
+fn drawn_strokes(alloc: Global) -> Result<Vec<Stroke>, OutOfMemory> {
+    let mut strokes = Vec::new(alloc);
+    for (mark, x1, y1, x2, y2) in STROKES {
+        let mut drawn = stroke(mark);
+        (drawn.x1, drawn.y1) = (x1, y1);
+        (drawn.x2, drawn.y2) = (x2, y2);
+        strokes.push(drawn)?;
+    }
+    Ok(strokes)
+}
+
+// What the plotter with this suffix makes of the strokes.
+fn text_by(
+    alloc: Global,
+    boxes: Vec<Box<dyn Plotter>>,
+    suffix: &str,
+    strokes: &[Stroke],
+) -> Result<Vec<u8>, Fail> {
+    let names = [Name::new(alloc, suffix)?];
+    let mut rack = Rack::choose(alloc, boxes, &names)?;
+    rack.draw(42000, 29700, strokes)?;
+    Ok(rack.text(0).to_vec(alloc)?)
+}
+
+#[test]
+fn hpgl_and_dxf(rt: HostRuntime) -> Result<(), Fail> {
+    let alloc = rt.alloc();
+    let strokes = drawn_strokes(alloc)?;
+    for (suffix, strokes, expected) in [
+        ("hpgl", strokes.as_slice(), HPGL),
+        ("hpgl", &[], "IN;PU0,0;\n"),
+        ("dxf", strokes.as_slice(), DXF),
+        ("dxf", &[], "0\nSECTION\n2\nENTITIES\n0\nENDSEC\n0\nEOF\n"),
+    ] {
+        let mut boxes: Vec<Box<dyn Plotter>> = Vec::new(alloc);
+        boxes.push(Box::new(alloc, HpglPlotter::new(alloc))?)?;
+        boxes.push(Box::new(alloc, DxfPlotter::new(alloc))?)?;
+        let text = text_by(alloc, boxes, suffix, strokes)?;
+        assert_eq!(rt; text.as_slice(), expected.as_bytes(), "{suffix}");
+    }
     Ok(())
 }
