@@ -83,8 +83,8 @@ fn shown_char(byte: u8) -> char
     }
 }
 
-// A name as it is told.
-fn shown(alloc: Global, name: &str) -> Result<String, AllocError>
+/// A name as it is told: a question mark stands for each byte that isn't printable ASCII.
+pub fn shown(alloc: Global, name: &str) -> Result<String, AllocError>
     ensures { IfOk result (λ text. string_bytes text ≡ shown name.now) }
 {
     let mut text = String::new(alloc);
@@ -101,7 +101,8 @@ fn plotter_line(alloc: Global, program: &str, name: &str) -> Result<String, Allo
     format!(in alloc; "{program}: no plotter {name}\n")
 }
 
-fn key_text(key: &Key) -> &'static str
+/// A key as it is written in a job.
+pub fn key_text(key: &Key) -> &'static str
     ensures value { result.now ≡ key_text key.now }
     ensures size { length result.now ≤ 64 }
 {
@@ -125,7 +126,8 @@ fn key_text(key: &Key) -> &'static str
     }
 }
 
-fn axis_text(axis: &Axis) -> &'static str
+/// An axis by its letter.
+pub fn axis_text(axis: &Axis) -> &'static str
     ensures { result.now ≡ axis_text axis.now }
 {
     match axis {
@@ -228,7 +230,8 @@ fn sheet_line(
     format!(in alloc; "{program}: sheet: needs {need_w} by {need_h}, has {have_w} by {have_h}\n")
 }
 
-fn kind_text(alloc: Global, kind: &PartKind) -> Result<String, AllocError>
+/// What is wrong with a text of a part.
+pub fn kind_text(alloc: Global, kind: &PartKind) -> Result<String, AllocError>
     ensures { IfOk result (λ text. string_bytes text ≡ kind_text kind.now) }
 {
     match kind {

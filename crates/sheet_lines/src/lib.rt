@@ -1,0 +1,8 @@
+//! The lines that the program `sheet` tells its faults by: the file's name, the place there, what is wrong, and what is allowed.
+#![tactic(auto)]
+
+mod jobs;
+mod lines;
+mod parts;
+
+pub use lines::{MEMORY_LINE, SAID_LINE, USAGE_LINE, line_of, write_line};
