@@ -1,0 +1,58 @@
+-- What tells the cuts of a job in its views.
+use Rattle.std.specs.Prelude.{◌≡◌, ◌↔◌, ℕ, ◌++◌, IsTrue, List, [], ◌∷◌, None, Some, length}
+use Rattle.job_file.specs.declared.view.JobView.{JobView}
+use Rattle.lattice.specs.declared.cuts.Cut.{Cut}
+use Rattle.lattice.specs.declared.pieces.ViewSpec.{ViewSpec}
+use Rattle.lattice.specs.declared.pieces.ViewSpec.TheVariants.{Plain, Section}
+use Rattle.lattice.specs.Cuts.{plane_of}
+use Rattle.geometry.specs.Parts.{Part}
+use Rattle.sheet_plan.specs.declared.sheet.Sheet.{Sheet}
+use Rattle.cut_marks.specs.Boxes.{IsViewBox}
+use Rattle.cut_marks.specs.Figures.{marks_in, left_out_in, heading_over}
+use Rattle.cut_marks.specs.Lanes.{AreLaned}
+use Rattle.cut_marks.specs.Letters.{IsLetterOf, cuts_in}
+use Rattle.cut_marks.specs.Traces.{GoesThrough, AreTraces}
+use Rattle.cut_marks.specs.declared.boxes.ViewBox.{ViewBox}
+use Rattle.cut_marks.specs.declared.figures.Heading.{Heading}
+use Rattle.cut_marks.specs.declared.views.ViewMarks.{ViewMarks}
+use Rattle.cut_marks.specs.declared.ways.Laned.{Laned}
+use Rattle.cut_marks.specs.declared.ways.Trace.{Trace}
+
+-- the heading of the view with this number, over its box, with the letter of the cut with the other number
+pub record IsHeaded (sheet : Sheet) (s : Part) (view number : ℕ) (c : Cut) (h : Heading) : Type 0 where
+  pub box : ViewBox
+  pub is_box : IsViewBox sheet s.corners view box
+  pub lettered : IsLetterOf number h.letter
+  pub over : h ≡ heading_over box h.letter h.has_section
+  pub through : IsTrue h.has_section ↔ GoesThrough (plane_of c) s.corners
+
+-- the marks of the cuts' traces in the plain view with this number, and the letters that have no place
+pub record ArePlainMarks (sheet : Sheet) (s : Part) (cuts : List Cut) (view : ℕ) (m : ViewMarks) : Type 0 where
+  pub box : ViewBox
+  pub traces : List Trace
+  pub laned : List Laned
+  pub is_box : IsViewBox sheet s.corners view box
+  pub are_traces : AreTraces sheet s view cuts traces
+  pub are_laned : AreLaned traces laned
+  pub unheaded : m.heading ≡ None
+  pub marks : m.marks.items ≡ marks_in box laned
+  pub left_out : m.left_out.items ≡ left_out_in laned
+
+-- a cut view has a heading alone
+pub record IsCutView (sheet : Sheet) (s : Part) (view number : ℕ) (c : Cut) (m : ViewMarks) : Type 0 where
+  pub heading : Heading
+  pub headed : m.heading ≡ Some heading
+  pub is : IsHeaded sheet s view number c heading
+  pub no_marks : m.marks.items ≡ []
+  pub none_left_out : m.left_out.items ≡ []
+
+-- what tells the cuts in the view with this number; the cut that it shows, if it shows one, has the other number
+abbrev pub IsMarked : Sheet → Part → List Cut → ℕ → ℕ → ViewSpec → ViewMarks → Type 0
+IsMarked sheet s cuts view number (Plain d) m = ArePlainMarks sheet s cuts view m
+IsMarked sheet s cuts view number (Section c) m = IsCutView sheet s view number c m
+
+-- what tells these cuts in each view, in their order; a view's cut has as its number how many are shown before it
+pub data AreMarked (sheet : Sheet) (s : Part) (cuts : List Cut) : List JobView → List ViewMarks → Type 0 where
+  none : AreMarked sheet s cuts [] []
+  more : (views : List JobView) (v : JobView) (marks : List ViewMarks) (m : ViewMarks) → AreMarked sheet s cuts views marks
+      → IsMarked sheet s cuts (length views) (length (cuts_in views)) v.spec m → AreMarked sheet s cuts (views ++ v ∷ []) (marks ++ m ∷ [])

@@ -1,0 +1,66 @@
+// Whether the plane of a cut goes through a solid.
+ghost use Rattle.std.specs.Prelude.{◌≡◌, ◌≢◌, ◌≤◌, ◌<◌, ◌^◌, ◌↔◌, ◌<ℤ◌, ◌≤ℤ◌, unsigned_abs, IsTrue, Contains};
+ghost use Rattle.lattice.specs.declared.points.Corner.{Corner};
+ghost use Rattle.lattice.specs.Cuts.{plane_of, level_of, unit_of};
+ghost use Rattle.lattice.specs.Points.{of_vector, point_of};
+ghost use Rattle.lattice.specs.Triple.{IsWithin};
+ghost use Rattle.geometry.specs.Traces.{coordinate_of};
+ghost use Rattle.solid_mesh.specs.Solids.{solid_part};
+ghost use Rattle.cut_marks.specs.Traces.{GoesThrough, IsSpread};
+
+use crate::corners::{along, first_along};
+use lattice::{Axis, Cut, Vector};
+use solid_mesh::Solid;
+
+/// The height of the cut's place, as its viewer sees it.
+fn level(cut: &Cut) -> i64
+    ensures value { result ≡ level_of (plane_of cut.now) }
+    ensures size { unsigned_abs result ≤ 2 ^ 20 }
+{
+    if cut.from_high() { cut.at() } else { -cut.at() }
+}
+
+/// The plane is right below its level: there are corners on both of its sides.
+fn is_amid(lowest: i128, level: i64, topmost: i128) -> bool
+    ensures { IsTrue result ↔ ((lowest <ℤ level) × (level ≤ℤ topmost)) }
+{
+    lowest < level.into() && i128::from(level) <= topmost
+}
+
+/// The plane of the cut goes through the solid: corners are on both sides of it. Goes twice over them.
+pub(crate) fn goes_through(solid: &Solid, cut: &Cut) -> bool
+    ensures { IsTrue result ↔ GoesThrough (plane_of cut.now) (solid_part solid.now).corners }
+{
+    let toward = cut.dir().vector();
+    let lowest = along(&toward, &first_along(solid, &toward));
+    let topmost = along(&toward, &first_along(solid, &toward.reversed()));
+    is_amid(lowest, level(cut), topmost)
+}
+
+/// One unit along an axis.
+fn unit(axis: Axis) -> Vector
+    ensures value { of_vector result ≡ unit_of axis }
+    ensures small { IsWithin 9 (of_vector result) }
+{
+    match axis {
+        Axis::X => Vector { x: 1, y: 0, z: 0 },
+        Axis::Y => Vector { x: 0, y: 1, z: 0 },
+        Axis::Z => Vector { x: 0, y: 0, z: 1 },
+    }
+}
+
+fn is_less(a: i128, b: i128) -> bool
+    ensures { IsTrue result ↔ (a <ℤ b) }
+{
+    a < b
+}
+
+/// Not all corners are at one place of the axis. Goes twice over them.
+pub(crate) fn is_spread(solid: &Solid, axis: Axis) -> bool
+    ensures { IsTrue result ↔ IsSpread axis (solid_part solid.now).corners }
+{
+    let unit = unit(axis);
+    let least = along(&unit, &first_along(solid, &unit));
+    let most = along(&unit, &first_along(solid, &unit.reversed()));
+    is_less(least, most)
+}
