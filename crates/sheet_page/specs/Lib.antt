@@ -1,3 +1,4 @@
+pub mod Chains
 pub mod Dashes
 pub mod Pages
 pub mod Pdf

@@ -7,14 +7,19 @@ use Rattle.sheet_plan.specs.declared.sheet.Mark.TheVariants.{Solid, Dashed, Chai
 use Rattle.stroke_paths.specs.declared.path.Path.{Path}
 use Rattle.stroke_paths.specs.declared.path.Point.{Point}
 use Rattle.svg_page.specs.Texts.{◌⊕◌}
+use Rattle.sheet_page.specs.Chains.{phase_between, phase_of}
 use Rattle.sheet_page.specs.Dashes.{length_of, fitted, with_decimals}
 use Rattle.sheet_page.specs.PdfWords.{words_of}
 use Rattle.sheet_page.specs.declared.dashes.Dashes.{Dashes}
+use Rattle.sheet_page.specs.declared.page.Circle.{Circle}
 use Rattle.sheet_page.specs.declared.page.Frame.{Frame}
 use Rattle.sheet_page.specs.declared.page.Item.{Item}
 use Rattle.sheet_page.specs.declared.page.Item.TheVariants as item
 use Rattle.sheet_page.specs.declared.page.Label.{Label}
 use Rattle.sheet_page.specs.declared.page.Page.{Page}
+use Rattle.sheet_page.specs.declared.page.Pen.{Pen}
+use Rattle.sheet_page.specs.declared.page.Pen.TheVariants as rule
+use Rattle.sheet_page.specs.declared.page.Rule.{Rule}
 
 -- a length in points, of which 72 are an inch and so 2540 hundredths of a millimetre, to the nearest ten thousandth
 abbrev pub points : ℤ → List ℕ
@@ -38,12 +43,16 @@ abbrev pub dashed_pen : Option Dashes → List ℕ
 dashed_pen (Some d) = codes "35 w 0 J [" ⊕ with_decimals d.dash ⊕ codes " " ⊕ with_decimals d.gap ⊕ codes "] 0 d\n"
 dashed_pen None = codes "35 w 0 J [] 0 d\n"
 
--- the pen of a mark, where dashes are these
-abbrev pub pen : Mark → Option Dashes → List ℕ
-pen Solid dashes = codes "50 w 1 J [] 0 d\n"
-pen Dashed dashes = dashed_pen dashes
-pen Chain dashes = codes "25 w 0 J [600 150 75 150] 0 d\n"
-pen Hatch dashes = codes "18 w 0 J [] 0 d\n"
+-- a pen for chain lines, so far into its pattern
+abbrev pub chain_pen : ℤ → List ℕ
+chain_pen n = codes "25 w 0 J [600 150 75 150] " ⊕ signed_decimal n ⊕ codes " d\n"
+
+-- the pen of a mark, where dashes are these and a chain line begins so far into its pattern
+abbrev pub pen : Mark → Option Dashes → ℤ → List ℕ
+pen Solid dashes n = codes "50 w 1 J [] 0 d\n"
+pen Dashed dashes n = dashed_pen dashes
+pen Chain dashes n = chain_pen n
+pen Hatch dashes n = codes "18 w 0 J [] 0 d\n"
 
 -- a step to a point
 abbrev pub point_line : List ℕ → Point → List ℕ
@@ -65,10 +74,54 @@ stroke false = codes "S\n"
 
 abbrev pub path_lines : Path → List ℕ
 path_lines path =
-    pen path.mark (fitted path.closed (length_of path.closed path.points.items)) ++ route path.points.items ++ stroke path.closed
+    pen path.mark (fitted path.closed (length_of path.closed path.points.items)) (phase_of path.points.items) ++ route path.points.items ++ stroke path.closed
+
+-- the pen of a rule, where a chain line begins so far into its pattern
+abbrev pub rule_pen : Pen → ℤ → List ℕ
+rule_pen rule.Thin n = codes "25 w 0 J [] 0 d\n"
+rule_pen rule.Strong n = codes "35 w 1 J [] 0 d\n"
+rule_pen rule.Chain n = chain_pen n
+
+-- a straight line
+abbrev pub rule_lines : Rule → List ℕ
+rule_lines r = rule_pen r.pen (phase_between r.from r.to) ++ point_line (codes " m\n") r.from ++ point_line (codes " l\n") r.to ++ stroke false
+
+-- the pen of a circle, its centre as the origin, and its right end, where it begins
+abbrev pub circle_start : Circle → List ℕ
+circle_start c =
+    codes "35 w 0 J [] 0 d q 1 0 0 1 " ⊕ signed_decimal c.x ⊕ codes " " ⊕ signed_decimal c.y ⊕ codes " cm\n" ⊕ decimal c.radius ⊕ codes " 0 m "
+
+-- a circle of four arcs around the origin, y going down; k is how far the points that lead an arc are beside its ends
+abbrev pub lower_right : ℕ → ℕ → List ℕ
+lower_right r k =
+    decimal r ⊕ codes " " ⊕ decimal k ⊕ codes " " ⊕ decimal k ⊕ codes " " ⊕ decimal r ⊕ codes " 0 " ⊕ decimal r ⊕ codes " c "
+
+abbrev pub lower_left : ℕ → ℕ → List ℕ
+lower_left r k =
+    codes "-" ⊕ decimal k ⊕ codes " " ⊕ decimal r ⊕ codes " -" ⊕ decimal r ⊕ codes " " ⊕ decimal k ⊕ codes " -" ⊕ decimal r ⊕ codes " 0 c\n"
+
+abbrev pub upper_left : ℕ → ℕ → List ℕ
+upper_left r k =
+    codes "-" ⊕ decimal r ⊕ codes " -" ⊕ decimal k ⊕ codes " -" ⊕ decimal k ⊕ codes " -" ⊕ decimal r ⊕ codes " 0 -" ⊕ decimal r ⊕ codes " c "
+
+abbrev pub upper_right : ℕ → ℕ → List ℕ
+upper_right r k =
+    decimal k ⊕ codes " -" ⊕ decimal r ⊕ codes " " ⊕ decimal r ⊕ codes " -" ⊕ decimal k ⊕ codes " " ⊕ decimal r ⊕ codes " 0 c h S Q\n"
+
+-- for a circle k is 0.5523 of the radius
+abbrev pub arc_lead : ℕ → ℕ
+arc_lead r = r * 5523 / 10000
+
+abbrev pub arcs : ℕ → ℕ → List ℕ
+arcs r k = lower_right r k ++ lower_left r k ++ upper_left r k ++ upper_right r k
+
+abbrev pub circle_lines : Circle → List ℕ
+circle_lines c = circle_start c ++ arcs c.radius (arc_lead c.radius)
 
 abbrev pub item_lines : Item → List ℕ
 item_lines (item.Frame frame) = frame_line frame
+item_lines (item.Rule rule) = rule_lines rule
+item_lines (item.Circle circle) = circle_lines circle
 item_lines (item.Label label) = label_line label
 item_lines (item.Path path) = path_lines path
 

@@ -2,13 +2,18 @@
 use Rattle.std.specs.Prelude.{ℕ, zero, suc, ◌==◌, if◌then◌else◌, ℤ, Bool, List, [], ◌∷◌, ◌++◌, Option, Some, None, codes}
 use Rattle.std.specs.List.{flat_map}
 use Rattle.std.specs.Fmt.{decimal, signed_decimal}
+use Rattle.sheet_page.specs.Chains.{phase_between, phase_of}
 use Rattle.sheet_page.specs.Dashes.{own_dashes, with_decimals}
 use Rattle.sheet_page.specs.declared.dashes.Dashes.{Dashes}
+use Rattle.sheet_page.specs.declared.page.Circle.{Circle}
 use Rattle.sheet_page.specs.declared.page.Frame.{Frame}
 use Rattle.sheet_page.specs.declared.page.Item.{Item}
 use Rattle.sheet_page.specs.declared.page.Item.TheVariants as variant
 use Rattle.sheet_page.specs.declared.page.Label.{Label}
 use Rattle.sheet_page.specs.declared.page.Page.{Page}
+use Rattle.sheet_page.specs.declared.page.Pen.{Pen}
+use Rattle.sheet_page.specs.declared.page.Pen.TheVariants as pen
+use Rattle.sheet_page.specs.declared.page.Rule.{Rule}
 use Rattle.sheet_plan.specs.declared.sheet.Mark.{Mark}
 use Rattle.sheet_plan.specs.declared.sheet.Mark.TheVariants.{Solid, Dashed, Chain, Hatch}
 use Rattle.stroke_paths.specs.declared.path.Path.{Path}
@@ -19,7 +24,8 @@ use Rattle.svg_page.specs.Texts.{◌⊕◌}
 -- how each class of lines is drawn; only a trace has dashes of its class
 unfoldable pub classes : List ℕ
 classes =
-    codes "path,.frame{fill:none;stroke:black}\n" ⊕ codes "text{font-family:sans-serif}\n" ⊕ codes ".frame{stroke-width:70}\n"
+    codes "path,line,circle,.frame{fill:none;stroke:black}\n" ⊕ codes "text{font-family:sans-serif}\n" ⊕ codes ".frame{stroke-width:70}\n"
+    ⊕ codes ".thin{stroke-width:25}\n" ⊕ codes ".strong{stroke-width:35;stroke-linecap:round}\n"
     ⊕ codes ".visible{stroke-width:50;stroke-linecap:round;stroke-linejoin:round}\n" ⊕ codes ".hidden{stroke-width:35;stroke-linejoin:round}\n"
     ⊕ codes ".trace{stroke-width:25;stroke-linejoin:round;stroke-dasharray:600 150 75 150}\n" ⊕ codes ".hatch{stroke-width:18}\n</style>\n"
 
@@ -42,6 +48,38 @@ frame_line f =
     codes "<rect class=\"frame\" x=\"" ⊕ signed_decimal f.x ⊕ codes "\" y=\"" ⊕ signed_decimal f.y ⊕ codes "\" width=\""
     ⊕ signed_decimal f.width ⊕ codes "\" height=\"" ⊕ signed_decimal f.height ⊕ codes "\"/>\n"
 
+-- how far into its pattern a chain line begins
+abbrev pub dash_offset : ℤ → List ℕ
+dash_offset n = codes " stroke-dashoffset=\"" ⊕ signed_decimal n ⊕ codes "\""
+
+-- the class of a rule, and a chain line's place in its pattern
+abbrev pub pen_class : Pen → List ℕ
+pen_class pen.Thin = codes "thin"
+pen_class pen.Strong = codes "strong"
+pen_class pen.Chain = codes "trace"
+
+abbrev pub pen_offset : Pen → ℤ → List ℕ
+pen_offset pen.Thin n = []
+pen_offset pen.Strong n = []
+pen_offset pen.Chain n = dash_offset n
+
+abbrev pub rule_offset : Rule → List ℕ
+rule_offset r = pen_offset r.pen (phase_between r.from r.to)
+
+-- the line of a rule
+abbrev pub rule_start : Rule → List ℕ
+rule_start r =
+    codes "<line class=\"" ⊕ pen_class r.pen ⊕ codes "\" x1=\"" ⊕ signed_decimal r.from.x ⊕ codes "\" y1=\"" ⊕ signed_decimal r.from.y
+    ⊕ codes "\" x2=\"" ⊕ signed_decimal r.to.x ⊕ codes "\" y2=\"" ⊕ signed_decimal r.to.y ⊕ codes "\""
+
+abbrev pub rule_line : Rule → List ℕ
+rule_line r = rule_start r ++ rule_offset r ++ codes "/>\n"
+
+-- the line of a circle
+abbrev pub circle_line : Circle → List ℕ
+circle_line c =
+    codes "<circle class=\"strong\" cx=\"" ⊕ signed_decimal c.x ⊕ codes "\" cy=\"" ⊕ signed_decimal c.y ⊕ codes "\" r=\"" ⊕ decimal c.radius ⊕ codes "\"/>\n"
+
 -- what stands before a text in its line
 abbrev pub before_text : Label → List ℕ
 before_text l =
@@ -51,9 +89,11 @@ before_text l =
 abbrev pub label_line : Label → List ℕ
 label_line l = before_text l ++ flat_map escaped l.text ++ codes "</text>\n"
 
--- a frame or a text; a path stands in the group of its view
+-- whatever isn't a path, which stands in the group of its view
 abbrev pub standing : Item → List ℕ
 standing (variant.Frame frame) = frame_line frame
+standing (variant.Rule rule) = rule_line rule
+standing (variant.Circle circle) = circle_line circle
 standing (variant.Label label) = label_line label
 standing (variant.Path path) = []
 
@@ -68,6 +108,13 @@ class_of Hatch = codes "hatch"
 abbrev pub dash_array : Option Dashes → List ℕ
 dash_array None = []
 dash_array (Some d) = codes " stroke-dasharray=\"" ⊕ with_decimals d.dash ⊕ codes " " ⊕ with_decimals d.gap ⊕ codes "\""
+
+-- a chain line's place in its pattern
+abbrev pub own_offset : Mark → List Point → List ℕ
+own_offset Solid points = []
+own_offset Dashed points = []
+own_offset Chain points = dash_offset (phase_of points)
+own_offset Hatch points = []
 
 -- a path begins with its class
 unfoldable pub path_start : Mark → List ℕ
@@ -86,14 +133,16 @@ abbrev pub route : Bool → List Point → List ℕ
 route closed [] = []
 route closed (p ∷ rest) = to_point (codes "M") p ++ flat_map (to_point (codes "L")) rest ++ back closed
 
--- a path: its class, its dashes and its points
+-- a path: its class, its dashes or its place in them, and its points
 abbrev pub path_line : Path → List ℕ
 path_line path =
-    path_start path.mark ++ dash_array (own_dashes path.mark path.closed path.points.items) ++ codes " d=\"" ++ route path.closed path.points.items ++ codes "\"/>\n"
+    path_start path.mark ++ dash_array (own_dashes path.mark path.closed path.points.items) ++ own_offset path.mark path.points.items ++ codes " d=\"" ++ route path.closed path.points.items ++ codes "\"/>\n"
 
 -- a path of this view; nothing else stands in its group
 abbrev pub drawn_in : ℕ → Item → List ℕ
 drawn_in view (variant.Frame frame) = []
+drawn_in view (variant.Rule rule) = []
+drawn_in view (variant.Circle circle) = []
 drawn_in view (variant.Label label) = []
 drawn_in view (variant.Path path) = if path.view == view then path_line path else []
 
@@ -110,6 +159,6 @@ abbrev pub groups_below : ℕ → List Item → List ℕ
 groups_below zero items = []
 groups_below (suc n) items = groups_below n items ++ group n items
 
--- the text of a page: its frames and texts in their order, and for each view a group of its paths in their order
+-- the text of a page: what isn't a path in its order, and for each view a group of its paths in their order
 unfoldable pub svg_of : Page → List ℕ
 svg_of page = head page.width page.height ++ flat_map standing page.items.items ++ groups_below page.views page.items.items ++ codes "</svg>\n"

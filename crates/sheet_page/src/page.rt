@@ -2,7 +2,7 @@
 ghost use Rattle.std.specs.Prelude.{◌≡◌, ◌<◌, ◌≤◌, ◌^◌, ◌%◌, pos, ◌≤ℤ◌, unsigned_abs};
 
 use dec_text::Name;
-use stroke_paths::Path;
+use stroke_paths::{Path, Point};
 
 /// A rectangle that is drawn, from its upper left corner.
 #[derive(Clone, Copy, Debug)]
@@ -22,11 +22,42 @@ pub struct Label {
     pub text: Name,
 }
 
+/// How a rule is drawn.
+#[derive(Clone, Copy, PartialEq, Eq, Debug)]
+pub enum Pen {
+    /// A line of 0.25 mm.
+    Thin,
+    /// A line of 0.35 mm.
+    Strong,
+    /// A chain line of 0.25 mm.
+    Chain,
+}
+
+/// A straight line that is drawn, as one of a title block.
+#[derive(Clone, Copy, Debug)]
+pub struct Rule {
+    pub pen: Pen,
+    pub from: Point,
+    pub to: Point,
+}
+
+/// A circle that is drawn, around a point, as a strong line.
+#[derive(Clone, Copy, Debug)]
+pub struct Circle {
+    pub x: i64,
+    pub y: i64,
+    pub radius: u32,
+}
+
 /// What stands on a page.
 #[derive(Debug, Drop)]
 pub enum Item {
     /// A rectangle, as that around a sheet.
     Frame(Frame),
+    /// A straight line, as one of a title block.
+    Rule(Rule),
+    /// A circle, as in the symbol of an angle of projection.
+    Circle(Circle),
     /// A text, as a sheet's title.
     Label(Label),
     /// A path of one of the page's views.

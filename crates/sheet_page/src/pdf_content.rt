@@ -1,10 +1,12 @@
 // What a page's items are in PDF.
 ghost use Rattle.std.specs.Prelude.{◌≡◌, ◌++◌, IfOk, OnOk, string_bytes};
+ghost use Rattle.sheet_page.specs.Chains.{phase_between, phase_of};
 ghost use Rattle.sheet_page.specs.Dashes.{length_of, fitted};
-ghost use Rattle.sheet_page.specs.PdfContent.{points, frame_line, before_words, label_line, dashed_pen, pen, point_line, lines_to, route, stroke, path_lines, item_lines, beginning, content_of};
+ghost use Rattle.sheet_page.specs.PdfContent.{points, frame_line, before_words, label_line, dashed_pen, chain_pen, pen, rule_pen, rule_lines, circle_start, lower_right, lower_left, upper_left, upper_right, arc_lead, arcs, circle_lines, point_line, lines_to, route, stroke, path_lines, item_lines, beginning, content_of};
 
+use crate::chains::{phase_between, phase_of};
 use crate::dashes::{Dashes, dashes_of, with_decimals};
-use crate::page::{Frame, Item, Label, Page};
+use crate::page::{Circle, Frame, Item, Label, Page, Pen, Rule};
 use crate::pdf_words::add_words;
 use exact_frac::OutOfMemory;
 use sheet_plan::Mark;
@@ -48,9 +50,102 @@ fn add_item(alloc: Global, text: &mut Vec<u8>, item: &Item) -> Result<(), OutOfM
 {
     match item {
         Item::Frame(frame) => text.extend_from_slice(frame_line(alloc, frame)?.as_bytes())?,
+        Item::Rule(rule) => add_rule(alloc, text, rule)?,
+        Item::Circle(circle) => add_circle(alloc, text, circle)?,
         Item::Label(label) => add_label(alloc, text, label)?,
         Item::Path(path) => add_path(alloc, text, path)?,
     }
+    Ok(())
+}
+
+/// The pen of chain lines, so far into its pattern.
+fn chain_pen(alloc: Global, n: i64) -> Result<String, AllocError>
+    ensures { IfOk result (λ text. string_bytes text ≡ chain_pen n) }
+{
+    format!(in alloc; "25 w 0 J [600 150 75 150] {n} d\n")
+}
+
+/// The pen of a rule.
+fn rule_pen(alloc: Global, rule: &Rule) -> Result<String, AllocError>
+    ensures { IfOk result (λ text. string_bytes text ≡ rule_pen rule.now.pen (phase_between rule.now.from rule.now.to)) }
+{
+    match rule.pen {
+        Pen::Thin => String::from_str(alloc, "25 w 0 J [] 0 d\n"),
+        Pen::Strong => String::from_str(alloc, "35 w 1 J [] 0 d\n"),
+        Pen::Chain => chain_pen(alloc, phase_between(&rule.from, &rule.to)),
+    }
+}
+
+/// Adds the lines of a rule.
+fn add_rule(alloc: Global, text: &mut Vec<u8>, rule: &Rule) -> Result<(), OutOfMemory>
+    ensures { OnOk result (text.new.items ≡ text.old.items ++ rule_lines rule.now) }
+{
+    text.extend_from_slice(rule_pen(alloc, rule)?.as_bytes())?;
+    text.extend_from_slice(point_line(alloc, &rule.from, " m\n")?.as_bytes())?;
+    text.extend_from_slice(point_line(alloc, &rule.to, " l\n")?.as_bytes())?;
+    text.extend_from_slice(stroke(false).as_bytes())?;
+    Ok(())
+}
+
+/// The pen of a circle, its centre as the origin, and its right end, where it begins.
+fn circle_start(alloc: Global, circle: &Circle) -> Result<String, AllocError>
+    ensures { IfOk result (λ text. string_bytes text ≡ circle_start circle.now) }
+{
+    let (x, y, radius) = (circle.x, circle.y, circle.radius);
+    format!(in alloc; "35 w 0 J [] 0 d q 1 0 0 1 {x} {y} cm\n{radius} 0 m ")
+}
+
+/// The first quarter of a circle around the origin, which goes from its right end down.
+fn lower_right(alloc: Global, r: u32, k: u64) -> Result<String, AllocError>
+    ensures { IfOk result (λ text. string_bytes text ≡ lower_right r k) }
+{
+    format!(in alloc; "{r} {k} {k} {r} 0 {r} c ")
+}
+
+/// The second quarter.
+fn lower_left(alloc: Global, r: u32, k: u64) -> Result<String, AllocError>
+    ensures { IfOk result (λ text. string_bytes text ≡ lower_left r k) }
+{
+    format!(in alloc; "-{k} {r} -{r} {k} -{r} 0 c\n")
+}
+
+/// The third quarter.
+fn upper_left(alloc: Global, r: u32, k: u64) -> Result<String, AllocError>
+    ensures { IfOk result (λ text. string_bytes text ≡ upper_left r k) }
+{
+    format!(in alloc; "-{r} -{k} -{k} -{r} 0 -{r} c ")
+}
+
+/// The last quarter, and that the circle is drawn.
+fn upper_right(alloc: Global, r: u32, k: u64) -> Result<String, AllocError>
+    ensures { IfOk result (λ text. string_bytes text ≡ upper_right r k) }
+{
+    format!(in alloc; "{k} -{r} {r} -{k} {r} 0 c h S Q\n")
+}
+
+/// How far the points that lead an arc are beside its ends.
+fn arc_lead(radius: u32) -> u64
+    ensures { result ≡ arc_lead radius }
+{
+    u64::from(radius) * 5523 / 10_000
+}
+
+/// Adds the lines of a circle.
+fn add_circle(alloc: Global, text: &mut Vec<u8>, circle: &Circle) -> Result<(), OutOfMemory>
+    ensures { OnOk result (text.new.items ≡ text.old.items ++ circle_lines circle.now) }
+{
+    text.extend_from_slice(circle_start(alloc, circle)?.as_bytes())?;
+    add_arcs(alloc, text, circle.radius, arc_lead(circle.radius))
+}
+
+/// Adds the four quarters of a circle.
+fn add_arcs(alloc: Global, text: &mut Vec<u8>, r: u32, k: u64) -> Result<(), OutOfMemory>
+    ensures { OnOk result (text.new.items ≡ text.old.items ++ arcs r k) }
+{
+    text.extend_from_slice(lower_right(alloc, r, k)?.as_bytes())?;
+    text.extend_from_slice(lower_left(alloc, r, k)?.as_bytes())?;
+    text.extend_from_slice(upper_left(alloc, r, k)?.as_bytes())?;
+    text.extend_from_slice(upper_right(alloc, r, k)?.as_bytes())?;
     Ok(())
 }
 
@@ -93,12 +188,12 @@ fn add_path(alloc: Global, text: &mut Vec<u8>, path: &Path) -> Result<(), OutOfM
 
 /// The pen of a path.
 fn pen(alloc: Global, path: &Path) -> Result<String, AllocError>
-    ensures { IfOk result (λ text. string_bytes text ≡ pen path.now.mark (fitted path.now.closed (length_of path.now.closed path.now.points.items))) }
+    ensures { IfOk result (λ text. string_bytes text ≡ pen path.now.mark (fitted path.now.closed (length_of path.now.closed path.now.points.items)) (phase_of path.now.points.items)) }
 {
     match path.mark {
         Mark::Solid => String::from_str(alloc, "50 w 1 J [] 0 d\n"),
         Mark::Dashed => dashed_pen(alloc, dashes_of(path)),
-        Mark::Chain => String::from_str(alloc, "25 w 0 J [600 150 75 150] 0 d\n"),
+        Mark::Chain => chain_pen(alloc, phase_of(&path.points)),
         Mark::Hatch => String::from_str(alloc, "18 w 0 J [] 0 d\n"),
     }
 }

@@ -2,18 +2,20 @@
 ghost use Rattle.std.specs.Prelude.{◌≡◌, ◌<◌, ◌^◌, ◌++◌, pos, ◌≤ℤ◌, unsigned_abs, IfOk, OnOk, string_bytes};
 ghost use Rattle.std.specs.List.{All, flat_map};
 ghost use Rattle.svg_page.specs.Svg.{escaped, opening};
+ghost use Rattle.sheet_page.specs.Chains.{phase_between, phase_of};
 ghost use Rattle.sheet_page.specs.Dashes.{own_dashes};
 ghost use Rattle.sheet_page.specs.Pages.{IsInView};
-ghost use Rattle.sheet_page.specs.Svg.{classes, paper, ground, head, frame_line, before_text, label_line, standing, class_of, dash_array, to_point, route, path_line, drawn_in, group, group_start, path_start, svg_of};
+ghost use Rattle.sheet_page.specs.Svg.{classes, paper, ground, head, frame_line, dash_offset, pen_class, rule_offset, rule_start, rule_line, circle_line, before_text, label_line, standing, class_of, dash_array, own_offset, to_point, route, path_line, drawn_in, group, group_start, path_start, svg_of};
 
+use crate::chains::{phase_between, phase_of};
 use crate::dashes::{Dashes, dashes_of, with_decimals};
-use crate::page::{Frame, Item, Label, Page};
+use crate::page::{Circle, Frame, Item, Label, Page, Pen, Rule};
 use exact_frac::OutOfMemory;
 use sheet_plan::Mark;
 use std::alloc::{AllocError, Global};
 use stroke_paths::{Path, Point};
 
-/// The text of a page in SVG (version 1.1): its frames and texts, and for each view a group of its paths, which a program can
+/// The text of a page in SVG (version 1.1): what isn't a path, and for each view a group of its paths, which a program can
 /// show or hide. A hidden path's dashes are fitted to it. Each path is of one of the page's views.
 ///
 /// Goes over the items once for each view, and once more.
@@ -68,9 +70,11 @@ fn paper(alloc: Global, w: i64, h: i64) -> Result<String, AllocError>
 fn classes() -> &'static str
     ensures { result.now ≡ classes }
 {
-    "path,.frame{fill:none;stroke:black}\n\
+    "path,line,circle,.frame{fill:none;stroke:black}\n\
      text{font-family:sans-serif}\n\
      .frame{stroke-width:70}\n\
+     .thin{stroke-width:25}\n\
+     .strong{stroke-width:35;stroke-linecap:round}\n\
      .visible{stroke-width:50;stroke-linecap:round;stroke-linejoin:round}\n\
      .hidden{stroke-width:35;stroke-linejoin:round}\n\
      .trace{stroke-width:25;stroke-linejoin:round;stroke-dasharray:600 150 75 150}\n\
@@ -85,7 +89,7 @@ fn ground(alloc: Global, width: i64, height: i64) -> Result<String, AllocError>
     format!(in alloc; "<rect width=\"{width}\" height=\"{height}\" fill=\"white\"/>\n")
 }
 
-/// Adds the frames and the texts.
+/// Adds whatever isn't a path.
 fn add_standing(alloc: Global, text: &mut Vec<u8>, items: &[Item]) -> Result<(), OutOfMemory>
     ensures { OnOk result (text.new.items ≡ text.old.items ++ flat_map standing items.now) }
 {
@@ -93,6 +97,10 @@ fn add_standing(alloc: Global, text: &mut Vec<u8>, items: &[Item]) -> Result<(),
         match item {
             Item::Frame(frame) => {
                 text.extend_from_slice(frame_line(alloc, frame)?.as_bytes())?;
+            }
+            Item::Rule(rule) => add_rule(alloc, text, rule)?,
+            Item::Circle(circle) => {
+                text.extend_from_slice(circle_line(alloc, circle)?.as_bytes())?;
             }
             Item::Label(label) => add_label(alloc, text, label)?,
             Item::Path(_) => {}
@@ -110,6 +118,62 @@ fn frame_line(alloc: Global, frame: &Frame) -> Result<String, AllocError>
     format!(in alloc;
         "<rect class=\"frame\" x=\"{x}\" y=\"{y}\" width=\"{width}\" height=\"{height}\"/>\n"
     )
+}
+
+/// The class of a rule.
+fn pen_class(pen: Pen) -> &'static str
+    ensures { result.now ≡ pen_class pen }
+{
+    match pen {
+        Pen::Thin => "thin",
+        Pen::Strong => "strong",
+        Pen::Chain => "trace",
+    }
+}
+
+/// How far into its pattern a chain line begins.
+fn dash_offset(alloc: Global, n: i64) -> Result<String, AllocError>
+    ensures { IfOk result (λ text. string_bytes text ≡ dash_offset n) }
+{
+    format!(in alloc; " stroke-dashoffset=\"{n}\"")
+}
+
+/// The same of a rule, where it is a chain line.
+fn rule_offset(alloc: Global, rule: &Rule) -> Result<String, AllocError>
+    ensures { IfOk result (λ text. string_bytes text ≡ rule_offset rule.now) }
+{
+    match rule.pen {
+        Pen::Thin | Pen::Strong => Ok(String::new(alloc)),
+        Pen::Chain => dash_offset(alloc, phase_between(&rule.from, &rule.to)),
+    }
+}
+
+/// The beginning of the line of a rule.
+fn rule_start(alloc: Global, rule: &Rule) -> Result<String, AllocError>
+    ensures { IfOk result (λ text. string_bytes text ≡ rule_start rule.now) }
+{
+    let class = pen_class(rule.pen);
+    let (x1, y1) = (rule.from.x, rule.from.y);
+    let (x2, y2) = (rule.to.x, rule.to.y);
+    format!(in alloc; "<line class=\"{class}\" x1=\"{x1}\" y1=\"{y1}\" x2=\"{x2}\" y2=\"{y2}\"")
+}
+
+/// Adds the line of a rule.
+fn add_rule(alloc: Global, text: &mut Vec<u8>, rule: &Rule) -> Result<(), OutOfMemory>
+    ensures { OnOk result (text.new.items ≡ text.old.items ++ rule_line rule.now) }
+{
+    text.extend_from_slice(rule_start(alloc, rule)?.as_bytes())?;
+    text.extend_from_slice(rule_offset(alloc, rule)?.as_bytes())?;
+    text.extend_from_slice("/>\n".as_bytes())?;
+    Ok(())
+}
+
+/// The line of a circle.
+fn circle_line(alloc: Global, circle: &Circle) -> Result<String, AllocError>
+    ensures { IfOk result (λ text. string_bytes text ≡ circle_line circle.now) }
+{
+    let (x, y, radius) = (circle.x, circle.y, circle.radius);
+    format!(in alloc; "<circle class=\"strong\" cx=\"{x}\" cy=\"{y}\" r=\"{radius}\"/>\n")
 }
 
 /// Adds the line of a text.
@@ -196,6 +260,7 @@ fn add_path(alloc: Global, text: &mut Vec<u8>, path: &Path) -> Result<(), OutOfM
 {
     text.extend_from_slice(path_start(alloc, path.mark)?.as_bytes())?;
     add_dashes(alloc, text, path)?;
+    add_offset(alloc, text, path)?;
     text.extend_from_slice(" d=\"".as_bytes())?;
     add_route(alloc, text, path.closed, path.points.as_slice())?;
     text.extend_from_slice("\"/>\n".as_bytes())?;
@@ -230,6 +295,17 @@ fn add_dashes(alloc: Global, text: &mut Vec<u8>, path: &Path) -> Result<(), OutO
         if let Some(dashes) = dashes_of(path) {
             text.extend_from_slice(dash_array(alloc, &dashes)?.as_bytes())?;
         }
+    }
+    Ok(())
+}
+
+/// Adds a path's place in its pattern, if it is a chain line.
+fn add_offset(alloc: Global, text: &mut Vec<u8>, path: &Path) -> Result<(), OutOfMemory>
+    ensures { OnOk result (text.new.items ≡ text.old.items ++ own_offset path.now.mark path.now.points.items) }
+{
+    if let Mark::Chain = path.mark {
+        let offset = dash_offset(alloc, phase_of(path.points.as_slice()))?;
+        text.extend_from_slice(offset.as_bytes())?;
     }
     Ok(())
 }
