@@ -14,7 +14,7 @@ use Rattle.lattice.specs.declared.points.Axis.TheVariants.{X, Y, Z}
 use Rattle.lattice.specs.declared.points.Corner.{Corner}
 use Rattle.lattice.specs.Cuts.{Plane, side_of, toward_of, level_of}
 use Rattle.lattice.specs.Points.{Point, point_of, scaled}
-use Rattle.lattice.specs.Triple.{Triple, dot, cross, negated, right_axis, up_axis}
+use Rattle.lattice.specs.Triple.{Triple, dot, negated, right_axis, up_axis}
 use Rattle.lattice.proofs.CutSides.{corner_beyond, corner_before}
 use Rattle.geometry.specs.Traces.{component_of, IsAlong}
 use Rattle.cut_marks.specs.Boxes.{IsFirstAlong}
@@ -48,7 +48,7 @@ only_times Z true r h = (r.z, record { x = omega (arith, ints, h X (λ e. cc)); 
 only_times Z false r h = (neg_ℤ r.z, record { x = omega (arith, ints, h X (λ e. cc)); y = omega (arith, ints, h Y (λ e. cc)); z = omega (arith, ints) })
 
 -- ---- the axes of a view along an axis
-no_zero : (a : ℤ) → a ≢ pos 0 → int_eq a (pos 0) ≡ false
+pub no_zero : (a : ℤ) → a ≢ pos 0 → int_eq a (pos 0) ≡ false
 no_zero a n = go (int_eq a (pos 0)) (signed_Decides a (pos 0))
   where
     go : (b : Bool) → Decides b (a ≡ pos 0) → b ≡ false
@@ -59,10 +59,10 @@ no_zero a n = go (int_eq a (pos 0)) (signed_Decides a (pos 0))
 abbrev right_of : Bool → Triple → Triple
 right_of b d = if b then record { x = pos 1; y = pos 0; z = pos 0 } else record { x = neg_ℤ d.y; y = d.x; z = pos 0 }
 
-turned : (d : Triple) → (int_eq d.x (pos 0) && int_eq d.y (pos 0)) ≡ false → right_axis d ≡ record { x = neg_ℤ d.y; y = d.x; z = pos 0 }
+pub turned : (d : Triple) → (int_eq d.x (pos 0) && int_eq d.y (pos 0)) ≡ false → right_axis d ≡ record { x = neg_ℤ d.y; y = d.x; z = pos 0 }
 turned d e = ap (λ (b : Bool). right_of b d) e
 
-straight : (d : Triple) → (int_eq d.x (pos 0) && int_eq d.y (pos 0)) ≡ true → right_axis d ≡ record { x = pos 1; y = pos 0; z = pos 0 }
+pub straight : (d : Triple) → (int_eq d.x (pos 0) && int_eq d.y (pos 0)) ≡ true → right_axis d ≡ record { x = pos 1; y = pos 0; z = pos 0 }
 straight d e = ap (λ (b : Bool). right_of b d) e
 
 -- the axis that runs across, and the one that runs upward, of a view along an axis

@@ -1,7 +1,11 @@
 pub mod Counted
+pub mod Crossed
 pub mod Firsts
 pub mod InBox
+pub mod InReach
 pub mod Planned
 pub mod Reach
 pub mod Sides
 pub mod Sizes
+pub mod Upright
+pub mod Written

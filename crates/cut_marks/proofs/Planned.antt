@@ -1,12 +1,12 @@
 -- The box of a view is the one that the sheet was planned with.
-use Rattle.std.proofs.Common.{◌≡◌, ℕ, List, Any, All, Contains, Some, sym, subst, ap, ◌∙◌, arith}
-use Rattle.std.specs.Prelude.{ℤ, pos, ◌+ℤ◌, ◌-ℤ◌, ◌≤ℤ◌}
+use Rattle.std.proofs.Common.{◌≡◌, ℕ, List, Some, sym, subst, ap, ◌∙◌, arith}
+use Rattle.std.specs.Prelude.{ℤ, ◌+ℤ◌, ◌-ℤ◌, ◌≤ℤ◌}
 use Rattle.std.proofs.lemmas.Int.{ints}
 use Rattle.std.proofs.lemmas.List.Elements.{All-contains}
 use Rattle.lattice.specs.declared.points.Corner.{Corner}
 use Rattle.lattice.specs.Points.{of_dir, point_of, scaled}
 use Rattle.lattice.specs.Triple.{Triple, dot, negated, right_axis, up_axis}
-use Rattle.sheet_plan.specs.Boxes.{Box, box_at}
+use Rattle.sheet_plan.specs.Boxes.{box_at}
 use Rattle.sheet_plan.specs.Extents.{IsLeast, IsGreatest, IsExtent}
 use Rattle.sheet_plan.specs.Layout.{across_at, upward_at}
 use Rattle.sheet_plan.specs.Numbers.{Measure, measure_of}
@@ -54,7 +54,7 @@ module _ (sheet : Sheet) (corners : List Corner) (view : ℕ) (b : ViewBox) (h :
         bottom = (h.bottom ∙ ap (λ (v : ℤ). y0 -ℤ upward_at m d v) (is_least (up_axis d) corners h.lowest e.v_min h.is_lowest is.lowest)) i;
       }
 
-  one_place : (place : Spread) → IsPlaceOf sheet view place → h.place ≡ place
+  pub one_place : (place : Spread) → IsPlaceOf sheet view place → h.place ≡ place
   one_place place stands = same (sym h.stands ∙ stands)
     where
       same : {p q : Spread} → Some p ≡ Some q → p ≡ q

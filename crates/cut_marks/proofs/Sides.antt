@@ -1,6 +1,6 @@
 -- Which axis a direction is along, when corners are on both sides of a plane, and when they are spread along an axis.
-use Rattle.std.proofs.Common.{◌≡◌, ◌≢◌, ◌↔◌, Bool, IsTrue, List, ap, Contains, sym, subst, ◌∙◌, arith}
-use Rattle.std.specs.Prelude.{ℤ, pos, ◌+ℤ◌, ◌*ℤ◌, ◌<ℤ◌, ◌≤ℤ◌}
+use Rattle.std.proofs.Common.{◌≡◌, ◌↔◌, Bool, IsTrue, List, ap, Contains, sym, subst, ◌∙◌, arith}
+use Rattle.std.specs.Prelude.{ℤ, pos, ◌<ℤ◌, ◌≤ℤ◌}
 use Rattle.std.proofs.lemmas.Int.{ints, by_lt_z}
 use Rattle.integers.proofs.Logic.{↔-trans}
 use Rattle.lattice.specs.declared.points.Axis.{Axis}
@@ -10,7 +10,7 @@ use Rattle.lattice.specs.Cuts.{Plane, toward_of, level_of, unit_of}
 use Rattle.lattice.specs.Points.{point_of, scaled}
 use Rattle.lattice.specs.Triple.{Triple, dot, negated}
 use Rattle.lattice.proofs.CutSides.{corner_beyond, corner_before}
-use Rattle.geometry.specs.Traces.{component_of, coordinate_of, IsAlong}
+use Rattle.geometry.specs.Traces.{coordinate_of, IsAlong}
 use Rattle.cut_marks.specs.Boxes.{IsFirstAlong}
 use Rattle.cut_marks.specs.Traces.{GoesThrough, IsSpread}
 use Rattle.cut_marks.proofs.Firsts.{least_first, most_last}

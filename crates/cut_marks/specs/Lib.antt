@@ -3,5 +3,7 @@ pub mod Figures
 pub mod Lanes
 pub mod Letters
 pub mod Marks
+pub mod Notes
+pub mod Ranges
 pub mod Reach
 pub mod Traces

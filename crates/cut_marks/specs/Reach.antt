@@ -1,10 +1,15 @@
 -- How far marks and headings reach outside the box of their view.
-use Rattle.std.specs.Prelude.{◌⊎◌, ℤ, pos, ◌+ℤ◌, ◌-ℤ◌, ◌<ℤ◌, ◌≤ℤ◌, if◌then◌else◌}
+use Rattle.std.specs.Prelude.{◌≡◌, ◌⊎◌, ℕ, ℤ, pos, ◌+ℤ◌, ◌-ℤ◌, ◌<ℤ◌, ◌≤ℤ◌, if◌then◌else◌, List, All, Some, IfSome, slice_get}
+use Rattle.lattice.specs.declared.points.Corner.{Corner}
+use Rattle.sheet_plan.specs.declared.sheet.Sheet.{Sheet}
+use Rattle.cut_marks.specs.Boxes.{IsViewBox}
 use Rattle.cut_marks.specs.Traces.{is_upright}
 use Rattle.cut_marks.specs.declared.boxes.ViewBox.{ViewBox}
+use Rattle.cut_marks.specs.declared.figures.Heading.{Heading}
 use Rattle.cut_marks.specs.declared.figures.Mark.{Mark}
 use Rattle.cut_marks.specs.declared.figures.MarkEnd.{MarkEnd}
 use Rattle.cut_marks.specs.declared.figures.Place.{Place}
+use Rattle.cut_marks.specs.declared.views.ViewMarks.{ViewMarks}
 use Rattle.cut_marks.specs.declared.ways.Trace.{Trace}
 
 -- 7 mm
@@ -34,6 +39,21 @@ pub record IsEndInReach (b : ViewBox) (e : MarkEnd) : Type 0 where
 pub record IsMarkInReach (b : ViewBox) (m : Mark) : Type 0 where
   pub first : IsEndInReach b m.first
   pub second : IsEndInReach b m.second
+
+-- a heading takes 5 mm on both sides of the middle of its base line, 5 mm above it and 1.5 mm beneath
+abbrev pub IsHeadingInReach : ViewBox → Heading → Type 0
+IsHeadingInReach b h = IsInReach b (h.x -ℤ pos 500) (h.x +ℤ pos 500) (h.y -ℤ pos 500) (h.y +ℤ pos 150)
+
+-- what tells the cuts in the view with this number is in reach of its box
+pub record IsViewInReach (sheet : Sheet) (corners : List Corner) (view : ℕ) (m : ViewMarks) : Type 0 where
+  pub box : ViewBox
+  pub is_box : IsViewBox sheet corners view box
+  pub heading : IfSome m.heading (IsHeadingInReach box)
+  pub marks : All (IsMarkInReach box) m.marks.items
+
+-- and so in each view
+abbrev pub AreInReach : Sheet → List Corner → List ViewMarks → Type 0
+AreInReach sheet corners all = (view : ℕ) (m : ViewMarks) → slice_get all view ≡ Some m → IsViewInReach sheet corners view m
 
 -- the trace crosses the box
 pub record IsCrossed (b : ViewBox) (t : Trace) : Type 0 where

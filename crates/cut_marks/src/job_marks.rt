@@ -7,6 +7,7 @@ ghost use Rattle.cut_marks.specs.Letters.{cuts_of, cuts_in};
 ghost use Rattle.cut_marks.specs.Lanes.{is_beside, is_on_line};
 ghost use Rattle.cut_marks.specs.Figures.{beside_of, marks_of, marks_in, left_of, left_out_in};
 ghost use Rattle.cut_marks.specs.Marks.{IsHeaded, ArePlainMarks, IsMarked, AreMarked};
+ghost use Rattle.cut_marks.specs.Reach.{AreInReach};
 
 use crate::boxes::ViewBox;
 use crate::figures::{Heading, Mark, heading_over, mark_on};
@@ -177,7 +178,8 @@ pub fn marks(
 ) -> Result<Vec<ViewMarks>, OutOfMemory>
     requires placed { length views.now ≤ length sheet.now.places.items }
     requires few { length views.now ≤ 12 }
-    ensures { IfOk result (λ marks. AreMarked sheet.now (solid_part solid.now) (cuts_in views.now) views.now marks.items) }
+    ensures marked { IfOk result (λ marks. AreMarked sheet.now (solid_part solid.now) (cuts_in views.now) views.now marks.items) }
+    ensures in_reach { IfOk result (λ marks. AreInReach sheet.now (solid_part solid.now).corners marks.items) }
 {
     let cuts = cuts_in(alloc, views)?;
     let mut marks = Vec::new(alloc);

@@ -1,9 +1,8 @@
 //! How a drawing tells its cuts, as ISO 128 does: each cut has a letter, its view is headed by it, and where another view sees the
 //! cut's plane edge-on, a chain line crosses the view's whole box, with the letter and an arrow in the viewing direction at both ends.
 //!
-//! All lengths are in hundredths of a millimetre on the sheet. A mark whose trace crosses its view's box ends within 7 mm of it (lemma
-//! `mark_in_reach`), so that it reaches no other view: views are 15 mm apart (lemma `clear`). The cost is a few passes over the part's
-//! corners for each view and cut.
+//! All lengths are in hundredths of a millimetre on the sheet. Marks and headings end within 7 mm of their view's box, so that they
+//! reach no other view: views are 15 mm apart (lemma `clear`). The cost is a few passes over the part's corners for each view and cut.
 #![tactic(auto)]
 
 mod boxes;
@@ -12,6 +11,7 @@ mod figures;
 mod job_marks;
 mod lanes;
 mod letters;
+mod note_lines;
 mod sections;
 mod traces;
 mod views;
@@ -20,4 +20,5 @@ mod ways;
 pub use boxes::ViewBox;
 pub use figures::{Heading, Mark, MarkEnd, Place};
 pub use job_marks::marks;
+pub use note_lines::notes;
 pub use views::ViewMarks;

@@ -1,4 +1,4 @@
-use Rattle.std.proofs.Common.{ℕ, length, ◌<◌, ◌≡◌, rules, subst, FitsSigned, arith}
+use Rattle.std.proofs.Common.{ℕ, length, ◌<◌, ◌≡◌, subst, FitsSigned, arith}
 use Rattle.std.specs.Int.{w64}
 use Rattle.std.specs.Prelude.{ℤ}
 use Rattle.std.proofs.lemmas.Int.{ints, to_z-of_z}

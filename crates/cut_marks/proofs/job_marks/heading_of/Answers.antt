@@ -1,4 +1,4 @@
-use Rattle.std.proofs.Common.{◌≡◌, ◌↔◌, ℕ, Bool, IsTrue, sym, subst, ap, ◌∙◌}
+use Rattle.std.proofs.Common.{◌≡◌, ◌↔◌, Bool, IsTrue, sym, subst, ap, ◌∙◌}
 use Rattle.lattice.specs.Cuts.{plane_of}
 use Rattle.solid_mesh.specs.Solids.{solid_part}
 use Rattle.cut_marks.specs.Figures.{heading_over}

@@ -11,6 +11,7 @@ use Rattle.cut_marks.specs.Marks.{IsMarked, AreMarked}
 use Rattle.cut_marks.specs.Marks.AreMarked.{none, more}
 use Rattle.cut_marks.specs.declared.views.ViewMarks.{ViewMarks}
 use Rattle.cut_marks.proofs.Counted.{few_cuts}
+use Rattle.cut_marks.proofs.InReach.{marked_in_reach}
 use Rattle.cut_marks.proofs.job_marks.marks.Goals as goal
 
 pub loop-view-init : goal.loop-view-init
@@ -43,7 +44,13 @@ loop-view-preserved c =
     subst (λ (vs : List JobView). AreMarked sheet s all vs c.push.new.self.items) (front_more views k x c.loop-view-test.true (sym c.index-views-view.is))
     (subst (AreMarked sheet s all (take k views ++ x ∷ [])) (sym c.in_ok-push.ensures.items) (more (take k views) x c.loop-view.marks.items m c.loop-view.invariant numbered))
 
-pub returns : goal.returns
-returns c =
+all_marked : goal.returns-clause-marked
+all_marked c =
     subst (λ (vs : List JobView). AreMarked c.args.sheet.now (solid_part c.args.solid.now) (cuts_in c.args.views.now) vs c.loop-view.marks.items)
     (take_all c.loop-view.view c.args.views.now c.loop-view-test.false) c.loop-view.invariant
+
+pub returns-clause-marked : goal.returns-clause-marked
+returns-clause-marked c = all_marked c
+
+pub returns-clause-in_reach : goal.returns-clause-in_reach
+returns-clause-in_reach c = marked_in_reach c.args.sheet.now (solid_part c.args.solid.now) (cuts_in c.args.views.now) c.args.views.now c.loop-view.marks.items (all_marked c)

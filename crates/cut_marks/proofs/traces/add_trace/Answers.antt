@@ -1,6 +1,5 @@
 use Rattle.std.proofs.Common.{ℕ, List, [], ◌∷◌, ◌++◌, Some, refl, sym, subst, ap, ◌∙◌}
 use Rattle.std.proofs.lemmas.Option.{slice_get-get_or}
-use Rattle.lattice.specs.Cuts.{plane_of}
 use Rattle.solid_mesh.specs.Solids.{solid_part}
 use Rattle.cut_marks.specs.Letters.{IsLetterOf}
 use Rattle.cut_marks.specs.Traces.{AreTraces}

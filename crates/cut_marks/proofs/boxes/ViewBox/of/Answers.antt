@@ -1,8 +1,7 @@
-use Rattle.std.proofs.Common.{rules, ◌≡◌, Some, sym, subst, ap, ◌∙◌, FitsSigned}
+use Rattle.std.proofs.Common.{rules, Some, sym, subst, ap, ◌∙◌, FitsSigned}
 use Rattle.std.specs.Int.{w64}
 use Rattle.std.proofs.lemmas.Int.{to_z-of_z}
 use Rattle.std.proofs.lemmas.Option.{slice_get-get_or}
-use Rattle.lattice.specs.Points.{of_dir, point_of}
 use Rattle.lattice.specs.Triple.{Triple, negated}
 use Rattle.sheet_plan.specs.Sheets.{IsPlaceOf}
 use Rattle.solid_mesh.specs.Solids.{solid_part}

@@ -1,0 +1,4 @@
+pub mod Lengths
+pub mod Boxes
+pub mod Greatest
+pub mod Moves

@@ -1,0 +1,2 @@
+pub mod Centred
+pub mod inner

@@ -1,0 +1,168 @@
+-- What tells the cuts of a job is in reach of the views' boxes, and far within the range of numbers.
+use Rattle.std.proofs.Common.{◌≡◌, ◌⊎◌, inl, inr, ◌<◌, ◌^◌, ℕ, Bool, true, false, List, [], ◌∷◌, ◌++◌, Option, Some, All, IfSome, length, slice_get, unsigned_abs, refl, sym, subst, ◌∙◌, length-append, arith}
+use Rattle.std.specs.List.{flat_map}
+use Rattle.std.specs.Prelude.{if◌then◌else◌, ℤ, pos, ◌+ℤ◌, ◌-ℤ◌, ◌*ℤ◌, ◌<ℤ◌, ◌≤ℤ◌}
+use Rattle.std.proofs.lemmas.Int.{ints}
+use Rattle.std.proofs.lemmas.List.Elements.{All-nil, All-cons, All-head, All-tail, All-append, All-push, All-pop, All-same, All-weaker}
+use Rattle.integers.specs.Floors.{floor_of}
+use Rattle.integers.proofs.Floors.{floor_of-is}
+use Rattle.integers.proofs.Lists.{slice_get_push}
+use Rattle.job_file.specs.declared.view.JobView.{JobView}
+use Rattle.lattice.specs.declared.cuts.Cut.{Cut}
+use Rattle.lattice.specs.declared.pieces.ViewSpec.{ViewSpec}
+use Rattle.lattice.specs.declared.pieces.ViewSpec.TheVariants.{Plain, Section}
+use Rattle.geometry.specs.Parts.{Part}
+use Rattle.sheet_plan.specs.declared.sheet.Sheet.{Sheet}
+use Rattle.cut_marks.specs.Boxes.{IsViewBox}
+use Rattle.cut_marks.specs.Figures.{beside_of, marks_of, marks_in, mark_on, heading_over}
+use Rattle.cut_marks.specs.Lanes.{is_placed, AreLaned}
+use Rattle.cut_marks.specs.Lanes.AreLaned.{none as none_laned, more as more_laned}
+use Rattle.cut_marks.specs.Letters.{cuts_in}
+use Rattle.cut_marks.specs.Marks.{IsHeaded, ArePlainMarks, IsCutView, IsMarked, AreMarked}
+use Rattle.cut_marks.specs.Marks.AreMarked.{none as none_marked, more as more_marked}
+use Rattle.cut_marks.specs.Ranges.{IsPlaceInRange, IsEndInRange, IsMarkInRange, IsHeadingInRange}
+use Rattle.cut_marks.specs.Reach.{IsInReach, IsPointInReach, IsLetterInReach, IsEndInReach, IsMarkInReach, IsHeadingInReach, IsViewInReach, AreInReach, IsCrossed}
+use Rattle.cut_marks.specs.Traces.{AreTraces}
+use Rattle.cut_marks.specs.Traces.AreTraces.{none as no_traces, seen, unseen}
+use Rattle.cut_marks.specs.declared.boxes.ViewBox.{ViewBox}
+use Rattle.cut_marks.specs.declared.figures.Heading.{Heading}
+use Rattle.cut_marks.specs.declared.figures.Mark.{Mark}
+use Rattle.cut_marks.specs.declared.figures.MarkEnd.{MarkEnd}
+use Rattle.cut_marks.specs.declared.figures.Place.{Place}
+use Rattle.cut_marks.specs.declared.views.ViewMarks.{ViewMarks}
+use Rattle.cut_marks.specs.declared.ways.Laned.{Laned}
+use Rattle.cut_marks.specs.declared.ways.Trace.{Trace}
+use Rattle.cut_marks.proofs.Crossed.{crossed, box_across, box_down}
+use Rattle.cut_marks.proofs.Reach.{mark_in_reach}
+
+all_flat : {A B : Type 0} (P : B → Type 0) (Q : A → Type 0) (f : A → List B) → ((x : A) → Q x → All P (f x)) → (xs : List A) → All Q xs → All P (flat_map f xs)
+all_flat P Q f one [] h = All-nil P
+all_flat P Q f one (x ∷ xs) h = All-append P (f x) (flat_map f xs) (one x (All-head Q x xs h)) (all_flat P Q f one xs (All-tail Q x xs h))
+
+-- ---- the marks of a plain view
+module _ (sheet : Sheet) (s : Part) (view : ℕ) (b : ViewBox) (is_box : IsViewBox sheet s.corners view b) where
+  all_crossed : (cuts : List Cut) (traces : List Trace) → AreTraces sheet s view cuts traces → All (IsCrossed b) traces
+  all_crossed _ _ no_traces = All-nil (IsCrossed b)
+  all_crossed _ _ (seen cuts c traces t are n) = All-push (IsCrossed b) traces t (all_crossed cuts traces are) (crossed sheet s view (length cuts) c t b is_box n)
+  all_crossed _ _ (unseen cuts c traces are n) = all_crossed cuts traces are
+
+  all_laned : (traces : List Trace) (laned : List Laned) → AreLaned traces laned → All (IsCrossed b) traces → All (λ e. IsCrossed b e.trace) laned
+  all_laned _ _ none_laned h = All-nil (λ e. IsCrossed b e.trace)
+  all_laned _ _ (more_laned traces laned t are) h =
+      let (rest, last) = All-pop (IsCrossed b) (traces ++ t ∷ []) traces (Some t) refl h in
+      All-push (λ e. IsCrossed b e.trace) laned _ (all_laned traces laned are rest) last
+
+  all_reach : (all : List Laned) → All (λ e. IsCrossed b e.trace) all → All (IsMarkInReach b) (marks_in b all)
+  all_reach all h = all_flat (IsMarkInReach b) (λ e. IsCrossed b e.trace) (marks_of b all) one all h
+    where
+      placed : (there : Bool) (m : Mark) → IsMarkInReach b m → All (IsMarkInReach b) (if there then m ∷ [] else [])
+      placed true m k = All-cons (IsMarkInReach b) m [] k (All-nil (IsMarkInReach b))
+      placed false m k = All-nil (IsMarkInReach b)
+
+      one : (e : Laned) → IsCrossed b e.trace → All (IsMarkInReach b) (marks_of b all e)
+      one e k = placed (is_placed e.lane) (mark_on b e.trace e.lane (beside_of all e.trace)) (mark_in_reach b e.trace e.lane (beside_of all e.trace) k)
+
+  pub marks_in_reach : (cuts : List Cut) (traces : List Trace) (laned : List Laned) → AreTraces sheet s view cuts traces → AreLaned traces laned → All (IsMarkInReach b) (marks_in b laned)
+  marks_in_reach cuts traces laned are are_laned = all_reach laned (all_laned traces laned are_laned (all_crossed cuts traces are))
+
+-- ---- a heading
+over_middle : (b : ViewBox) (letter : ℕ) (has : Bool) → b.left ≤ℤ b.right → b.top ≤ℤ b.bottom → IsHeadingInReach b (heading_over b letter has)
+over_middle b letter has across down =
+    let f = floor_of-is (b.left +ℤ b.right) (pos 2) (omega (arith, ints)) in
+    go (floor_of (b.left +ℤ b.right) (pos 2)) f.at_most f.rest_below
+  where
+    go : (x : ℤ) → (x *ℤ pos 2) ≤ℤ (b.left +ℤ b.right) → (b.left +ℤ b.right) <ℤ (x *ℤ pos 2 +ℤ pos 2)
+        → IsInReach b (x -ℤ pos 500) (x +ℤ pos 500) (b.top -ℤ pos 200 -ℤ pos 500) (b.top -ℤ pos 200 +ℤ pos 150)
+    go x low high = record { left = omega (arith, ints); right = omega (arith, ints); top = omega (arith, ints); bottom = omega (arith, ints) }
+
+heading_in_reach : (sheet : Sheet) (s : Part) (view number : ℕ) (c : Cut) (h : Heading) → (is : IsHeaded sheet s view number c h) → IsHeadingInReach is.box h
+heading_in_reach sheet s view number c h is =
+    subst (IsHeadingInReach is.box) (sym is.over) (over_middle is.box h.letter h.has_section (box_across sheet s.corners view is.box is.is_box) (box_down sheet s.corners view is.box is.is_box))
+
+-- ---- what is in reach is in range
+point_in_range : (b : ViewBox) (p : Place) (x x_end y y_end : ℤ) → x ≤ℤ p.x → p.x ≤ℤ x_end → y ≤ℤ p.y → p.y ≤ℤ y_end → IsInReach b x x_end y y_end → IsPlaceInRange p
+point_in_range b p x x_end y y_end l r t u h = record {
+  x = within b.left b.right p.x x x_end b.left_in_range b.right_in_range h.left h.right l r;
+  y = within b.top b.bottom p.y y y_end b.top_in_range b.bottom_in_range h.top h.bottom t u;
+}
+  where
+    within : (a b n low high : ℤ) → unsigned_abs a < 2 ^ 61 → unsigned_abs b < 2 ^ 61 → (a -ℤ pos 700) ≤ℤ low → high ≤ℤ (b +ℤ pos 700) → low ≤ℤ n → n ≤ℤ high → unsigned_abs n < 2 ^ 62
+    within a b n low high f g h i j k = omega (arith, ints)
+
+end_in_range : (b : ViewBox) (e : MarkEnd) → IsEndInReach b e → IsEndInRange e
+end_in_range b e h = record {
+  tail = at e.tail h.tail;
+  tip = at e.tip h.tip;
+  letter = around e.letter h.letter;
+  beside = around e.beside h.beside;
+}
+  where
+    same : (n : ℤ) → n ≤ℤ n
+    same n = omega (arith, ints)
+
+    less : (n : ℤ) (k : ℕ) → (n -ℤ pos k) ≤ℤ n
+    less n k = omega (arith, ints)
+
+    more_than : (n : ℤ) (k : ℕ) → n ≤ℤ (n +ℤ pos k)
+    more_than n k = omega (arith, ints)
+
+    at : (p : Place) → IsPointInReach b p → IsPlaceInRange p
+    at p k = point_in_range b p p.x p.x p.y p.y (same p.x) (same p.x) (same p.y) (same p.y) k
+
+    around : (p : Place) → IsLetterInReach b p → IsPlaceInRange p
+    around p k = point_in_range b p (p.x -ℤ pos 150) (p.x +ℤ pos 150) (p.y -ℤ pos 275) (p.y +ℤ pos 25) (less p.x 150) (more_than p.x 150) (less p.y 275) (more_than p.y 25) k
+
+mark_in_range : (b : ViewBox) (m : Mark) → IsMarkInReach b m → IsMarkInRange m
+mark_in_range b m h = record { first = end_in_range b m.first h.first; second = end_in_range b m.second h.second }
+
+heading_in_range : (b : ViewBox) (h : Heading) → IsHeadingInReach b h → IsHeadingInRange h
+heading_in_range b h k = record {
+  x = within b.left b.right h.x (pos 500) (pos 500) b.left_in_range b.right_in_range (omega (arith, ints)) (omega (arith, ints)) (omega (arith, ints)) (omega (arith, ints)) k.left k.right;
+  y = within b.top b.bottom h.y (pos 500) (pos 150) b.top_in_range b.bottom_in_range (omega (arith, ints)) (omega (arith, ints)) (omega (arith, ints)) (omega (arith, ints)) k.top k.bottom;
+}
+  where
+    within : (a b n below above : ℤ) → unsigned_abs a < 2 ^ 61 → unsigned_abs b < 2 ^ 61 → pos 0 ≤ℤ below → below ≤ℤ pos 500 → pos 0 ≤ℤ above → above ≤ℤ pos 500 → (a -ℤ pos 700) ≤ℤ (n -ℤ below) → (n +ℤ above) ≤ℤ (b +ℤ pos 700) → unsigned_abs n < 2 ^ 62
+    within a b n below above f g h i j k l m = omega (arith, ints)
+
+-- ---- so all marks of a plain view and the heading of a cut view are in range
+pub all_in_range : (b : ViewBox) (marks : List Mark) → All (IsMarkInReach b) marks → All IsMarkInRange marks
+all_in_range b marks h = All-weaker (IsMarkInReach b) IsMarkInRange (mark_in_range b) marks h
+
+pub headed_in_range : (sheet : Sheet) (s : Part) (view number : ℕ) (c : Cut) (h : Heading) → IsHeaded sheet s view number c h → IsHeadingInRange h
+headed_in_range sheet s view number c h is = heading_in_range is.box h (heading_in_reach sheet s view number c h is)
+
+-- ---- a job
+module _ (sheet : Sheet) (s : Part) (cuts : List Cut) where
+  as_many : (views : List JobView) (all : List ViewMarks) → AreMarked sheet s cuts views all → length all ≡ length views
+  as_many _ _ none_marked = refl
+  as_many _ _ (more_marked views v all m are is) = omega (arith, length-append all (m ∷ []), length-append views (v ∷ []), as_many views all are)
+
+  of_plain : (view : ℕ) (m : ViewMarks) → ArePlainMarks sheet s cuts view m → IsViewInReach sheet s.corners view m
+  of_plain view m h = record {
+    box = h.box;
+    is_box = h.is_box;
+    heading = subst (λ (o : Option Heading). IfSome o (IsHeadingInReach h.box)) (sym h.unheaded) tt;
+    marks = All-same (IsMarkInReach h.box) m.marks.items (marks_in h.box h.laned) h.marks (marks_in_reach sheet s view h.box h.is_box cuts h.traces h.laned h.are_traces h.are_laned);
+  }
+
+  of_cut : (view number : ℕ) (c : Cut) (m : ViewMarks) → IsCutView sheet s view number c m → IsViewInReach sheet s.corners view m
+  of_cut view number c m h = record {
+    box = h.is.box;
+    is_box = h.is.is_box;
+    heading = subst (λ (o : Option Heading). IfSome o (IsHeadingInReach h.is.box)) (sym h.headed) (heading_in_reach sheet s view number c h.heading h.is);
+    marks = All-same (IsMarkInReach h.is.box) m.marks.items [] h.no_marks (All-nil (IsMarkInReach h.is.box));
+  }
+
+  of_view : (view number : ℕ) (spec : ViewSpec) (m : ViewMarks) → IsMarked sheet s cuts view number spec m → IsViewInReach sheet s.corners view m
+  of_view view number (Plain d) m h = of_plain view m h
+  of_view view number (Section c) m h = of_cut view number c m h
+
+  pub marked_in_reach : (views : List JobView) (all : List ViewMarks) → AreMarked sheet s cuts views all → AreInReach sheet s.corners all
+  marked_in_reach _ _ none_marked view m at = absurd (cc)
+  marked_in_reach _ _ (more_marked views v all n are is) view m at = go (slice_get_push all n view m at) (λ e. marked_in_reach views all are view m e)
+    where
+      go : (slice_get all view ≡ Some m) ⊎ ((view ≡ length all) × (n ≡ m)) → (slice_get all view ≡ Some m → IsViewInReach sheet s.corners view m) → IsViewInReach sheet s.corners view m
+      go (inl e) before = before e
+      go (inr (e, same)) before =
+          subst (λ (k : ℕ). IsViewInReach sheet s.corners k m) (sym (e ∙ as_many views all are))
+          (subst (IsViewInReach sheet s.corners (length views)) same (of_view (length views) (length (cuts_in views)) v.spec n is))

@@ -1,0 +1,2 @@
+pub mod InCorner
+pub mod PartNames
