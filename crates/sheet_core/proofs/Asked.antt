@@ -41,7 +41,7 @@ answers_words named (Some Usage) h = absurd h
 answers_words named (Some Memory) h = tt
 answers_words named (Some (WriteFault Out)) h = refl
 answers_words named (Some (WriteFault (Plot number))) h = absurd h
-answers_words named (Some (WriteFault Summary)) h = absurd h
+answers_words named (Some (WriteFault Summary)) h = h
 answers_words named (Some e) h = h
 
 in_order : (named : Named) (files : Files) (e : Fault) → ReadsInOrder files named.part named.job e → RunsInOrder (Some (sheet named)) files e

@@ -3,3 +3,4 @@ pub mod Asked
 pub mod OneAnswer
 pub mod Orders
 pub mod PageItems
+pub mod Putting

@@ -1,21 +1,91 @@
 -- What stands on the page of a drawing is of its views.
-use Rattle.std.proofs.Common.{ℕ, ◌<◌, List, [], ◌∷◌, map}
-use Rattle.std.specs.Prelude.{ℤ}
-use Rattle.std.specs.List.{All}
-use Rattle.std.proofs.lemmas.List.Elements.{All-nil, All-cons, All-append, All-filter, All-map}
+use Rattle.std.proofs.Common.{◌≡◌, ℕ, ◌<◌, List, [], ◌∷◌, ◌++◌, Option, None, Some, map, length}
+use Rattle.std.specs.Prelude.{ℤ, pos, negsuc}
+use Rattle.std.specs.List.{All, flat_map}
+use Rattle.std.proofs.lemmas.List.Elements.{All-nil, All-cons, All-append, All-filter, All-map, All-weaker}
+use Rattle.std.proofs.lemmas.Slice.Zip.{AllZip-long}
+use Rattle.centring.specs.Centred.{IsPlannedFor, IsMovedPlace, IsCentred}
+use Rattle.cut_marks.specs.declared.figures.Heading.{Heading}
+use Rattle.cut_marks.specs.declared.figures.Mark.{Mark}
+use Rattle.cut_marks.specs.declared.figures.MarkEnd.{MarkEnd}
+use Rattle.cut_marks.specs.declared.figures.Place.{Place}
+use Rattle.cut_marks.specs.declared.views.ViewMarks.{ViewMarks}
+use Rattle.draw_core.specs.Drawing.{IsDrawing}
+use Rattle.mark_items.specs.Items.{rule_to, head_at, letter_item, beside_items, arrow_items, end_items, items_of_mark, heading_item, heading_items, items_of_view, items_of_marks}
+use Rattle.title_block.specs.Corners.{IsInCorner}
+use Rattle.lattice.specs.declared.points.Corner.{Corner}
+use Rattle.sheet_plan.specs.declared.sheet.Sheet.{Sheet}
+use Rattle.solid_mesh.specs.Solids.{solid_part}
 use Rattle.draw_core.specs.declared.drawing.Drawing.{Drawing}
 use Rattle.sheet_page.specs.Pages.{IsInView}
+use Rattle.sheet_page.specs.declared.page.Item.{Item}
 use Rattle.sheet_page.specs.declared.page.Item.TheVariants as item
+use Rattle.sheet_page.specs.declared.page.Pen.TheVariants as pen
 use Rattle.sheet_words.specs.declared.words.Hidden.{Hidden}
 use Rattle.stroke_paths.specs.declared.path.Path.{Path}
-use Rattle.sheet_core.specs.Pages.{is_shown, frame_of, title_items, items_of, shown_paths}
+use Rattle.sheet_core.specs.Pages.{is_shown, frame_of, shown_paths}
 
-titles : (n : ℕ) (height : ℤ) (title : List ℕ) → All (IsInView n) (title_items height title)
-titles n height [] = All-nil (IsInView n)
-titles n height (b ∷ title) = All-cons (IsInView n) _ [] tt (All-nil (IsInView n))
+-- the sheet of a drawing was planned for it
+pub planned_for : (d : Drawing) → IsDrawing d → IsPlannedFor d.job (solid_part d.solid).corners d.sheet
+planned_for d is = record { extents = is.sheet.extents; reach = is.sheet.reach; planned = is.sheet.planned }
 
-pub in_views : (n : ℕ) (hidden : Hidden) (d : Drawing) (paths : List Path) → All (λ p. p.view < n) paths → All (IsInView n) (items_of hidden d paths)
-in_views n hidden d paths within =
-    All-append (IsInView n) (frame_of d.sheet.width d.sheet.height ∷ title_items d.sheet.height d.job.title) (map item.Path (shown_paths hidden d.job.views.items paths))
-    (All-cons (IsInView n) (frame_of d.sheet.width d.sheet.height) (title_items d.sheet.height d.job.title) tt (titles n d.sheet.height d.job.title))
-    (All-map (IsInView n) item.Path (shown_paths hidden d.job.views.items paths) (All-filter (λ p. is_shown hidden d.job.views.items p.view p.mark) (λ p. p.view < n) paths within))
+-- and has as many places once they are moved
+pub same_places : (old : Sheet) (corners : List Corner) (new : Sheet) → IsCentred old corners new → length new.places.items ≡ length old.places.items
+same_places old corners new is = AllZip-long (IsMovedPlace _ _) old.places.items new.places.items is.moved.places
+
+-- ---- views
+all_flat : {A B : Type 0} (P : B → Type 0) (f : A → List B) → ((x : A) → All P (f x)) → (xs : List A) → All P (flat_map f xs)
+all_flat P f h [] = All-nil P
+all_flat P f h (x ∷ xs) = All-append P (f x) (flat_map f xs) (h x) (all_flat P f h xs)
+
+module _ (n : ℕ) where
+  one : (i : Item) → IsInView n i → All (IsInView n) (i ∷ [])
+  one i h = All-cons (IsInView n) i [] h (All-nil (IsInView n))
+
+  three : (a b c : Item) → IsInView n a → IsInView n b → IsInView n c → All (IsInView n) (a ∷ b ∷ c ∷ [])
+  three a b c h k l = All-cons (IsInView n) a (b ∷ c ∷ []) h (All-cons (IsInView n) b (c ∷ []) k (one c l))
+
+  -- the title block is of no view
+  block_item : (width height : ℤ) (i : Item) → IsInCorner width height i → IsInView n i
+  block_item width height (item.Frame frame) h = tt
+  block_item width height (item.Rule rule) h = tt
+  block_item width height (item.Circle circle) h = tt
+  block_item width height (item.Label label) h = tt
+  block_item width height (item.Path path) h = absurd h
+
+  pub of_block : (width height : ℤ) (items : List Item) → All (IsInCorner width height) items → All (IsInView n) items
+  of_block width height items h = All-weaker (IsInCorner width height) (IsInView n) (block_item width height) items h
+
+  -- nor is what tells the cuts
+  of_beside : (beside : Option ℕ) (p : Place) → All (IsInView n) (beside_items beside p)
+  of_beside None p = All-nil (IsInView n)
+  of_beside (Some letter) p = one (letter_item letter p) tt
+
+  of_end : (m : Mark) (e : MarkEnd) → All (IsInView n) (end_items m e)
+  of_end m e =
+      All-append (IsInView n) (arrow_items e) (letter_item m.letter e.letter ∷ beside_items m.beside e.beside)
+      (three (rule_to pen.Strong e.tail e.tip) (rule_to pen.Strong e.tip (head_at e (negsuc 39))) (rule_to pen.Strong e.tip (head_at e (pos 40))) tt tt tt)
+      (All-cons (IsInView n) (letter_item m.letter e.letter) (beside_items m.beside e.beside) tt (of_beside m.beside e.beside))
+
+  of_mark : (m : Mark) → All (IsInView n) (items_of_mark m)
+  of_mark m = All-cons (IsInView n) (rule_to pen.Chain m.first.tail m.second.tail) (end_items m m.first ++ end_items m m.second) tt (All-append (IsInView n) (end_items m m.first) (end_items m m.second) (of_end m m.first) (of_end m m.second))
+
+  of_heading : (h : Option Heading) → All (IsInView n) (heading_items h)
+  of_heading None = All-nil (IsInView n)
+  of_heading (Some h) = one (heading_item h) tt
+
+  of_view : (v : ViewMarks) → All (IsInView n) (items_of_view v)
+  of_view v = All-append (IsInView n) (heading_items v.heading) (flat_map items_of_mark v.marks.items) (of_heading v.heading) (all_flat (IsInView n) items_of_mark of_mark v.marks.items)
+
+  pub of_marks : (views : List ViewMarks) → All (IsInView n) (items_of_marks views)
+  of_marks views = all_flat (IsInView n) items_of_view of_view views
+
+pub in_views : (n : ℕ) (hidden : Hidden) (d : Drawing) (block marks : List Item) (paths : List Path) → All (IsInView n) block → All (IsInView n) marks → All (λ p. p.view < n) paths
+    → All (IsInView n) ((frame_of d.sheet.width d.sheet.height ∷ block) ++ map item.Path (shown_paths hidden d.job.views.items paths) ++ marks)
+in_views n hidden d block marks paths of_block of_marks within =
+    let frame = frame_of d.sheet.width d.sheet.height ∷ block in
+    let drawn = map item.Path (shown_paths hidden d.job.views.items paths) in
+    All-append (IsInView n) (frame ++ drawn) marks
+    (All-append (IsInView n) frame drawn
+    (All-cons (IsInView n) (frame_of d.sheet.width d.sheet.height) block tt of_block)
+    (All-map (IsInView n) item.Path (shown_paths hidden d.job.views.items paths) (All-filter (λ p. is_shown hidden d.job.views.items p.view p.mark) (λ p. p.view < n) paths within))) of_marks

@@ -1,5 +1,6 @@
 pub mod Lines
 pub mod Pages
 pub mod Run
+pub mod Summary
 pub mod Writing
 pub mod inner

@@ -1,12 +1,19 @@
--- The page of a drawing: its frame, its title, and the paths of its strokes, but for hidden lines that aren't asked for.
+-- The page of a drawing: its frame, its title block, the paths of its strokes, but for hidden lines that aren't asked for, and what tells
+-- its cuts.
 use Rattle.std.specs.Prelude.{◌≡◌, ℕ, Bool, true, false, not, ◌||◌, pos, ℤ, ◌-ℤ◌, List, [], ◌∷◌, ◌++◌, length, map, slice_get}
 use Rattle.std.specs.List.{filter}
 use Rattle.std.specs.Option.{option_map_or}
+use Rattle.centring.specs.Centred.{IsCentred}
+use Rattle.cut_marks.specs.Letters.{cuts_in}
+use Rattle.cut_marks.specs.Marks.{AreMarked}
+use Rattle.cut_marks.specs.declared.views.ViewMarks.{ViewMarks}
 use Rattle.job_file.specs.declared.view.JobView.{JobView}
+use Rattle.mark_items.specs.Items.{items_of_marks}
 use Rattle.lattice.specs.declared.pieces.ViewSpec.{ViewSpec}
 use Rattle.lattice.specs.declared.pieces.ViewSpec.TheVariants.{Plain, Section}
 use Rattle.sheet_plan.specs.declared.sheet.Mark.{Mark}
 use Rattle.sheet_plan.specs.declared.sheet.Mark.TheVariants.{Solid, Dashed, Chain, Hatch}
+use Rattle.sheet_plan.specs.declared.sheet.Sheet.{Sheet}
 use Rattle.sheet_plan.specs.declared.sheet.Stroke.{Stroke}
 use Rattle.draw_core.specs.Strokes.{AreStrokes}
 use Rattle.draw_core.specs.declared.drawing.Drawing.{Drawing}
@@ -15,6 +22,8 @@ use Rattle.stroke_paths.specs.declared.path.Path.{Path}
 use Rattle.sheet_page.specs.declared.page.Item.{Item}
 use Rattle.sheet_page.specs.declared.page.Item.TheVariants as item
 use Rattle.sheet_page.specs.declared.page.Page.{Page}
+use Rattle.solid_mesh.specs.Solids.{solid_part}
+use Rattle.title_block.specs.Blocks.{block_of}
 use Rattle.sheet_words.specs.declared.words.Hidden.{Hidden}
 use Rattle.sheet_words.specs.declared.words.Hidden.TheVariants as hide
 
@@ -47,22 +56,26 @@ shown_paths hidden views paths = filter (λ p. is_shown hidden views p.view p.ma
 abbrev pub frame_of : ℤ → ℤ → Item
 frame_of width height = item.Frame (record { x = pos 1000; y = pos 1000; width = width -ℤ pos 2000; height = height -ℤ pos 2000 })
 
--- the title, if it isn't empty
-abbrev pub title_items : ℤ → List ℕ → List Item
-title_items height [] = []
-title_items height (b ∷ title) = item.Label (record { x = pos 2000; y = height -ℤ pos 1800; size = 700; text = b ∷ title }) ∷ []
+-- what stands on the page: the frame, the title block, the paths that are drawn, and what tells the cuts
+abbrev pub items_of : Hidden → List ℕ → Drawing → List Path → List ViewMarks → List Item
+items_of hidden part d paths marks =
+    (frame_of d.sheet.width d.sheet.height ∷ block_of d.sheet d.job part)
+    ++ map item.Path (shown_paths hidden d.job.views.items paths)
+    ++ items_of_marks marks
 
-abbrev pub items_of : Hidden → Drawing → List Path → List Item
-items_of hidden d paths = (frame_of d.sheet.width d.sheet.height ∷ title_items d.sheet.height d.job.title) ++ map item.Path (shown_paths hidden d.job.views.items paths)
-
--- the page shows the drawing: its frame, its title, and the paths of its strokes that are drawn, in their order
-pub record IsPageOf (hidden : Hidden) (d : Drawing) (page : Page) : Type 0 where
+-- the page shows the drawing of the part with this name: its frame and its title block, and, with its views in the middle of their room,
+-- the paths of its strokes that are drawn, in their order, and the marks and the headings of its cuts
+pub record IsPageOf (hidden : Hidden) (part : List ℕ) (d : Drawing) (page : Page) : Type 0 where
+  pub sheet : Sheet
+  pub centred : IsCentred d.sheet (solid_part d.solid).corners sheet
   pub strokes : List Stroke
-  pub are_strokes : AreStrokes d.sheet d.views.items strokes
+  pub are_strokes : AreStrokes sheet d.views.items strokes
   pub paths : List Path
   pub are_paths : ArePaths strokes paths
+  pub marks : List ViewMarks
+  pub are_marks : AreMarked sheet (solid_part d.solid) (cuts_in d.job.views.items) d.job.views.items marks
   pub width : page.width ≡ d.sheet.width
   pub height : page.height ≡ d.sheet.height
   pub title : page.title ≡ d.job.title
   pub views : page.views ≡ length d.sheet.places.items
-  pub items : page.items.items ≡ items_of hidden d paths
+  pub items : page.items.items ≡ items_of hidden part d paths marks

@@ -10,8 +10,8 @@ use Rattle.part_input.specs.declared.fault.Input.{Input}
 use Rattle.part_input.specs.declared.fault.Input.TheVariants.{Job as TheJob, Part as ThePart}
 use Rattle.part_input.specs.declared.fault.Fault.{Fault}
 use Rattle.part_input.specs.declared.fault.Fault.TheVariants.{Usage, ReadFault, WriteFault, Memory}
-use Rattle.part_input.specs.declared.fault.Target.TheVariants.{Out}
-use Rattle.sheet_core.specs.Writing.{AsksSheetAnd}
+use Rattle.part_input.specs.declared.fault.Target.TheVariants.{Out, Summary}
+use Rattle.sheet_core.specs.Writing.{AsksSheetAnd, IsKept}
 use Rattle.sheet_words.specs.Names.{Asks, Named, help, version, sheet, asked_by}
 
 -- ---- the steps of a run
@@ -51,6 +51,7 @@ AnswersNamed named None = Unit {0}
 AnswersNamed named (Some Usage) = ⊥
 AnswersNamed named (Some Memory) = Unit {0}
 AnswersNamed named (Some (WriteFault Out)) = Unit {0}
+AnswersNamed named (Some (WriteFault Summary)) = IsKept named.out
 AnswersNamed named (Some (WriteFault target)) = ⊥
 AnswersNamed named (Some fault) = IsOfFiles named.part named.job fault
 
@@ -59,6 +60,7 @@ abbrev pub AnswersWords : Option Asks → Option Fault → Type 0
 AnswersWords asked (Some Usage) = asked ≡ None
 AnswersWords asked (Some Memory) = Unit {0}
 AnswersWords asked (Some (WriteFault Out)) = IsSome asked
+AnswersWords asked (Some (WriteFault Summary)) = AsksSheetAnd asked (λ named. IsKept named.out)
 AnswersWords asked (Some (WriteFault target)) = ⊥
 AnswersWords asked (Some fault) = AsksSheetAnd asked (λ named. IsOfFiles named.part named.job fault)
 AnswersWords asked None = IsSome asked

@@ -3,14 +3,18 @@
 //! It shows the drawing that `draw` makes, with its strokes joined to paths and dashes that are fitted to them, as SVG or as PDF.
 #![tactic(auto)]
 
+mod end;
 mod lines;
 mod page;
 mod put;
 mod run;
+mod summary;
 mod take;
+mod texts;
 
 pub use draw_core::{Drawing, Outcome};
-pub use lines::{HELP, MEMORY_LINE, VERSION, WRITE_LINE};
+pub use lines::{HELP, VERSION};
 pub use page::page_of;
 pub use part_input::{Fault, Input, Target};
 pub use run::sheet;
+pub use sheet_lines::MEMORY_LINE;

@@ -1,18 +1,4 @@
-// What the program tells of itself, and the lines that it tells faults by.
-ghost use Rattle.std.specs.Prelude.{◌≡◌, IfOk, IsOk};
-ghost use Rattle.fault_lines.specs.Lines.{NamesNothing};
-ghost use Rattle.fault_lines.specs.Told.{text_of};
-ghost use Rattle.sheet_core.specs.Lines.{fault_line};
-
-use fault_lines::{Line, line_of};
-use part_input::Fault;
-use std::alloc::{AllocError, Global};
-
-/// The line of want of memory.
-pub const MEMORY_LINE: &str = "sheet: out of memory\n";
-
-/// The line of a sheet that couldn't be written or said.
-pub const WRITE_LINE: &str = "sheet: cannot write the drawing\n";
+// What the program tells of itself.
 
 /// What `--help` says.
 pub const HELP: &str = "sheet PART [--job JOB] [--out OUT] [--hidden all|plain|none]\n\n\
@@ -29,16 +15,3 @@ pub const HELP: &str = "sheet PART [--job JOB] [--out OUT] [--hidden all|plain|n
 
 /// What `--version` says.
 pub const VERSION: &str = "sheet 0.1.0\n";
-
-/// The line of a fault. It takes memory only where the fault has a number or a name.
-pub(crate) fn sheet_line(alloc: Global, fault: &Fault) -> Result<Line, AllocError>
-    ensures line { IfOk result (λ line. text_of line ≡ fault_line fault.now) }
-    ensures fixed { NamesNothing fault.now → IsOk result }
-{
-    line_of(
-        alloc,
-        "sheet",
-        "sheet PART [--job JOB] [--out OUT] [--hidden all|plain|none]",
-        fault,
-    )
-}

@@ -1,21 +1,29 @@
 // The page of a drawing.
-ghost use Rattle.std.specs.Prelude.{◌≡◌, ◌<◌, ◌≤◌, ◌∷◌, ◌++◌, length, map, IfOk, OnOk, slice_get};
+ghost use Rattle.std.specs.Prelude.{◌≡◌, ◌<◌, ◌≤◌, ◌++◌, ℕ, List, length, map, IfOk, OnOk, slice_get};
 ghost use Rattle.std.specs.List.{All};
 ghost use Rattle.draw_core.specs.Drawing.{IsDrawing};
 ghost use Rattle.sheet_page.specs.Pages.{IsInView};
+ghost use Rattle.title_block.specs.Blocks.{block_of};
 ghost use Rattle.sheet_page.specs.declared.page.Item.TheVariants as item;
-ghost use Rattle.sheet_core.specs.Pages.{is_cut, is_dashed, draws_hidden, is_shown, shown_paths, frame_of, title_items, items_of, IsPageOf};
+ghost use Rattle.draw_core.specs.Strokes.{AreStrokes};
+ghost use Rattle.sheet_plan.specs.declared.sheet.Stroke.{Stroke};
+ghost use Rattle.stroke_paths.specs.Paths.{ArePaths};
+ghost use Rattle.sheet_core.specs.Pages.{is_cut, is_dashed, draws_hidden, is_shown, shown_paths, frame_of, items_of, IsPageOf};
 
+use centring::centred;
+use cut_marks::{ViewMarks, marks};
 use dec_text::Name;
 use draw_core::{Drawing, strokes_of};
 use exact_frac::OutOfMemory;
 use job_file::JobView;
 use lattice::ViewSpec;
-use sheet_page::{Frame, Item, Label, Page};
+use mark_items::mark_items;
+use sheet_page::{Frame, Item, Page};
 use sheet_plan::{Mark, Sheet};
 use sheet_words::Hidden;
 use std::alloc::Global;
 use stroke_paths::{Path, paths};
+use title_block::title_block;
 
 /// It is a view of what a cut leaves.
 fn is_cut(spec: &ViewSpec) -> bool
@@ -89,53 +97,66 @@ fn frame_of(sheet: &Sheet) -> Item
     })
 }
 
-/// Adds the title, if it isn't empty.
-fn add_title(
-    alloc: Global,
-    items: &mut Vec<Item>,
-    sheet: &Sheet,
-    title: &Name,
-) -> Result<(), OutOfMemory>
-    ensures { OnOk result (items.new.items ≡ items.old.items ++ title_items sheet.now.height title.now) }
+/// Adds items behind others.
+fn add_items(items: &mut Vec<Item>, more: Vec<Item>) -> Result<(), OutOfMemory>
+    ensures { OnOk result (items.new.items ≡ items.old.items ++ more.items) }
 {
-    if title.as_str().is_empty() {
-        return Ok(());
+    for item in more {
+        items.push(item)?;
     }
-    items.push(Item::Label(Label {
-        x: 2000,
-        y: sheet.height - 1800,
-        size: 700,
-        text: Name::new(alloc, title.as_str())?,
-    }))?;
     Ok(())
 }
 
-/// What stands on the page of a drawing with these paths.
+/// What stands on the page of a drawing of this part, with these paths and what tells its cuts.
 fn items_of(
     alloc: Global,
     hidden: Hidden,
+    part: &str,
     drawing: &Drawing,
     paths: Vec<Path>,
+    marks: &[ViewMarks],
 ) -> Result<Vec<Item>, OutOfMemory>
-    ensures { IfOk result (λ items. items.items ≡ items_of hidden drawing.now paths.items) }
+    ensures items { IfOk result (λ items. items.items ≡ items_of hidden part.now drawing.now paths.items marks.now) }
+    ensures of_block { IfOk result (λ _. (n : ℕ) → All (IsInView n) (block_of drawing.now.sheet drawing.now.job part.now)) }
 {
     let mut items = Vec::new(alloc);
     items.push(frame_of(&drawing.sheet))?;
-    add_title(alloc, &mut items, &drawing.sheet, &drawing.job.title)?;
+    let block = title_block(alloc, &drawing.sheet, &drawing.job, part)?;
+    add_items(&mut items, block)?;
     add_paths(&mut items, hidden, &drawing.job.views, paths)?;
+    add_items(&mut items, mark_items(alloc, marks)?)?;
     Ok(items)
 }
 
-/// The page of a drawing: the sheet's frame, the title, and the paths of its strokes, but for hidden lines where they aren't asked for.
-/// The time goes with the number of strokes.
-pub fn page_of(alloc: Global, hidden: Hidden, drawing: &Drawing) -> Result<Page, OutOfMemory>
+/// The paths of a drawing's strokes on this sheet.
+fn paths_on(alloc: Global, sheet: &Sheet, drawing: &Drawing) -> Result<Vec<Path>, OutOfMemory>
+    requires placed { length drawing.now.views.items ≤ length sheet.now.places.items }
+    requires few { length drawing.now.views.items ≤ 12 }
+    ensures paths { IfOk result (λ paths. (strokes : List Stroke) × AreStrokes sheet.now drawing.now.views.items strokes × ArePaths strokes paths.items) }
+    ensures in_views { IfOk result (λ paths. All (λ p. p.view < length sheet.now.places.items) paths.items) }
+{
+    let strokes = strokes_of(alloc, sheet, &drawing.views)?;
+    paths(alloc, &strokes)
+}
+
+/// The page of a drawing of the part with this name: the sheet's frame and its title block, and, with the views in the middle of their
+/// room, the paths of its strokes, but for hidden lines where they aren't asked for, and the marks and headings of its cuts.
+///
+/// The time goes with the number of strokes, and for each view and cut a few passes are made over the corners.
+pub fn page_of(
+    alloc: Global,
+    hidden: Hidden,
+    part: &str,
+    drawing: &Drawing,
+) -> Result<Page, OutOfMemory>
     requires { IsDrawing drawing.now }
-    ensures page { IfOk result (IsPageOf hidden drawing.now) }
+    ensures page { IfOk result (IsPageOf hidden part.now drawing.now) }
     ensures in_views { IfOk result (λ page. All (IsInView page.views) page.items.items) }
 {
-    let strokes = strokes_of(alloc, &drawing.sheet, &drawing.views)?;
-    let paths = paths(alloc, &strokes)?;
-    let items = items_of(alloc, hidden, drawing, paths)?;
+    let sheet = centred(alloc, &drawing.solid, &drawing.sheet)?;
+    let paths = paths_on(alloc, &sheet, drawing)?;
+    let marks = marks(alloc, &drawing.solid, &sheet, &drawing.job.views)?;
+    let items = items_of(alloc, hidden, part, drawing, paths, &marks)?;
     Ok(Page {
         width: drawing.sheet.width,
         height: drawing.sheet.height,

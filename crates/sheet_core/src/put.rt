@@ -1,55 +1,45 @@
-// Keeps or says the text of a page, says other texts, and warns.
-ghost use Rattle.std.specs.Prelude.{◌≡◌, [], ◌∷◌, true, None, Some, IfOk, IfSome, IfNone};
-ghost use Rattle.std.specs.List.{All};
+// Keeps or says what was made of a drawing, tells of it, and warns where it can't.
+ghost use Rattle.std.specs.Prelude.{◌≡◌, [], ◌∷◌, true, None, Some, IfSome, IfNone, string_bytes};
+ghost use Rattle.desk.specs.Files.{OnlyKeeps, OnlySays};
 ghost use Rattle.draw_core.specs.Desks.{HearsAll};
 ghost use Rattle.draw_core.specs.Outputs.{LeavesAll, CountsWrites, HasNoWriteFault};
+ghost use Rattle.draw_core.specs.Summary.{Says as SaysSummary};
 ghost use Rattle.draw_core.specs.inner.Desks.{OnlyFilesAndWarned, OnlySaidAndWarned, OnlyWrites};
+ghost use Rattle.draw_core.specs.inner.Kept.{IsOfSaying};
 ghost use Rattle.sheet_core.specs.Lines.{Warns, WarnsWhole};
-ghost use Rattle.sheet_core.specs.Writing.{page_text, LeavesFile, SaysText, SaysSheet, SpeaksOnly, KeepsOnly};
-ghost use Rattle.sheet_core.specs.inner.Faults.{IsOfWriting};
-ghost use Rattle.sheet_page.specs.Pages.{IsInView};
-ghost use Rattle.sheet_words.specs.Seen.{goal_seen};
+ghost use Rattle.sheet_core.specs.Writing.{IsKept, IsQuiet, KeepsOnly, LeavesFile, Notes, NotesWhole, SaysSheet, SpeaksAfter, SpeaksOnly};
+ghost use Rattle.sheet_core.specs.inner.Faults.{IsOfPutting};
+ghost use Rattle.sheet_lines.specs.Lines.{write_line};
+ghost use Rattle.sheet_words.specs.Seen.{named_seen};
 
-use crate::lines::{MEMORY_LINE, WRITE_LINE};
+use crate::texts::Texts;
 use dec_text::Name;
 use desk::{Desk, DeskFault};
 use draw_core::warn;
-use exact_frac::OutOfMemory;
 use part_input::{Fault, Target};
-use sheet_page::{Page, pdf, svg};
-use sheet_words::Out;
-use std::alloc::Global;
+use sheet_lines::{MEMORY_LINE, SAID_LINE};
+use sheet_words::{Out, Request};
 
-/// The text of a page, by where it goes.
-pub(crate) fn page_text(alloc: Global, out: &Out, page: &Page) -> Result<Vec<u8>, OutOfMemory>
-    requires { All (IsInView page.now.views) page.now.items.items }
-    ensures { IfOk result (λ text. text.items ≡ page_text (goal_seen out.now) page.now) }
-{
-    match out {
-        Out::Said | Out::Svg(_) => svg(alloc, page),
-        Out::Pdf(_) => pdf(alloc, page),
-    }
-}
-
-/// Keeps a file, and tells why it couldn't, of which it warns.
-fn keep_file<D: Desk>(name: &Name, text: &[u8], desk: &mut D) -> Option<Fault>
-    ensures fault { IfSome result IsOfWriting }
+/// Keeps the file of a request, and tells why it couldn't, of which it warns.
+fn keep_file<D: Desk>(request: &Request, name: &Name, texts: &Texts, desk: &mut D) -> Option<Fault>
+    requires { string_bytes texts.now.unwritten ≡ write_line (named_seen request.now).out }
+    ensures fault { IfSome result (IsOfPutting (named_seen request.now).out) }
     ensures files { (D.state desk.old).tells ≡ true →
-        LeavesAll result (D.state desk.old).files (D.state desk.new).files ((name.now, text.now) ∷ []) }
+        LeavesAll result (D.state desk.old).files (D.state desk.new).files ((name.now, texts.now.page.items) ∷ []) }
     ensures writes { CountsWrites result (D.state desk.old).write_faults (D.state desk.new).write_faults }
     ensures steady { (D.state desk.old).steady ≡ true → HasNoWriteFault result }
     ensures firm { (D.state desk.old).firm ≡ true → result ≡ Some Fault.Memory → ⊥ }
     ensures warned { (D.state desk.old).tells_warned ≡ true →
-        Warns result (D.state desk.old).warned (D.state desk.new).warned }
+        IfSome result (Warns (Some (named_seen request.now)) (D.state desk.old).warned (D.state desk.new).warned) }
     ensures whole { HearsAll (D.state desk.old) (D.state desk.new) →
-        WarnsWhole result (D.state desk.old).warned (D.state desk.new).warned }
-    ensures quiet { IfNone result ((D.state desk.new).warn_faults ≡ (D.state desk.old).warn_faults) }
+        IfSome result (WarnsWhole (Some (named_seen request.now)) (D.state desk.old).warned (D.state desk.new).warned) }
+    ensures kept { IfNone result (OnlyKeeps (D.state desk.old) (D.state desk.new)) }
     ensures changes { OnlyFilesAndWarned (D.state desk.old) (D.state desk.new) }
 {
-    match desk.keep(name.as_str(), text) {
+    match desk.keep(name.as_str(), &texts.page) {
         Ok(()) => None,
         Err(DeskFault::Failed) => {
-            warn(WRITE_LINE, desk);
+            warn(texts.unwritten.as_str(), desk);
             Some(Fault::WriteFault(Target::Out))
         }
         Err(DeskFault::Memory(_)) => {
@@ -59,26 +49,26 @@ fn keep_file<D: Desk>(name: &Name, text: &[u8], desk: &mut D) -> Option<Fault>
     }
 }
 
-/// Says a text, and tells why it couldn't, of which it warns.
-pub(crate) fn say_text<D: Desk>(text: &[u8], desk: &mut D) -> Option<Fault>
-    ensures fault { IfSome result IsOfWriting }
+/// Says the summary of a sheet, and tells why it couldn't, of which it warns.
+fn say_summary<D: Desk>(texts: &Texts, desk: &mut D) -> Option<Fault>
+    ensures fault { IfSome result IsOfSaying }
     ensures said { (D.state desk.old).tells_said ≡ true →
-        SaysText result (D.state desk.old).said (D.state desk.new).said text.now }
+        SaysSummary result (D.state desk.old).said (D.state desk.new).said (string_bytes texts.now.summary) }
     ensures writes { CountsWrites result (D.state desk.old).write_faults (D.state desk.new).write_faults }
     ensures steady { (D.state desk.old).steady ≡ true → HasNoWriteFault result }
     ensures firm { (D.state desk.old).firm ≡ true → result ≡ Some Fault.Memory → ⊥ }
     ensures warned { (D.state desk.old).tells_warned ≡ true →
-        Warns result (D.state desk.old).warned (D.state desk.new).warned }
+        (named : _) → IfSome result (Warns named (D.state desk.old).warned (D.state desk.new).warned) }
     ensures whole { HearsAll (D.state desk.old) (D.state desk.new) →
-        WarnsWhole result (D.state desk.old).warned (D.state desk.new).warned }
-    ensures quiet { IfNone result ((D.state desk.new).warn_faults ≡ (D.state desk.old).warn_faults) }
+        (named : _) → IfSome result (WarnsWhole named (D.state desk.old).warned (D.state desk.new).warned) }
+    ensures spoken { IfNone result (OnlySays (D.state desk.old) (D.state desk.new)) }
     ensures changes { OnlySaidAndWarned (D.state desk.old) (D.state desk.new) }
 {
-    match desk.say(text) {
+    match desk.say(texts.summary.as_bytes()) {
         Ok(()) => None,
         Err(DeskFault::Failed) => {
-            warn(WRITE_LINE, desk);
-            Some(Fault::WriteFault(Target::Out))
+            warn(SAID_LINE, desk);
+            Some(Fault::WriteFault(Target::Summary))
         }
         Err(DeskFault::Memory(_)) => {
             warn(MEMORY_LINE, desk);
@@ -87,28 +77,74 @@ pub(crate) fn say_text<D: Desk>(text: &[u8], desk: &mut D) -> Option<Fault>
     }
 }
 
-/// Keeps or says the text of a page where it goes.
-pub(crate) fn put<D: Desk>(out: &Out, text: &[u8], desk: &mut D) -> Option<Fault>
-    ensures fault { IfSome result IsOfWriting }
+/// Keeps the file of a request and then says its summary, and tells why it couldn't.
+fn keep_sheet<D: Desk>(request: &Request, name: &Name, texts: &Texts, desk: &mut D) -> Option<Fault>
+    requires kept { IsKept (named_seen request.now).out }
+    requires line { string_bytes texts.now.unwritten ≡ write_line (named_seen request.now).out }
+    ensures fault { IfSome result (IsOfPutting (named_seen request.now).out) }
     ensures files { (D.state desk.old).tells ≡ true →
-        LeavesFile (goal_seen out.now) result (D.state desk.old).files (D.state desk.new).files text.now }
+        LeavesAll result (D.state desk.old).files (D.state desk.new).files ((name.now, texts.now.page.items) ∷ []) }
     ensures said { (D.state desk.old).tells_said ≡ true →
-        SaysSheet (goal_seen out.now) result (D.state desk.old).said (D.state desk.new).said text.now }
-    ensures unsaid { SpeaksOnly (goal_seen out.now) (D.state desk.old).said (D.state desk.new).said }
-    ensures unkept { KeepsOnly (goal_seen out.now) (D.state desk.old).files (D.state desk.new).files }
+        SaysSummary result (D.state desk.old).said (D.state desk.new).said (string_bytes texts.now.summary) }
+    ensures speaks { SpeaksAfter result (D.state desk.old).said (D.state desk.new).said }
     ensures writes { CountsWrites result (D.state desk.old).write_faults (D.state desk.new).write_faults }
     ensures steady { (D.state desk.old).steady ≡ true → HasNoWriteFault result }
     ensures firm { (D.state desk.old).firm ≡ true → result ≡ Some Fault.Memory → ⊥ }
     ensures warned { (D.state desk.old).tells_warned ≡ true →
-        Warns result (D.state desk.old).warned (D.state desk.new).warned }
+        IfSome result (Warns (Some (named_seen request.now)) (D.state desk.old).warned (D.state desk.new).warned) }
     ensures whole { HearsAll (D.state desk.old) (D.state desk.new) →
-        WarnsWhole result (D.state desk.old).warned (D.state desk.new).warned }
+        IfSome result (WarnsWhole (Some (named_seen request.now)) (D.state desk.old).warned (D.state desk.new).warned) }
+    ensures unwarned { IfNone result ((D.state desk.new).warned ≡ (D.state desk.old).warned) }
     ensures quiet { IfNone result ((D.state desk.new).warn_faults ≡ (D.state desk.old).warn_faults) }
     ensures changes { OnlyWrites (D.state desk.old) (D.state desk.new) }
 {
-    match out {
-        Out::Said => say_text(text, desk),
-        Out::Svg(name) => keep_file(name, text, desk),
-        Out::Pdf(name) => keep_file(name, text, desk),
+    match keep_file(request, name, texts, desk) {
+        None => say_summary(texts, desk),
+        Some(fault) => Some(fault),
+    }
+}
+
+/// Keeps the sheet of a request and says its summary, or says it and warns by its summary, and tells why it couldn't. That a
+/// summary isn't heard beside a sheet that was said is no fault.
+pub(crate) fn put<D: Desk>(request: &Request, texts: &Texts, desk: &mut D) -> Option<Fault>
+    requires { string_bytes texts.now.unwritten ≡ write_line (named_seen request.now).out }
+    ensures fault { IfSome result (IsOfPutting (named_seen request.now).out) }
+    ensures files { (D.state desk.old).tells ≡ true →
+        LeavesFile (named_seen request.now).out result (D.state desk.old).files (D.state desk.new).files texts.now.page.items }
+    ensures said { (D.state desk.old).tells_said ≡ true →
+        SaysSheet (named_seen request.now).out result (D.state desk.old).said (D.state desk.new).said texts.now.page.items (string_bytes texts.now.summary) }
+    ensures speaks { SpeaksOnly (named_seen request.now).out result (D.state desk.old).said (D.state desk.new).said }
+    ensures keeps { KeepsOnly (named_seen request.now).out (D.state desk.old).files (D.state desk.new).files }
+    ensures writes { CountsWrites result (D.state desk.old).write_faults (D.state desk.new).write_faults }
+    ensures steady { (D.state desk.old).steady ≡ true → HasNoWriteFault result }
+    ensures firm { (D.state desk.old).firm ≡ true → result ≡ Some Fault.Memory → ⊥ }
+    ensures warned { (D.state desk.old).tells_warned ≡ true →
+        IfSome result (Warns (Some (named_seen request.now)) (D.state desk.old).warned (D.state desk.new).warned) }
+    ensures whole { HearsAll (D.state desk.old) (D.state desk.new) →
+        IfSome result (WarnsWhole (Some (named_seen request.now)) (D.state desk.old).warned (D.state desk.new).warned) }
+    ensures noted { (D.state desk.old).tells_warned ≡ true →
+        IfNone result (Notes (named_seen request.now).out (D.state desk.old).warned (D.state desk.new).warned (string_bytes texts.now.summary)) }
+    ensures noted_whole { HearsAll (D.state desk.old) (D.state desk.new) →
+        IfNone result (NotesWhole (named_seen request.now).out (D.state desk.old).warned (D.state desk.new).warned (string_bytes texts.now.summary)) }
+    ensures quiet { IfNone result (IsQuiet (named_seen request.now).out (D.state desk.old).warn_faults (D.state desk.new).warn_faults) }
+    ensures changes { OnlyWrites (D.state desk.old) (D.state desk.new) }
+{
+    match &request.out {
+        Out::Said => match desk.say(&texts.page) {
+            Ok(()) => {
+                warn(texts.summary.as_str(), desk);
+                None
+            }
+            Err(DeskFault::Failed) => {
+                warn(texts.unwritten.as_str(), desk);
+                Some(Fault::WriteFault(Target::Out))
+            }
+            Err(DeskFault::Memory(_)) => {
+                warn(MEMORY_LINE, desk);
+                Some(Fault::Memory)
+            }
+        },
+        Out::Svg(name) => keep_sheet(request, name, texts, desk),
+        Out::Pdf(name) => keep_sheet(request, name, texts, desk),
     }
 }

@@ -9,6 +9,8 @@ use Rattle.job_file.specs.declared.fault.Key.TheVariants as key
 use Rattle.part_input.specs.declared.fault.Fault.{Fault}
 use Rattle.part_input.specs.declared.fault.Fault.TheVariants.{Usage, ReadFault, JobTooLong, Job, NoPlotter, SampleRange, PartTooLong, Part, Nothing, Mesh, DoesNotFit, WriteFault, Memory}
 use Rattle.part_input.specs.declared.fault.Input.TheVariants as input
+use Rattle.part_input.specs.declared.fault.Target.{Target}
+use Rattle.part_input.specs.declared.fault.Target.TheVariants as target
 use Rattle.sheet_words.specs.Names.{Goal, Named, said, svg_file, pdf_file}
 use Rattle.solid_mesh.specs.declared.faults.MeshFault.{MeshFault}
 use Rattle.solid_mesh.specs.declared.faults.MeshFault.TheVariants.{Flat, SameWay, Unpaired, Double, Meet}
@@ -85,16 +87,25 @@ abbrev pub job_in : Option Named → List ℕ
 job_in None = []
 job_in (Some named) = unwrap_or named.job (codes "the usual job")
 
--- what was to be written, or to be said where no sheet was asked for
+-- where the sheet was to go; what was to be told, where no sheet was asked for, is said
 abbrev pub goal_in : Option Named → Goal
 goal_in None = said
 goal_in (Some named) = named.out
 
--- the line where that couldn't be
+-- the line of what couldn't be said, and of a sheet that couldn't be written where it goes
+abbrev pub said_line : List ℕ
+said_line = codes "sheet: cannot write the standard output\n"
+
 abbrev pub write_line : Goal → List ℕ
-write_line said = codes "sheet: cannot write the standard output\n"
+write_line said = said_line
 write_line (svg_file name) = codes "sheet: cannot write " ⊕ shown name ⊕ codes "\n"
 write_line (pdf_file name) = codes "sheet: cannot write " ⊕ shown name ⊕ codes "\n"
+
+-- the line of what couldn't be written: the sheet, or the summary that is said of it
+abbrev pub target_line : Option Named → Target → List ℕ
+target_line named target.Out = write_line (goal_in named)
+target_line named (target.Plot number) = write_line (goal_in named)
+target_line named target.Summary = said_line
 
 -- the line of a fault, with the names that the words give; they give none where they are refused or ask for no sheet
 abbrev pub fault_line : Option Named → Fault → List ℕ
@@ -110,5 +121,5 @@ fault_line named (Part fault) = about (part_in named) (place_text fault)
 fault_line named Nothing = about (part_in named) (codes "no triangle")
 fault_line named (Mesh fault) = about (part_in named) (surface_text fault)
 fault_line named (DoesNotFit need_w need_h have_w have_h) = about (part_in named) (room_text (size_text need_w need_h) (size_text have_w have_h))
-fault_line named (WriteFault target) = write_line (goal_in named)
+fault_line named (WriteFault target) = target_line named target
 fault_line named Memory = codes "sheet: out of memory\n"

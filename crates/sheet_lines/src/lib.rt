@@ -4,5 +4,7 @@
 mod jobs;
 mod lines;
 mod parts;
+mod unread;
 
 pub use lines::{MEMORY_LINE, SAID_LINE, USAGE_LINE, line_of, write_line};
+pub use unread::{UnreadLines, unread_lines};

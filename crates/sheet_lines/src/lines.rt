@@ -2,14 +2,14 @@
 ghost use Rattle.std.specs.Prelude.{◌≡◌, IfOk, Some, codes, string_bytes};
 ghost use Rattle.svg_page.specs.Texts.{◌⊕◌};
 ghost use Rattle.fault_lines.specs.Lines.{shown};
-ghost use Rattle.sheet_lines.specs.Lines.{about, fault_line, job_in, job_text, place_text, room_text, size_text, surface_text, write_line};
+ghost use Rattle.sheet_lines.specs.Lines.{about, fault_line, job_in, job_text, place_text, room_text, size_text, surface_text, target_line, write_line};
 ghost use Rattle.sheet_words.specs.Seen.{goal_seen, named_seen};
 
 use crate::jobs::{job_text, plotter_text};
 use crate::parts::{Size, place_text, room_text, size_text, surface_text};
 use fault_lines::shown;
 use job_file::JobFault;
-use part_input::{Fault, Input};
+use part_input::{Fault, Input, Target};
 use sheet_words::{Out, Request};
 use solid_mesh::MeshFault;
 use std::alloc::{AllocError, Global};
@@ -112,12 +112,22 @@ fn size_line(alloc: Global, part: &str, need: &Size, have: &Size) -> Result<Stri
 }
 
 // The line of a file that can't be read.
-fn unread(alloc: Global, request: &Request, input: &Input) -> Result<String, AllocError>
+pub(crate) fn unread(alloc: Global, request: &Request, input: &Input) -> Result<String, AllocError>
     ensures { IfOk result (λ line. string_bytes line ≡ fault_line (Some (named_seen request.now)) (Fault.ReadFault input.now)) }
 {
     match input {
         Input::Job => about(alloc, job_name(request), "cannot be read"),
         Input::Part => about(alloc, request.part.as_str(), "cannot be read"),
+    }
+}
+
+// The line of what couldn't be written: the sheet, or the summary that is said of it.
+fn target_line(alloc: Global, request: &Request, target: &Target) -> Result<String, AllocError>
+    ensures { IfOk result (λ line. string_bytes line ≡ target_line (Some (named_seen request.now)) target.now) }
+{
+    match target {
+        Target::Out | Target::Plot(_) => write_line(alloc, &request.out),
+        Target::Summary => String::from_str(alloc, SAID_LINE),
     }
 }
 
@@ -153,7 +163,7 @@ pub fn line_of(alloc: Global, request: &Request, fault: &Fault) -> Result<String
             };
             size_line(alloc, part, &need, &have)
         }
-        Fault::WriteFault(_) => write_line(alloc, &request.out),
+        Fault::WriteFault(target) => target_line(alloc, request, target),
         Fault::Memory => String::from_str(alloc, MEMORY_LINE),
     }
 }

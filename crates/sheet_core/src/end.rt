@@ -1,0 +1,74 @@
+// The ends of runs.
+ghost use Rattle.std.specs.Prelude.{◌≡◌, ◌⊎◌, ◌++◌, true, None, Some, IfSome};
+ghost use Rattle.desk.specs.Files.{AppendsFront, OnlyWarns};
+ghost use Rattle.draw_core.specs.Desks.{HearsAll};
+ghost use Rattle.part_input.specs.Faults.{status_of};
+ghost use Rattle.sheet_core.specs.Lines.{Warns, WarnsWhole};
+ghost use Rattle.sheet_core.specs.inner.Faults.{IsOfReading};
+ghost use Rattle.sheet_lines.specs.Unread.{AreUnreadLines};
+ghost use Rattle.sheet_words.specs.Seen.{named_seen};
+
+use desk::Desk;
+use draw_core::{Outcome, warn};
+use part_input::Fault;
+use sheet_lines::{MEMORY_LINE, UnreadLines, line_of};
+use sheet_words::Request;
+use std::alloc::Global;
+
+/// The program's status at the end of a run.
+pub(crate) fn end_status(fault: &Option<Fault>) -> u8
+    ensures { result ≡ status_of fault.now }
+{
+    match fault {
+        None => 0,
+        Some(fault) => fault.status(),
+    }
+}
+
+/// Ends a run with a fault and no drawing, and warns by this line.
+pub(crate) fn end_by<D: Desk>(line: &str, fault: Fault, desk: &mut D) -> Outcome
+    ensures status { result.status ≡ status_of result.fault }
+    ensures fault { result.fault ≡ Some fault }
+    ensures none { result.drawing ≡ None }
+    ensures warned { (D.state desk.old).tells_warned ≡ true →
+        AppendsFront (D.state desk.old).warned (D.state desk.new).warned line.now }
+    ensures whole { HearsAll (D.state desk.old) (D.state desk.new) →
+        (D.state desk.new).warned ≡ (D.state desk.old).warned ++ line.now }
+    ensures changes { OnlyWarns (D.state desk.old) (D.state desk.new) }
+{
+    warn(line, desk);
+    Outcome {
+        status: fault.status(),
+        fault: Some(fault),
+        drawing: None,
+    }
+}
+
+/// Ends a run of a request with a fault, and warns of it. Where its line finds no memory, the fault is want of memory; the lines of
+/// faults of reading are there.
+pub(crate) fn refuse<D: Desk>(
+    alloc: Global,
+    request: &Request,
+    unread: &UnreadLines,
+    fault: Fault,
+    desk: &mut D,
+) -> Outcome
+    requires { AreUnreadLines (named_seen request.now) unread.now }
+    ensures status { result.status ≡ status_of result.fault }
+    ensures none { result.drawing ≡ None }
+    ensures fault { (result.fault ≡ Some fault) ⊎ (result.fault ≡ Some Fault.Memory) }
+    ensures told { IsOfReading fault → result.fault ≡ Some fault }
+    ensures warned { (D.state desk.old).tells_warned ≡ true →
+        IfSome result.fault (Warns (Some (named_seen request.now)) (D.state desk.old).warned (D.state desk.new).warned) }
+    ensures whole { HearsAll (D.state desk.old) (D.state desk.new) →
+        IfSome result.fault (WarnsWhole (Some (named_seen request.now)) (D.state desk.old).warned (D.state desk.new).warned) }
+    ensures changes { OnlyWarns (D.state desk.old) (D.state desk.new) }
+{
+    if let Fault::ReadFault(input) = fault {
+        return end_by(unread.line(&input), Fault::ReadFault(input), desk);
+    }
+    match line_of(alloc, request, &fault) {
+        Ok(line) => end_by(line.as_str(), fault, desk),
+        Err(_) => end_by(MEMORY_LINE, Fault::Memory, desk),
+    }
+}

@@ -1,0 +1,94 @@
+// What a run says of a sheet that it has drawn.
+ghost use Rattle.std.specs.Prelude.{◌≡◌, IfOk, count_by, string_bytes};
+ghost use Rattle.sheet_core.specs.Summary.{is_mark, is_path_of, paper_text, paths_of, paths_text, sheet_text, summary_of};
+
+use draw_core::Drawing;
+use exact_frac::OutOfMemory;
+use job_file::{Paper, Scale};
+use sheet_page::{Item, Page};
+use sheet_plan::Mark;
+use std::alloc::{AllocError, Global};
+
+fn paper_text(paper: Paper) -> &'static str
+    ensures { result.now ≡ paper_text paper }
+{
+    match paper {
+        Paper::A0 => "A0",
+        Paper::A1 => "A1",
+        Paper::A2 => "A2",
+        Paper::A3 => "A3",
+        Paper::A4 => "A4",
+    }
+}
+
+fn is_mark(mark: Mark, other: Mark) -> bool
+    ensures { result ≡ is_mark mark other }
+{
+    match mark {
+        Mark::Solid => matches!(other, Mark::Solid),
+        Mark::Dashed => matches!(other, Mark::Dashed),
+        Mark::Chain => matches!(other, Mark::Chain),
+        Mark::Hatch => matches!(other, Mark::Hatch),
+    }
+}
+
+/// It is a path of this mark.
+fn is_path_of(mark: Mark, item: &Item) -> bool
+    ensures { result ≡ is_path_of mark item.now }
+{
+    match item {
+        Item::Path(path) => is_mark(mark, path.mark),
+        _ => false,
+    }
+}
+
+/// How many paths of a mark there are.
+fn paths_of(mark: Mark, items: &[Item]) -> u64
+    ensures { result ≡ paths_of mark items.now }
+{
+    let mut count = 0;
+    for item in items {
+        if is_path_of(mark, item) {
+            count += 1;
+        }
+    }
+    count
+}
+
+/// The paper, the scale and the number of views of a sheet.
+fn sheet_text(
+    alloc: Global,
+    paper: Paper,
+    scale: &Scale,
+    views: usize,
+) -> Result<String, AllocError>
+    ensures { IfOk result (λ text. string_bytes text ≡ sheet_text paper scale.now views) }
+{
+    let (paper, num, den) = (paper_text(paper), scale.num, scale.den);
+    format!(in alloc; "sheet {paper} scale {num}:{den} views {views}")
+}
+
+/// How many visible and hidden paths and hatch lines stand on a page.
+fn paths_text(alloc: Global, items: &[Item]) -> Result<String, AllocError>
+    ensures { IfOk result (λ text. string_bytes text ≡ paths_text items.now) }
+{
+    let visible = paths_of(Mark::Solid, items);
+    let hidden = paths_of(Mark::Dashed, items);
+    let hatch = paths_of(Mark::Hatch, items);
+    format!(in alloc; " visible {visible} hidden {hidden} hatch {hatch}")
+}
+
+/// What is said of a drawing and its page.
+pub(crate) fn summary_of(
+    alloc: Global,
+    drawing: &Drawing,
+    page: &Page,
+) -> Result<String, OutOfMemory>
+    ensures { IfOk result (λ text. string_bytes text ≡ summary_of drawing.now page.now) }
+{
+    let views = drawing.sheet.places.len();
+    let mut text = sheet_text(alloc, drawing.job.paper, &drawing.sheet.scale, views)?;
+    text.push_str(&paths_text(alloc, &page.items)?)?;
+    text.push_str("\n")?;
+    Ok(text)
+}
