@@ -4,6 +4,7 @@
 ghost use Rattle.std.specs.Prelude.{◌<◌, length};
 ghost use Rattle.solid_mesh.specs.Solids.{edge_halves};
 
+use crate::shares::share;
 use cross_find::{Crossing, End, Meter, corner_test, cover_test, cross_test};
 use exact_frac::Frac;
 use fixtures::{CORNERS, CUBE_AND_WEDGE, CUBES, is_outline, solid};
@@ -96,19 +97,12 @@ fn changes_along_edges(rt: HostRuntime) -> Result<(), Fail> {
         let solid = solid(rt.alloc(), &CORNERS, triangles).ok_or("no solid")?;
         assert!(rt; edge < solid.edges());
         assert_eq!(rt;
-            changed(&solid, &d, edge, quarters(num)),
+            changed(&solid, &d, edge, share(num, 4)),
             expected,
             "{edge}"
         );
     }
     Ok(())
-}
-
-fn quarters(n: u8) -> Frac {
-    Frac {
-        num: n.into(),
-        den: 4,
-    }
 }
 
 fn end(of: (u32, bool)) -> End {

@@ -37,11 +37,16 @@ fn is_told(alloc: Global, solid: &Solid, section: &Section, entry: &EdgeSpans) -
     Ok(slow.is_empty() == entry.spans.is_empty())
 }
 
+// The first span goes as far as the other or farther, on both sides.
+fn is_around(x: &Span, span: &CountSpan) -> bool {
+    x.from <= span.from && span.to <= x.to
+}
+
 // The span is within one of these that is as hidden.
 fn is_within(span: &CountSpan, slow: &[Span]) -> bool {
     let hidden = span.left != 0 || span.right != 0;
     for x in slow {
-        if x.from <= span.from && span.to <= x.to && x.hidden == hidden {
+        if x.hidden == hidden && is_around(x, span) {
             return true;
         }
     }

@@ -1,4 +1,5 @@
 // Cuts of a tube, of a cube with a cavity, and one that takes nothing away; and where edges beneath a section cross its border.
+use crate::shares::share;
 use cross_find::Meter;
 use cut_count::border_cover;
 use cut_plane::{Section, borders, inside};
@@ -58,16 +59,9 @@ fn loops_of_cuts(rt: HostRuntime) -> Result<(), Fail> {
     Ok(())
 }
 
-fn quarters(n: i32) -> Frac {
-    Frac {
-        num: n.into(),
-        den: 4,
-    }
-}
-
 // The spot is seen at so many quarters of a unit.
 fn is_at(d: &Dir, p: &Spot, u: i32, v: i32) -> bool {
-    across(d, p) == quarters(u) && upward(d, p) == quarters(v)
+    across(d, p) == share(u, 4) && upward(d, p) == share(v, 4)
 }
 
 #[test]
@@ -142,13 +136,6 @@ fn above(x: i16, y: i16) -> Spot {
     })
 }
 
-fn fifths(n: i8) -> Frac {
-    Frac {
-        num: n.into(),
-        den: 5,
-    }
-}
-
 #[test]
 fn edges_beneath_a_section(rt: HostRuntime) -> Result<(), Fail> {
     let solid = solid(rt.alloc(), &BENEATH_CORNERS, &BENEATH).ok_or("no solid")?;
@@ -157,11 +144,11 @@ fn edges_beneath_a_section(rt: HostRuntime) -> Result<(), Fail> {
     };
     let section = borders(rt.alloc(), &solid, &cut)?;
     let half = Frac { num: 1, den: 2 };
-    let (first, second) = (fifths(0), fifths(5));
+    let (first, second) = (share(0, 5), share(5, 5));
     for (edge, expected) in [
         // from corner 8 to 9, from 9 to 10, from 10 to 8, from 8 to 11 and from 11 to 9
-        (18, [fifths(3)].as_slice()),
-        (19, &[fifths(2)]),
+        (18, [share(3, 5)].as_slice()),
+        (19, &[share(2, 5)]),
         (20, &[]),
         (21, &[]),
         (22, &[half]),

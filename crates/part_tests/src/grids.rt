@@ -10,11 +10,16 @@ use fixtures::{
 use lattice::Dir;
 use out_grid::{CellMeter, GridOutlines, cell_bound};
 use solid_mesh::Solid;
-use span_count::{AllOutlines, EdgeSpans, bound, spans_counted};
+use span_count::{AllOutlines, CountSpan, EdgeSpans, bound, spans_counted};
 use std::alloc::{AllocError, Global};
 use std::test::Fail;
 
-// The edge, the ends and the counts of each span, in their order.
+// The edge, the ends and the counts of a span.
+fn span_told(edge: u32, span: &CountSpan) -> (u32, Frac, Frac, u32, u32) {
+    (edge, span.from, span.to, span.left, span.right)
+}
+
+// The same of each span, in their order.
 fn spans_told(
     alloc: Global,
     entries: &[EdgeSpans],
@@ -22,7 +27,7 @@ fn spans_told(
     let mut all = Vec::new(alloc);
     for entry in entries {
         for span in &entry.spans {
-            all.push((entry.edge, span.from, span.to, span.left, span.right))?;
+            all.push(span_told(entry.edge, span))?;
         }
     }
     Ok(all)

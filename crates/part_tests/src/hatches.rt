@@ -1,32 +1,25 @@
 // Hatch lines of cuts of a tube, of a stepped prism and of a leaning one. The expected ends are those of an independent
 // program in exact fractions.
+use crate::shares::share;
 use cut_plane::Section;
-use exact_frac::Frac;
 use fixtures::{LEAN, LEAN_CORNERS, STEP, STEP_CORNERS, TUBE, TUBE_CORNERS, section, solid};
 use hatch_fill::hatch;
 use lattice::{Axis, Dir, HatchLine, Spot, across, upward};
 use std::alloc::Global;
 use std::test::Fail;
 
-fn whole(n: i16) -> Frac {
-    Frac {
-        num: n.into(),
-        den: 1,
-    }
-}
-
 // The spot is seen at this place.
-fn is_at(d: &Dir, p: &Spot, u: i16, v: i16) -> bool {
-    across(d, p) == whole(u) && upward(d, p) == whole(v)
+fn is_at(d: &Dir, p: &Spot, u: i32, v: i32) -> bool {
+    across(d, p) == share(u, 1) && upward(d, p) == share(v, 1)
 }
 
 // The line goes from the place of the first two numbers to that of the others.
-fn goes(d: &Dir, x: &HatchLine, ends: &[i16; 4]) -> bool {
+fn goes(d: &Dir, x: &HatchLine, ends: &[i32; 4]) -> bool {
     is_at(d, &x.a, ends[0], ends[1]) && is_at(d, &x.b, ends[2], ends[3])
 }
 
 // The lines are these, in this order.
-fn are(d: &Dir, lines: &[HatchLine], expected: &[[i16; 4]]) -> bool {
+fn are(d: &Dir, lines: &[HatchLine], expected: &[[i32; 4]]) -> bool {
     lines.len() == expected.len()
         && lines
             .iter()
@@ -39,7 +32,7 @@ fn is_hatched(
     alloc: Global,
     section: Option<Section>,
     spacing: u32,
-    expected: &[[i16; 4]],
+    expected: &[[i32; 4]],
 ) -> Result<bool, Fail> {
     let section = section.ok_or("no section")?;
     if spacing == 0 {
@@ -50,7 +43,7 @@ fn is_hatched(
 }
 
 // Across the tube, with lines 3 mm apart.
-const ACROSS: [[i16; 4]; 26] = [
+const ACROSS: [[i32; 4]; 26] = [
     [0, 27000, 3000, 30000],
     [0, 24000, 6000, 30000],
     [0, 21000, 9000, 30000],
@@ -80,7 +73,7 @@ const ACROSS: [[i16; 4]; 26] = [
 ];
 
 // Along the tube.
-const ALONG: [[i16; 4]; 19] = [
+const ALONG: [[i32; 4]; 19] = [
     [0, 18000, 2000, 20000],
     [0, 15000, 5000, 20000],
     [0, 12000, 8000, 20000],
@@ -103,7 +96,7 @@ const ALONG: [[i16; 4]; 19] = [
 ];
 
 // Across the tube, through corners of its bore.
-const CORNERS: [[i16; 4]; 6] = [
+const CORNERS: [[i32; 4]; 6] = [
     [0, 20000, 10000, 30000],
     [0, 10000, 20000, 30000],
     [0, 0, 10000, 10000],
@@ -129,7 +122,7 @@ fn a_tube(rt: HostRuntime) -> Result<(), Fail> {
 }
 
 // The line through the corner of the quarter that is missing only touches it.
-const STEPPED: [[i16; 4]; 6] = [
+const STEPPED: [[i32; 4]; 6] = [
     [0, 15, 5, 20],
     [0, 10, 10, 20],
     [0, 5, 15, 20],

@@ -19,6 +19,8 @@ mod merges;
 #[cfg(test)]
 mod picks;
 #[cfg(test)]
+mod shares;
+#[cfg(test)]
 mod solids;
 #[cfg(test)]
 mod spans;

@@ -1,6 +1,6 @@
-// Small edges and triangles, through one another and in one plane, and one of the greatest size.
+// Small edges and triangles, through one another and in one plane.
 use lattice::Corner;
-use meeting::{boxes_meet, edge_range, ranges_meet, touches, touches_beyond, triangle_range};
+use meeting::{touches, touches_beyond};
 
 fn at(place: &[i8; 3]) -> Corner {
     Corner {
@@ -44,93 +44,6 @@ fn edges_and_a_slanted_triangle(rt: HostRuntime) {
     }
 }
 
-const FAR: i32 = 1048576;
-
-#[test]
-fn edges_and_an_upright_triangle_of_the_greatest_size(rt: HostRuntime) {
-    let a = Corner {
-        x: -FAR,
-        y: 0,
-        z: -FAR,
-    };
-    let b = Corner {
-        x: FAR,
-        y: 0,
-        z: -FAR,
-    };
-    let c = Corner { x: 0, y: 0, z: FAR };
-    for (name, p, q, expected) in [
-        (
-            "through it",
-            Corner {
-                x: 1,
-                y: -FAR,
-                z: -FAR,
-            },
-            Corner {
-                x: -1,
-                y: FAR,
-                z: FAR,
-            },
-            true,
-        ),
-        (
-            "apart",
-            Corner {
-                x: FAR,
-                y: -FAR,
-                z: 1 - FAR,
-            },
-            Corner {
-                x: FAR,
-                y: FAR,
-                z: 1 - FAR,
-            },
-            false,
-        ),
-        (
-            "at a corner",
-            Corner {
-                x: FAR,
-                y: -FAR,
-                z: -FAR,
-            },
-            Corner {
-                x: FAR,
-                y: FAR,
-                z: -FAR,
-            },
-            true,
-        ),
-        (
-            "in its plane, at the tip",
-            Corner {
-                x: -FAR,
-                y: 0,
-                z: FAR,
-            },
-            Corner {
-                x: FAR,
-                y: 0,
-                z: FAR,
-            },
-            true,
-        ),
-        (
-            "in its plane, beside the tip",
-            Corner {
-                x: FAR,
-                y: 0,
-                z: FAR,
-            },
-            Corner { x: 1, y: 0, z: FAR },
-            false,
-        ),
-    ] {
-        assert_eq!(rt; touches(&a, &b, &c, &p, &q), expected, "{name}");
-    }
-}
-
 #[test]
 fn edges_from_a_corner(rt: HostRuntime) {
     let (a, b, c) = (at(&[0, 0, 0]), at(&[6, 0, 2]), at(&[0, 6, 2]));
@@ -148,20 +61,4 @@ fn edges_from_a_corner(rt: HostRuntime) {
     ] {
         assert_eq!(rt; touches_beyond(&a, &b, &c, &at(&q)), expected, "{name}");
     }
-}
-
-#[test]
-fn ranges_and_boxes(rt: HostRuntime) {
-    let (edge, triangle) = (edge_range(5, -3), triangle_range(9, 5, 7));
-    assert_eq!(rt;
-        (edge.from, edge.to, triangle.from, triangle.to),
-        (-3, 5, 5, 9)
-    );
-    assert!(rt; ranges_meet(&edge, &triangle) && !ranges_meet(&edge_range(4, 3), &triangle));
-    let (a, b, c) = (at(&[0, 0, 0]), at(&[6, 0, 2]), at(&[0, 6, 2]));
-    let (inside, above, beside) = (at(&[5, 5, 2]), at(&[5, 5, 3]), at(&[5, 7, 1]));
-    assert!(rt; boxes_meet(&a, &b, &c, &inside, &above));
-    assert!(rt; boxes_meet(&a, &b, &c, &beside, &inside));
-    assert!(rt; !boxes_meet(&a, &b, &c, &above, &above));
-    assert!(rt; !boxes_meet(&a, &b, &c, &beside, &beside));
 }

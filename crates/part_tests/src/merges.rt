@@ -13,7 +13,19 @@ use std::process::Abort;
 // U and V of the one end and of the other, and the kind of a strip or the style of a piece.
 type Row<T> = (i8, i8, i8, i8, T);
 
-type Case<'a> = (&'a [Row<StripKind>], &'a [Row<Style>]);
+type Case = (&'static [Row<StripKind>], &'static [Row<Style>]);
+
+const SEEN: StripKind = StripKind::Seen;
+
+const HIDDEN: StripKind = StripKind::Hidden;
+
+const TRACE: StripKind = StripKind::Trace;
+
+const SOLID: Style = Style::Solid;
+
+const DASHED: Style = Style::Dashed;
+
+const CHAIN: Style = Style::Chain;
 
 // A corner at this place, so far away.
 fn corner(u: i8, away: u8, v: i8) -> Corner {
@@ -84,159 +96,156 @@ fn check(
 }
 
 // Strips of one line.
+const ONE_LINE: [Case; 10] = [
+    (&[], &[]),
+    (
+        &[(0, 0, 6, 0, SEEN), (4, 0, 10, 0, SEEN)],
+        &[(0, 0, 10, 0, SOLID)],
+    ),
+    (
+        &[(0, 0, 5, 0, SEEN), (9, 0, 5, 0, SEEN)],
+        &[(0, 0, 9, 0, SOLID)],
+    ),
+    (
+        &[(0, 3, 9, 3, HIDDEN), (3, 3, 6, 3, SEEN)],
+        &[
+            (3, 3, 6, 3, SOLID),
+            (0, 3, 3, 3, DASHED),
+            (6, 3, 9, 3, DASHED),
+        ],
+    ),
+    (
+        &[(2, 2, 4, 4, HIDDEN), (0, 0, 8, 8, SEEN)],
+        &[(0, 0, 8, 8, SOLID)],
+    ),
+    (
+        &[(6, 6, 8, 8, SEEN), (0, 0, 2, 2, SEEN)],
+        &[(0, 0, 2, 2, SOLID), (6, 6, 8, 8, SOLID)],
+    ),
+    (
+        &[(1, 1, 3, 5, HIDDEN), (3, 5, 1, 1, HIDDEN)],
+        &[(1, 1, 3, 5, DASHED)],
+    ),
+    (
+        &[(2, 7, 2, 1, SEEN), (2, 7, 2, 9, HIDDEN)],
+        &[(2, 1, 2, 7, SOLID), (2, 7, 2, 9, DASHED)],
+    ),
+    (
+        &[
+            (0, 0, 4, 0, HIDDEN),
+            (4, 0, 8, 0, HIDDEN),
+            (2, 0, 6, 0, SEEN),
+        ],
+        &[
+            (2, 0, 6, 0, SOLID),
+            (0, 0, 2, 0, DASHED),
+            (6, 0, 8, 0, DASHED),
+        ],
+    ),
+    (
+        &[(9, -9, 0, 0, HIDDEN), (-2, 2, 3, -3, SEEN)],
+        &[(-2, 2, 3, -3, SOLID), (3, -3, 9, -9, DASHED)],
+    ),
+];
+
 #[test]
 fn one_line(rt: HostRuntime) -> Result<(), OutOfMemory> {
-    let (seen, hidden) = (StripKind::Seen, StripKind::Hidden);
-    let (solid, dashed) = (Style::Solid, Style::Dashed);
-    let rows: [Case; 10] = [
-        (&[], &[]),
-        (
-            &[(0, 0, 6, 0, seen), (4, 0, 10, 0, seen)],
-            &[(0, 0, 10, 0, solid)],
-        ),
-        (
-            &[(0, 0, 5, 0, seen), (9, 0, 5, 0, seen)],
-            &[(0, 0, 9, 0, solid)],
-        ),
-        (
-            &[(0, 3, 9, 3, hidden), (3, 3, 6, 3, seen)],
-            &[
-                (3, 3, 6, 3, solid),
-                (0, 3, 3, 3, dashed),
-                (6, 3, 9, 3, dashed),
-            ],
-        ),
-        (
-            &[(2, 2, 4, 4, hidden), (0, 0, 8, 8, seen)],
-            &[(0, 0, 8, 8, solid)],
-        ),
-        (
-            &[(6, 6, 8, 8, seen), (0, 0, 2, 2, seen)],
-            &[(0, 0, 2, 2, solid), (6, 6, 8, 8, solid)],
-        ),
-        (
-            &[(1, 1, 3, 5, hidden), (3, 5, 1, 1, hidden)],
-            &[(1, 1, 3, 5, dashed)],
-        ),
-        (
-            &[(2, 7, 2, 1, seen), (2, 7, 2, 9, hidden)],
-            &[(2, 1, 2, 7, solid), (2, 7, 2, 9, dashed)],
-        ),
-        (
-            &[
-                (0, 0, 4, 0, hidden),
-                (4, 0, 8, 0, hidden),
-                (2, 0, 6, 0, seen),
-            ],
-            &[
-                (2, 0, 6, 0, solid),
-                (0, 0, 2, 0, dashed),
-                (6, 0, 8, 0, dashed),
-            ],
-        ),
-        (
-            &[(9, -9, 0, 0, hidden), (-2, 2, 3, -3, seen)],
-            &[(-2, 2, 3, -3, solid), (3, -3, 9, -9, dashed)],
-        ),
-    ];
-    for (given, want) in rows {
+    for (given, want) in ONE_LINE {
         check(&rt, rt.alloc(), given, want)?;
     }
     Ok(())
 }
 
 // Strips of different lines, and the order of pieces.
+const SEVERAL_LINES: [Case; 6] = [
+    (
+        &[(0, 1, 4, 1, SEEN), (0, 0, 4, 0, SEEN)],
+        &[(0, 0, 4, 0, SOLID), (0, 1, 4, 1, SOLID)],
+    ),
+    (
+        &[(0, 4, 4, 0, SEEN), (0, 0, 4, 4, SEEN)],
+        &[(0, 0, 4, 4, SOLID), (0, 4, 4, 0, SOLID)],
+    ),
+    (
+        &[(4, 0, 4, 4, SEEN), (0, 0, 4, 0, SEEN)],
+        &[(0, 0, 4, 0, SOLID), (4, 0, 4, 4, SOLID)],
+    ),
+    (
+        &[(0, 0, 1, 0, HIDDEN), (5, 5, 9, 9, SEEN), (5, 5, 9, 7, SEEN)],
+        &[
+            (5, 5, 9, 7, SOLID),
+            (5, 5, 9, 9, SOLID),
+            (0, 0, 1, 0, DASHED),
+        ],
+    ),
+    (
+        &[(0, 0, 5, 1, SEEN), (0, 0, 3, 9, SEEN)],
+        &[(0, 0, 3, 9, SOLID), (0, 0, 5, 1, SOLID)],
+    ),
+    (
+        &[
+            (0, 0, 4, 0, SEEN),
+            (0, 0, 4, 0, HIDDEN),
+            (0, 1, 4, 1, HIDDEN),
+            (2, 1, 3, 1, SEEN),
+        ],
+        &[
+            (0, 0, 4, 0, SOLID),
+            (2, 1, 3, 1, SOLID),
+            (0, 1, 2, 1, DASHED),
+            (3, 1, 4, 1, DASHED),
+        ],
+    ),
+];
+
 #[test]
 fn several_lines(rt: HostRuntime) -> Result<(), OutOfMemory> {
-    let (seen, hidden) = (StripKind::Seen, StripKind::Hidden);
-    let (solid, dashed) = (Style::Solid, Style::Dashed);
-    let rows: [Case; 6] = [
-        (
-            &[(0, 1, 4, 1, seen), (0, 0, 4, 0, seen)],
-            &[(0, 0, 4, 0, solid), (0, 1, 4, 1, solid)],
-        ),
-        (
-            &[(0, 4, 4, 0, seen), (0, 0, 4, 4, seen)],
-            &[(0, 0, 4, 4, solid), (0, 4, 4, 0, solid)],
-        ),
-        (
-            &[(4, 0, 4, 4, seen), (0, 0, 4, 0, seen)],
-            &[(0, 0, 4, 0, solid), (4, 0, 4, 4, solid)],
-        ),
-        (
-            &[(0, 0, 1, 0, hidden), (5, 5, 9, 9, seen), (5, 5, 9, 7, seen)],
-            &[
-                (5, 5, 9, 7, solid),
-                (5, 5, 9, 9, solid),
-                (0, 0, 1, 0, dashed),
-            ],
-        ),
-        (
-            &[(0, 0, 5, 1, seen), (0, 0, 3, 9, seen)],
-            &[(0, 0, 3, 9, solid), (0, 0, 5, 1, solid)],
-        ),
-        (
-            &[
-                (0, 0, 4, 0, seen),
-                (0, 0, 4, 0, hidden),
-                (0, 1, 4, 1, hidden),
-                (2, 1, 3, 1, seen),
-            ],
-            &[
-                (0, 0, 4, 0, solid),
-                (2, 1, 3, 1, solid),
-                (0, 1, 2, 1, dashed),
-                (3, 1, 4, 1, dashed),
-            ],
-        ),
-    ];
-    for (given, want) in rows {
+    for (given, want) in SEVERAL_LINES {
         check(&rt, rt.alloc(), given, want)?;
     }
     Ok(())
 }
 
 // Traces: whole where nothing else is drawn, and nowhere else.
+const TRACES: [Case; 4] = [
+    (
+        &[(9, 2, 0, 2, TRACE), (4, 0, 4, 9, SEEN)],
+        &[(4, 0, 4, 9, SOLID), (0, 2, 9, 2, CHAIN)],
+    ),
+    (
+        &[
+            (0, 0, 9, 0, TRACE),
+            (2, 0, 4, 0, SEEN),
+            (4, 0, 7, 0, HIDDEN),
+        ],
+        &[
+            (2, 0, 4, 0, SOLID),
+            (4, 0, 7, 0, DASHED),
+            (0, 0, 2, 0, CHAIN),
+            (7, 0, 9, 0, CHAIN),
+        ],
+    ),
+    (
+        &[
+            (0, 0, 5, 0, TRACE),
+            (5, 0, 9, 0, TRACE),
+            (1, 1, 3, 1, HIDDEN),
+        ],
+        &[(1, 1, 3, 1, DASHED), (0, 0, 9, 0, CHAIN)],
+    ),
+    (
+        &[
+            (2, 0, 5, 0, TRACE),
+            (0, 0, 3, 0, SEEN),
+            (3, 0, 9, 0, HIDDEN),
+        ],
+        &[(0, 0, 3, 0, SOLID), (3, 0, 9, 0, DASHED)],
+    ),
+];
+
 #[test]
 fn traces(rt: HostRuntime) -> Result<(), OutOfMemory> {
-    let (seen, hidden, trace) = (StripKind::Seen, StripKind::Hidden, StripKind::Trace);
-    let (solid, dashed, chain) = (Style::Solid, Style::Dashed, Style::Chain);
-    let rows: [Case; 4] = [
-        (
-            &[(9, 2, 0, 2, trace), (4, 0, 4, 9, seen)],
-            &[(4, 0, 4, 9, solid), (0, 2, 9, 2, chain)],
-        ),
-        (
-            &[
-                (0, 0, 9, 0, trace),
-                (2, 0, 4, 0, seen),
-                (4, 0, 7, 0, hidden),
-            ],
-            &[
-                (2, 0, 4, 0, solid),
-                (4, 0, 7, 0, dashed),
-                (0, 0, 2, 0, chain),
-                (7, 0, 9, 0, chain),
-            ],
-        ),
-        (
-            &[
-                (0, 0, 5, 0, trace),
-                (5, 0, 9, 0, trace),
-                (1, 1, 3, 1, hidden),
-            ],
-            &[(1, 1, 3, 1, dashed), (0, 0, 9, 0, chain)],
-        ),
-        (
-            &[
-                (2, 0, 5, 0, trace),
-                (0, 0, 3, 0, seen),
-                (3, 0, 9, 0, hidden),
-            ],
-            &[(0, 0, 3, 0, solid), (3, 0, 9, 0, dashed)],
-        ),
-    ];
-    for (given, want) in rows {
+    for (given, want) in TRACES {
         check(&rt, rt.alloc(), given, want)?;
     }
     Ok(())

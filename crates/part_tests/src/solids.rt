@@ -1,7 +1,6 @@
 // The cube with an edge of 10 units, what is made of it, parts that make no solid, and single sides and triangles.
 use exact_frac::Frac;
 use fixtures::{CUBES, soup};
-use lattice::{Dir, Tri};
 use sample_part::boxes;
 use solid_mesh::{Edge, MeshError, MeshFault, PairMeter, Solid, box_test, pair_test};
 use std::alloc::Global;
@@ -145,18 +144,6 @@ fn the_cube(alloc: Global) -> Result<Solid, Fail> {
 }
 
 #[test]
-fn the_cube_is_read(rt: HostRuntime) -> Result<(), Fail> {
-    let s = the_cube(rt.alloc())?;
-    assert_eq!(rt; (s.corners(), s.triangles(), s.edges()), (13, 12, 18));
-    assert_eq!(rt; (s.corner(6).x, s.corner(6).y, s.corner(6).z), (10, 10, 10));
-    assert_eq!(rt; s.triangle(8), Tri { a: 2, b: 3, c: 7 });
-    assert_eq!(rt; s.star(6), [2, 3, 6, 7, 9].as_slice());
-    assert!(rt; s.star(8).is_empty());
-    assert_eq!(rt; (s.twin(0), s.twin(30)), (30, 0));
-    Ok(())
-}
-
-#[test]
 fn edges_of_the_cube_are_read(rt: HostRuntime) -> Result<(), Fail> {
     let s = the_cube(rt.alloc())?;
     assert_eq!(rt; s.edges(), 18);
@@ -180,18 +167,6 @@ fn edges_of_the_cube_are_read(rt: HostRuntime) -> Result<(), Fail> {
     );
     let spot = s.spot(1, &Frac { num: 1, den: 4 });
     assert_eq!(rt; (spot.x, spot.y, spot.z, spot.w), (10, 40, 0, 4));
-    Ok(())
-}
-
-#[test]
-fn the_cube_is_seen_from_the_front(rt: HostRuntime) -> Result<(), Fail> {
-    let s = the_cube(rt.alloc())?;
-    assert_eq!(rt; s.triangles(), 12);
-    let front = Dir::new(0, -1, 0)?;
-    assert_eq!(rt;
-        (s.sign(&front, 4), s.sign(&front, 0), s.sign(&front, 8)),
-        (1, 0, -1)
-    );
     Ok(())
 }
 

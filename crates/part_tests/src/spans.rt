@@ -1,5 +1,6 @@
 // The counts along edges, beside the spans that the plain program finds by all faces, on a table of parts; and spans of a block that
 // is smaller at its top, whole and cut. The expected counts are those of another program, which counts the nearer faces at points.
+use crate::shares::share;
 use cross_find::SolidSight;
 use cut_plane::borders;
 use edge_pick::{Crease, pick};
@@ -202,19 +203,12 @@ fn cut(alloc: Global, solid: &Solid, from_high: bool, edge: u32) -> Result<Vec<S
     }
 }
 
-fn share(n: i16) -> Frac {
-    Frac {
-        num: n.into(),
-        den: 20000,
-    }
-}
-
 // There is no span; or there is one, between these shares of the edge, in 20,000ths.
-fn is_one(spans: &[Span], expected: Option<(i16, i16, bool)>) -> bool {
+fn is_one(spans: &[Span], expected: Option<(i32, i32, bool)>) -> bool {
     match (spans, expected) {
         ([], None) => true,
         ([span], Some((from, to, hidden))) => {
-            span.from == share(from) && span.to == share(to) && span.hidden == hidden
+            span.from == share(from, 20000) && span.to == share(to, 20000) && span.hidden == hidden
         }
         _ => false,
     }

@@ -1,11 +1,9 @@
-//! Tests of the lowest crates and of what is read: fractions, places, intervals, numbers, desks, words, jobs and the texts of
-//! parts. What whole runs show of them stands in run_cases.
+//! Tests of the lowest crates and of what is read: places, intervals, tokens, numbers and the texts of parts. What whole runs show
+//! of them stands in run_cases.
 #![tactic(auto)]
 
 #[cfg(test)]
-mod desks;
-#[cfg(test)]
-mod fractions;
+mod numbers;
 #[cfg(test)]
 mod places;
 #[cfg(test)]

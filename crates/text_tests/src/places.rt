@@ -1,8 +1,5 @@
-// Worked rows: the axes of the six named directions, products of simple vectors, lines of sight, lines through corners, and cuts.
-use lattice::{
-    Axis, Corner, Crease, Cut, CutFault, Dir, DirFault, Line, Spot, Vector, across, cross, det3,
-    height, same_sight, upward, view_cross,
-};
+// Worked rows: the axes of the six named directions, lines of sight, and lines through corners.
+use lattice::{Corner, Dir, Line, Spot, Vector, across, height, same_sight, upward};
 use std::collections::HashSet;
 use std::test::Fail;
 
@@ -25,46 +22,6 @@ fn axes_of_the_named_directions(rt: HostRuntime) -> Result<(), Fail> {
         assert_eq!(rt; components(d.right()), right, "right axis of {name}");
         assert_eq!(rt; components(d.up()), up, "up axis of {name}");
     }
-    Ok(())
-}
-
-#[test]
-fn refused_directions_and_cuts(rt: HostRuntime) {
-    for (x, y, z, fault) in [
-        (0, 0, 0, DirFault::ZeroDirection),
-        (10, 10, 10, DirFault::DirectionRange(Axis::X)),
-        (9, -10, 10, DirFault::DirectionRange(Axis::Y)),
-        (-9, 9, -10, DirFault::DirectionRange(Axis::Z)),
-    ] {
-        assert_eq!(rt; Dir::new(x, y, z).err(), Some(fault), "({x}, {y}, {z})");
-    }
-    for at in [1_048_577, -1_048_577] {
-        assert_eq!(rt;
-            Cut::new(Axis::Y, at, true).err(),
-            Some(CutFault::CutRange),
-            "{at}"
-        );
-    }
-}
-
-#[test]
-fn products(rt: HostRuntime) -> Result<(), Fail> {
-    let origin = Corner { x: 0, y: 0, z: 0 };
-    let s = Vector::between(&origin, &Corner { x: 2, y: 0, z: 0 });
-    let t = Vector::between(&origin, &Corner { x: 1, y: 3, z: 0 });
-    let r = Vector::between(&Corner { x: 0, y: 0, z: -4 }, &origin);
-    let normal = cross(&s, &t);
-    assert_eq!(rt; (normal.x, normal.y, normal.z), (0, 0, 6));
-    assert!(rt; !normal.is_zero() && cross(&s, &s).is_zero());
-    assert_eq!(rt;
-        (normal.dot(&normal), det3(&r, &s, &t), r.dot(&r.reversed())),
-        (36, 24, -16)
-    );
-    let above = Dir::new(0, 0, 1)?;
-    assert_eq!(rt;
-        (view_cross(&above, &s, &t), view_cross(&above, &t, &s)),
-        (6, -6)
-    );
     Ok(())
 }
 
@@ -164,38 +121,5 @@ fn equal_lines_in_a_set(rt: HostRuntime) -> Result<(), Fail> {
         }
     }
     assert_eq!(rt; lines.len(), 1);
-    Ok(())
-}
-
-#[test]
-fn creases(rt: HostRuntime) {
-    for (crease, fraction) in [
-        (Crease::Fine, 992_404),
-        (Crease::Normal, 933_013),
-        (Crease::Coarse, 750_000),
-    ] {
-        assert_eq!(rt; crease.fraction(), fraction, "{crease:?}");
-    }
-}
-
-#[test]
-fn planes_of_cuts(rt: HostRuntime) -> Result<(), Fail> {
-    for (axis, at, from_high, toward) in [
-        (Axis::X, 1_048_576, true, (1, 0, 0)),
-        (Axis::X, -7, false, (-1, 0, 0)),
-        (Axis::Y, 0, true, (0, 1, 0)),
-        (Axis::Y, 15_000, false, (0, -1, 0)),
-        (Axis::Z, 10_000, true, (0, 0, 1)),
-        (Axis::Z, -1_048_576, false, (0, 0, -1)),
-    ] {
-        let Ok(cut) = Cut::new(axis, at, from_high) else {
-            return Err("no cut".into());
-        };
-        assert_eq!(rt;
-            (cut.axis(), cut.at(), cut.from_high()),
-            (axis, at, from_high)
-        );
-        assert_eq!(rt; components(cut.dir().vector()), toward, "direction at {at}");
-    }
     Ok(())
 }

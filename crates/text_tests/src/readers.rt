@@ -1,110 +1,11 @@
-// What words, a job and the texts of parts give. Their faults are shown by whole runs.
+// What the texts of parts give. Their faults are shown by whole runs.
 use dec_text::Length;
-use draw_words::read_words;
-use job_file::{Job, JobView};
-use lattice::{Corner, Soup, Tri, ViewSpec};
+use lattice::{Corner, Soup, Tri};
 use off_reader::read_off;
-use sample_part::{SampleError, boxes};
-use std::alloc::{AllocError, Global};
 use std::process::Abort;
 use std::test::Fail;
 use stl_reader::read_stl;
 use weld::{RawPart, WeldError};
-
-#[test]
-fn words_name_files(rt: HostRuntime) -> Result<(), Fail> {
-    let alloc = rt.alloc();
-    let mut words = Vec::new(alloc);
-    for word in ["--out=--job", "--job=x=y", "a", "--"] {
-        words.push(String::from_str(alloc, word)?)?;
-    }
-    let Ok(named) = read_words(alloc, &words) else {
-        return Err("no names".into());
-    };
-    let job = named.job.as_ref().map(|job| job.as_str());
-    assert_eq!(rt;
-        (named.part.as_str(), job, named.out.as_str()),
-        ("a", Some("x=y"), "--job")
-    );
-    // An empty word names nothing.
-    let mut empty = Vec::new(alloc);
-    empty.push(String::new(alloc))?;
-    assert!(rt; read_words(alloc, &empty).is_err());
-    Ok(())
-}
-
-// A text with every key of a job, and the three kinds of views.
-const EVERY_KEY: &str = "version = 1
-decimals = 6
-angle = \"third\"
-sheet = \"A0\"
-scale = \"1:100\"
-crease = \"coarse\"
-title = \"A & B <1>\"
-outputs = [\"pieces\", \"0123456789abcdef\"]
-[[view]]
-name = \"below\"
-[[view]]
-toward = [9, -9, 0]
-[[view]]
-cut = \"y\"
-at = -15000
-from = \"low\"
-";
-
-// A view in words.
-fn view_told(alloc: Global, view: &JobView) -> Result<String, AllocError> {
-    let v = view.dir().vector();
-    if let ViewSpec::Section(cut) = view.spec {
-        let (axis, at, from_high) = (cut.axis(), cut.at(), cut.from_high());
-        return format!(in alloc; " cut {axis:?} {at} {from_high}");
-    }
-    match view.named {
-        Some(name) => format!(in alloc; " {name:?} {} {} {}", v.x, v.y, v.z),
-        None => format!(in alloc; " toward {} {} {}", v.x, v.y, v.z),
-    }
-}
-
-// A job in words.
-fn job_told(alloc: Global, job: &Job) -> Result<String, AllocError> {
-    let mut told = format!(in alloc; "{} {} {:?}", job.decimals, job.third, job.paper)?;
-    match &job.scale {
-        Some(scale) => told.push_str(&format!(in alloc; " {}:{}", scale.num, scale.den)?)?,
-        None => told.push_str(" fit")?,
-    }
-    told.push_str(&format!(in alloc; " {:?} '{}'", job.crease, job.title.as_str())?)?;
-    for output in &job.outputs {
-        told.push_str(&format!(in alloc; " {}", output.as_str())?)?;
-    }
-    for view in &job.views {
-        told.push_str(&view_told(alloc, view)?)?;
-    }
-    Ok(told)
-}
-
-#[test]
-fn jobs_are_read(rt: HostRuntime) -> Result<(), Fail> {
-    let alloc = rt.alloc();
-    let usual = "3 false A3 fit Normal '' Front 0 -1 0 Above 0 0 1 Left -1 0 0";
-    let Ok(job) = Job::usual(alloc) else {
-        return Err("no memory".into());
-    };
-    assert_eq!(rt; job_told(alloc, &job)?.as_str(), usual);
-    for (text, wanted) in [
-        ("", usual),
-        (
-            EVERY_KEY,
-            "6 true A0 1:100 Coarse 'A & B <1>' pieces 0123456789abcdef Below 0 0 -1 toward 9 -9 0 cut Y -15000 false",
-        ),
-    ] {
-        let Ok(job) = Job::read(alloc, text.as_bytes()) else {
-            return Err("no job".into());
-        };
-        assert_eq!(rt; job_told(alloc, &job)?.as_str(), wanted);
-    }
-    assert!(rt; Job::read(alloc, b"title = \"\xff\"").is_err());
-    Ok(())
-}
 
 fn coordinates(p: &Corner) -> (i32, i32, i32) {
     (p.x, p.y, p.z)
@@ -187,39 +88,5 @@ fn triangles_of_two_places_are_dropped(rt: HostRuntime) -> Result<(), Fail> {
         triangles: Vec::new(rt.alloc()),
     };
     assert_eq!(rt; nothing.weld(rt.alloc()).err(), Some(WeldError::Nothing));
-    Ok(())
-}
-
-#[test]
-fn samples_have_cubes(rt: HostRuntime) -> Result<(), Fail> {
-    for (n, corners, triangles, last, end) in [
-        (1, 8, 12, (0, 10_000, 10_000), (1, 4, 7)),
-        (2, 64, 96, (20_000, 30_000, 30_000), (57, 60, 63)),
-        (
-            8,
-            4096,
-            6144,
-            (140_000, 150_000, 150_000),
-            (4089, 4092, 4095),
-        ),
-    ] {
-        let Ok(soup) = boxes(rt.alloc(), n) else {
-            return Err("no sample".into());
-        };
-        assert_eq!(rt;
-            (soup.corners.len(), soup.triangles.len()),
-            (corners, triangles)
-        );
-        assert_eq!(rt; soup.corners.first().map(coordinates), Some((0, 0, 0)));
-        assert_eq!(rt; soup.corners.last().map(coordinates), Some(last));
-        assert_eq!(rt; soup.triangles.last().map(numbers), Some(end));
-    }
-    for n in [0, 9] {
-        assert_eq!(rt;
-            boxes(rt.alloc(), n).err(),
-            Some(SampleError::SampleRange),
-            "{n}"
-        );
-    }
     Ok(())
 }
