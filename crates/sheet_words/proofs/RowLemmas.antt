@@ -8,7 +8,7 @@ use Rattle.clap.specs.declared.builder.value_parser.Reading.{Reading}
 use Rattle.clap.specs.declared.error.kind.ErrorKind.TheVariants.{ArgumentConflict}
 use Rattle.clap.specs.declared.parser.matches.ValueSource.TheVariants.{CommandLine}
 use Rattle.sheet_words.specs.inner.Seen.{given_in}
-use Rattle.sheet_words.specs.Grammar.{Given, Role, as_hidden, as_job, as_out, as_part, text_as, with_text}
+use Rattle.sheet_words.specs.Grammar.{Given, Role, as_hidden, as_job, as_list, as_out, as_part, text_as, with_text}
 use Rattle.sheet_words.proofs.WordLemmas.{IsFault, id_of, rule_as}
 
 -- ---- rows
@@ -64,6 +64,7 @@ used_first : (role : Role) (v : Text) (rows : List Row) → has_row (id_of role)
 used_first as_part v rows none = new_row (id_of as_part) (reading_by (rule_as as_part)) v rows none
 used_first as_job v rows none = new_row (id_of as_job) (reading_by (rule_as as_part)) v rows none
 used_first as_out v rows none = new_row (id_of as_out) (reading_by (rule_as as_part)) v rows none
+used_first as_list v rows none = new_row (id_of as_list) (reading_by (rule_as as_part)) v rows none
 used_first as_hidden v rows none = new_row (id_of as_hidden) (reading_by (rule_as as_part)) v rows none
 
 row_at_end : (id : Text) (rows : List Row) (r : Row) → row_with id rows ≡ None → bytes_eq r.id id ≡ true → row_with id (rows ++ r ∷ []) ≡ Some r
@@ -86,18 +87,27 @@ holds_more : (role : Role) (v : Text) (g : Given) (rows : List Row) → Holds g 
 holds_more as_part v g rows old none as_part = row_at_end (id_of as_part) rows (row as_part v) none refl
 holds_more as_part v g rows old none as_job = other_at_end (id_of as_job) rows (row as_part v) refl ∙ old as_job
 holds_more as_part v g rows old none as_out = other_at_end (id_of as_out) rows (row as_part v) refl ∙ old as_out
+holds_more as_part v g rows old none as_list = other_at_end (id_of as_list) rows (row as_part v) refl ∙ old as_list
 holds_more as_part v g rows old none as_hidden = other_at_end (id_of as_hidden) rows (row as_part v) refl ∙ old as_hidden
 holds_more as_job v g rows old none as_part = other_at_end (id_of as_part) rows (row as_job v) refl ∙ old as_part
 holds_more as_job v g rows old none as_job = row_at_end (id_of as_job) rows (row as_job v) none refl
 holds_more as_job v g rows old none as_out = other_at_end (id_of as_out) rows (row as_job v) refl ∙ old as_out
+holds_more as_job v g rows old none as_list = other_at_end (id_of as_list) rows (row as_job v) refl ∙ old as_list
 holds_more as_job v g rows old none as_hidden = other_at_end (id_of as_hidden) rows (row as_job v) refl ∙ old as_hidden
 holds_more as_out v g rows old none as_part = other_at_end (id_of as_part) rows (row as_out v) refl ∙ old as_part
 holds_more as_out v g rows old none as_job = other_at_end (id_of as_job) rows (row as_out v) refl ∙ old as_job
 holds_more as_out v g rows old none as_out = row_at_end (id_of as_out) rows (row as_out v) none refl
+holds_more as_out v g rows old none as_list = other_at_end (id_of as_list) rows (row as_out v) refl ∙ old as_list
 holds_more as_out v g rows old none as_hidden = other_at_end (id_of as_hidden) rows (row as_out v) refl ∙ old as_hidden
+holds_more as_list v g rows old none as_part = other_at_end (id_of as_part) rows (row as_list v) refl ∙ old as_part
+holds_more as_list v g rows old none as_job = other_at_end (id_of as_job) rows (row as_list v) refl ∙ old as_job
+holds_more as_list v g rows old none as_out = other_at_end (id_of as_out) rows (row as_list v) refl ∙ old as_out
+holds_more as_list v g rows old none as_list = row_at_end (id_of as_list) rows (row as_list v) none refl
+holds_more as_list v g rows old none as_hidden = other_at_end (id_of as_hidden) rows (row as_list v) refl ∙ old as_hidden
 holds_more as_hidden v g rows old none as_part = other_at_end (id_of as_part) rows (row as_hidden v) refl ∙ old as_part
 holds_more as_hidden v g rows old none as_job = other_at_end (id_of as_job) rows (row as_hidden v) refl ∙ old as_job
 holds_more as_hidden v g rows old none as_out = other_at_end (id_of as_out) rows (row as_hidden v) refl ∙ old as_out
+holds_more as_hidden v g rows old none as_list = other_at_end (id_of as_list) rows (row as_hidden v) refl ∙ old as_list
 holds_more as_hidden v g rows old none as_hidden = row_at_end (id_of as_hidden) rows (row as_hidden v) none refl
 
 -- ---- a use of an argument
@@ -107,7 +117,9 @@ use_again as_part v rows false e = rw e refl
 use_again as_job v rows true e = rw e refl
 use_again as_job v rows false e = rw e refl
 use_again as_out v rows true e = rw e refl
+use_again as_list v rows true e = rw e refl
 use_again as_out v rows false e = rw e refl
+use_again as_list v rows false e = rw e refl
 use_again as_hidden v rows true e = rw e refl
 use_again as_hidden v rows false e = rw e refl
 
@@ -135,5 +147,6 @@ given_held g rows holds = λ i. record {
   part = first_held as_part g rows holds i;
   job = first_held as_job g rows holds i;
   out = first_held as_out g rows holds i;
+  list = first_held as_list g rows holds i;
   hidden = first_held as_hidden g rows holds i;
 }

@@ -19,7 +19,7 @@ use Rattle.sheet_words.specs.inner.App.{sheet_app}
 use Rattle.sheet_words.specs.inner.Seen.{given_in, reading_by, sentence_seen}
 use Rattle.sheet_words.specs.declared.command.Sentence.{Sentence}
 use Rattle.sheet_words.specs.Grammar as grammar
-use Rattle.sheet_words.specs.Grammar.{Given, Kind, Question, Reading, Role, all_given, as_hidden, as_job, as_out, as_part, asks, ends, gives, giving, nothing, opens, plain, plain_from, read_at, read_from, reading_of, refused, text_as, unknown_option, wants, with_text}
+use Rattle.sheet_words.specs.Grammar.{Given, Kind, Question, Reading, Role, all_given, as_hidden, as_job, as_list, as_out, as_part, asks, ends, gives, giving, nothing, opens, plain, plain_from, read_at, read_from, reading_of, refused, text_as, unknown_option, wants, with_text}
 use Rattle.sheet_words.proofs.WordLemmas.{Fails, IsFault, Reads, id_of, is_option, reads, rule_as, rules, top}
 use Rattle.sheet_words.proofs.RowLemmas.{Holds, first_use, given_held, holds_used, second_use}
 use Rattle.sheet_words.proofs.TurnLemmas as turns
@@ -66,18 +66,21 @@ same_part : (role : Role) (v : Text) (g : Given) → is_option role ≡ true →
 same_part as_part v g is = absurd (true≢false (sym is))
 same_part as_job v g is = refl
 same_part as_out v g is = refl
+same_part as_list v g is = refl
 same_part as_hidden v g is = refl
 
 value_settles : (role : Role) (v : Text) (rows : List Row) (skip : ℕ) → settle_fault rules false (with_value role v rows skip) ≡ use_fault false (rule_as role) (v ∷ []) rows
 value_settles as_part v rows skip = refl
 value_settles as_job v rows skip = refl
 value_settles as_out v rows skip = refl
+value_settles as_list v rows skip = refl
 value_settles as_hidden v rows skip = refl
 
 value_rows : (role : Role) (v : Text) (rows : List Row) (skip : ℕ) → (settled rules (with_value role v rows skip)).rows ≡ used (rule_as role) (v ∷ []) rows
 value_rows as_part v rows skip = refl
 value_rows as_job v rows skip = refl
 value_rows as_out v rows skip = refl
+value_rows as_list v rows skip = refl
 value_rows as_hidden v rows skip = refl
 
 closed_value : (role : Role) (v : Text) (g : Given) (rows : List Row) (skip : ℕ) → Holds g rows → skip ≡ 0 → text_as role g ≡ None
@@ -208,6 +211,7 @@ waiting_fault : (role : Role) (rows : List Row) → IsFault (settle_fault rules 
 waiting_fault as_part rows = refl
 waiting_fault as_job rows = refl
 waiting_fault as_out rows = refl
+waiting_fault as_list rows = refl
 waiting_fault as_hidden rows = refl
 
 -- a word behind an option that waits
@@ -270,6 +274,7 @@ holds_nothing : Holds nothing []
 holds_nothing as_part = refl
 holds_nothing as_job = refl
 holds_nothing as_out = refl
+holds_nothing as_list = refl
 holds_nothing as_hidden = refl
 
 -- the fault of `clap` and its rows tell what the words come to

@@ -8,7 +8,7 @@ use Rattle.clap.specs.Walk.{Held, Row, Rule, Step, Text, Waiting, Walk, after_fl
 use Rattle.clap.specs.declared.error.kind.ErrorKind.TheVariants.{DisplayHelp, DisplayVersion, UnknownArgument}
 use Rattle.clap.specs.declared.error.kind.ErrorKind.{ErrorKind}
 use Rattle.draw_words.proofs.WordLemmas.{is_end}
-use Rattle.sheet_words.specs.Grammar.{Question, Reading, Role, as_hidden, as_job, as_out, as_part, asks, for_help, for_version}
+use Rattle.sheet_words.specs.Grammar.{Question, Reading, Role, as_hidden, as_job, as_list, as_out, as_part, asks, for_help, for_version}
 use Rattle.sheet_words.proofs.WordLemmas.{Fails, IsFault, ReadsFlag, ReadsPlain, ReadsUnknown, id_of, rule_as, rule_for, rules, top}
 
 -- ---- faults, one after the other
@@ -148,6 +148,7 @@ taken_met role position word rows r = word_met_is (option (id_of role)) position
     go as_part = refl
     go as_job = refl
     go as_out = refl
+    go as_list = refl
     go as_hidden = refl
 
 pub taken : (role : Role) (has_part : Bool) (word : Text) (rows : List Row) → ReadsPlain word
@@ -204,6 +205,7 @@ opens_fault role waiting word h r = word_fault_is waiting word h ∙ rw (r.no_en
     go as_part = refl
     go as_job = refl
     go as_out = refl
+    go as_list = refl
     go as_hidden = refl
 
 pub opens_fails : (role : Role) (waiting : Waiting) (has_part : Bool) (word : Text) (h : Held) → ReadsFlag (rule_as role) None word → IsFault (settle_fault rules false h)
@@ -221,6 +223,7 @@ opens_met role position word h r = word_met_is idle position word h ∙ rw (r.no
     go as_part = refl
     go as_job = refl
     go as_out = refl
+    go as_list = refl
     go as_hidden = refl
 
 pub opens_moves : (role : Role) (has_part : Bool) (word : Text) (h : Held) → ReadsFlag (rule_as role) None word → settle_fault rules false h ≡ []
@@ -241,6 +244,7 @@ gives_fault role v waiting word h r = word_fault_is waiting word h ∙ rw (r.no_
     go as_part = refl
     go as_job = refl
     go as_out = refl
+    go as_list = refl
     go as_hidden = refl
 
 pub gives_fails : (role : Role) (v : Text) (waiting : Waiting) (has_part : Bool) (word : Text) (h : Held) → ReadsFlag (rule_as role) (Some v) word → IsFault (settle_fault rules false h)
@@ -263,6 +267,7 @@ gives_met role v position word h r = word_met_is idle position word h ∙ rw (r.
     go as_part = refl
     go as_job = refl
     go as_out = refl
+    go as_list = refl
     go as_hidden = refl
 
 pub gives_moves : (role : Role) (v : Text) (has_part : Bool) (word : Text) (h : Held) → ReadsFlag (rule_as role) (Some v) word
@@ -314,7 +319,7 @@ all_defaults-none [] rows none = refl
 all_defaults-none (r ∷ rs) rows none = ap (λ (rest : List Row). fold with_default rest rs) (with_default-none r rows none.0) ∙ all_defaults-none rs rows none.1
 
 no_defaults : HasNoDefaults rules
-no_defaults = (refl, (refl, (refl, (refl, (refl, (refl, tt))))))
+no_defaults = (refl, (refl, (refl, (refl, (refl, (refl, (refl, tt)))))))
 
 pub finished_is : (h : Held) → finished rules h ≡ (settled rules h).rows
 finished_is h = all_defaults-none rules (settled rules h).rows no_defaults

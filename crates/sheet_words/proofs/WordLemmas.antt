@@ -16,7 +16,7 @@ use Rattle.draw_words.specs.Grammar.{behind, is_marked}
 use Rattle.draw_words.proofs.WordLemmas.{is_end}
 use Rattle.sheet_words.specs.inner.App.{part_rule, sheet_app}
 use Rattle.sheet_words.specs.inner.Seen.{reading_by}
-use Rattle.sheet_words.specs.Grammar.{Kind, Question, Reading, Role, as_hidden, as_job, as_out, as_part, ends, for_help, for_version, gives, kind_of, opens, option_or, plain, refused, unknown_option, wants}
+use Rattle.sheet_words.specs.Grammar.{Kind, Question, Reading, Role, as_hidden, as_job, as_list, as_out, as_part, ends, for_help, for_version, gives, kind_of, opens, option_or, plain, refused, unknown_option, wants}
 
 -- ---- the command as it is built
 abbrev pub top : Shape
@@ -29,6 +29,7 @@ abbrev pub id_of : Role → Text
 id_of as_part = codes "part"
 id_of as_job = codes "job"
 id_of as_out = codes "out"
+id_of as_list = codes "list"
 id_of as_hidden = codes "hidden"
 
 -- the argument for a role
@@ -36,16 +37,18 @@ abbrev pub rule_as : Role → Rule
 rule_as as_part = get_or rules 0 part_rule
 rule_as as_job = get_or rules 1 part_rule
 rule_as as_out = get_or rules 2 part_rule
-rule_as as_hidden = get_or rules 3 part_rule
+rule_as as_list = get_or rules 3 part_rule
+rule_as as_hidden = get_or rules 4 part_rule
 
 abbrev pub rule_for : Question → Rule
-rule_for for_help = get_or rules 4 part_rule
-rule_for for_version = get_or rules 5 part_rule
+rule_for for_help = get_or rules 5 part_rule
+rule_for for_version = get_or rules 6 part_rule
 
 abbrev pub is_option : Role → Bool
 is_option as_part = false
 is_option as_job = true
 is_option as_out = true
+is_option as_list = true
 is_option as_hidden = true
 
 -- one fault, that says this of the words
@@ -182,9 +185,10 @@ abbrev kind_cut : Text → Kind
 kind_cut word =
     option_cut as_job (codes "job") word
     (option_cut as_out (codes "out") word
+    (option_cut as_list (codes "list") word
     (option_cut as_hidden (codes "hidden") word
     (question_cut for_help (codes "help") word
-    (question_cut for_version (codes "version") word unknown_option))))
+    (question_cut for_version (codes "version") word unknown_option)))))
 
 kind_is_cut : (d : ℕ) (ds : Text) → kind_of (45 ∷ 45 ∷ d ∷ ds) ≡ kind_cut (d ∷ ds)
 kind_is_cut d ds =
@@ -195,12 +199,16 @@ kind_is_cut d ds =
     let help_cut = question_cut for_help (codes "help") word version_cut in
     let hidden = name_or-cut (opens as_hidden) (gives as_hidden) help_cut (codes "hidden") word (refl, (refl, (refl, (refl, (refl, (refl, tt)))))) in
     let hidden_cut = option_cut as_hidden (codes "hidden") word help_cut in
-    let out = name_or-cut (opens as_out) (gives as_out) hidden_cut (codes "out") word (refl, (refl, (refl, tt))) in
-    let out_cut = option_cut as_out (codes "out") word hidden_cut in
+    let list = name_or-cut (opens as_list) (gives as_list) hidden_cut (codes "list") word (refl, (refl, (refl, (refl, tt)))) in
+    let list_cut = option_cut as_list (codes "list") word hidden_cut in
+    let out = name_or-cut (opens as_out) (gives as_out) list_cut (codes "out") word (refl, (refl, (refl, tt))) in
+    let out_cut = option_cut as_out (codes "out") word list_cut in
     let job = name_or-cut (opens as_job) (gives as_job) out_cut (codes "job") word (refl, (refl, (refl, tt))) in
-    ap (λ (k : Kind). option_or as_job (codes "job") word (option_or as_out (codes "out") word (option_or as_hidden (codes "hidden") word (question_or for_help (codes "help") word k)))) version
-    ∙ ap (λ (k : Kind). option_or as_job (codes "job") word (option_or as_out (codes "out") word (option_or as_hidden (codes "hidden") word k))) help
-    ∙ ap (λ (k : Kind). option_or as_job (codes "job") word (option_or as_out (codes "out") word k)) hidden
+    ap (λ (k : Kind). option_or as_job (codes "job") word (option_or as_out (codes "out") word
+    (option_or as_list (codes "list") word (option_or as_hidden (codes "hidden") word (question_or for_help (codes "help") word k))))) version
+    ∙ ap (λ (k : Kind). option_or as_job (codes "job") word (option_or as_out (codes "out") word (option_or as_list (codes "list") word (option_or as_hidden (codes "hidden") word k)))) help
+    ∙ ap (λ (k : Kind). option_or as_job (codes "job") word (option_or as_out (codes "out") word (option_or as_list (codes "list") word k))) hidden
+    ∙ ap (λ (k : Kind). option_or as_job (codes "job") word (option_or as_out (codes "out") word k)) list
     ∙ ap (λ (k : Kind). option_or as_job (codes "job") word k) out
     ∙ job
 
@@ -215,37 +223,41 @@ module _ (rest n : Text) (no_end : is_end (45 ∷ 45 ∷ rest) ≡ false) where
   flag : (rule : Rule) (value : Option Text) → long_of whole ≡ Some (n, value) → arg_by_long rules n ≡ Some rule → ReadsFlag rule value whole
   flag rule value long found = record { name = n; marked = refl; no_end = no_end; long = long; found = found }
 
-  abbrev kind_by : Option Text → Bool → Bool → Bool → Bool → Bool → Kind
-  kind_by value job out hidden help version =
+  abbrev kind_by : Option Text → Bool → Bool → Bool → Bool → Bool → Bool → Kind
+  kind_by value job out list hidden help version =
       if job then with_value (opens as_job) (gives as_job) unknown_option value
       else (if out then with_value (opens as_out) (gives as_out) unknown_option value
+      else (if list then with_value (opens as_list) (gives as_list) unknown_option value
       else (if hidden then with_value (opens as_hidden) (gives as_hidden) unknown_option value
       else (if help then with_value (wants for_help) (λ _. if version then with_value (wants for_version) (λ _. unknown_option) unknown_option value else unknown_option) unknown_option value
-      else (if version then with_value (wants for_version) (λ _. unknown_option) unknown_option value else unknown_option))))
+      else (if version then with_value (wants for_version) (λ _. unknown_option) unknown_option value else unknown_option)))))
 
   marked : (value : Option Text) → long_of whole ≡ Some (n, value)
-      → (job out hidden help version : Bool) → is_here (codes "job") ≡ job → is_here (codes "out") ≡ out → is_here (codes "hidden") ≡ hidden
+      → (job out list hidden help version : Bool) → is_here (codes "job") ≡ job → is_here (codes "out") ≡ out → is_here (codes "list") ≡ list → is_here (codes "hidden") ≡ hidden
       → is_here (codes "help") ≡ help → is_here (codes "version") ≡ version
-      → Reads (kind_by value job out hidden help version) whole
-  marked None long true o i h v a b c e f = (refl, flag (rule_as as_job) None long (rw a refl))
-  marked (Some x) long true o i h v a b c e f = (refl, flag (rule_as as_job) (Some x) long (rw a refl))
-  marked None long false true i h v a b c e f = (refl, flag (rule_as as_out) None long (rw (a, b) refl))
-  marked (Some x) long false true i h v a b c e f = (refl, flag (rule_as as_out) (Some x) long (rw (a, b) refl))
-  marked None long false false true h v a b c e f = (refl, flag (rule_as as_hidden) None long (rw (a, b, c) refl))
-  marked (Some x) long false false true h v a b c e f = (refl, flag (rule_as as_hidden) (Some x) long (rw (a, b, c) refl))
-  marked None long false false false true v a b c e f = flag (rule_for for_help) None long (rw (a, b, c, e) refl)
-  marked (Some x) long false false false true true a b c e f = record { marked = refl; no_end = no_end; fault = λ held none. rw (long, a, b, c, e) refl }
-  marked (Some x) long false false false true false a b c e f = record { marked = refl; no_end = no_end; fault = λ held none. rw (long, a, b, c, e) refl }
-  marked None long false false false false true a b c e f = flag (rule_for for_version) None long (rw (a, b, c, e, f) refl)
-  marked (Some x) long false false false false true a b c e f = record { marked = refl; no_end = no_end; fault = λ held none. rw (long, a, b, c, e, f) refl }
-  marked value long false false false false false a b c e f = record { marked = refl; no_end = no_end; fault = λ held none. rw (long, a, b, c, e, f) refl }
+      → Reads (kind_by value job out list hidden help version) whole
+  marked None long true o l i h v a b s c e f = (refl, flag (rule_as as_job) None long (rw a refl))
+  marked (Some x) long true o l i h v a b s c e f = (refl, flag (rule_as as_job) (Some x) long (rw a refl))
+  marked None long false true l i h v a b s c e f = (refl, flag (rule_as as_out) None long (rw (a, b) refl))
+  marked (Some x) long false true l i h v a b s c e f = (refl, flag (rule_as as_out) (Some x) long (rw (a, b) refl))
+  marked None long false false true i h v a b s c e f = (refl, flag (rule_as as_list) None long (rw (a, b, s) refl))
+  marked (Some x) long false false true i h v a b s c e f = (refl, flag (rule_as as_list) (Some x) long (rw (a, b, s) refl))
+  marked None long false false false true h v a b s c e f = (refl, flag (rule_as as_hidden) None long (rw (a, b, s, c) refl))
+  marked (Some x) long false false false true h v a b s c e f = (refl, flag (rule_as as_hidden) (Some x) long (rw (a, b, s, c) refl))
+  marked None long false false false false true v a b s c e f = flag (rule_for for_help) None long (rw (a, b, s, c, e) refl)
+  marked (Some x) long false false false false true true a b s c e f = record { marked = refl; no_end = no_end; fault = λ held none. rw (long, a, b, s, c, e) refl }
+  marked (Some x) long false false false false true false a b s c e f = record { marked = refl; no_end = no_end; fault = λ held none. rw (long, a, b, s, c, e) refl }
+  marked None long false false false false false true a b s c e f = flag (rule_for for_version) None long (rw (a, b, s, c, e, f) refl)
+  marked (Some x) long false false false false false true a b s c e f = record { marked = refl; no_end = no_end; fault = λ held none. rw (long, a, b, s, c, e, f) refl }
+  marked value long false false false false false false a b s c e f = record { marked = refl; no_end = no_end; fault = λ held none. rw (long, a, b, s, c, e, f) refl }
 
 two_marks : (word : Text) → Reads (kind_of (45 ∷ 45 ∷ word)) (45 ∷ 45 ∷ word)
 two_marks [] = (refl, refl)
 two_marks (d ∷ ds) =
     let n = before_first is_equals (d ∷ ds) in
     subst (λ (k : Kind). Reads k (45 ∷ 45 ∷ d ∷ ds)) (sym (kind_is_cut d ds))
-    (marked (d ∷ ds) n refl (cut (d ∷ ds)) refl (bytes_eq (codes "job") n) (bytes_eq (codes "out") n) (bytes_eq (codes "hidden") n) (bytes_eq (codes "help") n) (bytes_eq (codes "version") n) refl refl refl refl refl)
+    (marked (d ∷ ds) n refl (cut (d ∷ ds)) refl (bytes_eq (codes "job") n) (bytes_eq (codes "out") n) (bytes_eq (codes "list") n) (bytes_eq (codes "hidden") n) (bytes_eq (codes "help") n) (bytes_eq (codes "version") n)
+    refl refl refl refl refl refl)
 
 one_mark : (c : ℕ) (word : Text) → IsUtf8 (45 ∷ c ∷ word) → Reads (kind_of (45 ∷ c ∷ word)) (45 ∷ c ∷ word)
 one_mark c word utf8 = go (c == 45) refl

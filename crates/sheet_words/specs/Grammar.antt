@@ -9,6 +9,7 @@ pub data Role : Type 0 where
   as_part : Role
   as_job : Role
   as_out : Role
+  as_list : Role
   as_hidden : Role
 
 -- what words may ask for in place of a sheet
@@ -21,9 +22,9 @@ pub data Question : Type 0 where
 pub data Kind : Type 0 where
   -- `--`: every later word is plain
   ends : Kind
-  -- `--job`, `--out` or `--hidden`: the next word is its value
+  -- `--job`, `--out`, `--list` or `--hidden`: the next word is its value
   opens : Role → Kind
-  -- `--job=V`, `--out=V` or `--hidden=V`
+  -- `--job=V`, `--out=V`, `--list=V` or `--hidden=V`
   gives : Role → List ℕ → Kind
   -- `--help` or `--version`
   wants : Question → Kind
@@ -42,10 +43,11 @@ kind_of word =
     if bytes_eq word (codes "--") then ends
     else option_or as_job (codes "--job") word
     (option_or as_out (codes "--out") word
+    (option_or as_list (codes "--list") word
     (option_or as_hidden (codes "--hidden") word
     (if bytes_eq word (codes "--help") then wants for_help
     else (if bytes_eq word (codes "--version") then wants for_version
-    else (if is_marked word then unknown_option else plain)))))
+    else (if is_marked word then unknown_option else plain))))))
 
 -- ---- all words, from left to right
 -- what is given so far: the plain word, and the values of the options
@@ -53,17 +55,19 @@ pub record Given : Type 0 where
   pub part : Option (List ℕ)
   pub job : Option (List ℕ)
   pub out : Option (List ℕ)
+  pub list : Option (List ℕ)
   pub hidden : Option (List ℕ)
 
 -- before the first word
 abbrev pub nothing : Given
-nothing = record { part = None; job = None; out = None; hidden = None }
+nothing = record { part = None; job = None; out = None; list = None; hidden = None }
 
 -- the text in a role, if one is given
 abbrev pub text_as : Role → Given → Option (List ℕ)
 text_as as_part given = given.part
 text_as as_job given = given.job
 text_as as_out given = given.out
+text_as as_list given = given.list
 text_as as_hidden given = given.hidden
 
 -- and this text in its role
@@ -71,6 +75,7 @@ abbrev pub with_text : Role → List ℕ → Given → Given
 with_text as_part text given = record given { part = Some text }
 with_text as_job text given = record given { job = Some text }
 with_text as_out text given = record given { out = Some text }
+with_text as_list text given = record given { list = Some text }
 with_text as_hidden text given = record given { hidden = Some text }
 
 -- what words come to

@@ -1,5 +1,5 @@
 -- What the words ask for.
-use Rattle.std.specs.Prelude.{ℕ, Bool, ◌||◌, List, Option, Some, None, if◌then◌else◌, codes, nat_eq, option_map, unwrap_or}
+use Rattle.std.specs.Prelude.{ℕ, Bool, true, false, ◌||◌, List, Option, Some, None, if◌then◌else◌, codes, nat_eq, option_map, unwrap_or}
 use Rattle.std.specs.List.{ends_with}
 use Rattle.std.specs.Str.{bytes_eq}
 use Rattle.draw_words.specs.Names.{is_empty}
@@ -13,11 +13,17 @@ pub data Goal : Type 0 where
   svg_file : List ℕ → Goal
   pdf_file : List ℕ → Goal
 
--- the part and the job by their names, where the sheet goes, and in which views hidden lines are drawn
+-- where the list of its strokes goes: it is said, or it is kept under a name
+pub data ListGoal : Type 0 where
+  list_said : ListGoal
+  list_file : List ℕ → ListGoal
+
+-- the part and the job by their names, where the sheet goes, and its list if there is one, and in which views hidden lines are drawn
 pub record Named : Type 0 where
   pub part : List ℕ
   pub job : Option (List ℕ)
   pub out : Goal
+  pub list : Option ListGoal
   pub hidden : Hidden
 
 -- help, the version, or a sheet
@@ -41,6 +47,17 @@ goal_named name =
 abbrev pub goal_of : Option (List ℕ) → Option Goal
 goal_of out = goal_named (unwrap_or out (codes "sheet.svg"))
 
+-- `-`, or any other name
+abbrev pub list_named : List ℕ → ListGoal
+list_named name = if bytes_eq name (codes "-") then list_said else list_file name
+
+-- there is a list, and it goes where the sheet goes: both are said, or both have this name
+abbrev pub shares_place : Option ListGoal → Goal → Bool
+shares_place (Some list_said) said = true
+shares_place (Some (list_file name)) (svg_file out) = bytes_eq name out
+shares_place (Some (list_file name)) (pdf_file out) = bytes_eq name out
+shares_place _ _ = false
+
 -- one of three words
 abbrev pub hidden_named : List ℕ → Option Hidden
 hidden_named word =
@@ -52,16 +69,17 @@ hidden_named word =
 abbrev pub hidden_of : Option (List ℕ) → Option Hidden
 hidden_of hidden = hidden_named (unwrap_or hidden (codes "all"))
 
--- all of them, where none is wrong or missing
-abbrev pub named_by : Option (List ℕ) → Option (List ℕ) → Option Goal → Option Hidden → Option Named
-named_by (Some part) job (Some out) (Some hidden) = Some (record { part = part; job = job; out = out; hidden = hidden })
-named_by _ _ _ _ = None
+-- all of them, where none is wrong or missing, and the list doesn't go where the sheet goes
+abbrev pub named_by : Option (List ℕ) → Option (List ℕ) → Option Goal → Option ListGoal → Option Hidden → Option Named
+named_by (Some part) job (Some out) list (Some hidden) =
+    if shares_place list out then None else Some (record { part = part; job = job; out = out; list = list; hidden = hidden })
+named_by _ _ _ _ _ = None
 
--- there is a part, no name is empty, and each value is one of those that its option has
+-- there is a part, no name is empty, each value is one of those that its option has, and the list has a place of its own
 abbrev pub named : Given → Option Named
 named given =
-    if is_empty given.part || is_empty given.job then None
-    else named_by given.part given.job (goal_of given.out) (hidden_of given.hidden)
+    if is_empty given.part || is_empty given.job || is_empty given.list then None
+    else named_by given.part given.job (goal_of given.out) (option_map list_named given.list) (hidden_of given.hidden)
 
 -- by what the words come to
 abbrev pub asks_of : Reading → Option Asks

@@ -1,7 +1,10 @@
 -- What contracts see of what words ask for.
-use Rattle.sheet_words.specs.Names.{Asks, Goal, Named, help, version, sheet, said, svg_file, pdf_file}
+use Rattle.std.specs.Prelude.{option_map}
+use Rattle.sheet_words.specs.Names.{Asks, Goal, ListGoal, Named, help, version, sheet, said, svg_file, pdf_file, list_said, list_file}
 use Rattle.sheet_words.specs.declared.words.Asked.{Asked}
 use Rattle.sheet_words.specs.declared.words.Asked.TheVariants.{Help, Version, Sheet}
+use Rattle.sheet_words.specs.declared.words.ListOut.{ListOut}
+use Rattle.sheet_words.specs.declared.words.ListOut.TheVariants as list
 use Rattle.sheet_words.specs.declared.words.Out.{Out}
 use Rattle.sheet_words.specs.declared.words.Out.TheVariants.{Said, Svg, Pdf}
 use Rattle.sheet_words.specs.declared.words.Request.{Request}
@@ -12,9 +15,14 @@ goal_seen Said = said
 goal_seen (Svg name) = svg_file name
 goal_seen (Pdf name) = pdf_file name
 
+-- where the list goes
+abbrev pub list_seen : ListOut → ListGoal
+list_seen list.Said = list_said
+list_seen (list.File name) = list_file name
+
 -- what a request names
 abbrev pub named_seen : Request → Named
-named_seen r = record { part = r.part; job = r.job; out = goal_seen r.out; hidden = r.hidden }
+named_seen r = record { part = r.part; job = r.job; out = goal_seen r.out; list = option_map list_seen r.list; hidden = r.hidden }
 
 -- what is asked for
 abbrev pub asked_seen : Asked → Asks

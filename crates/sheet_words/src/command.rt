@@ -1,11 +1,11 @@
-// The command as `clap` reads it: one word, three options with a value, and two that ask.
+// The command as `clap` reads it: one word, four options with a value, and two that ask.
 ghost use Rattle.std.specs.Prelude.{◌≡◌, Some, IfOk, IsErrOf, false, option_copied};
 ghost use Rattle.clap.specs.Matches.{found_of};
 ghost use Rattle.clap.specs.Simple.{app_of};
 ghost use Rattle.clap.specs.Walk.{first_of, rows_of, rule_of};
 ghost use Rattle.draw_words.specs.Seen.{texts};
 ghost use Rattle.sheet_words.specs.Grammar.{reading_of, refused};
-ghost use Rattle.sheet_words.specs.inner.App.{bare_app, option_rule, part_rule, sheet_app, valued_app};
+ghost use Rattle.sheet_words.specs.inner.App.{bare_app, naming_app, option_rule, part_rule, sheet_app};
 ghost use Rattle.sheet_words.specs.inner.Seen.{found_seen, given_in, reading_by, sentence_seen};
 
 use clap::error::ErrorKind;
@@ -20,6 +20,7 @@ pub struct Found<'a> {
     pub part: Option<&'a str>,
     pub job: Option<&'a str>,
     pub out: Option<&'a str>,
+    pub list: Option<&'a str>,
     pub hidden: Option<&'a str>,
 }
 
@@ -57,22 +58,23 @@ fn bare_command<'a>(alloc: Global) -> Command<'a>
         .disable_version_flag(true)
 }
 
-/// The command with what takes a value.
-fn valued_command<'a>(alloc: Global) -> Result<Command<'a>, AllocError>
-    ensures { IfOk result (λ c. app_of c ≡ valued_app) }
+/// The command with what names files.
+fn naming_command<'a>(alloc: Global) -> Result<Command<'a>, AllocError>
+    ensures { IfOk result (λ c. app_of c ≡ naming_app) }
 {
     bare_command(alloc)
         .arg(part_arg(alloc))?
         .arg(option_arg(alloc, "job", ArgAction::Set))?
         .arg(option_arg(alloc, "out", ArgAction::Set))?
-        .arg(option_arg(alloc, "hidden", ArgAction::Set))
+        .arg(option_arg(alloc, "list", ArgAction::Set))
 }
 
 /// The command.
 fn sheet_command<'a>(alloc: Global) -> Result<Command<'a>, AllocError>
     ensures { IfOk result (λ c. app_of c ≡ sheet_app) }
 {
-    valued_command(alloc)?
+    naming_command(alloc)?
+        .arg(option_arg(alloc, "hidden", ArgAction::Set))?
         .arg(option_arg(alloc, "help", ArgAction::Help))?
         .arg(option_arg(alloc, "version", ArgAction::Version))
 }
@@ -92,6 +94,7 @@ fn all_found<'a>(matches: &ArgMatches<'a>) -> Found<'a>
         part: first_value(matches, "part"),
         job: first_value(matches, "job"),
         out: first_value(matches, "out"),
+        list: first_value(matches, "list"),
         hidden: first_value(matches, "hidden"),
     }
 }

@@ -1,7 +1,8 @@
-//! The words behind the program's name: `PART [--job JOB] [--out OUT] [--hidden all|plain|none]`, or `--help` or `--version`.
+//! The words behind the program's name: `PART [--job JOB] [--out OUT] [--list LIST] [--hidden all|plain|none]`, or `--help` or
+//! `--version`.
 #![tactic(auto)]
 
 mod command;
 mod words;
 
-pub use words::{Asked, Hidden, Out, Request, read_words};
+pub use words::{Asked, Hidden, ListOut, Out, Request, read_words};

@@ -1,9 +1,9 @@
 // What the words of a run ask for.
-ghost use Rattle.std.specs.Prelude.{◌≡◌, IfOk, IsErrOf, Some, None, option_copied};
+ghost use Rattle.std.specs.Prelude.{◌≡◌, IfOk, IsErrOf, Some, None, option_copied, option_map};
 ghost use Rattle.draw_words.specs.Names.{is_empty};
 ghost use Rattle.draw_words.specs.Seen.{texts};
-ghost use Rattle.sheet_words.specs.Names.{asked_by, goal_named, hidden_named, named};
-ghost use Rattle.sheet_words.specs.Seen.{asked_seen, goal_seen, named_seen};
+ghost use Rattle.sheet_words.specs.Names.{asked_by, goal_named, shares_place, hidden_named, list_named, named};
+ghost use Rattle.sheet_words.specs.Seen.{asked_seen, goal_seen, list_seen, named_seen};
 ghost use Rattle.sheet_words.specs.inner.Seen.{found_seen};
 
 use crate::command::{Found, Sentence, read};
@@ -34,12 +34,23 @@ pub enum Out {
     Pdf(Name),
 }
 
-/// Which part is drawn, by which job if one is named, where it goes, and which hidden lines are drawn.
+/// Where the list of a sheet's strokes goes.
+#[derive(Debug, Drop)]
+pub enum ListOut {
+    /// It is said.
+    Said,
+    /// Into the file of this name.
+    File(Name),
+}
+
+/// Which part is drawn, by which job if one is named, where it goes, and its list if there is one, and which hidden lines are
+/// drawn.
 #[derive(Debug, Drop)]
 pub struct Request {
     pub part: Name,
     pub job: Option<Name>,
     pub out: Out,
+    pub list: Option<ListOut>,
     pub hidden: Hidden,
 }
 
@@ -87,6 +98,28 @@ fn out_named(alloc: Global, name: &str) -> Result<Out, WordsError>
     }
 }
 
+/// Where a list goes by a name, if there is one.
+fn list_named(alloc: Global, name: Option<&str>) -> Result<Option<ListOut>, OutOfMemory>
+    ensures { IfOk result (λ list. option_map list_seen list ≡ option_map list_named (option_copied name.entry)) }
+{
+    match name {
+        Some("-") => Ok(Some(ListOut::Said)),
+        Some(name) => Ok(Some(ListOut::File(Name::new(alloc, name)?))),
+        None => Ok(None),
+    }
+}
+
+/// There is a list, and it goes where the sheet goes.
+fn shares_place(list: &Option<ListOut>, out: &Out) -> bool
+    ensures { result ≡ shares_place (option_map list_seen list.now) (goal_seen out.now) }
+{
+    match (list, out) {
+        (Some(ListOut::Said), Out::Said) => true,
+        (Some(ListOut::File(list)), Out::Svg(out) | Out::Pdf(out)) => list.as_str() == out.as_str(),
+        _ => false,
+    }
+}
+
 /// Which hidden lines are drawn by a word.
 fn hidden_named(word: &str) -> Option<Hidden>
     ensures { result ≡ hidden_named word.now }
@@ -104,7 +137,7 @@ fn request_of(alloc: Global, found: Found<'_>) -> Result<Request, WordsError>
     ensures named { IfOk result (λ r. named (found_seen found.entry) ≡ Some (named_seen r)) }
     ensures usage { IsErrOf result WordsError.Usage → named (found_seen found.entry) ≡ None }
 {
-    if is_empty(found.part) || is_empty(found.job) {
+    if is_empty(found.part) || is_empty(found.job) || is_empty(found.list) {
         return Err(WordsError::Usage);
     }
     let Some(part) = found.part else {
@@ -113,22 +146,29 @@ fn request_of(alloc: Global, found: Found<'_>) -> Result<Request, WordsError>
     let Some(hidden) = hidden_named(found.hidden.unwrap_or("all")) else {
         return Err(WordsError::Usage);
     };
+    let out = out_named(alloc, found.out.unwrap_or("sheet.svg"))?;
+    let list = list_named(alloc, found.list)?;
+    if shares_place(&list, &out) {
+        return Err(WordsError::Usage);
+    }
     Ok(Request {
         part: Name::new(alloc, part)?,
         job: job_name(alloc, found.job)?,
-        out: out_named(alloc, found.out.unwrap_or("sheet.svg"))?,
+        out,
+        list,
         hidden,
     })
 }
 
-/// Reads the words behind the program's name, from left to right: `PART`, and `--job JOB`, `--out OUT` and
+/// Reads the words behind the program's name, from left to right: `PART`, and `--job JOB`, `--out OUT`, `--list LIST` and
 /// `--hidden all|plain|none`, or these with `=`. PART is the one plain word, and each option is there at most once. A word
 /// that begins with `-` and is longer is refused where it isn't one of these; a value in a word of its own doesn't begin so.
 /// Behind the first `--` every word is plain. The first of `--help` and `--version` asks for help, or for the version,
 /// whatever follows.
 ///
-/// PART and JOB aren't empty. OUT is `-`, or ends in `.svg` or `.pdf`; without it the sheet goes to `sheet.svg`, and without
-/// `--hidden` all hidden lines are drawn. The time goes with the length of the words.
+/// PART, JOB and LIST aren't empty. OUT is `-`, or ends in `.svg` or `.pdf`; without it the sheet goes to `sheet.svg`. LIST is
+/// `-` or any other name, but not OUT's, to the byte; without it there is no list. Without `--hidden` all hidden lines are
+/// drawn. The time goes with the length of the words.
 pub fn read_words(alloc: Global, words: &[String]) -> Result<Asked, WordsError>
     ensures asked { IfOk result (λ asked. asked_by (texts words.now) ≡ Some (asked_seen asked)) }
     ensures usage { IsErrOf result WordsError.Usage → asked_by (texts words.now) ≡ None }

@@ -24,11 +24,11 @@ bare_app = record {
 abbrev pub with_option : App → List ℕ → ArgAction → App
 with_option app name action = with_rule app (option_rule name action)
 
--- the command with what takes a value
-abbrev pub valued_app : App
-valued_app =
-    with_option (with_option (with_option (with_rule bare_app part_rule) (codes "job") Set) (codes "out") Set) (codes "hidden") Set
+-- the command with what names files
+abbrev pub naming_app : App
+naming_app =
+    with_option (with_option (with_option (with_rule bare_app part_rule) (codes "job") Set) (codes "out") Set) (codes "list") Set
 
 -- the command
 abbrev pub sheet_app : App
-sheet_app = with_option (with_option valued_app (codes "help") Help) (codes "version") Version
+sheet_app = with_option (with_option (with_option naming_app (codes "hidden") Set) (codes "help") Help) (codes "version") Version

@@ -14,6 +14,7 @@ found_seen found = record {
   part = option_copied found.part;
   job = option_copied found.job;
   out = option_copied found.out;
+  list = option_copied found.list;
   hidden = option_copied found.hidden;
 }
 
@@ -29,6 +30,7 @@ given_in rows = record {
   part = first_of (codes "part") rows;
   job = first_of (codes "job") rows;
   out = first_of (codes "out") rows;
+  list = first_of (codes "list") rows;
   hidden = first_of (codes "hidden") rows;
 }
 

@@ -2,7 +2,7 @@ use Rattle.std.proofs.Common.{◌≡◌, ◌∙◌, true, [], rules, refl, sym, 
 use Rattle.clap.specs.Faults.{fault_of, is_simple_and_free}
 use Rattle.clap.specs.Kinds.{HasKind}
 use Rattle.clap.specs.Matches.{found_of}
-use Rattle.clap.specs.Simple.{App, matches_of}
+use Rattle.clap.specs.Simple.{App, HasMatchesOf}
 use Rattle.clap.specs.Walk.{rows_of}
 use Rattle.draw_words.specs.Seen.{texts}
 use Rattle.sheet_words.specs.Grammar.{all_given, refused}
@@ -14,8 +14,8 @@ use Rattle.sheet_words.proofs.command.read.Goals as goal
 pub returns-in-Ok-clause-read : goal.returns-in-Ok-clause-read
 returns-in-Ok-clause-read c =
     let fits = subst (λ (a : App). is_simple_and_free a ≡ true → fault_of a (texts c.args.words.now) ≡ []) c.in_ok-command.ensures c.in-Ok.ensures.kinds refl in
-    let rows : rows_of (found_of c.in-Ok.matches) ≡ matches_of sheet_app (texts c.args.words.now) = search rules in
-    taken_words c.args.words.now (rows_of (found_of c.in-Ok.matches)) fits rows ∙ ap all_given (sym c.all_found.ensures)
+    let matches = subst (λ (a : App). HasMatchesOf a (texts c.args.words.now) c.in-Ok.matches) c.in_ok-command.ensures c.in-Ok.ensures.matches refl in
+    taken_words c.args.words.now (rows_of (found_of c.in-Ok.matches)) fits matches.0 ∙ ap all_given (sym c.all_found.ensures)
 
 pub returns-in-Err-clause-read : goal.returns-in-Err-clause-read
 returns-in-Err-clause-read c =
