@@ -1,9 +1,8 @@
 -- What tells the cuts of a job is in reach of the views' boxes, and far within the range of numbers.
-use Rattle.std.proofs.Common.{◌≡◌, ◌⊎◌, inl, inr, ◌<◌, ◌^◌, ℕ, Bool, true, false, List, [], ◌∷◌, ◌++◌, Option, Some, All, IfSome, length, slice_get, unsigned_abs, refl, sym, subst, ◌∙◌, length-append, arith}
-use Rattle.std.specs.List.{flat_map}
-use Rattle.std.specs.Prelude.{if◌then◌else◌, ℤ, pos, ◌+ℤ◌, ◌-ℤ◌, ◌*ℤ◌, ◌<ℤ◌, ◌≤ℤ◌}
+use Rattle.std.proofs.Common.{◌≡◌, ◌⊎◌, inl, inr, ◌<◌, ◌^◌, ℕ, Bool, List, [], ◌∷◌, ◌++◌, Option, Some, All, IfSome, length, slice_get, unsigned_abs, refl, sym, subst, ◌∙◌, length-append, arith}
+use Rattle.std.specs.Prelude.{ℤ, pos, ◌+ℤ◌, ◌-ℤ◌, ◌*ℤ◌, ◌<ℤ◌, ◌≤ℤ◌}
 use Rattle.std.proofs.lemmas.Int.{ints}
-use Rattle.std.proofs.lemmas.List.Elements.{All-nil, All-cons, All-head, All-tail, All-append, All-push, All-pop, All-same, All-weaker}
+use Rattle.std.proofs.lemmas.List.Elements.{All-nil, All-push, All-pop, All-same, All-map, All-weaker}
 use Rattle.integers.specs.Floors.{floor_of}
 use Rattle.integers.proofs.Floors.{floor_of-is}
 use Rattle.integers.proofs.Lists.{slice_get_push}
@@ -14,9 +13,9 @@ use Rattle.lattice.specs.declared.pieces.ViewSpec.TheVariants.{Plain, Section}
 use Rattle.geometry.specs.Parts.{Part}
 use Rattle.sheet_plan.specs.declared.sheet.Sheet.{Sheet}
 use Rattle.cut_marks.specs.Boxes.{IsViewBox}
-use Rattle.cut_marks.specs.Figures.{beside_of, marks_of, marks_in, mark_on, heading_over}
-use Rattle.cut_marks.specs.Lanes.{is_placed, AreLaned}
-use Rattle.cut_marks.specs.Lanes.AreLaned.{none as none_laned, more as more_laned}
+use Rattle.cut_marks.specs.Figures.{marks_in, mark_of, heading_over}
+use Rattle.cut_marks.specs.Lanes.{AreLaned}
+use Rattle.cut_marks.specs.Lanes.AreLaned.{none as none_laned, told, untold}
 use Rattle.cut_marks.specs.Letters.{cuts_in}
 use Rattle.cut_marks.specs.Marks.{IsHeaded, ArePlainMarks, IsCutView, IsMarked, AreMarked}
 use Rattle.cut_marks.specs.Marks.AreMarked.{none as none_marked, more as more_marked}
@@ -33,11 +32,8 @@ use Rattle.cut_marks.specs.declared.views.ViewMarks.{ViewMarks}
 use Rattle.cut_marks.specs.declared.ways.Laned.{Laned}
 use Rattle.cut_marks.specs.declared.ways.Trace.{Trace}
 use Rattle.cut_marks.proofs.Crossed.{crossed, box_across, box_down}
+use Rattle.cut_marks.proofs.Placed.{placed_of}
 use Rattle.cut_marks.proofs.Reach.{mark_in_reach}
-
-all_flat : {A B : Type 0} (P : B → Type 0) (Q : A → Type 0) (f : A → List B) → ((x : A) → Q x → All P (f x)) → (xs : List A) → All Q xs → All P (flat_map f xs)
-all_flat P Q f one [] h = All-nil P
-all_flat P Q f one (x ∷ xs) h = All-append P (f x) (flat_map f xs) (one x (All-head Q x xs h)) (all_flat P Q f one xs (All-tail Q x xs h))
 
 -- ---- the marks of a plain view
 module _ (sheet : Sheet) (s : Part) (view : ℕ) (b : ViewBox) (is_box : IsViewBox sheet s.corners view b) where
@@ -46,24 +42,19 @@ module _ (sheet : Sheet) (s : Part) (view : ℕ) (b : ViewBox) (is_box : IsViewB
   all_crossed _ _ (seen cuts c traces t are n) = All-push (IsCrossed b) traces t (all_crossed cuts traces are) (crossed sheet s view (length cuts) c t b is_box n)
   all_crossed _ _ (unseen cuts c traces are n) = all_crossed cuts traces are
 
-  all_laned : (traces : List Trace) (laned : List Laned) → AreLaned traces laned → All (IsCrossed b) traces → All (λ e. IsCrossed b e.trace) laned
-  all_laned _ _ none_laned h = All-nil (λ e. IsCrossed b e.trace)
-  all_laned _ _ (more_laned traces laned t are) h =
+  all_laned : (traces : List Trace) (laned : List Laned) (left_out : List ℕ) → AreLaned b traces laned left_out → All (IsCrossed b) traces → All (λ e. IsCrossed b e.trace) laned
+  all_laned _ _ _ none_laned h = All-nil (λ e. IsCrossed b e.trace)
+  all_laned _ _ _ (told traces laned left_out t now are first) h =
       let (rest, last) = All-pop (IsCrossed b) (traces ++ t ∷ []) traces (Some t) refl h in
-      All-push (λ e. IsCrossed b e.trace) laned _ (all_laned traces laned are rest) last
+      placed_of (IsCrossed b) b laned t now (all_laned traces laned left_out are rest) last first
+  all_laned _ _ _ (untold traces laned left_out t are first) h =
+      let (rest, last) = All-pop (IsCrossed b) (traces ++ t ∷ []) traces (Some t) refl h in
+      all_laned traces laned left_out are rest
 
-  all_reach : (all : List Laned) → All (λ e. IsCrossed b e.trace) all → All (IsMarkInReach b) (marks_in b all)
-  all_reach all h = all_flat (IsMarkInReach b) (λ e. IsCrossed b e.trace) (marks_of b all) one all h
-    where
-      placed : (there : Bool) (m : Mark) → IsMarkInReach b m → All (IsMarkInReach b) (if there then m ∷ [] else [])
-      placed true m k = All-cons (IsMarkInReach b) m [] k (All-nil (IsMarkInReach b))
-      placed false m k = All-nil (IsMarkInReach b)
-
-      one : (e : Laned) → IsCrossed b e.trace → All (IsMarkInReach b) (marks_of b all e)
-      one e k = placed (is_placed e.lane) (mark_on b e.trace e.lane (beside_of all e.trace)) (mark_in_reach b e.trace e.lane (beside_of all e.trace) k)
-
-  pub marks_in_reach : (cuts : List Cut) (traces : List Trace) (laned : List Laned) → AreTraces sheet s view cuts traces → AreLaned traces laned → All (IsMarkInReach b) (marks_in b laned)
-  marks_in_reach cuts traces laned are are_laned = all_reach laned (all_laned traces laned are_laned (all_crossed cuts traces are))
+  pub marks_in_reach : (cuts : List Cut) (traces : List Trace) (laned : List Laned) (left_out : List ℕ) → AreTraces sheet s view cuts traces → AreLaned b traces laned left_out → All (IsMarkInReach b) (marks_in b laned)
+  marks_in_reach cuts traces laned left_out are are_laned =
+      All-map (IsMarkInReach b) (mark_of b) laned
+      (All-weaker (λ e. IsCrossed b e.trace) (λ e. IsMarkInReach b (mark_of b e)) (mark_in_reach b) laned (all_laned traces laned left_out are_laned (all_crossed cuts traces are)))
 
 -- ---- a heading
 over_middle : (b : ViewBox) (letter : ℕ) (has : Bool) → b.left ≤ℤ b.right → b.top ≤ℤ b.bottom → IsHeadingInReach b (heading_over b letter has)
@@ -142,7 +133,7 @@ module _ (sheet : Sheet) (s : Part) (cuts : List Cut) where
     box = h.box;
     is_box = h.is_box;
     heading = subst (λ (o : Option Heading). IfSome o (IsHeadingInReach h.box)) (sym h.unheaded) tt;
-    marks = All-same (IsMarkInReach h.box) m.marks.items (marks_in h.box h.laned) h.marks (marks_in_reach sheet s view h.box h.is_box cuts h.traces h.laned h.are_traces h.are_laned);
+    marks = All-same (IsMarkInReach h.box) m.marks.items (marks_in h.box h.laned) h.marks (marks_in_reach sheet s view h.box h.is_box cuts h.traces h.laned m.left_out.items h.are_traces h.are_laned);
   }
 
   of_cut : (view number : ℕ) (c : Cut) (m : ViewMarks) → IsCutView sheet s view number c m → IsViewInReach sheet s.corners view m

@@ -1,3 +1,4 @@
+pub mod Areas
 pub mod Boxes
 pub mod Figures
 pub mod Lanes

@@ -8,7 +8,7 @@ use Rattle.lattice.specs.Cuts.{plane_of}
 use Rattle.geometry.specs.Parts.{Part}
 use Rattle.sheet_plan.specs.declared.sheet.Sheet.{Sheet}
 use Rattle.cut_marks.specs.Boxes.{IsViewBox}
-use Rattle.cut_marks.specs.Figures.{marks_in, left_out_in, heading_over}
+use Rattle.cut_marks.specs.Figures.{marks_in, heading_over}
 use Rattle.cut_marks.specs.Lanes.{AreLaned}
 use Rattle.cut_marks.specs.Letters.{IsLetterOf, cuts_in}
 use Rattle.cut_marks.specs.Traces.{GoesThrough, AreTraces}
@@ -33,10 +33,9 @@ pub record ArePlainMarks (sheet : Sheet) (s : Part) (cuts : List Cut) (view : �
   pub laned : List Laned
   pub is_box : IsViewBox sheet s.corners view box
   pub are_traces : AreTraces sheet s view cuts traces
-  pub are_laned : AreLaned traces laned
+  pub are_laned : AreLaned box traces laned m.left_out.items
   pub unheaded : m.heading ≡ None
   pub marks : m.marks.items ≡ marks_in box laned
-  pub left_out : m.left_out.items ≡ left_out_in laned
 
 -- a cut view has a heading alone
 pub record IsCutView (sheet : Sheet) (s : Part) (view number : ℕ) (c : Cut) (m : ViewMarks) : Type 0 where

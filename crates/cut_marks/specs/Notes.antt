@@ -1,5 +1,6 @@
 -- What a program has to say of the cuts that a drawing doesn't tell as usual.
 use Rattle.std.specs.Prelude.{ℕ, ◌+◌, if◌then◌else◌, List, [], ◌∷◌, ◌++◌, Option, None, Some, codes}
+use Rattle.std.specs.Char.{encode_utf8}
 use Rattle.std.specs.Fmt.{decimal}
 use Rattle.std.specs.List.{flat_map}
 use Rattle.svg_page.specs.Texts.{◌⊕◌}
@@ -8,7 +9,7 @@ use Rattle.cut_marks.specs.declared.views.ViewMarks.{ViewMarks}
 
 -- the line of a cut whose plane doesn't go through the part
 abbrev pub section_line : ℕ → List ℕ
-section_line letter = codes "cut " ⊕ letter ∷ [] ⊕ codes " shows no section\n"
+section_line letter = codes "cut " ⊕ encode_utf8 letter ⊕ codes " shows no section\n"
 
 abbrev pub section_notes : Option Heading → List ℕ
 section_notes None = []
@@ -16,7 +17,7 @@ section_notes (Some h) = if h.has_section then [] else section_line h.letter
 
 -- the line of a cut that has no mark in the view with this number, though the view sees its plane edge-on
 abbrev pub left_out_line : ℕ → ℕ → List ℕ
-left_out_line view letter = codes "cut " ⊕ letter ∷ [] ⊕ codes " has no mark in view " ⊕ decimal view ⊕ codes "\n"
+left_out_line view letter = codes "cut " ⊕ encode_utf8 letter ⊕ codes " has no mark in view " ⊕ decimal view ⊕ codes "\n"
 
 abbrev pub notes_in : ℕ → ViewMarks → List ℕ
 notes_in view m = section_notes m.heading ++ flat_map (left_out_line view) m.left_out.items

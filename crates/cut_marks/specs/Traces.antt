@@ -47,6 +47,13 @@ is_upright Left = true
 is_upright Down = false
 is_upright Up = false
 
+-- toward greater x, or greater y
+abbrev pub is_forward : Way → Bool
+is_forward Right = true
+is_forward Left = false
+is_forward Down = true
+is_forward Up = false
+
 -- the point of the axis at the plane's place
 abbrev pub axis_point : Axis → ℤ → Point
 axis_point X at = record { x = at; y = pos 0; z = pos 0; w = pos 1 }

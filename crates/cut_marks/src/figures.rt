@@ -1,16 +1,16 @@
 // The figures of marks and headings.
-ghost use Rattle.std.specs.Prelude.{◌≡◌, ◌<◌, ◌≤◌, ◌^◌, pos, ◌+ℤ◌, ◌-ℤ◌, ◌↔◌, unsigned_abs, IsTrue};
+ghost use Rattle.std.specs.Prelude.{◌≡◌, ◌<◌, ◌≤◌, ◌^◌, pos, ◌+ℤ◌, ◌-ℤ◌, ◌↔◌, unsigned_abs, map, IsTrue, IfOk};
 ghost use Rattle.lattice.specs.Cuts.{plane_of};
 ghost use Rattle.solid_mesh.specs.Solids.{solid_part};
 ghost use Rattle.cut_marks.specs.Letters.{IsLetterOf};
-ghost use Rattle.cut_marks.specs.Traces.{is_upright};
-ghost use Rattle.cut_marks.specs.Lanes.{is_forward};
-ghost use Rattle.cut_marks.specs.Figures.{ahead, point_on, letter_on, end_on, out_of, near_side, far_side, mark_on, heading_over};
+ghost use Rattle.cut_marks.specs.Traces.{is_upright, is_forward};
+ghost use Rattle.cut_marks.specs.Figures.{ahead, place_at, upright_end, base_beyond, level_end, end_on, other_of, out_of, near_side, far_side, end_of, mark_of, marks_in, heading_over};
 
 use crate::boxes::ViewBox;
-use crate::lanes::is_forward;
-use crate::traces::is_upright;
-use crate::ways::{Lane, Trace};
+use crate::traces::{is_forward, is_upright};
+use crate::ways::{Lane, Laned};
+use exact_frac::OutOfMemory;
+use std::alloc::Global;
 
 /// A point of the sheet.
 #[derive(Clone, Copy, Debug)]
@@ -19,8 +19,10 @@ pub struct Place {
     pub y: i64,
 }
 
-/// One end of a mark: an arrow in the viewing direction, from `tail` to `tip`, with its letter on the other side of the tail and a
-/// place for another letter behind that. Letters are 3.5 mm high; their places are in the middle of their base lines.
+/// One end of a mark: an arrow in the viewing direction, from `tail` to `tip`, with its letter and a place for another one. Where the
+/// trace runs upright the letter is on the other side of the tail and the second one behind it; where it runs level the letter is
+/// beyond the tip, so that letters stand with their own arrows, and the second one beside it. Letters are 3.5 mm high; their places
+/// are in the middle of their base lines.
 #[derive(Clone, Copy, Debug)]
 pub struct MarkEnd {
     pub tail: Place,
@@ -31,7 +33,7 @@ pub struct MarkEnd {
 
 /// The mark of a cut in a view that sees its plane edge-on: a chain line across the view's whole box, from the tail of the first end to
 /// that of the second one, and the two ends. Where another cut has its trace on this line, and its viewer looks in the same way, both
-/// letters stand at it. Letters are ASCII codes.
+/// letters may stand at it. Letters are ASCII codes.
 #[derive(Clone, Copy, Debug)]
 pub struct Mark {
     pub letter: u8,
@@ -60,53 +62,68 @@ fn ahead(forward: bool, at: i64, by: i64) -> i64
     if forward { at + by } else { at - by }
 }
 
-/// The point with these coordinates across a trace and along it.
-fn point_on(upright: bool, across: i64, along: i64) -> Place
-    ensures { result ≡ point_on upright across along }
+fn place_at(x: i64, y: i64) -> Place
+    ensures { result ≡ place_at x y }
 {
-    if upright {
-        Place {
-            x: across,
-            y: along,
-        }
-    } else {
-        Place {
-            x: along,
-            y: across,
-        }
-    }
+    Place { x, y }
 }
 
-/// Where a letter stands whose middle has these coordinates.
-fn letter_on(upright: bool, across: i64, along: i64) -> Place
-    requires across { unsigned_abs across < 2 ^ 62 }
-    requires along { unsigned_abs along < 2 ^ 62 }
-    ensures { result ≡ letter_on upright across along }
-{
-    if upright {
-        Place {
-            x: across,
-            y: along + 125,
-        }
-    } else {
-        Place {
-            x: along,
-            y: across + 125,
-        }
-    }
-}
-
-/// The end of a mark whose trace is at this place, so far along it.
-fn end_on(upright: bool, forward: bool, at: i64, along: i64) -> MarkEnd
+/// The end of a mark whose trace runs upright at this x: its arrow has this y.
+fn upright_end(forward: bool, at: i64, along: i64) -> MarkEnd
     requires at { unsigned_abs at < 2 ^ 61 }
     requires along { unsigned_abs along < 2 ^ 62 }
-    ensures { result ≡ end_on upright forward at along }
+    ensures { result ≡ upright_end forward at along }
 {
+    let base = ahead(true, along, 125);
     MarkEnd {
-        tail: point_on(upright, at, along),
-        tip: point_on(upright, ahead(forward, at, 300), along),
-        letter: letter_on(upright, ahead(!forward, at, 200), along),
-        beside: letter_on(upright, ahead(!forward, at, 500), along),
+        tail: place_at(at, along),
+        tip: place_at(ahead(forward, at, 300), along),
+        letter: place_at(ahead(!forward, at, 200), base),
+        beside: place_at(ahead(!forward, at, 500), base),
+    }
+}
+
+/// The base line of letters beyond the tip of an arrow that goes down, or up, from this y.
+fn base_beyond(forward: bool, at: i64) -> i64
+    requires { unsigned_abs at < 2 ^ 61 }
+    ensures { result ≡ base_beyond forward at }
+{
+    if forward { at + 625 } else { at - 375 }
+}
+
+/// The end of a mark whose trace runs level at this y: its arrow has the one x, and a second letter the other.
+fn level_end(forward: bool, at: i64, along: i64, other: i64) -> MarkEnd
+    requires { unsigned_abs at < 2 ^ 61 }
+    ensures { result ≡ level_end forward at along other }
+{
+    let base = base_beyond(forward, at);
+    MarkEnd {
+        tail: place_at(along, at),
+        tip: place_at(along, ahead(forward, at, 300)),
+        letter: place_at(along, base),
+        beside: place_at(other, base),
+    }
+}
+
+/// The end of a mark whose trace is at this place, so far along it; the other lane is farther along it, or less far.
+fn end_on(upright: bool, forward: bool, at: i64, along: i64, other: i64) -> MarkEnd
+    requires at { unsigned_abs at < 2 ^ 61 }
+    requires along { unsigned_abs along < 2 ^ 62 }
+    ensures { result ≡ end_on upright forward at along other }
+{
+    if upright {
+        upright_end(forward, at, along)
+    } else {
+        level_end(forward, at, along, other)
+    }
+}
+
+fn other_of(lane: Lane) -> Lane
+    ensures { result ≡ other_of lane }
+{
+    match lane {
+        Lane::Inner => Lane::Outer,
+        Lane::Outer => Lane::Inner,
     }
 }
 
@@ -116,8 +133,8 @@ fn out_of(lane: Lane) -> i64
     ensures size { unsigned_abs result ≤ 1000 }
 {
     match lane {
+        Lane::Inner => 200,
         Lane::Outer => 530,
-        Lane::Inner | Lane::Beside | Lane::LeftOut => 200,
     }
 }
 
@@ -137,29 +154,49 @@ fn far_side(upright: bool, b: &ViewBox) -> i64
     if upright { b.bottom } else { b.right }
 }
 
-/// The mark of a trace in the view with this box.
-pub(crate) fn mark_on(b: &ViewBox, trace: &Trace, lane: Lane, beside: Option<u8>) -> Mark
-    ensures { result ≡ mark_on b.now trace.now lane beside }
+/// The end of a trace's mark before the side of the box where the trace begins, or beyond that where it ends.
+fn end_of(entry: &Laned, beyond: bool, side: i64) -> MarkEnd
+    requires { unsigned_abs side < 2 ^ 61 }
+    ensures { result ≡ end_of entry.now beyond side }
 {
-    let upright = is_upright(trace.way);
-    let forward = is_forward(trace.way);
-    let out = out_of(lane);
+    let trace = &entry.trace;
+    let along = ahead(beyond, side, out_of(entry.lane));
+    let other = ahead(beyond, side, out_of(other_of(entry.lane)));
+    end_on(
+        is_upright(trace.way),
+        is_forward(trace.way),
+        trace.at,
+        along,
+        other,
+    )
+}
+
+/// The mark of a trace in the view with this box.
+fn mark_of(b: &ViewBox, entry: &Laned) -> Mark
+    ensures { result ≡ mark_of b.now entry.now }
+{
+    let upright = is_upright(entry.trace.way);
     Mark {
-        letter: trace.letter,
-        beside,
-        first: end_on(
-            upright,
-            forward,
-            trace.at,
-            ahead(false, near_side(upright, b), out),
-        ),
-        second: end_on(
-            upright,
-            forward,
-            trace.at,
-            ahead(true, far_side(upright, b), out),
-        ),
+        letter: entry.trace.letter,
+        beside: entry.beside,
+        first: end_of(entry, false, near_side(upright, b)),
+        second: end_of(entry, true, far_side(upright, b)),
     }
+}
+
+/// The marks of traces in the view with this box.
+pub(crate) fn marks_in(
+    alloc: Global,
+    b: &ViewBox,
+    laned: &[Laned],
+) -> Result<Vec<Mark>, OutOfMemory>
+    ensures { IfOk result (λ marks. marks.items ≡ marks_in b.now laned.now) }
+{
+    let mut marks = Vec::new(alloc);
+    for entry in laned {
+        marks.push(mark_of(b, entry))?;
+    }
+    Ok(marks)
 }
 
 /// The heading over a cut view with this box.

@@ -1,89 +1,25 @@
 // The marks of a drawing's cuts, view by view.
-ghost use Rattle.std.specs.Prelude.{◌≡◌, ◌<◌, ◌≤◌, ◌++◌, ◌∷◌, [], length, take, List, IfOk, OnOk};
-ghost use Rattle.lattice.specs.declared.cuts.Cut.{Cut};
+ghost use Rattle.std.specs.Prelude.{◌≡◌, ◌<◌, ◌≤◌, length, take, IfOk};
 ghost use Rattle.job_file.specs.declared.view.JobView.{JobView};
 ghost use Rattle.solid_mesh.specs.Solids.{solid_part};
 ghost use Rattle.cut_marks.specs.Letters.{cuts_of, cuts_in};
-ghost use Rattle.cut_marks.specs.Lanes.{is_beside, is_on_line};
-ghost use Rattle.cut_marks.specs.Figures.{beside_of, marks_of, marks_in, left_of, left_out_in};
+ghost use Rattle.cut_marks.specs.Areas.{NoneTouch};
 ghost use Rattle.cut_marks.specs.Marks.{IsHeaded, ArePlainMarks, IsMarked, AreMarked};
 ghost use Rattle.cut_marks.specs.Reach.{AreInReach};
 
 use crate::boxes::ViewBox;
-use crate::figures::{Heading, Mark, heading_over, mark_on};
-use crate::lanes::{is_placed, laned, shares};
+use crate::figures::{Heading, heading_over, marks_in};
+use crate::lanes::{Told, laned};
 use crate::letters::{cuts_in, letter_of};
 use crate::sections::goes_through;
 use crate::traces::traces_in;
 use crate::views::ViewMarks;
-use crate::ways::{Lane, Laned, Trace};
 use exact_frac::OutOfMemory;
 use job_file::JobView;
 use lattice::{Cut, ViewSpec};
 use sheet_plan::Sheet;
 use solid_mesh::Solid;
 use std::alloc::Global;
-
-/// The letter that stands beside that of the trace.
-fn beside_of(all: &[Laned], trace: &Trace) -> Option<u8>
-    ensures { result ≡ beside_of all.now trace.now }
-{
-    for entry in all {
-        if shares(entry, trace) {
-            return Some(entry.trace.letter);
-        }
-    }
-    None
-}
-
-/// Adds the mark of the trace, if it has one of its own.
-fn add_mark(
-    marks: &mut Vec<Mark>,
-    b: &ViewBox,
-    all: &[Laned],
-    entry: &Laned,
-) -> Result<(), OutOfMemory>
-    ensures { OnOk result (marks.new.items ≡ marks.old.items ++ marks_of b.now all.now entry.now) }
-{
-    if is_placed(entry.lane) {
-        let beside = beside_of(all, &entry.trace);
-        marks.push(mark_on(b, &entry.trace, entry.lane, beside))?;
-    }
-    Ok(())
-}
-
-/// The marks of the traces in the view with this box.
-fn marks_in(alloc: Global, b: &ViewBox, all: &[Laned]) -> Result<Vec<Mark>, OutOfMemory>
-    ensures { IfOk result (λ marks. marks.items ≡ marks_in b.now all.now) }
-{
-    let mut marks = Vec::new(alloc);
-    for entry in all {
-        add_mark(&mut marks, b, all, entry)?;
-    }
-    Ok(marks)
-}
-
-/// Adds the letter of the trace, if it has no place.
-fn add_left_out(letters: &mut Vec<u8>, entry: &Laned) -> Result<(), OutOfMemory>
-    ensures { OnOk result (letters.new.items ≡ letters.old.items ++ left_of entry.now) }
-{
-    match entry.lane {
-        Lane::LeftOut => letters.push(entry.trace.letter)?,
-        Lane::Inner | Lane::Outer | Lane::Beside => {}
-    }
-    Ok(())
-}
-
-/// The letters of the traces that have no place.
-fn left_out_in(alloc: Global, all: &[Laned]) -> Result<Vec<u8>, OutOfMemory>
-    ensures { IfOk result (λ letters. letters.items ≡ left_out_in all.now) }
-{
-    let mut letters = Vec::new(alloc);
-    for entry in all {
-        add_left_out(&mut letters, entry)?;
-    }
-    Ok(letters)
-}
 
 /// The marks in the plain view with this number.
 fn plain_marks(
@@ -99,9 +35,8 @@ fn plain_marks(
 {
     let b = ViewBox::of(solid, sheet, view);
     let traces = traces_in(alloc, solid, sheet, view, cuts)?;
-    let laned = laned(alloc, &traces)?;
+    let Told { laned, left_out } = laned(alloc, &b, &traces)?;
     let marks = marks_in(alloc, &b, &laned)?;
-    let left_out = left_out_in(alloc, &laned)?;
     Ok(ViewMarks {
         heading: None,
         marks,
@@ -180,6 +115,7 @@ pub fn marks(
     requires few { length views.now ≤ 12 }
     ensures marked { IfOk result (λ marks. AreMarked sheet.now (solid_part solid.now) (cuts_in views.now) views.now marks.items) }
     ensures in_reach { IfOk result (λ marks. AreInReach sheet.now (solid_part solid.now).corners marks.items) }
+    ensures none_touch { IfOk result (λ marks. NoneTouch marks.items) }
 {
     let cuts = cuts_in(alloc, views)?;
     let mut marks = Vec::new(alloc);

@@ -8,7 +8,7 @@ use lattice::{Cut, ViewSpec};
 use std::alloc::Global;
 
 /// The letter of the cut with this number, as its ASCII code. I, which may be read as a 1, is none.
-pub(crate) fn letter_of(number: usize) -> u8
+pub fn letter_of(number: usize) -> u8
     requires { number < 12 }
     ensures { IsLetterOf number result }
 {

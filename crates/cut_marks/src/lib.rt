@@ -1,10 +1,13 @@
-//! How a drawing tells its cuts, as ISO 128 does: each cut has a letter, its view is headed by it, and where another view sees the
-//! cut's plane edge-on, a chain line crosses the view's whole box, with the letter and an arrow in the viewing direction at both ends.
+//! How a drawing tells its cuts: each cut has a letter, its view is headed by it, and where another view sees the cut's plane
+//! edge-on, a chain line crosses the view's whole box, with the letter and an arrow in the viewing direction at both ends.
+//!
+//! In one view no letter or arrow of a mark touches one of another mark; only chain lines may cross them.
 //!
 //! All lengths are in hundredths of a millimetre on the sheet. Marks and headings end within 7 mm of their view's box, so that they
 //! reach no other view: views are 15 mm apart (lemma `clear`). The cost is a few passes over the part's corners for each view and cut.
 #![tactic(auto)]
 
+mod areas;
 mod boxes;
 mod corners;
 mod figures;
@@ -20,5 +23,6 @@ mod ways;
 pub use boxes::ViewBox;
 pub use figures::{Heading, Mark, MarkEnd, Place};
 pub use job_marks::marks;
+pub use letters::letter_of;
 pub use note_lines::notes;
 pub use views::ViewMarks;

@@ -9,7 +9,7 @@ ghost use Rattle.sheet_plan.specs.declared.sheet.Spread.{Spread};
 ghost use Rattle.sheet_plan.specs.Sheets.{IsPlaceOf};
 ghost use Rattle.solid_mesh.specs.Solids.{solid_part};
 ghost use Rattle.cut_marks.specs.Letters.{IsLetterOf};
-ghost use Rattle.cut_marks.specs.Traces.{foot_of, way_of, looks, is_upright, IsTraceOn, AreTraces};
+ghost use Rattle.cut_marks.specs.Traces.{foot_of, way_of, looks, is_upright, is_forward, IsTraceOn, AreTraces};
 
 use crate::boxes::shown_at;
 use crate::letters::letter_of;
@@ -28,6 +28,16 @@ pub(crate) fn is_upright(way: Way) -> bool
     match way {
         Way::Right | Way::Left => true,
         Way::Down | Way::Up => false,
+    }
+}
+
+/// The way is toward greater x or greater y.
+pub(crate) fn is_forward(way: Way) -> bool
+    ensures { result ≡ is_forward way }
+{
+    match way {
+        Way::Right | Way::Down => true,
+        Way::Left | Way::Up => false,
     }
 }
 

@@ -6,7 +6,7 @@ ghost use Rattle.cut_marks.specs.Ranges.{IsHeadingInRange, IsMarkInRange};
 use crate::figures::{Heading, Mark};
 
 /// What tells the cuts in one view: a cut view has a heading, a plain view marks. `left_out` are the letters, as ASCII codes, of the
-/// cuts whose plane the view sees edge-on, but whose marks would stand on others. All places are below 2^62 in size.
+/// cuts whose plane the view sees edge-on, but whose marks would touch others. All places are below 2^62 in size.
 #[derive(Drop)]
 pub struct ViewMarks {
     pub heading: Option<Heading>,

@@ -20,19 +20,17 @@ pub(crate) struct Trace {
     ghost in_range: { unsigned_abs at < 2 ^ 61 },
 }
 
-/// Where the letter of a trace stands: at its own mark, near the view or farther out, beside the letter of an earlier mark on the same
-/// line, or nowhere.
+/// Where the arrows of a mark stand: near the view, or farther out.
 #[derive(Clone, Copy)]
 pub(crate) enum Lane {
     Inner,
     Outer,
-    Beside,
-    LeftOut,
 }
 
-/// A trace with its lane.
+/// A trace with a mark of its own: in which lane that is, and the letter of another trace that stands beside its own.
 #[derive(Clone, Copy)]
 pub(crate) struct Laned {
     pub trace: Trace,
     pub lane: Lane,
+    pub beside: Option<u8>,
 }

@@ -1,4 +1,4 @@
--- The symbol of an angle of projection, as ISO 5456-2 has it: a frustum of a cone from the front, and from its narrow end, on its left.
+-- The symbol of an angle of projection, as sheets show it: a frustum of a cone from the front, and from its narrow end, on its left.
 use Rattle.std.specs.Prelude.{ℕ, ◌+◌, ◌-◌, Bool, if◌then◌else◌, List, [], ◌∷◌, ◌++◌, map}
 use Rattle.sheet_page.specs.declared.page.Circle.{Circle}
 use Rattle.sheet_page.specs.declared.page.Item.{Item}

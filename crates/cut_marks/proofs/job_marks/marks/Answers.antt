@@ -10,6 +10,7 @@ use Rattle.cut_marks.specs.Letters.{cuts_in}
 use Rattle.cut_marks.specs.Marks.{IsMarked, AreMarked}
 use Rattle.cut_marks.specs.Marks.AreMarked.{none, more}
 use Rattle.cut_marks.specs.declared.views.ViewMarks.{ViewMarks}
+use Rattle.cut_marks.proofs.Apart.{marked_apart}
 use Rattle.cut_marks.proofs.Counted.{few_cuts}
 use Rattle.cut_marks.proofs.InReach.{marked_in_reach}
 use Rattle.cut_marks.proofs.job_marks.marks.Goals as goal
@@ -54,3 +55,6 @@ returns-clause-marked c = all_marked c
 
 pub returns-clause-in_reach : goal.returns-clause-in_reach
 returns-clause-in_reach c = marked_in_reach c.args.sheet.now (solid_part c.args.solid.now) (cuts_in c.args.views.now) c.args.views.now c.loop-view.marks.items (all_marked c)
+
+pub returns-clause-none_touch : goal.returns-clause-none_touch
+returns-clause-none_touch c = marked_apart c.args.sheet.now (solid_part c.args.solid.now) (cuts_in c.args.views.now) c.args.views.now c.loop-view.marks.items (all_marked c)
