@@ -1,0 +1,3 @@
+pub mod CommonPoints
+pub mod FirstHalves
+pub mod Faults
