@@ -11,7 +11,9 @@ use Rattle.part_input.specs.declared.fault.Fault.TheVariants.{Usage, ReadFault, 
 use Rattle.part_input.specs.declared.fault.Input.TheVariants as input
 use Rattle.part_input.specs.declared.fault.Target.{Target}
 use Rattle.part_input.specs.declared.fault.Target.TheVariants as target
-use Rattle.sheet_words.specs.Names.{Goal, Named, said, svg_file, pdf_file}
+use Rattle.sheet_lines.specs.Places.{mm_text, near_text}
+use Rattle.sheet_lines.specs.declared.place.Place.{Place}
+use Rattle.sheet_words.specs.Names.{Goal, ListGoal, Named, said, svg_file, pdf_file, list_said, list_file}
 use Rattle.solid_mesh.specs.declared.faults.MeshFault.{MeshFault}
 use Rattle.solid_mesh.specs.declared.faults.MeshFault.TheVariants.{Flat, SameWay, Unpaired, Double, Meet}
 use Rattle.svg_page.specs.Texts.{◌⊕◌}
@@ -61,16 +63,21 @@ mesh_text (Unpaired t side) = codes "side " ⊕ decimal side ⊕ codes " of tria
 mesh_text (Double a b) = codes "triangles " ⊕ decimal a ⊕ codes " and " ⊕ decimal b ⊕ codes " have the same corners"
 mesh_text (Meet e t) = codes "edge " ⊕ decimal e ⊕ codes " meets triangle " ⊕ decimal t
 
--- and where the mending is told
-abbrev pub surface_text : MeshFault → List ℕ
-surface_text fault = mesh_text fault ⊕ codes ": docs/from-cad.md says how it is mended"
+-- and near which place, if one is given
+abbrev pub placed_text : Option Place → List ℕ
+placed_text None = []
+placed_text (Some place) = codes ", " ⊕ near_text place
 
--- what the views need, and what the sheet has
+-- and where the mending is told
+abbrev pub surface_text : Option Place → MeshFault → List ℕ
+surface_text place fault = mesh_text fault ⊕ placed_text place ⊕ codes ": docs/from-cad.md says how it is mended"
+
+-- what the views need, and what the sheet has, from hundredths of a millimetre
 abbrev pub size_text : ℤ → ℤ → List ℕ
-size_text width height = signed_decimal width ⊕ codes " by " ⊕ signed_decimal height
+size_text width height = mm_text 2 width ⊕ codes " by " ⊕ mm_text 2 height ⊕ codes " mm"
 
 abbrev pub room_text : List ℕ → List ℕ → List ℕ
-room_text need have = codes "views need " ⊕ need ⊕ codes ", the sheet has " ⊕ have ⊕ codes ", in 0.01 mm"
+room_text need have = codes "views need " ⊕ need ⊕ codes ", the sheet has room for " ⊕ have
 
 -- ---- lines
 -- a line about a file: its name, and what is wrong
@@ -101,25 +108,37 @@ write_line said = said_line
 write_line (svg_file name) = codes "sheet: cannot write " ⊕ shown name ⊕ codes "\n"
 write_line (pdf_file name) = codes "sheet: cannot write " ⊕ shown name ⊕ codes "\n"
 
--- the line of what couldn't be written: the sheet, or the summary that is said of it
+-- and of a list
+abbrev pub list_line : Option ListGoal → List ℕ
+list_line None = said_line
+list_line (Some list_said) = said_line
+list_line (Some (list_file name)) = codes "sheet: cannot write " ⊕ shown name ⊕ codes "\n"
+
+-- where the list was to go
+abbrev pub list_in : Option Named → Option ListGoal
+list_in None = None
+list_in (Some named) = named.list
+
+-- the line of what couldn't be written: the sheet, its list, or the summary that is said of both
 abbrev pub target_line : Option Named → Target → List ℕ
 target_line named target.Out = write_line (goal_in named)
-target_line named (target.Plot number) = write_line (goal_in named)
+target_line named (target.Plot number) = list_line (list_in named)
 target_line named target.Summary = said_line
 
--- the line of a fault, with the names that the words give; they give none where they are refused or ask for no sheet
-abbrev pub fault_line : Option Named → Fault → List ℕ
-fault_line named Usage = codes "sheet: usage: sheet PART [--job JOB] [--out OUT] [--hidden all|plain|none]; sheet --help tells more\n"
-fault_line named (ReadFault input.Job) = about (job_in named) (codes "cannot be read")
-fault_line named JobTooLong = about (job_in named) (codes "more than 65536 bytes")
-fault_line named (Job fault) = about (job_in named) (job_text fault)
-fault_line named (NoPlotter name) = about (job_in named) (codes "no plotter " ⊕ shown name)
-fault_line named SampleRange = about (part_in named) (codes "outside sample:1 to sample:8")
-fault_line named (ReadFault input.Part) = about (part_in named) (codes "cannot be read")
-fault_line named PartTooLong = about (part_in named) (codes "more than 16777216 bytes")
-fault_line named (Part fault) = about (part_in named) (place_text fault)
-fault_line named Nothing = about (part_in named) (codes "no triangle")
-fault_line named (Mesh fault) = about (part_in named) (surface_text fault)
-fault_line named (DoesNotFit need_w need_h have_w have_h) = about (part_in named) (room_text (size_text need_w need_h) (size_text have_w have_h))
-fault_line named (WriteFault target) = target_line named target
-fault_line named Memory = codes "sheet: out of memory\n"
+-- The line of a fault, with the names that the words give; they give none where they are refused or ask for no sheet. That of a surface
+-- tells the place, if one is given.
+abbrev pub fault_line : Option Named → Option Place → Fault → List ℕ
+fault_line named place Usage = codes "sheet: usage: sheet PART [--job JOB] [--out OUT] [--list LIST] [--hidden all|plain|none]; sheet --help tells more\n"
+fault_line named place (ReadFault input.Job) = about (job_in named) (codes "cannot be read")
+fault_line named place JobTooLong = about (job_in named) (codes "more than 65536 bytes")
+fault_line named place (Job fault) = about (job_in named) (job_text fault)
+fault_line named place (NoPlotter name) = about (job_in named) (codes "no plotter " ⊕ shown name)
+fault_line named place SampleRange = about (part_in named) (codes "outside sample:1 to sample:8")
+fault_line named place (ReadFault input.Part) = about (part_in named) (codes "cannot be read")
+fault_line named place PartTooLong = about (part_in named) (codes "more than 16777216 bytes")
+fault_line named place (Part fault) = about (part_in named) (place_text fault)
+fault_line named place Nothing = about (part_in named) (codes "no triangle")
+fault_line named place (Mesh fault) = about (part_in named) (surface_text place fault)
+fault_line named place (DoesNotFit need_w need_h have_w have_h) = about (part_in named) (room_text (size_text need_w need_h) (size_text have_w have_h))
+fault_line named place (WriteFault target) = target_line named target
+fault_line named place Memory = codes "sheet: out of memory\n"

@@ -1,5 +1,5 @@
 -- The lines of files that can't be read, made before anything is.
-use Rattle.std.specs.Prelude.{◌≡◌, ℕ, List, Some, string_bytes}
+use Rattle.std.specs.Prelude.{◌≡◌, ℕ, List, None, Some, string_bytes}
 use Rattle.part_input.specs.declared.fault.Input.{Input}
 use Rattle.part_input.specs.declared.fault.Input.TheVariants.{Job, Part}
 use Rattle.part_input.specs.declared.fault.Fault.TheVariants.{ReadFault}
@@ -13,5 +13,5 @@ unread_line lines Part = string_bytes lines.part
 
 -- each is that of its fault, with these names
 pub record AreUnreadLines (named : Named) (lines : UnreadLines) : Type 0 where
-  pub job : unread_line lines Job ≡ fault_line (Some named) (ReadFault Job)
-  pub part : unread_line lines Part ≡ fault_line (Some named) (ReadFault Part)
+  pub job : unread_line lines Job ≡ fault_line (Some named) None (ReadFault Job)
+  pub part : unread_line lines Part ≡ fault_line (Some named) None (ReadFault Part)

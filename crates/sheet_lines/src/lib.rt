@@ -3,8 +3,11 @@
 
 mod jobs;
 mod lines;
+mod millimetres;
 mod parts;
+mod place;
 mod unread;
 
-pub use lines::{MEMORY_LINE, SAID_LINE, USAGE_LINE, line_of, write_line};
+pub use lines::{MEMORY_LINE, SAID_LINE, USAGE_LINE, line_of, list_line, write_line};
+pub use place::Place;
 pub use unread::{UnreadLines, unread_lines};

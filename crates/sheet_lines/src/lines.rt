@@ -1,23 +1,24 @@
 // The lines of faults.
-ghost use Rattle.std.specs.Prelude.{◌≡◌, IfOk, Some, codes, string_bytes};
+ghost use Rattle.std.specs.Prelude.{◌≡◌, IfOk, None, Some, codes, option_map, string_bytes};
 ghost use Rattle.svg_page.specs.Texts.{◌⊕◌};
 ghost use Rattle.fault_lines.specs.Lines.{shown};
-ghost use Rattle.sheet_lines.specs.Lines.{about, fault_line, job_in, job_text, place_text, room_text, size_text, surface_text, target_line, write_line};
-ghost use Rattle.sheet_words.specs.Seen.{goal_seen, named_seen};
+ghost use Rattle.sheet_lines.specs.Lines.{about, fault_line, job_in, job_text, list_line, place_text, room_text, size_text, surface_text, target_line, write_line};
+ghost use Rattle.sheet_words.specs.Seen.{goal_seen, list_seen, named_seen};
 
 use crate::jobs::{job_text, plotter_text};
 use crate::parts::{Size, place_text, room_text, size_text, surface_text};
+use crate::place::Place;
 use fault_lines::shown;
 use job_file::JobFault;
 use part_input::{Fault, Input, Target};
-use sheet_words::{Out, Request};
+use sheet_words::{ListOut, Out, Request};
 use solid_mesh::MeshFault;
 use std::alloc::{AllocError, Global};
 use weld::PartFault;
 
 /// The line of words that are refused.
 pub const USAGE_LINE: &str =
-    "sheet: usage: sheet PART [--job JOB] [--out OUT] [--hidden all|plain|none]; sheet --help tells more\n";
+    "sheet: usage: sheet PART [--job JOB] [--out OUT] [--list LIST] [--hidden all|plain|none]; sheet --help tells more\n";
 
 /// The line of want of memory.
 pub const MEMORY_LINE: &str = "sheet: out of memory\n";
@@ -49,6 +50,16 @@ pub fn write_line(alloc: Global, out: &Out) -> Result<String, AllocError>
         Out::Said => String::from_str(alloc, SAID_LINE),
         Out::Svg(name) => unwritten(alloc, name.as_str()),
         Out::Pdf(name) => unwritten(alloc, name.as_str()),
+    }
+}
+
+/// The line of a list that can't be written where it goes.
+pub fn list_line(alloc: Global, list: &Option<ListOut>) -> Result<String, AllocError>
+    ensures { IfOk result (λ line. string_bytes line ≡ list_line (option_map list_seen list.now)) }
+{
+    match list {
+        None | Some(ListOut::Said) => String::from_str(alloc, SAID_LINE),
+        Some(ListOut::File(name)) => unwritten(alloc, name.as_str()),
     }
 }
 
@@ -87,10 +98,15 @@ fn place_line(alloc: Global, part: &str, fault: &PartFault) -> Result<String, Al
 }
 
 // A line about a part, and what is wrong with its surface.
-fn surface_line(alloc: Global, part: &str, fault: &MeshFault) -> Result<String, AllocError>
-    ensures { IfOk result (λ line. string_bytes line ≡ about part.now (surface_text fault.now)) }
+fn surface_line(
+    alloc: Global,
+    part: &str,
+    place: &Option<Place>,
+    fault: &MeshFault,
+) -> Result<String, AllocError>
+    ensures { IfOk result (λ line. string_bytes line ≡ about part.now (surface_text place.now fault.now)) }
 {
-    let text = surface_text(alloc, fault)?;
+    let text = surface_text(alloc, place, fault)?;
     about(alloc, part, text.as_str())
 }
 
@@ -113,7 +129,7 @@ fn size_line(alloc: Global, part: &str, need: &Size, have: &Size) -> Result<Stri
 
 // The line of a file that can't be read.
 pub(crate) fn unread(alloc: Global, request: &Request, input: &Input) -> Result<String, AllocError>
-    ensures { IfOk result (λ line. string_bytes line ≡ fault_line (Some (named_seen request.now)) (Fault.ReadFault input.now)) }
+    ensures { IfOk result (λ line. string_bytes line ≡ fault_line (Some (named_seen request.now)) None (Fault.ReadFault input.now)) }
 {
     match input {
         Input::Job => about(alloc, job_name(request), "cannot be read"),
@@ -121,19 +137,26 @@ pub(crate) fn unread(alloc: Global, request: &Request, input: &Input) -> Result<
     }
 }
 
-// The line of what couldn't be written: the sheet, or the summary that is said of it.
+// The line of what couldn't be written: the sheet, its list, or the summary that is said of both.
 fn target_line(alloc: Global, request: &Request, target: &Target) -> Result<String, AllocError>
     ensures { IfOk result (λ line. string_bytes line ≡ target_line (Some (named_seen request.now)) target.now) }
 {
     match target {
-        Target::Out | Target::Plot(_) => write_line(alloc, &request.out),
+        Target::Out => write_line(alloc, &request.out),
+        Target::Plot(_) => list_line(alloc, &request.list),
         Target::Summary => String::from_str(alloc, SAID_LINE),
     }
 }
 
-/// The line of a fault in a run of this request: the file's name, the place there, what is wrong, and what is allowed.
-pub fn line_of(alloc: Global, request: &Request, fault: &Fault) -> Result<String, AllocError>
-    ensures { IfOk result (λ line. string_bytes line ≡ fault_line (Some (named_seen request.now)) fault.now) }
+/// The line of a fault in a run of this request: the file's name, the place there, what is wrong, and what is allowed. The place of
+/// a surface's fault is looked at where one is given.
+pub fn line_of(
+    alloc: Global,
+    request: &Request,
+    place: &Option<Place>,
+    fault: &Fault,
+) -> Result<String, AllocError>
+    ensures { IfOk result (λ line. string_bytes line ≡ fault_line (Some (named_seen request.now)) place.now fault.now) }
 {
     let (part, job) = (request.part.as_str(), job_name(request));
     match fault {
@@ -146,7 +169,7 @@ pub fn line_of(alloc: Global, request: &Request, fault: &Fault) -> Result<String
         Fault::PartTooLong => about(alloc, part, "more than 16777216 bytes"),
         Fault::Part(fault) => place_line(alloc, part, fault),
         Fault::Nothing => about(alloc, part, "no triangle"),
-        Fault::Mesh(fault) => surface_line(alloc, part, fault),
+        Fault::Mesh(fault) => surface_line(alloc, part, place, fault),
         Fault::DoesNotFit {
             need_w,
             need_h,

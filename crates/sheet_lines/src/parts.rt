@@ -1,7 +1,9 @@
 // What is wrong with a part.
 ghost use Rattle.std.specs.Prelude.{◌≡◌, IfOk, string_bytes};
-ghost use Rattle.sheet_lines.specs.Lines.{mesh_text, place_text, room_text, size_text, surface_text};
+ghost use Rattle.sheet_lines.specs.Lines.{mesh_text, place_text, placed_text, room_text, size_text, surface_text};
 
+use crate::millimetres::{mm_text, near_text};
+use crate::place::Place;
 use fault_lines::kind_text;
 use solid_mesh::MeshFault;
 use std::alloc::{AllocError, Global};
@@ -35,12 +37,30 @@ fn mesh_text(alloc: Global, fault: &MeshFault) -> Result<String, AllocError>
     }
 }
 
-// The same, and where the mending is told.
-pub(crate) fn surface_text(alloc: Global, fault: &MeshFault) -> Result<String, AllocError>
-    ensures { IfOk result (λ text. string_bytes text ≡ surface_text fault.now) }
+// Near which place, if one is given.
+fn placed_text(alloc: Global, place: &Option<Place>) -> Result<String, AllocError>
+    ensures { IfOk result (λ text. string_bytes text ≡ placed_text place.now) }
+{
+    match place {
+        None => Ok(String::new(alloc)),
+        Some(place) => {
+            let near = near_text(alloc, place)?;
+            format!(in alloc; ", {near}")
+        }
+    }
+}
+
+// What is wrong with a surface, near which place, and where the mending is told.
+pub(crate) fn surface_text(
+    alloc: Global,
+    place: &Option<Place>,
+    fault: &MeshFault,
+) -> Result<String, AllocError>
+    ensures { IfOk result (λ text. string_bytes text ≡ surface_text place.now fault.now) }
 {
     let text = mesh_text(alloc, fault)?;
-    format!(in alloc; "{text}: docs/from-cad.md says how it is mended")
+    let placed = placed_text(alloc, place)?;
+    format!(in alloc; "{text}{placed}: docs/from-cad.md says how it is mended")
 }
 
 // How wide and how high something is, in 0.01 mm.
@@ -50,17 +70,18 @@ pub(crate) struct Size {
     pub(crate) height: i64,
 }
 
-// A size, as a line tells it.
+// A size in mm.
 pub(crate) fn size_text(alloc: Global, size: &Size) -> Result<String, AllocError>
     ensures { IfOk result (λ text. string_bytes text ≡ size_text size.now.width size.now.height) }
 {
-    let (width, height) = (size.width, size.height);
-    format!(in alloc; "{width} by {height}")
+    let width = mm_text(alloc, 2, size.width)?;
+    let height = mm_text(alloc, 2, size.height)?;
+    format!(in alloc; "{width} by {height} mm")
 }
 
 // What the views need, and what the sheet has.
 pub(crate) fn room_text(alloc: Global, need: &str, have: &str) -> Result<String, AllocError>
     ensures { IfOk result (λ text. string_bytes text ≡ room_text need.now have.now) }
 {
-    format!(in alloc; "views need {need}, the sheet has {have}, in 0.01 mm")
+    format!(in alloc; "views need {need}, the sheet has room for {have}")
 }
