@@ -1,15 +1,19 @@
 -- What holds of what the words ask for holds of the run.
-use Rattle.std.proofs.Common.{◌≡◌, ◌⊎◌, inl, inr, ℕ, List, Option, Some, None, IfSome, is_some, true≢false, Result, Ok, refl, sym, subst}
+use Rattle.std.proofs.Common.{◌≡◌, ◌⊎◌, inl, inr, ℕ, List, Option, Some, None, IfSome, is_some, true, false, true≢false, Result, Ok, refl, sym, subst}
 use Rattle.desk.specs.Files.{Files}
 use Rattle.draw_core.specs.Drawing.{drawn_in}
 use Rattle.draw_core.specs.Run.{Drawn}
 use Rattle.draw_core.specs.declared.drawing.Drawing.{Drawing}
 use Rattle.part_input.specs.Steps.{Refuses, IsMissing}
 use Rattle.part_input.specs.declared.fault.Fault.{Fault}
+use Rattle.draw_core.specs.Outputs.{CountsWrites, HasNoWriteFault}
+use Rattle.part_input.specs.Parts.{IsOfSampleOr, sample_size}
+use Rattle.part_input.specs.declared.fault.Target.{Target}
 use Rattle.part_input.specs.declared.fault.Fault.TheVariants.{Usage, ReadFault, WriteFault, Memory}
-use Rattle.part_input.specs.declared.fault.Target.TheVariants.{Out, Plot, Summary}
 use Rattle.part_input.proofs.Chains.{refuses_as, missing_as}
-use Rattle.sheet_core.specs.Run.{Draws, Runs, AnswersNamed, AnswersWords, ReadsInOrder, RunsInOrder, IsWritten}
+use Rattle.sheet_core.specs.Run.{Draws, Runs, AnswersNamed, AnswersWords, IsOfFiles, IsOfJob, ReadsInOrder, RunsInOrder, IsWritten}
+use Rattle.sheet_core.specs.inner.Faults.{IsOfWriting}
+use Rattle.sheet_core.proofs.Putting.{by_writing}
 use Rattle.sheet_core.proofs.Answered.{ComesToSome}
 use Rattle.sheet_words.specs.Names.{Asks, Named, sheet, asked_by}
 
@@ -17,6 +21,66 @@ use Rattle.sheet_words.specs.Names.{Asks, Named, sheet, asked_by}
 pub said_or_memory : (P : Fault → Type 0) (e : Fault) (fault : Option Fault) → (fault ≡ Some e) ⊎ (fault ≡ Some Memory) → P e → P Memory → IfSome fault P
 said_or_memory P e fault (inl is) h m = subst (λ (f : Option Fault). IfSome f P) (sym is) h
 said_or_memory P e fault (inr is) h m = subst (λ (f : Option Fault). IfSome f P) (sym is) m
+
+-- and so for what is said of all faults, or of none
+pub either : (Q : Option Fault → Type 0) (e : Fault) (fault : Option Fault) → (fault ≡ Some e) ⊎ (fault ≡ Some Memory) → Q (Some e) → Q (Some Memory) → Q fault
+either Q e fault (inl is) h m = subst Q (sym is) h
+either Q e fault (inr is) h m = subst Q (sym is) m
+
+-- ---- faults of taking a drawing are none of the words and none of writing
+job_no_usage : (job : Option (List ℕ)) → IsOfJob job Usage → ⊥
+job_no_usage None h = h
+job_no_usage (Some name) h = h
+
+part_no_usage : (size : Option (List ℕ)) → IsOfSampleOr size Usage → ⊥
+part_no_usage None h = h
+part_no_usage (Some size) h = h
+
+job_no_write : (job : Option (List ℕ)) (target : Target) → IsOfJob job (WriteFault target) → ⊥
+job_no_write None target h = h
+job_no_write (Some name) target h = h
+
+part_no_write : (size : Option (List ℕ)) (target : Target) → IsOfSampleOr size (WriteFault target) → ⊥
+part_no_write None target h = h
+part_no_write (Some size) target h = h
+
+module _ (part : List ℕ) (job : Option (List ℕ)) where
+  no_usage : IsOfFiles part job Usage → ⊥
+  no_usage (inl h) = job_no_usage job h
+  no_usage (inr (inl h)) = part_no_usage (sample_size part) h
+  no_usage (inr (inr h)) = h
+
+  no_write : (target : Target) → IsOfFiles part job (WriteFault target) → ⊥
+  no_write target (inl h) = job_no_write job target h
+  no_write target (inr (inl h)) = part_no_write (sample_size part) target h
+  no_write target (inr (inr h)) = h
+
+  pub counts_files : (e : Fault) → IsOfFiles part job e → (old new : ℕ) → new ≡ old → CountsWrites (Some e) old new
+  counts_files (WriteFault target) h old new same = absurd (no_write target h)
+  counts_files e h old new same = same
+
+  pub unwritten_files : (e : Fault) → IsOfFiles part job e → HasNoWriteFault (Some e)
+  unwritten_files (WriteFault target) h = absurd (no_write target h)
+  unwritten_files e h = tt
+
+  pub undrawn_files : (e : Fault) → IsOfFiles part job e → IsWritten (Some e) false
+  undrawn_files (WriteFault target) h = absurd (no_write target h)
+  undrawn_files Memory h = tt
+  undrawn_files e h = refl
+
+pub answers_files : (named : Named) (e : Fault) → IsOfFiles named.part named.job e → AnswersNamed named (Some e)
+answers_files named Usage h = absurd (no_usage named.part named.job h)
+answers_files named Memory h = tt
+answers_files named (WriteFault target) h = absurd (no_write named.part named.job target h)
+answers_files named e h = h
+
+-- a drawing is there after each fault of writing it
+write_drawn : (named : Named) (e : Fault) → IsOfWriting named e → IsWritten (Some e) true
+write_drawn named e is = by_writing named (λ (e : Fault). IsWritten (Some e) true) (λ target at. refl) tt e is
+
+pub written_of : (named : Named) (fault : Option Fault) → IfSome fault (IsOfWriting named) → IsWritten fault true
+written_of named None is = refl
+written_of named (Some e) is = write_drawn named e is
 
 module _ (words : List (List ℕ)) (files : Files) (asks : Asks) (is : asked_by words ≡ Some asks) where
   pub refuses : (fault : Option Fault) → IfSome fault (Refuses (Draws files asks)) → IfSome fault (Refuses (Runs words files))
@@ -39,9 +103,7 @@ pub answers_words : (named : Named) (fault : Option Fault) → AnswersNamed name
 answers_words named None h = refl
 answers_words named (Some Usage) h = absurd h
 answers_words named (Some Memory) h = tt
-answers_words named (Some (WriteFault Out)) h = refl
-answers_words named (Some (WriteFault (Plot number))) h = absurd h
-answers_words named (Some (WriteFault Summary)) h = h
+answers_words named (Some (WriteFault target)) h = h
 answers_words named (Some e) h = h
 
 in_order : (named : Named) (files : Files) (e : Fault) → ReadsInOrder files named.part named.job e → RunsInOrder (Some (sheet named)) files e

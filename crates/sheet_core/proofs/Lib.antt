@@ -1,6 +1,9 @@
 pub mod Answered
 pub mod Asked
+pub mod Moved
 pub mod OneAnswer
 pub mod Orders
 pub mod PageItems
 pub mod Putting
+pub mod Taking
+pub mod Warned

@@ -1,4 +1,6 @@
 pub mod Lines
+pub mod Moved
+pub mod Order
 pub mod Pages
 pub mod Run
 pub mod Summary

@@ -1,11 +1,13 @@
 -- The page of a drawing: its frame, its title block, the paths of its strokes, but for hidden lines that aren't asked for, and what tells
 -- its cuts.
-use Rattle.std.specs.Prelude.{◌≡◌, ℕ, Bool, true, false, not, ◌||◌, pos, ℤ, ◌-ℤ◌, List, [], ◌∷◌, ◌++◌, length, map, slice_get}
+use Rattle.std.specs.Prelude.{◌≡◌, ℕ, Bool, true, false, not, ◌||◌, pos, ℤ, ◌-ℤ◌, List, ◌∷◌, ◌++◌, length, map, slice_get}
 use Rattle.std.specs.List.{filter}
 use Rattle.std.specs.Option.{option_map_or}
-use Rattle.centring.specs.Centred.{IsCentred}
+use Rattle.centring.specs.Centred.{IsCentred, ViewsStayWithin, ViewsStayApart}
+use Rattle.cut_marks.specs.Areas.{NoneTouch}
 use Rattle.cut_marks.specs.Letters.{cuts_in}
 use Rattle.cut_marks.specs.Marks.{AreMarked}
+use Rattle.cut_marks.specs.Reach.{AreInReach}
 use Rattle.cut_marks.specs.declared.views.ViewMarks.{ViewMarks}
 use Rattle.job_file.specs.declared.view.JobView.{JobView}
 use Rattle.mark_items.specs.Items.{items_of_marks}
@@ -22,6 +24,7 @@ use Rattle.stroke_paths.specs.declared.path.Path.{Path}
 use Rattle.sheet_page.specs.declared.page.Item.{Item}
 use Rattle.sheet_page.specs.declared.page.Item.TheVariants as item
 use Rattle.sheet_page.specs.declared.page.Page.{Page}
+use Rattle.sheet_core.specs.Moved.{AreMovedTogether}
 use Rattle.solid_mesh.specs.Solids.{solid_part}
 use Rattle.title_block.specs.Blocks.{block_of}
 use Rattle.sheet_words.specs.declared.words.Hidden.{Hidden}
@@ -63,19 +66,31 @@ items_of hidden part d paths marks =
     ++ map item.Path (shown_paths hidden d.job.views.items paths)
     ++ items_of_marks marks
 
--- the page shows the drawing of the part with this name: its frame and its title block, and, with its views in the middle of their room,
--- the paths of its strokes that are drawn, in their order, and the marks and the headings of its cuts
-pub record IsPageOf (hidden : Hidden) (part : List ℕ) (d : Drawing) (page : Page) : Type 0 where
-  pub sheet : Sheet
+-- the strokes of a drawing that are drawn
+abbrev pub shown_strokes : Hidden → List JobView → List Stroke → List Stroke
+shown_strokes hidden views strokes = filter (λ s. is_shown hidden views s.view s.mark) strokes
+
+-- The page shows the drawing of the part with this name: its frame and its title block, and, on the sheet with its views in the middle of
+-- their room, the paths of its strokes that are drawn, in their order, and the marks and the headings of its cuts. All views and strokes are
+-- moved by one shift; the views stay within the margins and apart; each mark and heading ends within 7 mm of its view, and no two marks of
+-- a view touch.
+pub record IsPageWith (hidden : Hidden) (part : List ℕ) (d : Drawing) (page : Page) (sheet : Sheet) (strokes : List Stroke) (marks : List ViewMarks) : Type 0 where
   pub centred : IsCentred d.sheet (solid_part d.solid).corners sheet
-  pub strokes : List Stroke
+  pub within : ViewsStayWithin (solid_part d.solid).corners sheet
+  pub apart : ViewsStayApart (solid_part d.solid).corners sheet
   pub are_strokes : AreStrokes sheet d.views.items strokes
+  pub moved : AreMovedTogether d sheet strokes
   pub paths : List Path
   pub are_paths : ArePaths strokes paths
-  pub marks : List ViewMarks
   pub are_marks : AreMarked sheet (solid_part d.solid) (cuts_in d.job.views.items) d.job.views.items marks
+  pub in_reach : AreInReach sheet (solid_part d.solid).corners marks
+  pub none_touch : NoneTouch marks
   pub width : page.width ≡ d.sheet.width
   pub height : page.height ≡ d.sheet.height
   pub title : page.title ≡ d.job.title
   pub views : page.views ≡ length d.sheet.places.items
   pub items : page.items.items ≡ items_of hidden part d paths marks
+
+-- on some such sheet
+abbrev pub IsPageOf : Hidden → List ℕ → Drawing → Page → Type 0
+IsPageOf hidden part d page = (sheet : Sheet) × (strokes : List Stroke) × (marks : List ViewMarks) × IsPageWith hidden part d page sheet strokes marks

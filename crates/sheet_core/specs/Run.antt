@@ -10,8 +10,9 @@ use Rattle.part_input.specs.declared.fault.Input.{Input}
 use Rattle.part_input.specs.declared.fault.Input.TheVariants.{Job as TheJob, Part as ThePart}
 use Rattle.part_input.specs.declared.fault.Fault.{Fault}
 use Rattle.part_input.specs.declared.fault.Fault.TheVariants.{Usage, ReadFault, WriteFault, Memory}
-use Rattle.part_input.specs.declared.fault.Target.TheVariants.{Out, Summary}
-use Rattle.sheet_core.specs.Writing.{AsksSheetAnd, IsKept}
+use Rattle.part_input.specs.declared.fault.Target.{Target}
+use Rattle.part_input.specs.declared.fault.Target.TheVariants.{Out}
+use Rattle.sheet_core.specs.Writing.{AsksSheetAnd, IsOfTarget}
 use Rattle.sheet_words.specs.Names.{Asks, Named, help, version, sheet, asked_by}
 
 -- ---- the steps of a run
@@ -50,18 +51,21 @@ abbrev pub AnswersNamed : Named → Option Fault → Type 0
 AnswersNamed named None = Unit {0}
 AnswersNamed named (Some Usage) = ⊥
 AnswersNamed named (Some Memory) = Unit {0}
-AnswersNamed named (Some (WriteFault Out)) = Unit {0}
-AnswersNamed named (Some (WriteFault Summary)) = IsKept named.out
-AnswersNamed named (Some (WriteFault target)) = ⊥
+AnswersNamed named (Some (WriteFault target)) = IsOfTarget named target
 AnswersNamed named (Some fault) = IsOfFiles named.part named.job fault
+
+-- help and the version may be what couldn't be said
+abbrev pub IsOfAsked : Option Asks → Target → Type 0
+IsOfAsked None target = ⊥
+IsOfAsked (Some help) target = target ≡ Out
+IsOfAsked (Some version) target = target ≡ Out
+IsOfAsked (Some (sheet named)) target = IsOfTarget named target
 
 -- on every desk the words are refused exactly so, unless memory ran out, and the job and the part are at fault only as they may be
 abbrev pub AnswersWords : Option Asks → Option Fault → Type 0
 AnswersWords asked (Some Usage) = asked ≡ None
 AnswersWords asked (Some Memory) = Unit {0}
-AnswersWords asked (Some (WriteFault Out)) = IsSome asked
-AnswersWords asked (Some (WriteFault Summary)) = AsksSheetAnd asked (λ named. IsKept named.out)
-AnswersWords asked (Some (WriteFault target)) = ⊥
+AnswersWords asked (Some (WriteFault target)) = IsOfAsked asked target
 AnswersWords asked (Some fault) = AsksSheetAnd asked (λ named. IsOfFiles named.part named.job fault)
 AnswersWords asked None = IsSome asked
 

@@ -1,6 +1,8 @@
 -- What a run says of a sheet that it has drawn.
 use Rattle.std.specs.Prelude.{ℕ, Bool, true, false, List, length, codes, count_by}
 use Rattle.std.specs.Fmt.{decimal}
+use Rattle.cut_marks.specs.Notes.{notes_of}
+use Rattle.cut_marks.specs.declared.views.ViewMarks.{ViewMarks}
 use Rattle.draw_core.specs.declared.drawing.Drawing.{Drawing}
 use Rattle.job_file.specs.declared.job.Paper.{Paper}
 use Rattle.job_file.specs.declared.job.Paper.TheVariants.{A0, A1, A2, A3, A4}
@@ -45,6 +47,7 @@ abbrev pub paths_text : List Item → List ℕ
 paths_text items =
     codes " visible " ⊕ decimal (paths_of Solid items) ⊕ codes " hidden " ⊕ decimal (paths_of Dashed items) ⊕ codes " hatch " ⊕ decimal (paths_of Hatch items)
 
--- the line that is said of a drawing and its page
-abbrev pub summary_of : Drawing → Page → List ℕ
-summary_of d page = sheet_text d.job.paper d.sheet.scale (length d.sheet.places.items) ⊕ paths_text page.items.items ⊕ codes "\n"
+-- what is said of a drawing, its page, and what tells its cuts: a line, and behind it one for each cut that isn't told as usual
+abbrev pub summary_of : Drawing → Page → List ViewMarks → List ℕ
+summary_of d page marks =
+    sheet_text d.job.paper d.sheet.scale (length d.sheet.places.items) ⊕ paths_text page.items.items ⊕ codes "\n" ⊕ notes_of marks

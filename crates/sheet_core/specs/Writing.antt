@@ -1,81 +1,107 @@
--- Where the text of a page goes, and what a run leaves of it.
-use Rattle.std.specs.Prelude.{◌≡◌, ◌++◌, ℕ, List, [], ◌∷◌, Option, Some, None, IfSome}
-use Rattle.desk.specs.Files.{Files, AppendsFront}
-use Rattle.draw_core.specs.Outputs.{LeavesAll}
-use Rattle.draw_core.specs.Summary.{Says as SaysSummary}
+-- Where the texts of a drawing go, and what a run leaves of them.
+use Rattle.std.specs.Prelude.{◌≡◌, ◌++◌, ℕ, true, List, [], ◌∷◌, Option, Some, None, IfNone, IsSome}
+use Rattle.std.proofs.Common.{zero, suc}
+use Rattle.desk.specs.Files.{DeskState, AppendsFront}
+use Rattle.cut_marks.specs.declared.views.ViewMarks.{ViewMarks}
+use Rattle.draw_core.specs.Desks.{HearsAll}
 use Rattle.draw_core.specs.declared.drawing.Drawing.{Drawing}
 use Rattle.part_input.specs.declared.fault.Fault.{Fault}
-use Rattle.part_input.specs.declared.fault.Fault.TheVariants.{WriteFault}
-use Rattle.part_input.specs.declared.fault.Target.TheVariants.{Out}
-use Rattle.sheet_core.specs.Pages.{IsPageOf}
+use Rattle.part_input.specs.declared.fault.Target.{Target}
+use Rattle.part_input.specs.declared.fault.Target.TheVariants.{Out, Plot, Summary}
+use Rattle.sheet_core.specs.Order.{Way, Text, nowhere, aloud, under, SaysText, SaysTextPart, KeepsTexts, SaysTexts, SparesFiles, SparesSaid}
+use Rattle.sheet_core.specs.Pages.{IsPageWith, shown_strokes}
 use Rattle.sheet_core.specs.Summary.{summary_of}
 use Rattle.sheet_core.specs.declared.lines.TheConstants.{HELP, VERSION}
+use Rattle.sheet_list.specs.Lists.{list_text}
 use Rattle.sheet_page.specs.Pdf.{pdf_of}
 use Rattle.sheet_page.specs.Svg.{svg_of}
 use Rattle.sheet_page.specs.declared.page.Page.{Page}
-use Rattle.sheet_words.specs.Names.{Asks, Goal, Named, help, version, sheet, said, svg_file, pdf_file}
+use Rattle.sheet_plan.specs.declared.sheet.Sheet.{Sheet}
+use Rattle.sheet_plan.specs.declared.sheet.Stroke.{Stroke}
+use Rattle.sheet_words.specs.Names.{Asks, Goal, ListGoal, Named, help, version, sheet, said, svg_file, pdf_file, list_said, list_file}
 
+-- ---- texts
 -- a page's text: as PDF for a file of that, and else as SVG
 abbrev pub page_text : Goal → Page → List ℕ
 page_text said page = svg_of page
 page_text (svg_file name) page = svg_of page
 page_text (pdf_file name) page = pdf_of page
 
--- what a run that has a text leaves of the files: the file that was named is kept, as far as the fault allows, and nothing else
-abbrev pub LeavesFile : Goal → Option Fault → Files → Files → List ℕ → Type 0
-LeavesFile said fault old new text = new ≡ old
-LeavesFile (svg_file name) fault old new text = LeavesAll fault old new ((name, text) ∷ [])
-LeavesFile (pdf_file name) fault old new text = LeavesAll fault old new ((name, text) ∷ [])
+-- the text of the list, where one was asked for
+abbrev pub listed : Option ListGoal → List ℕ → List ℕ
+listed None text = []
+listed (Some goal) text = text
 
--- what a text that is said adds: all of it with no fault, a prefix where it couldn't be said, and else nothing
-abbrev pub SaysText : Option Fault → List ℕ → List ℕ → List ℕ → Type 0
-SaysText None old new text = new ≡ old ++ text
-SaysText (Some (WriteFault target)) old new text = AppendsFront old new text
-SaysText (Some fault) old new text = new ≡ old
+-- ---- where they go
+abbrev pub way_of : Goal → Way
+way_of said = aloud
+way_of (svg_file name) = under name
+way_of (pdf_file name) = under name
 
--- and what a run says that has a text and its summary: the text where it goes there, and once a file is kept the summary
-abbrev pub SaysSheet : Goal → Option Fault → List ℕ → List ℕ → List ℕ → List ℕ → Type 0
-SaysSheet said fault old new text summary = SaysText fault old new text
-SaysSheet (svg_file name) fault old new text summary = SaysSummary fault old new summary
-SaysSheet (pdf_file name) fault old new text summary = SaysSummary fault old new summary
+abbrev pub list_way : Option ListGoal → Way
+list_way None = nowhere
+list_way (Some list_said) = aloud
+list_way (Some (list_file name)) = under name
+
+-- what else is said where a text isn't
+abbrev pub unless_said : Way → Way → Way
+unless_said nowhere way = way
+unless_said aloud way = nowhere
+unless_said (under name) way = way
+
+-- the summary is said, unless the sheet or the list is
+abbrev pub summary_way : Named → Way
+summary_way named = unless_said (way_of named.out) (unless_said (list_way named.list) aloud)
+
+-- the sheet comes first, then the list, and then the summary
+abbrev pub texts_for : Named → List ℕ → List ℕ → List ℕ → List Text
+texts_for named page list summary =
+    record { way = way_of named.out; target = Out; bytes = page }
+    ∷ record { way = list_way named.list; target = Plot 0; bytes = list }
+    ∷ record { way = summary_way named; target = Summary; bytes = summary }
+    ∷ []
 
 -- beside a text that is said a run without a fault warns by the summary: by a prefix of it, and where no warning fails by all of it
-abbrev pub Notes : Goal → List ℕ → List ℕ → List ℕ → Type 0
-Notes said old new summary = AppendsFront old new summary
-Notes (svg_file name) old new summary = new ≡ old
-Notes (pdf_file name) old new summary = new ≡ old
+abbrev pub Notes : Way → List ℕ → List ℕ → List ℕ → Type 0
+Notes nowhere summary old new = AppendsFront old new summary
+Notes aloud summary old new = new ≡ old
+Notes (under name) summary old new = new ≡ old
 
-abbrev pub NotesWhole : Goal → List ℕ → List ℕ → List ℕ → Type 0
-NotesWhole said old new summary = new ≡ old ++ summary
-NotesWhole (svg_file name) old new summary = new ≡ old
-NotesWhole (pdf_file name) old new summary = new ≡ old
+abbrev pub NotesWhole : Way → List ℕ → List ℕ → List ℕ → Type 0
+NotesWhole nowhere summary old new = new ≡ old ++ summary
+NotesWhole aloud summary old new = new ≡ old
+NotesWhole (under name) summary old new = new ≡ old
 
--- beside a file it doesn't try to
-abbrev pub IsQuiet : Goal → ℕ → ℕ → Type 0
-IsQuiet said old new = Unit {0}
-IsQuiet (svg_file name) old new = new ≡ old
-IsQuiet (pdf_file name) old new = new ≡ old
+-- and else it doesn't try to
+abbrev pub IsQuiet : Way → ℕ → ℕ → Type 0
+IsQuiet nowhere old new = Unit {0}
+IsQuiet aloud old new = new ≡ old
+IsQuiet (under name) old new = new ≡ old
 
--- the text goes into a file
-abbrev pub IsKept : Goal → Type 0
-IsKept said = ⊥
-IsKept (svg_file name) = Unit {0}
-IsKept (pdf_file name) = Unit {0}
+-- What a run with a drawing writes: the text of one page that shows it, the list of that page's strokes, and the summary of both, put
+-- in this order, as far as the fault allows; and with no fault the warning in place of a summary that isn't said. On every desk what
+-- isn't kept touches no file, and what isn't said adds nothing to what was said.
+pub record Writes (named : Named) (fault : Option Fault) (old new : DeskState) (d : Drawing) : Type 0 where
+  pub page : Page
+  pub on : Sheet
+  pub strokes : List Stroke
+  pub marks : List ViewMarks
+  pub shows : IsPageWith named.hidden named.part d page on strokes marks
+  pub texts : List Text
+  pub are_texts : texts ≡ texts_for named (page_text named.out page) (listed named.list (list_text d.job on (shown_strokes named.hidden d.job.views.items strokes))) (summary_of d page marks)
+  pub files : old.tells ≡ true → KeepsTexts fault texts old.files new.files
+  pub said : old.tells_said ≡ true → SaysTexts fault texts old.said new.said
+  pub spared : SparesFiles fault texts old.files new.files
+  pub silent : SparesSaid fault texts old.said new.said
+  pub noted : old.tells_warned ≡ true → IfNone fault (Notes (summary_way named) (summary_of d page marks) old.warned new.warned)
+  pub noted_whole : HearsAll old new → IfNone fault (NotesWhole (summary_way named) (summary_of d page marks) old.warned new.warned)
 
--- where a file couldn't be kept nothing is said of it
-abbrev pub SpeaksAfter : Option Fault → List ℕ → List ℕ → Type 0
-SpeaksAfter fault old new = fault ≡ Some (WriteFault Out) → new ≡ old
-
--- so it is of a sheet that goes into a file; one that is said is kept in no file
-abbrev pub SpeaksOnly : Goal → Option Fault → List ℕ → List ℕ → Type 0
-SpeaksOnly said fault old new = Unit {0}
-SpeaksOnly (svg_file name) fault old new = SpeaksAfter fault old new
-SpeaksOnly (pdf_file name) fault old new = SpeaksAfter fault old new
-
-abbrev pub KeepsOnly : Goal → Files → Files → Type 0
-KeepsOnly said old new = new ≡ old
-KeepsOnly (svg_file name) old new = Unit {0}
-KeepsOnly (pdf_file name) old new = Unit {0}
+-- the faults of writing: of the sheet, of a list that was asked for, of a summary that is said; or want of memory
+abbrev pub IsOfTarget : Named → Target → Type 0
+IsOfTarget named Out = Unit {0}
+IsOfTarget named (Plot zero) = IsSome named.list
+IsOfTarget named (Plot (suc n)) = ⊥
+IsOfTarget named Summary = summary_way named ≡ aloud
 
 -- ---- what was asked
 -- a sheet was asked for, of which this holds
@@ -85,73 +111,31 @@ AsksSheetAnd (Some help) P = ⊥
 AsksSheetAnd (Some version) P = ⊥
 AsksSheetAnd (Some (sheet named)) P = P named
 
--- the text of the drawing's page is kept where it goes, as far as the fault allows
-pub record PutsTo (named : Named) (fault : Option Fault) (old new : Files) (d : Drawing) : Type 0 where
-  pub page : Page
-  pub shows : IsPageOf named.hidden named.part d page
-  pub leaves : LeavesFile named.out fault old new (page_text named.out page)
+-- the drawing is written as it was asked for
+abbrev pub WritesAsked : Option Asks → Option Fault → DeskState → DeskState → Drawing → Type 0
+WritesAsked asked fault old new d = AsksSheetAnd asked (λ named. Writes named fault old new d)
 
--- and so it is said
-pub record SaysTo (named : Named) (fault : Option Fault) (old new : List ℕ) (d : Drawing) : Type 0 where
-  pub page : Page
-  pub shows : IsPageOf named.hidden named.part d page
-  pub adds : SaysSheet named.out fault old new (page_text named.out page) (summary_of d page)
-
--- and so a run warns that has no fault
-pub record NotesTo (named : Named) (old new : List ℕ) (d : Drawing) : Type 0 where
-  pub page : Page
-  pub shows : IsPageOf named.hidden named.part d page
-  pub adds : Notes named.out old new (summary_of d page)
-
-pub record NotesWholeTo (named : Named) (old new : List ℕ) (d : Drawing) : Type 0 where
-  pub page : Page
-  pub shows : IsPageOf named.hidden named.part d page
-  pub adds : NotesWhole named.out old new (summary_of d page)
-
--- as it was asked for
-abbrev pub Puts : Option Asks → Option Fault → Files → Files → Drawing → Type 0
-Puts asked fault old new d = AsksSheetAnd asked (λ named. PutsTo named fault old new d)
-
-abbrev pub Says : Option Asks → Option Fault → List ℕ → List ℕ → Drawing → Type 0
-Says asked fault old new d = AsksSheetAnd asked (λ named. SaysTo named fault old new d)
-
-abbrev pub NotesAsked : Option Asks → Option Drawing → List ℕ → List ℕ → Type 0
-NotesAsked (Some help) made old new = new ≡ old
-NotesAsked (Some version) made old new = new ≡ old
-NotesAsked (Some (sheet named)) made old new = IfSome made (NotesTo named old new)
-NotesAsked None made old new = new ≡ old
-
-abbrev pub NotesAskedWhole : Option Asks → Option Drawing → List ℕ → List ℕ → Type 0
-NotesAskedWhole (Some help) made old new = new ≡ old
-NotesAskedWhole (Some version) made old new = new ≡ old
-NotesAskedWhole (Some (sheet named)) made old new = IfSome made (NotesWholeTo named old new)
-NotesAskedWhole None made old new = new ≡ old
-
--- without a fault no warning fails but beside a sheet that is said
+-- without a fault no warning fails but beside a text that is said
 abbrev pub IsQuietIfAsked : Option Asks → ℕ → ℕ → Type 0
 IsQuietIfAsked (Some help) old new = new ≡ old
 IsQuietIfAsked (Some version) old new = new ≡ old
-IsQuietIfAsked (Some (sheet named)) old new = IsQuiet named.out old new
+IsQuietIfAsked (Some (sheet named)) old new = IsQuiet (summary_way named) old new
 IsQuietIfAsked None old new = new ≡ old
 
--- without a drawing only help and the version are said
+-- without a drawing only help and the version are said: the whole text, or where it couldn't be said a prefix
+abbrev pub Tells : Option Fault → List ℕ → List ℕ → List ℕ → Type 0
+Tells None text old new = SaysText aloud text old new
+Tells (Some fault) text old new = SaysTextPart aloud fault text old new
+
 abbrev pub TellsAsked : Option Asks → Option Fault → List ℕ → List ℕ → Type 0
-TellsAsked (Some help) fault old new = SaysText fault old new HELP.now
-TellsAsked (Some version) fault old new = SaysText fault old new VERSION.now
+TellsAsked (Some help) fault old new = Tells fault HELP.now old new
+TellsAsked (Some version) fault old new = Tells fault VERSION.now old new
 TellsAsked (Some (sheet named)) fault old new = new ≡ old
 TellsAsked None fault old new = new ≡ old
 
--- nothing is said but what was asked to be, and the summary of a sheet that is kept
-abbrev pub SpeaksIfAsked : Option Asks → Option Fault → Option Drawing → List ℕ → List ℕ → Type 0
-SpeaksIfAsked (Some help) fault made old new = Unit {0}
-SpeaksIfAsked (Some version) fault made old new = Unit {0}
-SpeaksIfAsked (Some (sheet named)) fault None old new = new ≡ old
-SpeaksIfAsked (Some (sheet named)) fault (Some d) old new = SpeaksOnly named.out fault old new
-SpeaksIfAsked None fault made old new = new ≡ old
-
--- no file is touched but where a sheet was asked for in one
-abbrev pub KeepsIfAsked : Option Asks → Files → Files → Type 0
-KeepsIfAsked (Some help) old new = new ≡ old
-KeepsIfAsked (Some version) old new = new ≡ old
-KeepsIfAsked (Some (sheet named)) old new = KeepsOnly named.out old new
-KeepsIfAsked None old new = new ≡ old
+-- and on every desk nothing else is
+abbrev pub SpeaksIfTold : Option Asks → List ℕ → List ℕ → Type 0
+SpeaksIfTold (Some help) old new = Unit {0}
+SpeaksIfTold (Some version) old new = Unit {0}
+SpeaksIfTold (Some (sheet named)) old new = new ≡ old
+SpeaksIfTold None old new = new ≡ old

@@ -1,3 +1,5 @@
 -- What only this crate's own functions cite.
 pub mod Faults
+pub mod Puts
+pub mod Taking
 pub mod Texts

@@ -3,11 +3,12 @@ ghost use Rattle.std.specs.Prelude.{◌≡◌, ◌⊎◌, ◌++◌, true, None, 
 ghost use Rattle.desk.specs.Files.{AppendsFront, OnlyWarns};
 ghost use Rattle.draw_core.specs.Desks.{HearsAll};
 ghost use Rattle.part_input.specs.Faults.{status_of};
-ghost use Rattle.sheet_core.specs.Lines.{Warns, WarnsWhole};
 ghost use Rattle.sheet_core.specs.inner.Faults.{IsOfReading};
+ghost use Rattle.sheet_lines.specs.Lines.{fault_line};
 ghost use Rattle.sheet_lines.specs.Unread.{AreUnreadLines};
 ghost use Rattle.sheet_words.specs.Seen.{named_seen};
 
+use crate::take::Refusal;
 use desk::Desk;
 use draw_core::{Outcome, warn};
 use part_input::Fault;
@@ -44,30 +45,31 @@ pub(crate) fn end_by<D: Desk>(line: &str, fault: Fault, desk: &mut D) -> Outcome
     }
 }
 
-/// Ends a run of a request with a fault, and warns of it. Where its line finds no memory, the fault is want of memory; the lines of
-/// faults of reading are there.
+/// Ends a run of a request with a fault, and warns of it, with its place where it has one. Where its line finds no memory, the fault
+/// is want of memory; the lines of faults of reading are there.
 pub(crate) fn refuse<D: Desk>(
     alloc: Global,
     request: &Request,
     unread: &UnreadLines,
-    fault: Fault,
+    refusal: Refusal,
     desk: &mut D,
 ) -> Outcome
     requires { AreUnreadLines (named_seen request.now) unread.now }
     ensures status { result.status ≡ status_of result.fault }
     ensures none { result.drawing ≡ None }
-    ensures fault { (result.fault ≡ Some fault) ⊎ (result.fault ≡ Some Fault.Memory) }
-    ensures told { IsOfReading fault → result.fault ≡ Some fault }
+    ensures fault { (result.fault ≡ Some refusal.fault) ⊎ (result.fault ≡ Some Fault.Memory) }
+    ensures told { IsOfReading refusal.fault → result.fault ≡ Some refusal.fault }
     ensures warned { (D.state desk.old).tells_warned ≡ true →
-        IfSome result.fault (Warns (Some (named_seen request.now)) (D.state desk.old).warned (D.state desk.new).warned) }
+        IfSome result.fault (λ f. AppendsFront (D.state desk.old).warned (D.state desk.new).warned (fault_line (Some (named_seen request.now)) refusal.place f)) }
     ensures whole { HearsAll (D.state desk.old) (D.state desk.new) →
-        IfSome result.fault (WarnsWhole (Some (named_seen request.now)) (D.state desk.old).warned (D.state desk.new).warned) }
+        IfSome result.fault (λ f. (D.state desk.new).warned ≡ (D.state desk.old).warned ++ fault_line (Some (named_seen request.now)) refusal.place f) }
     ensures changes { OnlyWarns (D.state desk.old) (D.state desk.new) }
 {
+    let Refusal { fault, place } = refusal;
     if let Fault::ReadFault(input) = fault {
         return end_by(unread.line(&input), Fault::ReadFault(input), desk);
     }
-    match line_of(alloc, request, &fault) {
+    match line_of(alloc, request, &place, &fault) {
         Ok(line) => end_by(line.as_str(), fault, desk),
         Err(_) => end_by(MEMORY_LINE, Fault::Memory, desk),
     }

@@ -1,6 +1,7 @@
 //! The program `sheet`: from the words and a desk to a sheet for paper and screen.
 //!
-//! It shows the drawing that `draw` makes, with its strokes joined to paths and dashes that are fitted to them, as SVG or as PDF.
+//! It shows the drawing that `draw` makes, with its strokes joined to paths and dashes that are fitted to them, as SVG or as PDF, and
+//! lists its strokes for programs where that is asked for.
 #![tactic(auto)]
 
 mod end;

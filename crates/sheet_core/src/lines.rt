@@ -1,13 +1,16 @@
 // What the program tells of itself.
 
 /// What `--help` says.
-pub const HELP: &str = "sheet PART [--job JOB] [--out OUT] [--hidden all|plain|none]\n\n\
+pub const HELP: &str =
+    "sheet PART [--job JOB] [--out OUT] [--list LIST] [--hidden all|plain|none]\n\n\
     Draws a part on a sheet for paper and screen, hidden lines dashed.\n\n\
     PART      the part: a file in OFF or ASCII STL, or sample:N, N from 1 to 8\n\
     --job     the job, in TOML: views, sheet, scale, title; without it the front\n\
     \x20         view, the one from above and the one from the left on A3\n\
     --out     where it goes: a name that ends in .svg or .pdf, or - for SVG on\n\
     \x20         the standard output; without it sheet.svg\n\
+    --list    where the list of its strokes goes, for programs: a name, or - for\n\
+    \x20         the standard output; without it there is none\n\
     --hidden  where hidden lines are drawn: all, in every view (without it);\n\
     \x20         plain, in no cut view; none, nowhere\n\
     --help    this text\n\

@@ -5,10 +5,7 @@ ghost use Rattle.draw_core.specs.Drawing.{IsDrawing};
 ghost use Rattle.sheet_page.specs.Pages.{IsInView};
 ghost use Rattle.title_block.specs.Blocks.{block_of};
 ghost use Rattle.sheet_page.specs.declared.page.Item.TheVariants as item;
-ghost use Rattle.draw_core.specs.Strokes.{AreStrokes};
-ghost use Rattle.sheet_plan.specs.declared.sheet.Stroke.{Stroke};
-ghost use Rattle.stroke_paths.specs.Paths.{ArePaths};
-ghost use Rattle.sheet_core.specs.Pages.{is_cut, is_dashed, draws_hidden, is_shown, shown_paths, frame_of, items_of, IsPageOf};
+ghost use Rattle.sheet_core.specs.Pages.{is_cut, is_dashed, draws_hidden, is_shown, shown_paths, shown_strokes, frame_of, items_of, IsPageOf, IsPageWith};
 
 use centring::centred;
 use cut_marks::{ViewMarks, marks};
@@ -19,7 +16,7 @@ use job_file::JobView;
 use lattice::ViewSpec;
 use mark_items::mark_items;
 use sheet_page::{Frame, Item, Page};
-use sheet_plan::{Mark, Sheet};
+use sheet_plan::{Mark, Sheet, Stroke};
 use sheet_words::Hidden;
 use std::alloc::Global;
 use stroke_paths::{Path, paths};
@@ -128,15 +125,64 @@ fn items_of(
     Ok(items)
 }
 
-/// The paths of a drawing's strokes on this sheet.
-fn paths_on(alloc: Global, sheet: &Sheet, drawing: &Drawing) -> Result<Vec<Path>, OutOfMemory>
-    requires placed { length drawing.now.views.items ≤ length sheet.now.places.items }
-    requires few { length drawing.now.views.items ≤ 12 }
-    ensures paths { IfOk result (λ paths. (strokes : List Stroke) × AreStrokes sheet.now drawing.now.views.items strokes × ArePaths strokes paths.items) }
-    ensures in_views { IfOk result (λ paths. All (λ p. p.view < length sheet.now.places.items) paths.items) }
+/// The strokes of a drawing that are drawn.
+pub(crate) fn shown_strokes(
+    alloc: Global,
+    hidden: Hidden,
+    views: &[JobView],
+    strokes: &[Stroke],
+) -> Result<Vec<Stroke>, OutOfMemory>
+    ensures { IfOk result (λ shown. shown.items ≡ shown_strokes hidden views.now strokes.now) }
 {
-    let strokes = strokes_of(alloc, sheet, &drawing.views)?;
-    paths(alloc, &strokes)
+    let mut shown = Vec::new(alloc);
+    for stroke in strokes {
+        if is_shown(hidden, views, stroke.view, stroke.mark) {
+            shown.push(*stroke)?;
+        }
+    }
+    Ok(shown)
+}
+
+/// The page of a drawing, the sheet that it shows with the views in the middle of their room, all strokes there, and what tells the
+/// cuts.
+#[derive(Drop)]
+pub(crate) struct Shown {
+    pub(crate) page: Page,
+    pub(crate) on: Sheet,
+    pub(crate) strokes: Vec<Stroke>,
+    pub(crate) marks: Vec<ViewMarks>,
+}
+
+/// The same as `page_of`, with what it was made of.
+pub(crate) fn show(
+    alloc: Global,
+    hidden: Hidden,
+    part: &str,
+    drawing: &Drawing,
+) -> Result<Shown, OutOfMemory>
+    requires { IsDrawing drawing.now }
+    ensures shows { IfOk result (λ shown. IsPageWith hidden part.now drawing.now shown.page shown.on shown.strokes.items shown.marks.items) }
+    ensures in_views { IfOk result (λ shown. All (IsInView shown.page.views) shown.page.items.items) }
+    ensures placed { IfOk result (λ shown. length drawing.now.job.views.items ≤ length shown.on.places.items) }
+{
+    let on = centred(alloc, &drawing.solid, &drawing.sheet)?;
+    let strokes = strokes_of(alloc, &on, &drawing.views)?;
+    let paths = paths(alloc, &strokes)?;
+    let marks = marks(alloc, &drawing.solid, &on, &drawing.job.views)?;
+    let items = items_of(alloc, hidden, part, drawing, paths, &marks)?;
+    let page = Page {
+        width: drawing.sheet.width,
+        height: drawing.sheet.height,
+        title: Name::new(alloc, drawing.job.title.as_str())?,
+        views: drawing.sheet.places.len(),
+        items,
+    };
+    Ok(Shown {
+        page,
+        on,
+        strokes,
+        marks,
+    })
 }
 
 /// The page of a drawing of the part with this name: the sheet's frame and its title block, and, with the views in the middle of their
@@ -153,15 +199,6 @@ pub fn page_of(
     ensures page { IfOk result (IsPageOf hidden part.now drawing.now) }
     ensures in_views { IfOk result (λ page. All (IsInView page.views) page.items.items) }
 {
-    let sheet = centred(alloc, &drawing.solid, &drawing.sheet)?;
-    let paths = paths_on(alloc, &sheet, drawing)?;
-    let marks = marks(alloc, &drawing.solid, &sheet, &drawing.job.views)?;
-    let items = items_of(alloc, hidden, part, drawing, paths, &marks)?;
-    Ok(Page {
-        width: drawing.sheet.width,
-        height: drawing.sheet.height,
-        title: Name::new(alloc, drawing.job.title.as_str())?,
-        views: drawing.sheet.places.len(),
-        items,
-    })
+    let shown = show(alloc, hidden, part, drawing)?;
+    Ok(shown.page)
 }

@@ -2,6 +2,7 @@
 ghost use Rattle.std.specs.Prelude.{◌≡◌, IfOk, count_by, string_bytes};
 ghost use Rattle.sheet_core.specs.Summary.{is_mark, is_path_of, paper_text, paths_of, paths_text, sheet_text, summary_of};
 
+use cut_marks::{ViewMarks, notes};
 use draw_core::Drawing;
 use exact_frac::OutOfMemory;
 use job_file::{Paper, Scale};
@@ -78,17 +79,19 @@ fn paths_text(alloc: Global, items: &[Item]) -> Result<String, AllocError>
     format!(in alloc; " visible {visible} hidden {hidden} hatch {hatch}")
 }
 
-/// What is said of a drawing and its page.
+/// What is said of a drawing, its page, and what tells its cuts.
 pub(crate) fn summary_of(
     alloc: Global,
     drawing: &Drawing,
     page: &Page,
+    marks: &[ViewMarks],
 ) -> Result<String, OutOfMemory>
-    ensures { IfOk result (λ text. string_bytes text ≡ summary_of drawing.now page.now) }
+    ensures { IfOk result (λ text. string_bytes text ≡ summary_of drawing.now page.now marks.now) }
 {
     let views = drawing.sheet.places.len();
     let mut text = sheet_text(alloc, drawing.job.paper, &drawing.sheet.scale, views)?;
     text.push_str(&paths_text(alloc, &page.items)?)?;
     text.push_str("\n")?;
+    text.push_str(&notes(alloc, marks)?)?;
     Ok(text)
 }

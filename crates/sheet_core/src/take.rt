@@ -1,22 +1,42 @@
 // Takes the job and the part that were named from a desk, and draws the part.
-ghost use Rattle.std.specs.Prelude.{◌≡◌, true, Some, None, IfOk, IfErr};
+ghost use Rattle.std.specs.Prelude.{◌≡◌, ◌<◌, ◌≤◌, ◌↔◌, ◌⊎◌, true, length, Some, None, IfOk, IfErr, IsErrOf};
 ghost use Rattle.std.specs.Result.{result_err};
 ghost use Rattle.desk.specs.Files.{Files, OnlyReads};
+ghost use Rattle.geometry.specs.Parts.{part_of};
 ghost use Rattle.job_file.specs.Seen.{job_seen};
 ghost use Rattle.part_input.specs.Faults.{CountsReads};
 ghost use Rattle.part_input.specs.Jobs.{TakesReadJob};
+ghost use Rattle.part_input.specs.Parts.{ChecksPart, IsOfPart, TakesSolid, sample_size};
 ghost use Rattle.part_input.specs.Steps.{Gives, IsMissing};
+ghost use Rattle.part_input.specs.inner.Texts.{IsOfMesh};
 ghost use Rattle.draw_core.specs.Drawing.{drawn_in, IsDrawing};
-ghost use Rattle.draw_core.specs.Outputs.{HasNoWriteFault};
-ghost use Rattle.draw_core.specs.Run.{IsOfUsualJob};
+ghost use Rattle.draw_core.specs.Run.{IsOfSheet, IsOfUsualJob, PlansSheet};
+ghost use Rattle.solid_mesh.specs.Faults.{HasFault};
+ghost use Rattle.solid_mesh.specs.Solids.{solid_part};
+ghost use Rattle.sheet_core.specs.Lines.{IsPlaceFor};
 ghost use Rattle.sheet_core.specs.Run.{DrawsPart, IsOfJob, IsOfFiles, ReadsInOrder};
+ghost use Rattle.sheet_core.specs.inner.Taking.{IsPlaceIn, IsRefusalOf, fault_in};
+ghost use Rattle.sheet_words.specs.Seen.{named_seen};
 
 use dec_text::Name;
 use desk::Desk;
 use draw_core::{Drawing, drawing_of};
+use exact_frac::OutOfMemory;
+use fault_place::fault_place;
 use job_file::Job;
-use part_input::{Fault, fetch_job, fetch_solid};
+use lattice::Soup;
+use part_input::{Fault, Input, fetch_job, fetch_soup};
+use sheet_lines::Place;
+use sheet_words::Request;
+use solid_mesh::{MeshError, MeshFault, Solid};
 use std::alloc::Global;
+
+/// Why nothing is drawn, and where the surface is at fault, if it is.
+#[derive(Drop)]
+pub(crate) struct Refusal {
+    pub(crate) fault: Fault,
+    pub(crate) place: Option<Place>,
+}
 
 /// The usual job.
 fn usual_job(alloc: Global) -> Result<Job, Fault>
@@ -45,30 +65,121 @@ fn take_job<D: Desk>(alloc: Global, name: &Option<Name>, desk: &mut D) -> Result
     }
 }
 
-/// The drawing of the part by the job that were named.
-pub(crate) fn take<D: Desk>(
+/// A copy of a soup.
+fn copy_of(alloc: Global, soup: &Soup) -> Result<Soup, OutOfMemory>
+    ensures { IfOk result (λ copy. part_of copy ≡ part_of soup.now) }
+{
+    Ok(Soup {
+        corners: soup.corners.to_vec(alloc)?,
+        triangles: soup.triangles.to_vec(alloc)?,
+    })
+}
+
+/// The refusal of a surface, with the place of its fault.
+fn at_place(alloc: Global, soup: &Soup, decimals: u8, fault: MeshFault) -> Refusal
+    requires fault { HasFault (part_of soup.now) fault }
+    requires few { decimals ≤ 6 }
+    ensures fault { (result.fault ≡ Fault.Mesh fault) ⊎ (result.fault ≡ Fault.Memory) }
+    ensures placed { IsRefusalOf (part_of soup.now) decimals result.fault result.place }
+{
+    match fault_place(alloc, soup, &fault) {
+        Ok(corner) => Refusal {
+            fault: Fault::Mesh(fault),
+            place: Some(Place { corner, decimals }),
+        },
+        Err(_) => Refusal {
+            fault: Fault::Memory,
+            place: None,
+        },
+    }
+}
+
+/// The sound solid of a soup, or the place where its surface is at fault. The soup is kept beside the check for that.
+fn sound(alloc: Global, soup: Soup, decimals: u8) -> Result<Solid, Refusal>
+    requires few { decimals ≤ 6 }
+    requires some_triangle { 0 < length (part_of soup).triangles }
+    requires few_corners { length (part_of soup).corners ≤ 60000 }
+    requires few_triangles { length (part_of soup).triangles ≤ 20000 }
+    ensures answer { Gives solid_part (ChecksPart (part_of soup)) (fault_in result) }
+    ensures of_mesh { IfErr (fault_in result) IsOfMesh }
+    ensures placed { IfErr result (λ r. IsRefusalOf (part_of soup) decimals r.fault r.place) }
+{
+    let kept = match copy_of(alloc, &soup) {
+        Ok(kept) => kept,
+        Err(_) => return Err(Refusal {
+            fault: Fault::Memory,
+            place: None,
+        }),
+    };
+    match Solid::check(alloc, soup) {
+        Ok(solid) => Ok(solid),
+        Err(MeshError::Mesh(fault)) => Err(at_place(alloc, &kept, decimals, fault)),
+        Err(MeshError::Memory(_)) => Err(Refusal {
+            fault: Fault::Memory,
+            place: None,
+        }),
+    }
+}
+
+/// The sound solid of the part that was named.
+fn take_solid<D: Desk>(
     alloc: Global,
-    part: &Name,
-    job: &Option<Name>,
+    name: &Name,
+    job: &Job,
     desk: &mut D,
-) -> Result<Drawing, Fault>
+) -> Result<Solid, Refusal>
     ensures answer { (D.state desk.old).tells ≡ true →
-        Gives drawn_in (DrawsPart (D.state desk.old).files part.now job.now) result }
-    ensures of_files { IfErr result (IsOfFiles part.now job.now) }
-    ensures shows { IfOk result IsDrawing }
-    ensures order { (D.state desk.old).tells ≡ true →
-        IfErr result (ReadsInOrder (D.state desk.old).files part.now job.now) }
-    ensures reads { CountsReads (result_err result) (D.state desk.old).read_faults (D.state desk.new).read_faults }
+        Gives solid_part (TakesSolid (D.state desk.old).files name.now job.now.decimals job.now.unit) (fault_in result) }
+    ensures of_part { IfErr (fault_in result) (IsOfPart name.now) }
+    ensures placed { IfErr result (λ r. IsPlaceIn name.now job.now.decimals job.now.unit (D.state desk.old) r.fault r.place) }
+    ensures reads { CountsReads (result_err (fault_in result)) (D.state desk.old).read_faults (D.state desk.new).read_faults }
     ensures missing { (D.state desk.old).steady ≡ true →
-        IfErr result (IsMissing (DrawsPart (D.state desk.old).files part.now job.now)) }
+        (IsErrOf (fault_in result) (Fault.ReadFault Input.Part) ↔ ((sample_size name.now ≡ None) × ((D.state desk.old).files name.now ≡ None))) }
     ensures changes { OnlyReads (D.state desk.old) (D.state desk.new) }
 {
-    let job = match take_job(alloc, job, desk) {
+    match fetch_soup(alloc, name, job, desk) {
+        Ok(soup) => sound(alloc, soup, job.decimals),
+        Err(fault) => Err(Refusal { fault, place: None }),
+    }
+}
+
+/// The drawing of a solid by a job.
+fn drawn(alloc: Global, solid: Solid, job: Job) -> Result<Drawing, Refusal>
+    ensures answer { Gives drawn_in (PlansSheet (job_seen job) (solid_part solid)) (fault_in result) }
+    ensures of_sheet { IfErr (fault_in result) IsOfSheet }
+    ensures shows { IfOk result IsDrawing }
+    ensures placed { IfErr result (λ r. r.place ≡ None) }
+{
+    match drawing_of(alloc, solid, job) {
+        Ok(drawing) => Ok(drawing),
+        Err(fault) => Err(Refusal { fault, place: None }),
+    }
+}
+
+/// The drawing of the part by the job that a request names.
+pub(crate) fn take<D: Desk>(
+    alloc: Global,
+    request: &Request,
+    desk: &mut D,
+) -> Result<Drawing, Refusal>
+    ensures answer { (D.state desk.old).tells ≡ true →
+        Gives drawn_in (DrawsPart (D.state desk.old).files (named_seen request.now).part (named_seen request.now).job) (fault_in result) }
+    ensures of_files { IfErr (fault_in result) (IsOfFiles (named_seen request.now).part (named_seen request.now).job) }
+    ensures placed { IfErr result (λ r. IsPlaceFor (Some (named_seen request.now)) (D.state desk.old) r.fault r.place) }
+    ensures shows { IfOk result IsDrawing }
+    ensures order { (D.state desk.old).tells ≡ true →
+        IfErr (fault_in result) (ReadsInOrder (D.state desk.old).files (named_seen request.now).part (named_seen request.now).job) }
+    ensures reads { CountsReads (result_err (fault_in result)) (D.state desk.old).read_faults (D.state desk.new).read_faults }
+    ensures missing { (D.state desk.old).steady ≡ true →
+        IfErr (fault_in result) (IsMissing (DrawsPart (D.state desk.old).files (named_seen request.now).part (named_seen request.now).job)) }
+    ensures changes { OnlyReads (D.state desk.old) (D.state desk.new) }
+{
+    let job = match take_job(alloc, &request.job, desk) {
         Ok(job) => job,
-        Err(fault) => return Err(fault),
+        Err(fault) => return Err(Refusal { fault, place: None }),
     };
-    match fetch_solid(alloc, part, &job, desk) {
-        Ok(solid) => drawing_of(alloc, solid, job),
-        Err(fault) => Err(fault),
+    match take_solid(alloc, &request.part, &job, desk) {
+        Ok(solid) => drawn(alloc, solid, job),
+        Err(refusal) => Err(refusal),
     }
 }

@@ -1,36 +1,48 @@
-use Rattle.std.proofs.Common.{ℕ, List, subst, string_bytes}
-use Rattle.sheet_core.specs.Writing.{LeavesFile, SaysSheet}
-use Rattle.sheet_core.proofs.Putting.{notes_of, notes_whole_of}
+use Rattle.std.proofs.Common.{ℕ, List, ap, subst, ◌∙◌, string_bytes}
+use Rattle.std.specs.Prelude.{IfNone}
+use Rattle.sheet_core.specs.Pages.{shown_strokes}
+use Rattle.sheet_core.specs.Writing.{Notes, NotesWhole, listed, page_text, summary_way, texts_for}
+use Rattle.sheet_core.proofs.Putting.{all_of_writing}
+use Rattle.sheet_core.proofs.Asked.{written_of}
+use Rattle.sheet_list.specs.Lists.{list_text}
 use Rattle.sheet_words.specs.Seen.{named_seen}
 use Rattle.sheet_core.proofs.run.write_sheet.Goals as goal
 
-pub returns-clause-files : goal.returns-clause-files
-returns-clause-files g c = λ told.
+pub returns-clause-fault : goal.returns-clause-fault
+returns-clause-fault g c =
+    let texts = c.in-Ok.texts in
+    all_of_writing (named_seen c.args.request.now) texts.page.items texts.list.items (string_bytes texts.summary) c.put-fault.result c.put-fault.ensures.put.of_texts
+
+pub returns-clause-written : goal.returns-clause-written
+returns-clause-written g c =
+    let named = named_seen c.args.request.now in
+    let texts = c.in-Ok.texts in
     let made = c.in-Ok.ensures in
+    let shown = made.shown in
     let state = g.D.Desk.state in
+    let put = c.put-fault.ensures.put in
+    let fault = c.put-fault.result in
+    let list = texts.list.items in
     record {
-      page = made.page;
+      page = shown.page;
+      on = shown.on;
+      strokes = shown.strokes.items;
+      marks = shown.marks.items;
       shows = made.shows;
-      leaves = subst (λ (text : List ℕ). LeavesFile (named_seen c.args.request.now).out c.put-fault.result (state c.args.desk.now).files (state c.put-fault.new.desk).files text) made.text (c.put-fault.ensures.files told);
+      texts = texts_for named texts.page.items list (string_bytes texts.summary);
+      are_texts = ap (λ (page : List ℕ). texts_for named page list (string_bytes texts.summary)) made.text
+          ∙ ap (λ (l : List ℕ). texts_for named (page_text named.out shown.page) l (string_bytes texts.summary)) made.list
+          ∙ ap (λ (s : List ℕ). texts_for named (page_text named.out shown.page) (listed named.list (list_text c.args.drawing.job shown.on (shown_strokes named.hidden c.args.drawing.job.views.items shown.strokes.items))) s) made.summary;
+      files = put.files;
+      said = put.said;
+      spared = put.spared;
+      silent = put.silent;
+      noted = λ told. subst (λ (s : List ℕ). IfNone fault (Notes (summary_way named) s (state c.args.desk.now).warned (state c.put-fault.new.desk).warned)) made.summary (c.put-fault.ensures.noted told);
+      noted_whole = λ hears. subst (λ (s : List ℕ). IfNone fault (NotesWhole (summary_way named) s (state c.args.desk.now).warned (state c.put-fault.new.desk).warned)) made.summary (c.put-fault.ensures.noted_whole hears);
     }
 
-pub returns-clause-said : goal.returns-clause-said
-returns-clause-said g c = λ told.
-    let made = c.in-Ok.ensures in
-    let state = g.D.Desk.state in
-    let P : List ℕ → List ℕ → Type 0 = SaysSheet (named_seen c.args.request.now).out c.put-fault.result (state c.args.desk.now).said (state c.put-fault.new.desk).said in
-    record {
-      page = made.page;
-      shows = made.shows;
-      adds = subst (P _) made.summary (subst (λ (text : List ℕ). P text (string_bytes c.in-Ok.texts.summary)) made.text (c.put-fault.ensures.said told));
-    }
-
-pub returns-clause-noted : goal.returns-clause-noted
-returns-clause-noted g c = λ told.
-    let state = g.D.Desk.state in
-    notes_of (named_seen c.args.request.now) c.args.drawing c.in-Ok.texts c.in-Ok.ensures (state c.args.desk.now).warned (state c.put-fault.new.desk).warned c.put-fault.result (c.put-fault.ensures.noted told)
-
-pub returns-clause-noted_whole : goal.returns-clause-noted_whole
-returns-clause-noted_whole g c = λ hears.
-    let state = g.D.Desk.state in
-    notes_whole_of (named_seen c.args.request.now) c.args.drawing c.in-Ok.texts c.in-Ok.ensures (state c.args.desk.now).warned (state c.put-fault.new.desk).warned c.put-fault.result (c.put-fault.ensures.noted_whole hears)
+pub returns-clause-drawn : goal.returns-clause-drawn
+returns-clause-drawn g c =
+    let texts = c.in-Ok.texts in
+    let named = named_seen c.args.request.now in
+    written_of named c.put-fault.result (all_of_writing named texts.page.items texts.list.items (string_bytes texts.summary) c.put-fault.result c.put-fault.ensures.put.of_texts)

@@ -1,12 +1,18 @@
-use Rattle.std.proofs.Common.{ℕ, List, subst}
-use Rattle.sheet_core.specs.Pages.{IsPageOf}
+use Rattle.std.proofs.Common.{ℕ, List, subst, ap, ◌∙◌}
+use Rattle.cut_marks.specs.declared.views.ViewMarks.{ViewMarks}
+use Rattle.sheet_core.specs.Pages.{IsPageWith}
+use Rattle.sheet_core.specs.Summary.{summary_of}
 use Rattle.sheet_core.proofs.texts.texts_of.Goals as goal
 
 pub returns : goal.returns
-returns c = record {
-  page = c.in_ok-shown.shown;
-  shows = subst (λ (part : List ℕ). IsPageOf c.args.request.now.hidden part c.args.drawing.now c.in_ok-shown.shown) c.as_str.ensures.same c.in_ok-shown.ensures.page;
-  text = c.in_ok-page.ensures;
-  summary = c.in_ok-summary.ensures;
-  unwritten = c.in_ok-unwritten.ensures;
-}
+returns c =
+    let shown = c.in_ok-shown.shown in
+    record {
+      shown = shown;
+      shows = subst (λ (part : List ℕ). IsPageWith c.args.request.now.hidden part c.args.drawing.now shown.page shown.on shown.strokes.items shown.marks.items) c.as_str.ensures.same c.in_ok-shown.ensures.shows;
+      text = c.in_ok-page.ensures;
+      list = c.in_ok-list.ensures;
+      summary = c.in_ok-summary.ensures ∙ ap (λ (marks : List ViewMarks). summary_of c.args.drawing.now shown.page marks) c.deref.ensures.value;
+      unwritten = c.in_ok-unwritten.ensures;
+      unlisted = c.in_ok-unlisted.ensures;
+    }

@@ -1,0 +1,99 @@
+use Rattle.std.proofs.Common.{◌≡◌, ◌<◌, ℕ, List, length, sym, subst, ap, ◌∙◌, arith, FitsSigned}
+use Rattle.std.specs.Int.{w64}
+use Rattle.std.specs.List.{All}
+use Rattle.std.proofs.lemmas.Int.{ints, to_z-of_z}
+use Rattle.cut_marks.specs.Letters.{cuts_in}
+use Rattle.cut_marks.specs.Marks.{AreMarked}
+use Rattle.cut_marks.specs.declared.views.ViewMarks.{ViewMarks}
+use Rattle.draw_core.specs.Strokes.{AreStrokes}
+use Rattle.draw_core.proofs.DrawnViews.{few, placed}
+use Rattle.draw_core.proofs.SheetFacts.{as_many_places}
+use Rattle.job_file.specs.declared.view.JobView.{JobView}
+use Rattle.mark_items.specs.Items.{items_of_marks}
+use Rattle.sheet_plan.specs.declared.sheet.Stroke.{Stroke}
+use Rattle.stroke_paths.specs.Paths.{ArePaths}
+use Rattle.stroke_paths.proofs.ViewsWithin.{views_within}
+use Rattle.view_lines.specs.declared.view.ViewDrawing.{ViewDrawing}
+use Rattle.sheet_page.specs.Pages.{IsInView}
+use Rattle.sheet_page.specs.declared.page.Item.{Item}
+use Rattle.title_block.specs.Blocks.{block_of}
+use Rattle.solid_mesh.specs.Solids.{solid_part}
+use Rattle.sheet_core.specs.Pages.{items_of}
+use Rattle.sheet_core.proofs.Moved.{moved_strokes}
+use Rattle.sheet_core.proofs.PageItems.{planned_for, same_places, of_marks, in_views}
+use Rattle.sheet_core.proofs.page.show.Goals as goal
+
+pub centred-requires : goal.centred-requires
+centred-requires c = record { planned = (c.args.drawing.now.job, planned_for c.args.drawing.now c.requires) }
+
+pub strokes_of-requires-clause-placed : goal.strokes_of-requires-clause-placed
+strokes_of-requires-clause-placed c =
+    let d = c.args.drawing.now in
+    let views = ap (λ (views : List ViewDrawing). length views) c.deref.ensures.value in
+    omega (arith, placed d c.requires, same_places d.sheet (solid_part d.solid).corners c.in_ok-on.on c.in_ok-on.ensures.centred, views)
+
+pub strokes_of-requires-clause-few : goal.strokes_of-requires-clause-few
+strokes_of-requires-clause-few c =
+    let views = ap (λ (views : List ViewDrawing). length views) c.deref.ensures.value in
+    omega (arith, few c.args.drawing.now c.requires, views)
+
+pub marks-requires-clause-placed : goal.marks-requires-clause-placed
+marks-requires-clause-placed c =
+    let d = c.args.drawing.now in
+    let here = same_places d.sheet (solid_part d.solid).corners c.in_ok-on.on c.in_ok-on.ensures.centred in
+    let views = ap (λ (views : List JobView). length views) c.deref-3.ensures.value in
+    omega (arith, as_many_places d.job (solid_part d.solid).corners d.sheet c.requires.sheet, here, views)
+
+pub marks-requires-clause-few : goal.marks-requires-clause-few
+marks-requires-clause-few c =
+    let views = ap (λ (views : List JobView). length views) c.deref-3.ensures.value in
+    omega (arith, views, c.args.drawing.now.job.few_views)
+
+pub returns-clause-shows : goal.returns-clause-shows
+returns-clause-shows c =
+    let d = c.args.drawing.now in
+    let sheet = c.in_ok-on.on in
+    let strokes = c.in_ok-strokes.strokes.items in
+    let marks = c.in_ok-marks.marks.items in
+    let wide = d.sheet.width_in_range in
+    let high = d.sheet.height_in_range in
+    let width_fits : FitsSigned w64 d.sheet.width = omega (arith, ints) in
+    let height_fits : FitsSigned w64 d.sheet.height = omega (arith, ints) in
+    let are_strokes = subst (λ (views : List ViewDrawing). AreStrokes sheet views strokes) c.deref.ensures.value c.in_ok-strokes.ensures.strokes in
+    let moved = c.in_ok-on.ensures.centred.moved in
+    record {
+      centred = c.in_ok-on.ensures.centred;
+      within = c.in_ok-on.ensures.within_margins;
+      apart = c.in_ok-on.ensures.apart;
+      are_strokes = are_strokes;
+      moved = record { right = _; down = _; views = moved; are_moved = λ before here. moved_strokes _ _ d.sheet sheet moved d.views.items before strokes here are_strokes };
+      paths = c.in_ok-paths.paths.items;
+      are_paths = subst (λ (ss : List Stroke). ArePaths ss c.in_ok-paths.paths.items) c.deref-2.ensures.value c.in_ok-paths.ensures;
+      are_marks = subst (λ (views : List JobView). AreMarked sheet (solid_part d.solid) (cuts_in views) views marks) c.deref-3.ensures.value c.in_ok-marks.ensures.marked;
+      in_reach = c.in_ok-marks.ensures.in_reach;
+      none_touch = c.in_ok-marks.ensures.none_touch;
+      width = simp to_z-of_z;
+      height = simp to_z-of_z;
+      title = c.in_ok-new.ensures.same ∙ c.as_str.ensures.same;
+      views = omega (arith, c.len.ensures, d.sheet.places.ok.0);
+      items = c.in_ok-items.ensures.items ∙ ap (λ (ms : List ViewMarks). items_of c.args.hidden c.args.part.now d c.in_ok-paths.paths.items ms) c.deref-4.ensures.value;
+    }
+
+pub returns-clause-in_views : goal.returns-clause-in_views
+returns-clause-in_views c =
+    let d = c.args.drawing.now in
+    let moved = length c.in_ok-on.on.places.items in
+    let block = block_of d.sheet d.job c.args.part.now in
+    let paths = c.in_ok-paths.paths.items in
+    let strokes : All (λ (s : Stroke). s.view < moved) c.deref-2.result.now = subst (λ (xs : List Stroke). All (λ (s : Stroke). s.view < moved) xs) (sym c.deref-2.ensures.value) c.in_ok-strokes.ensures.in_range in
+    let within = views_within c.deref-2.result.now moved paths strokes c.in_ok-paths.ensures in
+    let all : All (IsInView moved) c.in_ok-items.items.items =
+    subst (λ (items : List Item). All (IsInView moved) items) (sym c.in_ok-items.ensures.items)
+    (in_views moved c.args.hidden d block (items_of_marks c.deref-4.result.now) paths (c.in_ok-items.ensures.of_block moved) (of_marks moved c.deref-4.result.now) within) in
+    let same : moved ≡ c.len.result = omega (arith, c.len.ensures, d.sheet.places.ok.0, same_places d.sheet (solid_part d.solid).corners c.in_ok-on.on c.in_ok-on.ensures.centred) in
+    subst (λ (n : ℕ). All (IsInView n) c.in_ok-items.items.items) same all
+
+pub returns-clause-placed : goal.returns-clause-placed
+returns-clause-placed c =
+    let d = c.args.drawing.now in
+    omega (arith, as_many_places d.job (solid_part d.solid).corners d.sheet c.requires.sheet, same_places d.sheet (solid_part d.solid).corners c.in_ok-on.on c.in_ok-on.ensures.centred)
