@@ -25,7 +25,17 @@ pub(crate) fn keep_file<R: Files>(
             keep_new(alloc, rt, name, bytes)?;
             Ok(true)
         }
+        // such a file may be open and yet not be opened by its name: a pipe that another user made
+        Err(_) if names_standard_output(rt, name) => Ok(false),
         Err(e) => Err(e),
+    }
+}
+
+// The name is one of the file that the standard output goes to.
+fn names_standard_output<R: Files>(rt: &R, name: &str) -> bool {
+    match fs::metadata(rt, name) {
+        Ok(found) => is_standard_output(rt, &found),
+        Err(_) => false,
     }
 }
 
