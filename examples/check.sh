@@ -1,10 +1,12 @@
 #!/bin/sh
 # Draws each sheet that sheets.txt names and compares it with the one that is kept in sheets/, and so the further files that its
-# job asks for.
-# Usage: examples/check.sh [PROGRAM]; PROGRAM is the built program, crates/draw_cli/out/draw_cli where it isn't given.
+# job asks for; and lists the strokes of the bracket's sheet as sheet makes it, which is compared with the list in lists/.
+# Usage: examples/check.sh [DRAW [SHEET]]; these are the built programs, crates/draw_cli/out/draw_cli and
+# crates/sheet_cli/out/sheet_cli where they aren't given.
 set -u
 here=$(dirname "$0")
 program=$(realpath "${1:-$here/../crates/draw_cli/out/draw_cli}") || exit 1
+sheet=$(realpath "${2:-$here/../crates/sheet_cli/out/sheet_cli}") || exit 1
 cd "$here" || exit 1
 drawn=$(mktemp -d) || exit 1
 trap 'rm -rf "$drawn"' EXIT
@@ -32,4 +34,11 @@ while read -r name part job; do
         fi
     done
 done <sheets.txt
+"$sheet" bracket.off --job bracket.toml --out "$drawn/bracket-sheet.svg" --list "$drawn/bracket.list" >/dev/null || wrong=1
+if cmp -s "$drawn/bracket.list" lists/bracket.list; then
+    echo "bracket.list: as kept"
+else
+    echo "bracket.list: differs from lists/bracket.list"
+    wrong=1
+fi
 exit "$wrong"
