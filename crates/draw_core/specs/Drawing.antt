@@ -1,10 +1,8 @@
 -- What a drawing shows, and its text.
-use Rattle.std.specs.Prelude.{◌≡◌, ◌≤◌, ℕ, ℤ, List, [], ◌∷◌, map, flat_map, Option, Some, None, IsSomeAnd}
+use Rattle.std.specs.Prelude.{◌≡◌, ◌≤◌, ℕ, ℤ, List, [], ◌∷◌, map, Option, Some, None, IsSomeAnd}
 use Rattle.std.specs.List.{AllZip}
-use Rattle.lattice.specs.Cuts.{Plane, plane_of}
+use Rattle.lattice.specs.Cuts.{Plane}
 use Rattle.lattice.specs.declared.pieces.Crease.{Crease}
-use Rattle.lattice.specs.declared.pieces.ViewSpec.{ViewSpec}
-use Rattle.lattice.specs.declared.pieces.ViewSpec.TheVariants.{Plain, Section}
 use Rattle.desk.specs.Files.{Files}
 use Rattle.draw_words.specs.Names.{Named}
 use Rattle.job_file.specs.Seen.{job_seen}
@@ -17,6 +15,7 @@ use Rattle.sheet_plan.specs.declared.sheet.Sheet.{Sheet}
 use Rattle.sheet_plan.specs.declared.sheet.Stroke.{Stroke}
 use Rattle.sheet_plan.specs.Sheets.{spacing_of}
 use Rattle.svg_page.specs.Svg.{svg_of}
+use Rattle.drawn_strips.specs.Planes.{planes_in}
 use Rattle.draw_core.specs.Numbers.{SumsViews}
 use Rattle.draw_core.specs.Outputs.{File, plot_name, LeavesAll}
 use Rattle.draw_core.specs.Run.{Drawn}
@@ -27,14 +26,6 @@ use Rattle.part_input.specs.declared.fault.Fault.{Fault}
 use Rattle.view_lines.specs.Views.{ShowsView}
 use Rattle.view_lines.specs.declared.numbers.ViewNumbers.{ViewNumbers}
 use Rattle.view_lines.specs.declared.view.ViewDrawing.{ViewDrawing}
-
--- the planes of the cuts among a job's views, in their order
-abbrev pub planes_of : ViewSpec → List Plane
-planes_of (Plain d) = []
-planes_of (Section c) = plane_of c ∷ []
-
-abbrev pub planes_in : List JobView → List Plane
-planes_in views = flat_map (λ view. planes_of view.spec) views
 
 -- the view shows the solid as the job's view asks for it, with the traces of these planes
 abbrev pub ShowsJobView : Solid → Crease → List Plane → ℕ → JobView → ViewDrawing → Type 0

@@ -1,13 +1,15 @@
 // The views of a job, drawn.
-ghost use Rattle.std.specs.Prelude.{◌≡◌, ◌≤◌, ◌++◌, length, map, IfOk, OnOk};
+ghost use Rattle.std.specs.Prelude.{◌≤◌, length, map, IfOk};
 ghost use Rattle.std.specs.List.{AllZip};
 ghost use Rattle.lattice.specs.Cuts.{plane_of};
-ghost use Rattle.draw_core.specs.Drawing.{planes_of, planes_in, ShowsJobView};
+ghost use Rattle.drawn_strips.specs.Planes.{planes_in};
+ghost use Rattle.draw_core.specs.Drawing.{ShowsJobView};
 ghost use Rattle.draw_core.specs.Numbers.{SumsViews};
 
+use drawn_strips::cuts_in;
 use exact_frac::OutOfMemory;
 use job_file::JobView;
-use lattice::{Crease, Cut, ViewSpec};
+use lattice::{Crease, Cut};
 use solid_mesh::Solid;
 use std::alloc::Global;
 use view_lines::{ViewDrawing, ViewLines, ViewNumbers, view_lines};
@@ -17,28 +19,6 @@ use view_lines::{ViewDrawing, ViewLines, ViewNumbers, view_lines};
 pub(crate) struct Views {
     pub views: Vec<ViewDrawing>,
     pub numbers: ViewNumbers,
-}
-
-/// Adds the cut that a view shows, if it shows one.
-fn add_cut(cuts: &mut Vec<Cut>, spec: &ViewSpec) -> Result<(), OutOfMemory>
-    ensures { OnOk result (map plane_of cuts.new.items ≡ map plane_of cuts.old.items ++ planes_of spec.now) }
-{
-    match spec {
-        ViewSpec::Plain(_) => {}
-        ViewSpec::Section(cut) => cuts.push(*cut)?,
-    }
-    Ok(())
-}
-
-/// The cuts among the views, in their order.
-fn cuts_in(alloc: Global, asked: &[JobView]) -> Result<Vec<Cut>, OutOfMemory>
-    ensures { IfOk result (λ cuts. map plane_of cuts.items ≡ planes_in asked.now) }
-{
-    let mut cuts = Vec::new(alloc);
-    for view in asked {
-        add_cut(&mut cuts, &view.spec)?;
-    }
-    Ok(cuts)
 }
 
 /// The views that are asked for, in their order, with the traces of these cuts.

@@ -26,9 +26,9 @@ use Rattle.lattice.specs.declared.pieces.Strip.{Strip}
 use Rattle.cut_count.specs.CutSpans.{AreCutCountSpans, IsCutEntry}
 use Rattle.view_lines.specs.Counts.{AreCountsAlong, AreCountsBeyond}
 use Rattle.view_lines.specs.inner.Told.{AreChained, AreTold}
-use Rattle.view_lines.specs.inner.Strips.{TellHidden, TellHiddenInCut, AreEdgeStrips}
+use Rattle.drawn_strips.specs.Strips.{TellHidden, TellHiddenInCut, AreEdgeStrips}
 use Rattle.view_lines.proofs.CountedSpans.{edge_chained, beyond_chained, told_spans, told_cut_spans}
-use Rattle.view_lines.proofs.StripLists.{edges_weaker}
+use Rattle.drawn_strips.proofs.StripLists.{edges_weaker}
 
 -- the solid in this direction, before any test
 abbrev pub seen_from : Solid → Triple → SightState

@@ -27,9 +27,9 @@ use Rattle.span_slow.specs.Spans as plain
 use Rattle.span_slow.specs.Spans.{IsAnswer}
 use Rattle.span_slow.specs.declared.span.Span.{Span}
 use Rattle.view_lines.specs.inner.Told.{IsToldBy, AreRuns, AreToldBy, AreChained}
-use Rattle.view_lines.specs.inner.Strips.{TellHidden, IsFreeAnswer, TellHiddenInCut}
+use Rattle.drawn_strips.specs.Strips.{TellHidden, IsFreeAnswer, TellHiddenInCut}
 use Rattle.view_lines.proofs.Runs.{HasRun, run_of, run_no_end, runs_follow, runs_of_none, single_within}
-use Rattle.view_lines.proofs.SpanPlaces.{earlier_in}
+use Rattle.drawn_strips.proofs.SpanPlaces.{earlier_in}
 
 -- they follow one another from and to the same places
 told_follow : (from start to : Frac) (xs : List CountSpan) (spans : List Span) → AllZip IsToldBy xs spans → IsSame start from → counts.Follow from xs to → plain.Follow start spans to

@@ -1,20 +1,3 @@
-pub mod BorderStrips
-pub mod BorderWays
 pub mod CountedEdges
 pub mod CountedSpans
-pub mod CutPlaces
-pub mod CutRight
-pub mod EdgeScenes
-pub mod EdgeStrips
 pub mod Runs
-mod SpanPlaces
-pub mod SpanSums
-pub mod StripLists
-pub mod StripPlaces
-pub mod StripScenes
-pub mod StripsDecided
-pub mod TraceAxes
-pub mod TraceLists
-pub mod TraceMade
-pub mod TraceStrips
-pub mod ViewRight

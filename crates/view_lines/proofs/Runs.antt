@@ -15,7 +15,7 @@ use Rattle.line_merge.proofs.Lists.{contains_first}
 use Rattle.span_slow.specs.Spans.{Follow}
 use Rattle.span_slow.specs.declared.span.Span.{Span}
 use Rattle.view_lines.specs.inner.Told.{IsRun, AreRuns}
-use Rattle.view_lines.proofs.SpanPlaces.{StaysAlong, find, weak}
+use Rattle.drawn_strips.proofs.SpanPlaces.{StaysAlong, find, weak}
 
 -- ---- how they are made
 pub run_of_one : (x : Span) → IsRun (x ∷ []) x

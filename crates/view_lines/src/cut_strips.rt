@@ -1,56 +1,30 @@
 // The view of what a cut leaves of the solid: the spans of its drawn edges by their counts and the section's borders, as strips that
 // are put together to pieces, and the hatch lines of the section.
-ghost use Rattle.std.specs.Prelude.{◌≡◌, ℕ, ◌≤◌, ◌^◌, List, ◌++◌, map, IfOk, OnOk};
-ghost use Rattle.std.specs.List.{AllZip};
+ghost use Rattle.std.specs.Prelude.{◌≡◌, ℕ, ◌≤◌, ◌^◌, map, IfOk};
 ghost use Rattle.lattice.specs.Creases.{fraction_of};
-ghost use Rattle.lattice.specs.Cuts.{Plane, plane_of, toward_of};
-ghost use Rattle.lattice.specs.declared.pieces.Strip.{Strip};
-ghost use Rattle.geometry.specs.Parts.{Part, IsClosed};
+ghost use Rattle.lattice.specs.Cuts.{plane_of, toward_of};
 ghost use Rattle.geometry.specs.Pieces.{AreInOrder};
 ghost use Rattle.geometry.specs.Scenes.{AreRightInCut};
 ghost use Rattle.solid_mesh.specs.Solids.{solid_part, edge_halves};
-ghost use Rattle.cut_plane.specs.Loops.{IsSegmentOf, AreBorders};
+ghost use Rattle.cut_plane.specs.Loops.{AreBorders};
 ghost use Rattle.hatch_fill.specs.Hatching.{IsHatching};
 ghost use Rattle.view_lines.specs.Counts.{AreCountsBeyond};
 ghost use Rattle.view_lines.specs.Numbers.{CountsView, AreBelow};
-ghost use Rattle.view_lines.specs.inner.Strips.{IsBorderStrip, AreCutStrips};
+ghost use Rattle.drawn_strips.specs.Strips.{AreCutStrips};
 
 use crate::counts::{Counts, counts_beyond};
 use crate::strips::counted_strips;
 use crate::view::{ViewDrawing, ViewLines};
-use cut_plane::{Section, Segment, borders};
+use cut_plane::{Section, borders};
+use drawn_strips::add_borders;
 use edge_pick::{Crease, pick};
 use exact_frac::OutOfMemory;
 use hatch_fill::hatch;
-use lattice::{Cut, Piece, Strip, StripKind, ViewSpec};
+use lattice::{Cut, Piece, Strip, ViewSpec};
 use line_merge::merge;
 use solid_mesh::Solid;
 use span_count::EdgeSpans;
 use std::alloc::Global;
-
-/// The segment as a strip: a border is never hidden.
-fn border_strip(segment: &Segment) -> Strip
-    requires { (c : Plane) × (s : Part) × IsClosed s × IsSegmentOf c s segment.now }
-    ensures { IsBorderStrip segment.now result }
-{
-    Strip {
-        line: segment.line,
-        a: segment.a,
-        b: segment.b,
-        kind: StripKind::Seen,
-    }
-}
-
-/// Adds the borders of the section.
-fn add_borders(strips: &mut Vec<Strip>, section: &Section) -> Result<(), OutOfMemory>
-    requires { (s : Part) × IsClosed s × AreBorders (plane_of section.now.cut) s section.now.segments.items section.now.loops.items }
-    ensures { OnOk result ((here : List Strip) × (strips.new.items ≡ strips.old.items ++ here) × AllZip IsBorderStrip section.now.segments.items here) }
-{
-    for segment in &section.segments {
-        strips.push(border_strip(segment))?;
-    }
-    Ok(())
-}
 
 /// The strips of a cut view: those of the drawn edges with these counts, and then the borders.
 fn cut_strips(

@@ -19,7 +19,6 @@ mod cut_strips;
 mod numbers;
 mod plain_strips;
 mod strips;
-mod trace_strips;
 mod view;
 
 use crate::cut_strips::cut_lines;

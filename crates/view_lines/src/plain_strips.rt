@@ -8,12 +8,12 @@ ghost use Rattle.geometry.specs.Scenes.{AreRight};
 ghost use Rattle.solid_mesh.specs.Solids.{solid_part, edge_halves};
 ghost use Rattle.view_lines.specs.Counts.{AreCountsAlong};
 ghost use Rattle.view_lines.specs.Numbers.{CountsView, AreBelow};
-ghost use Rattle.view_lines.specs.inner.Traces.{AreViewStrips};
+ghost use Rattle.drawn_strips.specs.Traces.{ArePlainStrips};
 
 use crate::counts::{Counts, counts_along};
 use crate::strips::counted_strips;
-use crate::trace_strips::add_traces;
 use crate::view::{ViewDrawing, ViewLines};
+use drawn_strips::add_traces;
 use edge_pick::{Crease, pick};
 use exact_frac::OutOfMemory;
 use lattice::{Cut, Dir, Strip, ViewSpec};
@@ -31,7 +31,7 @@ fn view_strips(
     cuts: &[Cut],
 ) -> Result<Vec<Strip>, OutOfMemory>
     requires { (fraction : ℕ) × AreCountsAlong (of_dir d.now) fraction solid.now entries.now }
-    ensures { IfOk result (λ strips. AreViewStrips (of_dir d.now) (solid_part solid.now) (edge_halves solid.now) (map (λ x. x.edge) entries.now) (map plane_of cuts.now) strips.items) }
+    ensures { IfOk result (λ strips. ArePlainStrips (of_dir d.now) (solid_part solid.now) (edge_halves solid.now) (map (λ x. x.edge) entries.now) (map plane_of cuts.now) strips.items) }
 {
     let mut strips = counted_strips(alloc, solid, d, entries)?;
     add_traces(&mut strips, solid, d, cuts)?;

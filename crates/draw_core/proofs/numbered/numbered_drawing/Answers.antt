@@ -3,7 +3,8 @@ use Rattle.std.specs.List.{AllZip}
 use Rattle.job_file.specs.declared.view.JobView.{JobView}
 use Rattle.solid_mesh.specs.Solids.{solid_part}
 use Rattle.view_lines.specs.declared.view.ViewDrawing.{ViewDrawing}
-use Rattle.draw_core.specs.Drawing.{ShowsJobView, planes_in, spacing_on}
+use Rattle.drawn_strips.specs.Planes.{planes_in}
+use Rattle.draw_core.specs.Drawing.{ShowsJobView, spacing_on}
 use Rattle.draw_core.specs.Numbers.{SumsViews}
 use Rattle.draw_core.proofs.SheetFacts.{refused_sheet}
 use Rattle.draw_core.proofs.numbered.numbered_drawing.Goals as goal

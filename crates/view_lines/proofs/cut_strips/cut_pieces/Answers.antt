@@ -10,7 +10,7 @@ use Rattle.line_merge.specs.Merging.{AreStrips, AreMerged}
 use Rattle.solid_mesh.specs.Solids.{solid_part, edge_halves}
 use Rattle.solid_mesh.proofs.Facts.{closed, in_range, edge_there}
 use Rattle.view_lines.specs.Counts.{AreCountsBeyond}
-use Rattle.view_lines.proofs.CutRight.{are_cut_strips, right_in_cut}
+use Rattle.drawn_strips.proofs.CutRight.{are_cut_strips, right_in_cut}
 use Rattle.view_lines.proofs.cut_strips.cut_pieces.Goals as goal
 
 pub merge-requires : goal.merge-requires

@@ -4,7 +4,7 @@ use Rattle.lattice.specs.Triple.{Triple}
 use Rattle.geometry.specs.Views.{AreDrawnEdges}
 use Rattle.solid_mesh.specs.Solids.{solid_part, edge_halves}
 use Rattle.solid_mesh.proofs.Facts.{closed}
-use Rattle.view_lines.specs.inner.Strips.{AreEdgeStrips}
+use Rattle.drawn_strips.specs.Strips.{AreEdgeStrips}
 use Rattle.view_lines.specs.inner.Told.{AreTold}
 use Rattle.view_lines.proofs.CountedEdges.{beyond_cut_chained, told_beyond}
 use Rattle.view_lines.proofs.cut_strips.cut_strips.Goals as goal

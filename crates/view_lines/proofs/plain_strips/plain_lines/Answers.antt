@@ -8,7 +8,7 @@ use Rattle.solid_mesh.specs.Solids.{solid_part, edge_halves}
 use Rattle.solid_mesh.proofs.Facts.{closed, edge_there}
 use Rattle.span_count.specs.declared.span.EdgeSpans.{EdgeSpans}
 use Rattle.view_lines.specs.Counts.{AreCountsAlong}
-use Rattle.view_lines.proofs.ViewRight.{are_strips, right_view}
+use Rattle.drawn_strips.proofs.ViewRight.{are_strips, right_view}
 use Rattle.view_lines.proofs.plain_strips.plain_lines.Goals as goal
 
 pub view_strips-requires : goal.view_strips-requires

@@ -7,10 +7,10 @@ use Rattle.span_count.specs.declared.span.CountSpan.{CountSpan}
 use Rattle.span_count.specs.declared.span.EdgeSpans.{EdgeSpans}
 use Rattle.span_slow.specs.declared.span.Span.{Span}
 use Rattle.view_lines.specs.inner.Told.{AreToldBy, AreChained, AreTold}
-use Rattle.view_lines.specs.inner.Strips.{AreEdgeStrips}
+use Rattle.drawn_strips.specs.Strips.{AreEdgeStrips}
 use Rattle.view_lines.proofs.CountedEdges.{edges_more, edge_within, edge_seen}
 use Rattle.view_lines.proofs.CountedSpans.{told_earlier}
-use Rattle.view_lines.proofs.StripLists.{edge_added}
+use Rattle.drawn_strips.proofs.StripLists.{edge_added}
 use Rattle.view_lines.proofs.strips.counted_strips.Goals as goal
 
 pub add_strips-requires-clause-in_range : goal.add_strips-requires-clause-in_range

@@ -1,0 +1,17 @@
+pub mod BorderStrips
+pub mod BorderWays
+pub mod CutPlaces
+pub mod CutRight
+pub mod EdgeScenes
+pub mod EdgeStrips
+pub mod SpanPlaces
+pub mod SpanSums
+pub mod StripLists
+pub mod StripPlaces
+pub mod StripScenes
+pub mod StripsDecided
+pub mod TraceAxes
+pub mod TraceLists
+pub mod TraceMade
+pub mod TraceStrips
+pub mod ViewRight

@@ -1,0 +1,4 @@
+pub mod Planes
+pub mod Strips
+pub mod Traces
+pub mod Views
