@@ -1,4 +1,4 @@
--- Strips of the drawn edges beyond the plane and of the section's borders, put together, are right for the cut view.
+-- Strips of the drawn edges beyond the plane and of the section's borders show what the cut view draws and hides, and put together they are right for it.
 use Rattle.std.proofs.Common.{◌≡◌, ℕ, ◌+◌, ◌<◌, ◌⊎◌, inl, inr, List, All, length, Contains, get_or, sym, subst, arith}
 use Rattle.std.specs.Prelude.{ℤ, pos, ◌<ℤ◌, ◌≤ℤ◌}
 use Rattle.std.proofs.lemmas.Int.{ints, by_lt_z}
@@ -32,7 +32,7 @@ use Rattle.cut_plane.specs.Loops.{IsSegmentOf, AreBorders}
 use Rattle.solid_mesh.proofs.SpotLemmas.{share_on_edge}
 use Rattle.section_parity.specs.Diagonals.{IsUnderBorder}
 use Rattle.span_slow.specs.declared.span.Span.{Span}
-use Rattle.drawn_strips.specs.Strips.{IsFreeAnswer, TellHiddenInCut, IsBorderStrip, AreCutStrips}
+use Rattle.drawn_strips.specs.Strips.{IsOffBorders, IsFreeAnswer, TellHiddenInCut, IsBorderStrip, AreCutStrips}
 use Rattle.drawn_strips.proofs.BorderWays.{segment_of_point}
 use Rattle.drawn_strips.proofs.BorderStrips.{border_strip_ends, strip_runs, off_border_ends, point_of_border, strip_of_border}
 use Rattle.drawn_strips.proofs.EdgeScenes.{IsKeptPlace, edge_origin, strip_of_edge_point}
@@ -42,11 +42,15 @@ use Rattle.drawn_strips.proofs.StripScenes.{TellsOf, Shows, ShowAt, ShowVisible,
 use Rattle.drawn_strips.proofs.StripsDecided.{strip_or, some_strip_or}
 use Rattle.drawn_strips.proofs.CutPlaces.{in_part, span_beyond}
 
--- ---- all strips
-module _ (c : Plane) (fraction : ℕ) (s : Part) (halves numbers : List ℕ) (segments : List Segment) (places : List ℕ) (strips : List Strip)
+-- whether a border is on the line of sight is the same all along it
+pub off_borders_along : (c : Plane) (s : Part) → StaysAlong (toward_of c) (IsOffBorders c s)
+off_borders_along c s p q positive sight off under = let (f, (r, on, seen)) = under in off (f, (r, on, sight_on (toward_of c) r q p positive seen sight))
+
+-- ---- all strips, where spans tell what is so at free points
+module _ (c : Plane) (Free : Point → Type 0) (free_along : StaysAlong (toward_of c) Free) (fraction : ℕ) (s : Part) (halves numbers : List ℕ) (segments : List Segment) (places : List ℕ) (strips : List Strip)
     (closed : IsClosed s) (in_range : All (IsBelow (length s.corners)) s.triangles)
     (there : (i : ℕ) → i < length halves → (e : Edge s) × IsNumbered halves i e)
-    (drawn : AreDrawnEdges (toward_of c) fraction s halves numbers) (borders : AreBorders c s segments places) (given : AreCutStrips c s halves numbers segments strips) where
+    (drawn : AreDrawnEdges (toward_of c) fraction s halves numbers) (borders : AreBorders c s segments places) (given : AreCutStrips c Free s halves numbers segments strips) where
   abbrev d : Triple
   d = toward_of c
 
@@ -59,22 +63,19 @@ module _ (c : Plane) (fraction : ℕ) (s : Part) (halves numbers : List ℕ) (se
   abbrev Ordinary : Point → Type 0
   Ordinary = IsOrdinaryInCut c s
 
-  -- an ordinary point with no border on its line of sight: there a span's answer is right
+  -- there a span's answer is right
   abbrev Told : Point → Type 0
-  Told p = Ordinary p × ¬ IsUnderBorder c s p
+  Told p = Ordinary p × Free p
 
   told_along : StaysAlong d Told
-  told_along p q positive sight told = (
-    ordinary_along_cut c s p q positive sight told.0,
-    λ under. let (f, (r, on, seen)) = under in told.1 (f, (r, on, sight_on d r q p positive seen sight)),
-  )
+  told_along p q positive sight told = (ordinary_along_cut c s p q positive sight told.0, free_along p q positive sight told.1)
 
   -- a strip of an edge's span, or of a segment
   data Source (y : Strip) : Type 0 where
     of_edge : Origin d Drawn Hidden Ordinary Told s y → Source y
     of_border : (x : Segment) → IsSegmentOf c s x → IsBorderStrip x y → Source y
 
-  right : (e : Edge s) → IsDrawn d fraction e → (spans : List Span) → TellHiddenInCut c e spans → (x : Span) → Contains spans x → IsSpanOf d Drawn Hidden Ordinary Told e x
+  right : (e : Edge s) → IsDrawn d fraction e → (spans : List Span) → TellHiddenInCut c Free e spans → (x : Span) → Contains spans x → IsSpanOf d Drawn Hidden Ordinary Told e x
   right e is_drawn spans cut x listed =
       let within = in_part c e spans cut.covers x listed in
       record {
@@ -84,7 +85,7 @@ module _ (c : Plane) (fraction : ℕ) (s : Part) (halves numbers : List ℕ) (se
         drawn = λ n m positive between.
             let strict = inner_of_between x.from x.to n m positive x.from_place x.to_place between in
             inl (e, is_drawn, share_on_edge e.a e.b n m (weak (pos 0) n strict.0) (weak n m strict.1) positive, within.within n m positive between);
-        answer = λ n m positive between told. All-contains (IsFreeAnswer c e) spans x cut.answers listed n m positive between told.0 told.1;
+        answer = λ n m positive between told. All-contains (IsFreeAnswer c Free e) spans x cut.answers listed n m positive between told.0 told.1;
       }
 
   -- an ordinary point of an edge is not at its corners
@@ -100,13 +101,13 @@ module _ (c : Plane) (fraction : ℕ) (s : Part) (halves numbers : List ℕ) (se
       equal : (x y : ℤ) → x ≤ℤ y → y ≤ℤ x → x ≡ y
       equal x y h g = omega (arith, ints)
 
-  find : (e : Edge s) (spans : List Span) → TellHiddenInCut c e spans → (n m : ℤ) → IsKeptPlace Ordinary (IsBeyond c) e n m → (x : Span) × Contains spans x × IsBetween x.from x.to n m
+  find : (e : Edge s) (spans : List Span) → TellHiddenInCut c Free e spans → (n m : ℤ) → IsKeptPlace Ordinary (IsBeyond c) e n m → (x : Span) × Contains spans x × IsBetween x.from x.to n m
   find e spans cut n m at =
       span_beyond c e n m at.positive at.ordinary (strict_place e n m at.positive at.least at.most at.ordinary) at.kept spans cut.covers
       (λ x listed. All-contains (λ x. HasNoEndAt Ordinary e x.from x.to) spans x cut.ends listed)
 
   origin : (y : Strip) → Contains given.of_edges y → Origin d Drawn Hidden Ordinary Told s y
-  origin = edge_origin d Drawn Hidden Ordinary Told (IsBeyond c) fraction s halves numbers there drawn (TellHiddenInCut c) right find given.of_edges given.edges
+  origin = edge_origin d Drawn Hidden Ordinary Told (IsBeyond c) fraction s halves numbers there drawn (TellHiddenInCut c Free) right find given.of_edges given.edges
 
   source : (y : Strip) → Contains strips y → Source y
   source y listed = by (Contains-append_cases given.of_edges given.of_borders y (subst (λ ys. Contains ys y) given.together listed))
@@ -213,8 +214,8 @@ module _ (c : Plane) (fraction : ℕ) (s : Part) (halves numbers : List ℕ) (se
         let (q, at, sight) = point_of_border c s closed in_range x h y is p on in
         record { clear = clear; strip = (y, of_borders y listed, is.kind, on); point = (q, inr (h.face, at), sight, on_plane_is_visible c s q at.1) }
 
-    -- where none does no border is on the line of sight, and the edges' strips tell what is so
-    module _ (free : ¬ IsUnderBorder c s p) where
+    -- at a free point the edges' strips tell what is so
+    module _ (free : Free p) where
       point_of : (y : Strip) → Source y → LiesOnStrip d y p → (q : Point) × Shown y q
       point_of y (of_edge o) on = point_of_strip d Drawn Hidden Ordinary Told s y o (ordinary_along_cut c s) p ordinary told_along (ordinary, free) on
       point_of y (of_border x h is) on =
@@ -223,22 +224,23 @@ module _ (c : Plane) (fraction : ℕ) (s : Part) (halves numbers : List ℕ) (se
 
       strip_of : (q : Point) → IsSeenAt d Drawn p q → HasStrip q
       strip_of q (inl (e, is_drawn, on_edge, beyond), sight) =
-          let (y, listed, on, shows) = strip_of_edge_point d Drawn Hidden Ordinary Told (IsBeyond c) fraction s halves numbers there drawn (TellHiddenInCut c) right find given.of_edges given.edges
+          let (y, listed, on, shows) = strip_of_edge_point d Drawn Hidden Ordinary Told (IsBeyond c) fraction s halves numbers there drawn (TellHiddenInCut c Free) right find given.of_edges given.edges
           closed (ordinary_along_cut c s) told_along p q ordinary (ordinary, free) (e, is_drawn, on_edge) beyond (inl (e, is_drawn, on_edge, beyond)) sight in
           (y, of_edges y listed, on, shows)
       strip_of q (inr (f, on_border), sight) = strip_of_border_point f q on_border sight
 
-      off_borders : ShowAt d Drawn Hidden (λ q. ⊥) strips p
-      off_borders = record { clear = clear; point_of = λ y listed on. inl (point_of y (source y listed) on); strip_of = strip_of; trace_of = λ q at. absurd at.0 }
+      pub shown_where_free : ShowAt d Drawn Hidden (λ q. ⊥) strips p
+      shown_where_free = record { clear = clear; point_of = λ y listed on. inl (point_of y (source y listed) on); strip_of = strip_of; trace_of = λ q at. absurd at.0 }
 
-    shown : ShowAt d Drawn Hidden (λ q. ⊥) strips p ⊎ ShowVisible d Drawn Hidden strips p
-    shown = by some_border_or
+    -- where no border is on the line of sight the point is free
+    shown : (¬ IsUnderBorder c s p → Free p) → ShowAt d Drawn Hidden (λ q. ⊥) strips p ⊎ ShowVisible d Drawn Hidden strips p
+    shown free = by some_border_or
       where
         by : ((y : Strip) × Contains given.of_borders y × LiesOnStrip d y p) ⊎ ((y : Strip) → Contains given.of_borders y → ¬ LiesOnStrip d y p)
             → ShowAt d Drawn Hidden (λ q. ⊥) strips p ⊎ ShowVisible d Drawn Hidden strips p
         by (inl (y, listed, on)) = inr (on_border y listed on)
-        by (inr none) = inl (off_borders (λ under. let (f, (q, at, sight)) = under in let (y, listed, visible, on) = border_strip_at f q at sight in none y listed on))
+        by (inr none) = inl (shown_where_free (free (λ under. let (f, (q, at, sight)) = under in let (y, listed, visible, on) = border_strip_at f q at sight in none y listed on)))
 
-  -- the strips put together are a right list
-  pub right_in_cut : (pieces : List Piece) → AreMerged d strips pieces → AreRightInCut c fraction s pieces
-  right_in_cut pieces merged = right_of_merged d Drawn Hidden (λ q. ⊥) strips Ordinary shown pieces merged
+  -- the strips put together are a right list, if each point is free that has no border on its line of sight
+  pub right_in_cut : ((p : Point) → ¬ IsUnderBorder c s p → Free p) → (pieces : List Piece) → AreMerged d strips pieces → AreRightInCut c fraction s pieces
+  right_in_cut free pieces merged = right_of_merged d Drawn Hidden (λ q. ⊥) strips Ordinary (λ p positive ordinary. shown p positive ordinary (free p)) pieces merged

@@ -6,7 +6,7 @@ use Rattle.lattice.specs.declared.pieces.Strip.{Strip}
 use Rattle.lattice.specs.declared.pieces.StripKind.{StripKind}
 use Rattle.lattice.specs.declared.pieces.StripKind.TheVariants.{Seen, Hidden}
 use Rattle.lattice.specs.Triple.{Triple}
-use Rattle.lattice.specs.Points.{of_spot, point_of}
+use Rattle.lattice.specs.Points.{Point, of_spot, point_of}
 use Rattle.lattice.specs.Lines.{IsOnLine}
 use Rattle.lattice.specs.Cuts.{Plane, toward_of}
 use Rattle.geometry.specs.Parts.{Part, Edge, IsNumbered}
@@ -25,16 +25,23 @@ pub record TellHidden (d : Triple) {s : Part} (e : Edge s) (spans : List Span) :
   pub ends : All (λ x. HasNoOrdinaryEnd d e x.from x.to) spans
   pub answers : All (IsAnswer d e) spans
 
--- at each ordinary point strictly within the span that has no border on its line of sight, what it tells is so
-abbrev pub IsFreeAnswer : Plane → {s : Part} → Edge s → Span → Type 0
-IsFreeAnswer c {s = s} e x = (n m : ℤ) → pos 0 <ℤ m → IsBetween x.from x.to n m → IsOrdinaryInCut c s (share_point e.a e.b n m) → ¬ IsUnderBorder c s (share_point e.a e.b n m) →
+-- where spans of a cut view's edges are asked: at points with no border on their line of sight, as counts are, or everywhere
+abbrev pub IsOffBorders : Plane → Part → Point → Type 0
+IsOffBorders c s p = ¬ IsUnderBorder c s p
+
+abbrev pub IsAnywhere : Point → Type 0
+IsAnywhere p = Unit {0}
+
+-- at each ordinary point strictly within the span that is free, what it tells is so
+abbrev pub IsFreeAnswer : Plane → (Point → Type 0) → {s : Part} → Edge s → Span → Type 0
+IsFreeAnswer c Free {s = s} e x = (n m : ℤ) → pos 0 <ℤ m → IsBetween x.from x.to n m → IsOrdinaryInCut c s (share_point e.a e.b n m) → Free (share_point e.a e.b n m) →
     IsTrue x.hidden ↔ IsHiddenInCut c s (share_point e.a e.b n m)
 
--- the same in the view of a cut: they cover the part of the edge beyond the plane, and tell what is so where no border is seen
-pub record TellHiddenInCut (c : Plane) {s : Part} (e : Edge s) (spans : List Span) : Type 0 where
+-- the same in the view of a cut: they cover the part of the edge beyond the plane, and tell what is so at free points
+pub record TellHiddenInCut (c : Plane) (Free : Point → Type 0) {s : Part} (e : Edge s) (spans : List Span) : Type 0 where
   pub covers : CoverBeyond c e spans
   pub ends : All (λ x. HasNoEndAt (IsOrdinaryInCut c s) e x.from x.to) spans
-  pub answers : All (IsFreeAnswer c e) spans
+  pub answers : All (IsFreeAnswer c Free e) spans
 
 -- both corners of the edge are seen on the line
 pub record IsEdgeLine (d : Triple) {s : Part} (e : Edge s) (l : Line) : Type 0 where
@@ -72,10 +79,10 @@ pub record IsBorderStrip (x : Segment) (strip : Strip) : Type 0 where
   pub to : of_spot strip.b ≡ of_spot x.b
   pub kind : strip.kind ≡ Seen
 
--- the strips of a cut view: those of the edges with these numbers, and then one for each segment
-pub record AreCutStrips (c : Plane) (s : Part) (halves numbers : List ℕ) (segments : List Segment) (strips : List Strip) : Type 0 where
+-- the strips of a cut view: those of the edges with these numbers, by spans that tell what is so at free points, and then one for each segment
+pub record AreCutStrips (c : Plane) (Free : Point → Type 0) (s : Part) (halves numbers : List ℕ) (segments : List Segment) (strips : List Strip) : Type 0 where
   pub of_edges : List Strip
   pub of_borders : List Strip
   pub together : strips ≡ of_edges ++ of_borders
-  pub edges : AreEdgeStrips (toward_of c) {s = s} (TellHiddenInCut c) halves numbers of_edges
+  pub edges : AreEdgeStrips (toward_of c) {s = s} (TellHiddenInCut c Free) halves numbers of_edges
   pub borders : AllZip IsBorderStrip segments of_borders

@@ -26,7 +26,7 @@ use Rattle.lattice.specs.declared.pieces.Strip.{Strip}
 use Rattle.cut_count.specs.CutSpans.{AreCutCountSpans, IsCutEntry}
 use Rattle.view_lines.specs.Counts.{AreCountsAlong, AreCountsBeyond}
 use Rattle.view_lines.specs.inner.Told.{AreChained, AreTold}
-use Rattle.drawn_strips.specs.Strips.{TellHidden, TellHiddenInCut, AreEdgeStrips}
+use Rattle.drawn_strips.specs.Strips.{TellHidden, IsOffBorders, TellHiddenInCut, AreEdgeStrips}
 use Rattle.view_lines.proofs.CountedSpans.{edge_chained, beyond_chained, told_spans, told_cut_spans}
 use Rattle.drawn_strips.proofs.StripLists.{edges_weaker}
 
@@ -132,7 +132,7 @@ module _ (c : Plane) (fraction : ℕ) (solid : Solid) (entries : List EdgeSpans)
       beyond_chained c e y.spans.items (All-contains (λ y. OfEdge solid y.edge (λ e. AreCutCountSpans c e y.spans.items)) entries y are.spans listed e n).covers
 
   pub told_beyond : (strips : List Strip) → AreEdgeStrips (toward_of c) {s = solid_part solid} (AreTold entries (edge_halves solid)) (edge_halves solid) (map (λ y. y.edge) entries) strips
-      → AreEdgeStrips (toward_of c) {s = solid_part solid} (TellHiddenInCut c) (edge_halves solid) (map (λ y. y.edge) entries) strips
-  told_beyond = edges_weaker (toward_of c) (AreTold entries (edge_halves solid)) (TellHiddenInCut c) (edge_halves solid)
+      → AreEdgeStrips (toward_of c) {s = solid_part solid} (TellHiddenInCut c (IsOffBorders c (solid_part solid))) (edge_halves solid) (map (λ y. y.edge) entries) strips
+  told_beyond = edges_weaker (toward_of c) (AreTold entries (edge_halves solid)) (TellHiddenInCut c (IsOffBorders c (solid_part solid))) (edge_halves solid)
       (λ e spans told. told_cut_spans c e told.entry.spans.items spans told.told
       (All-contains (λ y. OfEdge solid y.edge (λ e. AreCutCountSpans c e y.spans.items)) entries told.entry are.spans told.listed e told.numbered)) (map (λ y. y.edge) entries)

@@ -27,7 +27,7 @@ use Rattle.span_slow.specs.Spans as plain
 use Rattle.span_slow.specs.Spans.{IsAnswer}
 use Rattle.span_slow.specs.declared.span.Span.{Span}
 use Rattle.view_lines.specs.inner.Told.{IsToldBy, AreRuns, AreToldBy, AreChained}
-use Rattle.drawn_strips.specs.Strips.{TellHidden, IsFreeAnswer, TellHiddenInCut}
+use Rattle.drawn_strips.specs.Strips.{TellHidden, IsOffBorders, IsFreeAnswer, TellHiddenInCut}
 use Rattle.view_lines.proofs.Runs.{HasRun, run_of, run_no_end, runs_follow, runs_of_none, single_within}
 use Rattle.drawn_strips.proofs.SpanPlaces.{earlier_in}
 
@@ -134,14 +134,14 @@ module _ (c : Plane) {s : Part} (e : Edge s) where
       (runs_follow part.from part.to singles spans runs singly, run_of part.from part.to singles spans runs singly)
   told_part (part ∷ next ∷ parts) xs singles spans told runs none = absurd none
 
-  free_singles : (xs : List CountSpan) (singles : List Span) → AllZip IsToldBy xs singles → AreCutCountSpans c e xs → All (IsFreeAnswer c e) singles
+  free_singles : (xs : List CountSpan) (singles : List Span) → AllZip IsToldBy xs singles → AreCutCountSpans c e xs → All (IsFreeAnswer c (IsOffBorders c s) e) singles
   free_singles xs singles told are k z within n m positive between ordinary free =
       let y = get_or singles k z in
       let (x, listed, here) = zip_right IsToldBy xs singles told y (Contains-get_or singles k z within) in
       let right = All-contains (IsRightInCut c e) xs x are.right listed in
       told_hidden x y (IsHiddenInCut c s (share_point e.a e.b n m)) here (right n m positive (same_between y.from y.to x.from x.to n m here.from here.to between) ordinary free).hidden
 
-  pub told_cut_spans : (xs : List CountSpan) (spans : List Span) → AreToldBy xs spans → AreCutCountSpans c e xs → TellHiddenInCut c e spans
+  pub told_cut_spans : (xs : List CountSpan) (spans : List Span) → AreToldBy xs spans → AreCutCountSpans c e xs → TellHiddenInCut c (IsOffBorders c s) e spans
   told_cut_spans xs spans (singles, told, runs) are =
       let (parts, is_part, cover) = are.covers in
       let (covers, has) = told_part parts xs singles spans told runs cover in
@@ -153,5 +153,5 @@ module _ (c : Plane) {s : Part} (e : Edge s) where
             let y = get_or spans k z in
             let (x, listed, inside, as_hidden) = single_within (toward_of c) (IsOrdinaryInCut c s) (ordinary_along_cut c s) e singles apart n m positive ordinary y (has y (Contains-get_or spans k z within)) between in
             subst (λ (b : Bool). IsTrue b ↔ IsHiddenInCut c s (share_point e.a e.b n m)) as_hidden
-            (All-contains (IsFreeAnswer c e) singles x (free_singles xs singles told are) listed n m positive inside ordinary free);
+            (All-contains (IsFreeAnswer c (IsOffBorders c s) e) singles x (free_singles xs singles told are) listed n m positive inside ordinary free);
       }

@@ -10,7 +10,7 @@ ghost use Rattle.cut_plane.specs.Loops.{AreBorders};
 ghost use Rattle.hatch_fill.specs.Hatching.{IsHatching};
 ghost use Rattle.view_lines.specs.Counts.{AreCountsBeyond};
 ghost use Rattle.view_lines.specs.Numbers.{CountsView, AreBelow};
-ghost use Rattle.drawn_strips.specs.Strips.{AreCutStrips};
+ghost use Rattle.drawn_strips.specs.Strips.{IsOffBorders, AreCutStrips};
 
 use crate::counts::{Counts, counts_beyond};
 use crate::strips::counted_strips;
@@ -35,7 +35,7 @@ fn cut_strips(
 ) -> Result<Vec<Strip>, OutOfMemory>
     requires counts { (fraction : ℕ) × AreCountsBeyond (plane_of section.now.cut) fraction solid.now entries.now }
     requires borders { AreBorders (plane_of section.now.cut) (solid_part solid.now) section.now.segments.items section.now.loops.items }
-    ensures { IfOk result (λ strips. AreCutStrips (plane_of section.now.cut) (solid_part solid.now) (edge_halves solid.now) (map (λ x. x.edge) entries.now) section.now.segments.items strips.items) }
+    ensures { IfOk result (λ strips. AreCutStrips (plane_of section.now.cut) (IsOffBorders (plane_of section.now.cut) (solid_part solid.now)) (solid_part solid.now) (edge_halves solid.now) (map (λ x. x.edge) entries.now) section.now.segments.items strips.items) }
 {
     let mut strips = counted_strips(alloc, solid, &section.cut.dir(), entries)?;
     add_borders(&mut strips, section)?;

@@ -9,8 +9,9 @@ use Rattle.geometry.specs.Scenes.{AreRightInCut}
 use Rattle.line_merge.specs.Merging.{AreStrips, AreMerged}
 use Rattle.solid_mesh.specs.Solids.{solid_part, edge_halves}
 use Rattle.solid_mesh.proofs.Facts.{closed, in_range, edge_there}
+use Rattle.drawn_strips.specs.Strips.{IsOffBorders}
 use Rattle.view_lines.specs.Counts.{AreCountsBeyond}
-use Rattle.drawn_strips.proofs.CutRight.{are_cut_strips, right_in_cut}
+use Rattle.drawn_strips.proofs.CutRight.{off_borders_along, are_cut_strips, right_in_cut}
 use Rattle.view_lines.proofs.cut_strips.cut_pieces.Goals as goal
 
 pub merge-requires : goal.merge-requires
@@ -20,7 +21,7 @@ merge-requires c =
     let (fraction, beyond) = c.requires.counts in
     subst (AreStrips (of_dir c.dir.result)) (sym c.deref.ensures.value)
     (subst (λ (v : Triple). AreStrips v c.in_ok-strips.strips.items) (sym c.dir.ensures)
-    (are_cut_strips (plane_of section.cut) fraction (solid_part solid) (edge_halves solid) (map (λ x. x.edge) c.args.entries.now) section.segments.items section.loops.items c.in_ok-strips.strips.items
+    (are_cut_strips (plane_of section.cut) (IsOffBorders (plane_of section.cut) (solid_part solid)) (off_borders_along (plane_of section.cut) (solid_part solid)) fraction (solid_part solid) (edge_halves solid) (map (λ x. x.edge) c.args.entries.now) section.segments.items section.loops.items c.in_ok-strips.strips.items
     (closed solid) (in_range solid) (edge_there solid) beyond.edges c.requires.borders c.in_ok-strips.ensures))
 
 pub returns-clause-right : goal.returns-clause-right
@@ -33,8 +34,8 @@ returns-clause-right c =
     IfOk-weaker c.merge.result (λ pieces. AreMerged (of_dir c.dir.result) c.deref.result.now pieces.items)
     (λ pieces. (fraction : ℕ) → AreCountsBeyond plane fraction solid entries → AreRightInCut plane fraction (solid_part solid) pieces.items)
     (λ pieces merged fraction beyond.
-    right_in_cut plane fraction (solid_part solid) (edge_halves solid) (map (λ x. x.edge) entries) section.segments.items section.loops.items strips
-    (closed solid) (in_range solid) (edge_there solid) beyond.edges c.requires.borders c.in_ok-strips.ensures pieces.items
+    right_in_cut plane (IsOffBorders plane (solid_part solid)) (off_borders_along plane (solid_part solid)) fraction (solid_part solid) (edge_halves solid) (map (λ x. x.edge) entries) section.segments.items section.loops.items strips
+    (closed solid) (in_range solid) (edge_there solid) beyond.edges c.requires.borders c.in_ok-strips.ensures (λ p off. off) pieces.items
     (subst (λ (v : Triple). AreMerged v strips pieces.items) c.dir.ensures (subst (λ (ys : List Strip). AreMerged (of_dir c.dir.result) ys pieces.items) c.deref.ensures.value merged))) c.merge.ensures
 
 pub returns-clause-order : goal.returns-clause-order
