@@ -32,13 +32,14 @@ use Rattle.cut_plane.specs.Loops.{IsSegmentOf, AreBorders}
 use Rattle.solid_mesh.proofs.SpotLemmas.{share_on_edge}
 use Rattle.section_parity.specs.Diagonals.{IsUnderBorder}
 use Rattle.span_slow.specs.declared.span.Span.{Span}
+use Rattle.drawn_strips.specs.Scenes.{AreStripsBeyond}
 use Rattle.drawn_strips.specs.Strips.{IsOffBorders, IsFreeAnswer, TellHiddenInCut, IsBorderStrip, AreCutStrips}
 use Rattle.drawn_strips.proofs.BorderWays.{segment_of_point}
 use Rattle.drawn_strips.proofs.BorderStrips.{border_strip_ends, strip_runs, off_border_ends, point_of_border, strip_of_border}
 use Rattle.drawn_strips.proofs.EdgeScenes.{IsKeptPlace, edge_origin, strip_of_edge_point}
 use Rattle.drawn_strips.proofs.EdgeStrips.{IsSpanOf, Origin, origin_ends, origin_runs, off_strip_ends, point_of_strip, edge_under}
 use Rattle.drawn_strips.proofs.SpanPlaces.{StaysAlong, weak, inner_of_between}
-use Rattle.drawn_strips.proofs.StripScenes.{TellsOf, Shows, ShowAt, ShowVisible, right_of_merged}
+use Rattle.drawn_strips.proofs.StripScenes.{TellsOf, Shows, ShowAt, ShowVisible, strips_in, right_of_merged}
 use Rattle.drawn_strips.proofs.StripsDecided.{strip_or, some_strip_or}
 use Rattle.drawn_strips.proofs.CutPlaces.{in_part, span_beyond}
 
@@ -229,7 +230,7 @@ module _ (c : Plane) (Free : Point → Type 0) (free_along : StaysAlong (toward_
           (y, of_edges y listed, on, shows)
       strip_of q (inr (f, on_border), sight) = strip_of_border_point f q on_border sight
 
-      pub shown_where_free : ShowAt d Drawn Hidden (λ q. ⊥) strips p
+      shown_where_free : ShowAt d Drawn Hidden (λ q. ⊥) strips p
       shown_where_free = record { clear = clear; point_of = λ y listed on. inl (point_of y (source y listed) on); strip_of = strip_of; trace_of = λ q at. absurd at.0 }
 
     -- where no border is on the line of sight the point is free
@@ -241,6 +242,10 @@ module _ (c : Plane) (Free : Point → Type 0) (free_along : StaysAlong (toward_
         by (inl (y, listed, on)) = inr (on_border y listed on)
         by (inr none) = inl (shown_where_free (free (λ under. let (f, (q, at, sight)) = under in let (y, listed, visible, on) = border_strip_at f q at sight in none y listed on)))
 
-  -- the strips put together are a right list, if each point is free that has no border on its line of sight
+  -- the strips are those of the view, if every point is free
+  pub cut_strips_in : ((p : Point) → Free p) → AreStripsBeyond c fraction s strips
+  cut_strips_in free = strips_in d Drawn Hidden (λ q. ⊥) strips Ordinary are_cut_strips (λ p positive ordinary. shown_where_free p positive ordinary (free p))
+
+  -- put together they are a right list, if each point is free that has no border on its line of sight
   pub right_in_cut : ((p : Point) → ¬ IsUnderBorder c s p → Free p) → (pieces : List Piece) → AreMerged d strips pieces → AreRightInCut c fraction s pieces
   right_in_cut free pieces merged = right_of_merged d Drawn Hidden (λ q. ⊥) strips Ordinary (λ p positive ordinary. shown p positive ordinary (free p)) pieces merged

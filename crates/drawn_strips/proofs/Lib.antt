@@ -4,12 +4,14 @@ pub mod CutPlaces
 pub mod CutRight
 pub mod EdgeScenes
 pub mod EdgeStrips
+pub mod SlowSpans
 pub mod SpanPlaces
 pub mod SpanSums
 pub mod StripLists
 pub mod StripPlaces
 pub mod StripScenes
 pub mod StripsDecided
+pub mod StripsRight
 pub mod TraceAxes
 pub mod TraceLists
 pub mod TraceMade

@@ -1,4 +1,4 @@
--- Strips that show what a view draws and hides are put together to pieces that are right for it.
+-- Strips that show what a view draws and hides: they are those of the view, and are put together to pieces that are right for it.
 use Rattle.std.proofs.Common.{◌≡◌, ◌⊎◌, inl, inr, Bool, true, false, List, Contains, ◌↔◌, refl, sym, subst, IsTrue}
 use Rattle.lattice.specs.declared.pieces.Piece.{Piece}
 use Rattle.lattice.specs.declared.pieces.Strip.{Strip}
@@ -7,7 +7,8 @@ use Rattle.lattice.specs.declared.pieces.StripKind.TheVariants.{Seen, Hidden, Tr
 use Rattle.lattice.specs.Triple.{Triple}
 use Rattle.lattice.specs.Points.{Point, IsPoint, OnOneSight}
 use Rattle.geometry.specs.Scenes.{IsSeenAt, SeesVisible, SeesHiddenAlone, SeesTraceAlone, AreRightIn}
-use Rattle.line_merge.specs.Merging.{LiesOnStrip, IsClear, LiesOnKind, LiesOnTracesOnly, AreMerged}
+use Rattle.line_merge.specs.Merging.{AreStrips, LiesOnStrip, IsClear, LiesOnKind, LiesOnTracesOnly, AreMerged}
+use Rattle.drawn_strips.specs.Scenes.{SeesHidden, AreStripsIn}
 use Rattle.drawn_strips.specs.Strips.{kind_of}
 
 -- a strip of this kind is hidden or seen, as its point is
@@ -66,16 +67,24 @@ hides_of Seen P tells none = absurd (none refl)
 hides_of Hidden P tells none = tells
 hides_of Trace P tells none = absurd tells
 
+told_or : (k : StripKind) (P : Type 0) → TellsOf k P → P ⊎ ¬ P
+told_or Seen P tells = inr tells
+told_or Hidden P tells = inl tells
+told_or Trace P tells = absurd tells
+
 -- no strip of a trace is of another kind
-not_seen : (k : StripKind) → k ≡ Trace → ¬ (k ≡ Seen)
+pub not_seen : (k : StripKind) → k ≡ Trace → ¬ (k ≡ Seen)
 not_seen Seen e = λ f. cc
 not_seen Hidden e = λ f. cc
 not_seen Trace e = λ f. cc
 
-not_hidden : (k : StripKind) → k ≡ Trace → ¬ (k ≡ Hidden)
+pub not_hidden : (k : StripKind) → k ≡ Trace → ¬ (k ≡ Hidden)
 not_hidden Seen e = λ f. cc
 not_hidden Hidden e = λ f. cc
 not_hidden Trace e = λ f. cc
+
+pub both : {A B C : Type 0} → A ↔ B → B ↔ C → A ↔ C
+both f g = (λ a. g.0 (f.0 a), λ c. f.1 (g.1 c))
 
 module _ (d : Triple) (Drawn Hides Traced : Point → Type 0) (strips : List Strip) where
   module _ (p : Point) (shown : ShowAt d Drawn Hides Traced strips p) where
@@ -132,6 +141,34 @@ module _ (d : Triple) (Drawn Hides Traced : Point → Type 0) (strips : List Str
       },
     )
 
+    -- kind by kind
+    hidden_kind : LiesOnKind d strips Hidden p ↔ SeesHidden d Drawn Hides p
+    hidden_kind = (
+      λ h. let (y, c, is, on) = h in let (q, shows) = of_hidden y is c on in (q, (shows.drawn, shows.sight), of_kind y.kind Hidden (Hides q) is shows.tells),
+      λ h. let (q, at, hides) = h in let (y, c, on, shows) = shown.strip_of q at in (y, c, hidden_of y.kind (Hides q) shows.tells hides, on),
+    )
+
+    trace_kind : LiesOnKind d strips Trace p ↔ ((q : Point) × IsSeenAt d Traced p q)
+    trace_kind = (
+      λ h. let (y, c, is, on) = h in seen_trace y is (shown.point_of y c on),
+      λ h. let (q, at) = h in let (y, c, on, is) = shown.trace_of q at in (y, c, is, on),
+    )
+
+    -- the kind of a drawn point's strip tells whether the point is hidden
+    hidden_or : (q : Point) → IsSeenAt d Drawn p q → Hides q ⊎ ¬ Hides q
+    hidden_or q at = let (y, c, on, shows) = shown.strip_of q at in told_or y.kind (Hides q) shows.tells
+
+  -- so they are the strips of the view
+  pub strips_in : (Ordinary : Point → Type 0) → AreStrips d strips → ((p : Point) → IsPoint p → Ordinary p → ShowAt d Drawn Hides Traced strips p) → AreStripsIn d Drawn Hides Traced Ordinary strips
+  strips_in Ordinary are shown = record {
+    proper = are;
+    clear = λ p positive ordinary. (shown p positive ordinary).clear;
+    visible = λ p positive ordinary. visible p (shown p positive ordinary);
+    hidden = λ p positive ordinary. hidden_kind p (shown p positive ordinary);
+    traced = λ p positive ordinary. trace_kind p (shown p positive ordinary);
+    decided = λ p positive ordinary. hidden_or p (shown p positive ordinary);
+  }
+
   module _ (p : Point) (shown : ShowVisible d Drawn Hides strips p) where
     visible_alike : LiesOnKind d strips Seen p ↔ SeesVisible d Drawn Hides p
     visible_alike = (λ v. shown.point, λ v. shown.strip)
@@ -167,9 +204,6 @@ module _ (d : Triple) (Drawn Hides Traced : Point → Type 0) (strips : List Str
   traced_by : (p : Point) → Shown p → LiesOnTracesOnly d strips p ↔ SeesTraceAlone d Drawn Traced p
   traced_by p (inl shown) = traced p shown
   traced_by p (inr shown) = traced_alike p shown
-
-  both : {A B C : Type 0} → A ↔ B → B ↔ C → A ↔ C
-  both f g = (λ a. g.0 (f.0 a), λ c. f.1 (g.1 c))
 
   -- the strips put together are a right list
   pub right_of_merged : (Ordinary : Point → Type 0) → ((p : Point) → IsPoint p → Ordinary p → Shown p)

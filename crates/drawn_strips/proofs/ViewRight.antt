@@ -23,12 +23,13 @@ use Rattle.line_merge.specs.Merging.{AreStrips, LiesOnStrip, IsClear, AreMerged}
 use Rattle.solid_mesh.proofs.SpotLemmas.{share_on_edge}
 use Rattle.span_slow.specs.Spans.{IsAnswer}
 use Rattle.span_slow.specs.declared.span.Span.{Span}
+use Rattle.drawn_strips.specs.Scenes.{AreStripsAlong}
 use Rattle.drawn_strips.specs.Strips.{TellHidden}
 use Rattle.drawn_strips.specs.Traces.{IsTraceStrip, ArePlainStrips}
 use Rattle.drawn_strips.proofs.EdgeScenes.{IsKeptPlace, edge_origin, strip_of_edge_point}
 use Rattle.drawn_strips.proofs.EdgeStrips.{IsSpanOf, Origin, origin_ends, origin_runs, off_strip_ends, point_of_strip, edge_under}
 use Rattle.drawn_strips.proofs.SpanPlaces.{earlier_in, span_of_place, weak, inner_of_between}
-use Rattle.drawn_strips.proofs.StripScenes.{Shows, ShowsTrace, ShowAt, right_of_merged}
+use Rattle.drawn_strips.proofs.StripScenes.{Shows, ShowsTrace, ShowAt, strips_in, right_of_merged}
 use Rattle.drawn_strips.proofs.TraceStrips.{trace_ends, trace_runs, off_trace_ends, point_of_trace, strip_of_trace}
 
 module _ (d : Triple) (fraction : ℕ) (s : Part) (halves numbers : List ℕ) (cuts : List Plane) (strips : List Strip) (closed : IsClosed s)
@@ -170,6 +171,10 @@ module _ (d : Triple) (fraction : ℕ) (s : Part) (halves numbers : List ℕ) (c
     shown : ShowAt d Drawn Hidden (IsTracePoint d s cuts) strips p
     shown = record { clear = clear; point_of = λ y c on. point_of y (source y c) on; strip_of = strip_of; trace_of = trace_of }
 
-  -- the strips put together are a right list
+  -- the strips are those of the view
+  pub plain_strips_in : AreStripsAlong d fraction s cuts strips
+  plain_strips_in = strips_in d Drawn Hidden (IsTracePoint d s cuts) strips (IsOrdinaryBeside d s cuts) are_strips shown
+
+  -- put together they are a right list
   pub right_view : (pieces : List Piece) → AreMerged d strips pieces → AreRight d fraction s cuts pieces
   right_view pieces merged = right_of_merged d Drawn Hidden (IsTracePoint d s cuts) strips (IsOrdinaryBeside d s cuts) (λ p positive beside. inl (shown p positive beside)) pieces merged

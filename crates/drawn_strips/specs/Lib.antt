@@ -1,4 +1,5 @@
 pub mod Planes
+pub mod Scenes
 pub mod Strips
 pub mod Traces
 pub mod Views
