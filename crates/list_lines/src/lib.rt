@@ -1,0 +1,9 @@
+//! The columns of a piece list's lines: each is read exactly, so that what is read is what is written, and what is refused is no
+//! column of a list.
+//!
+//! A column is the text of a value, and behind it a byte that ends it. No call takes memory, and each goes a few times over the
+//! bytes of the column.
+#![tactic(auto)]
+
+mod digits;
+mod split;
