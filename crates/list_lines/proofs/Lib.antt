@@ -1,2 +1,4 @@
+pub mod Heads
 pub mod Numerals
 pub mod Parts
+pub mod Ratios

@@ -5,5 +5,8 @@
 //! bytes of the column.
 #![tactic(auto)]
 
+mod columns;
 mod digits;
+mod fractions;
+mod marks;
 mod split;
