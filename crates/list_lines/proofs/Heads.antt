@@ -1,5 +1,5 @@
 -- Columns of one value and of two.
-use Rattle.std.proofs.Common.{◌≡◌, ◌≢◌, ℕ, ◌<◌, ◌≤◌, ◌^◌, List, [], ◌∷◌, ◌++◌, ℤ, pos, negsuc, neg_ℤ, ◌≤ℤ◌, ◌<ℤ◌, unsigned_abs, Option, Some, None, MatchOption, Bool, true, false, codes, rules, refl, sym, ◌∙◌, ap, subst, arith, inl, inr, append_assoc, lit<}
+use Rattle.std.proofs.Common.{◌≡◌, ◌≢◌, ℕ, ◌<◌, ◌≤◌, ◌^◌, List, [], ◌∷◌, ◌++◌, ℤ, pos, negsuc, neg_ℤ, ◌≤ℤ◌, ◌<ℤ◌, unsigned_abs, Option, Some, None, MatchOption, w64, to_z, of_z, to_z-of_z, FitsSigned, Bool, true, false, codes, rules, refl, sym, ◌∙◌, ap, subst, arith, inl, inr, append_assoc, lit<}
 use Rattle.std.specs.Prelude.{if◌then◌else◌, ◌==◌}
 use Rattle.std.specs.Fmt.{decimal, signed_decimal}
 use Rattle.std.proofs.lemmas.Int.{ints}
@@ -76,3 +76,11 @@ number_none z bytes size is (Some narrow) same = (subst IsInRange (sym same.0) s
 
 pub number_unread : (bytes : List ℕ) → ((z : ℤ) → unsigned_abs z < 2 ^ 104 → bytes ≡ signed_decimal z → ⊥) → (y : ℤ) → IsInRange y → bytes ≡ signed_decimal y → ⊥
 number_unread bytes none y h e = none y (number_size y h) e
+
+-- ---- numbers that fit
+fits_word : (z : ℤ) → IsInRange z → FitsSigned w64 z
+fits_word (pos n) h = omega (arith, ints, h.most)
+fits_word (negsuc n) h = omega (arith, ints, h.least)
+
+pub kept_word : (z : ℤ) → IsInRange z → to_z w64 (of_z w64 z) ≡ z
+kept_word z h = let f : FitsSigned w64 z = fits_word z h in rw to_z-of_z refl

@@ -1,3 +1,4 @@
 -- What only this crate's own functions cite.
 pub mod Digits
+pub mod Pairs
 pub mod Ratios

@@ -9,4 +9,5 @@ mod columns;
 mod digits;
 mod fractions;
 mod marks;
+mod pairs;
 mod split;
