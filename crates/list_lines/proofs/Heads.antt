@@ -1,5 +1,5 @@
 -- Columns of one value and of two.
-use Rattle.std.proofs.Common.{◌≡◌, ◌≢◌, ℕ, ◌<◌, ◌≤◌, ◌^◌, List, [], ◌∷◌, ◌++◌, ℤ, pos, negsuc, neg_ℤ, ◌≤ℤ◌, ◌<ℤ◌, unsigned_abs, Option, Some, None, MatchOption, w64, to_z, of_z, to_z-of_z, FitsSigned, Bool, true, false, codes, rules, refl, sym, ◌∙◌, ap, subst, arith, inl, inr, append_assoc, lit<}
+use Rattle.std.proofs.Common.{◌≡◌, ◌≢◌, ℕ, ◌<◌, ◌^◌, List, ◌∷◌, ◌++◌, ℤ, pos, negsuc, unsigned_abs, Option, Some, None, MatchOption, w64, to_z, of_z, to_z-of_z, FitsSigned, Bool, true, false, codes, rules, refl, sym, ◌∙◌, ap, subst, arith, lit<}
 use Rattle.std.specs.Prelude.{if◌then◌else◌, ◌==◌}
 use Rattle.std.specs.Fmt.{decimal, signed_decimal}
 use Rattle.std.proofs.lemmas.Int.{ints}
@@ -26,7 +26,8 @@ pub one_value : {X : Type 0} (Holds : X → Type 0) (text_of : X → List ℕ) (
 one_value Holds text_of end text head rest x each free is holds read = record {
   holds = holds;
   written = is ∙ ap (λ (t : List ℕ). t ++ end ∷ rest) read;
-  alone = λ y tail h e. (let p = same_parts end head rest (text_of y) tail free (each y h) (sym is ∙ e) in (sym p.0 ∙ read, sym p.1)) }
+  alone = λ y tail h e. (let p = same_parts end head rest (text_of y) tail free (each y h) (sym is ∙ e) in (sym p.0 ∙ read, sym p.1));
+}
 
 -- ---- the byte that ends it is in no text
 number_size : (z : ℤ) → IsInRange z → unsigned_abs z < 2 ^ 104

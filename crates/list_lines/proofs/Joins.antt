@@ -1,8 +1,7 @@
 -- Two columns as one.
-use Rattle.std.proofs.Common.{◌≡◌, ℕ, List, ◌∷◌, ◌++◌, refl, sym, ◌∙◌, ap, subst, append_assoc}
+use Rattle.std.proofs.Common.{◌≡◌, ℕ, List, ◌∷◌, ◌++◌, sym, ◌∙◌, ap, append_assoc}
 use Rattle.list_lines.specs.Columns.{IsColumn, HasNoColumn}
 use Rattle.list_lines.specs.inner.Pairs.{Both, both_texts}
-
 
 apart : {X Y : Type 0} (first : X → List ℕ) (second : Y → List ℕ) (end : ℕ) (p : X × Y) (tail : List ℕ) → both_texts first second p ++ end ∷ tail ≡ first p.0 ++ 32 ∷ (second p.1 ++ end ∷ tail)
 apart first second end p tail = append_assoc (first p.0) (32 ∷ second p.1) (end ∷ tail)
@@ -24,4 +23,5 @@ both P Q first second end text x middle y rest one two = record {
   alone = λ p tail h e. (
       let a = one.alone p.0 (second p.1 ++ end ∷ tail) h.0 (e ∙ apart first second end p tail) in
       let b = two.alone p.1 tail h.1 (sym a.1) in
-      ((λ i. a.0 i ++ 32 ∷ b.0 i), b.1)) }
+      ((λ i. a.0 i ++ 32 ∷ b.0 i), b.1));
+}

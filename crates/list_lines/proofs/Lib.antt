@@ -1,5 +1,6 @@
 pub mod Heads
 pub mod Joins
+pub mod Lines
 pub mod Numerals
 pub mod Parts
 pub mod Ratios

@@ -42,10 +42,10 @@ taken false small n = inl refl
 
 next : (byte value : ℕ) → (with_digit byte value ≡ None) ⊎ IsNext byte value
 next byte value = elim (taken (is_ascii_digit byte) (nat_lt (10 * value + (byte - 48)) (2 ^ 104)) (10 * value + (byte - 48))) [
-    inl none ↦ inl none
+  | inl none ↦ inl none
   | inr both ↦ (let digit = and_parts (nat_le 48 byte) (nat_le byte 57) both.0 in
       inr record { least = leb-true 48 byte digit.0; most = leb-true byte 57 digit.1; size = ltb-true (10 * value + (byte - 48)) (2 ^ 104) both.1; is = rw (both.0, both.1) refl })
-  ]
+]
 
 pub next_of : (byte value : ℕ) → 48 ≤ byte → byte ≤ 57 → 10 * value + (byte - 48) < 2 ^ 104 → with_digit byte value ≡ Some (10 * value + (byte - 48))
 next_of byte value least most size =
@@ -70,24 +70,24 @@ pub record IsWritten (bytes : List ℕ) (n : ℕ) : Type 0 where
 read_more : (bytes : List ℕ) (value n : ℕ) → 0 < value → value < 2 ^ 104 → read_on bytes value ≡ Some n → IsWritten (decimal value ++ bytes) n
 read_more [] value n some size e = rw (← some_same value n e) record { size = size; is = append-nil (decimal value) }
 read_more (byte ∷ bytes) value n some size e = elim (next byte value) [
-    inl none ↦ absurd (none-some n (sym (ap (option_and_then (read_on bytes)) none) ∙ e))
+  | inl none ↦ absurd (none-some n (sym (ap (option_and_then (read_on bytes)) none) ∙ e))
   | inr x ↦ (let more = read_more bytes (10 * value + (byte - 48)) n (omega (arith, some)) x.size (sym (ap (option_and_then (read_on bytes)) x.is) ∙ e) in
       let one = decimal_more value (byte - 48) some (digit_below byte x.least x.most) size in
       let same : decimal (10 * value + (byte - 48)) ≡ decimal value ++ byte ∷ [] = one ∙ ap (λ (b : ℕ). decimal value ++ b ∷ []) (glyph byte x.least) in
       record { size = more.size; is = sym (append_assoc (decimal value) (byte ∷ []) bytes) ∙ ap (λ (t : List ℕ). t ++ bytes) (sym same) ∙ more.is })
-  ]
+]
 
 first_value : (byte : ℕ) → 48 ≤ byte → byte ≢ 48 → 0 < 10 * 0 + (byte - 48)
 first_value byte h k = omega (arith, h, k)
 
 pub read_whole : (byte : ℕ) (bytes : List ℕ) (n : ℕ) → byte ≢ 48 → read_on (byte ∷ bytes) 0 ≡ Some n → IsWritten (byte ∷ bytes) n
 read_whole byte bytes n solid e = elim (next byte 0) [
-    inl none ↦ absurd (none-some n (sym (ap (option_and_then (read_on bytes)) none) ∙ e))
+  | inl none ↦ absurd (none-some n (sym (ap (option_and_then (read_on bytes)) none) ∙ e))
   | inr x ↦ (let more = read_more bytes (10 * 0 + (byte - 48)) n (first_value byte x.least solid) x.size (sym (ap (option_and_then (read_on bytes)) x.is) ∙ e) in
       let none : 10 * 0 + (byte - 48) ≡ byte - 48 = omega arith in
       let same : decimal (10 * 0 + (byte - 48)) ≡ byte ∷ [] = ap decimal none ∙ decimal_digit (byte - 48) (digit_below byte x.least x.most) ∙ ap (λ (b : ℕ). b ∷ []) (glyph byte x.least) in
       record { size = more.size; is = sym (ap (λ (t : List ℕ). t ++ bytes) same) ∙ more.is })
-  ]
+]
 
 -- ---- what is written is read
 onward : (xs ys : List ℕ) → ((value : ℕ) → read_on (xs ++ ys) value ≡ option_and_then (read_on ys) (read_on xs value)) → (o : Option ℕ)
@@ -123,6 +123,7 @@ read_decimal n size = decimal_by_steps_wide (λ m ds. m < 2 ^ 104 → read_on ds
   where
     one : (m : ℕ) → m < 10 → m < 2 ^ 104 → read_on ((48 + m) ∷ []) 0 ≡ Some m
     one m small h = let e : 10 * 0 + m ≡ m = omega arith in let k : 10 * 0 + m < 2 ^ 104 = rw e h in read_digit m 0 small k ∙ ap Some e
+
     more : (m : ℕ) (ds : List ℕ) → 10 ≤ m → (m / 10 < 2 ^ 104 → read_on ds 0 ≡ Some (m / 10)) → m < 2 ^ 104 → read_on (ds ++ ((48 + m % 10) ∷ [])) 0 ≡ Some m
     more m ds least before h =
         read-append ds ((48 + m % 10) ∷ []) 0 ∙ ap (option_and_then (read_on ((48 + m % 10) ∷ []))) (before (tenth m h))
@@ -141,10 +142,15 @@ led n size = decimal_by_steps_wide IsLed one further n (below n size)
   where
     one : (m : ℕ) → m < 10 → IsLed m ((48 + m) ∷ [])
     one m small = record { first = 48 + m; more = []; is = refl; digit = omega arith; solid = λ some. omega (arith, some) }
+
     further : (m : ℕ) (ds : List ℕ) → 10 ≤ m → IsLed (m / 10) ds → IsLed m (ds ++ ((48 + m % 10) ∷ []))
     further m ds least x = record {
-      first = x.first; more = x.more ++ ((48 + m % 10) ∷ []); is = ap (λ (t : List ℕ). t ++ ((48 + m % 10) ∷ [])) x.is;
-      digit = x.digit; solid = λ some. x.solid (omega (arith, least)) }
+      first = x.first;
+      more = x.more ++ ((48 + m % 10) ∷ []);
+      is = ap (λ (t : List ℕ). t ++ ((48 + m % 10) ∷ [])) x.is;
+      digit = x.digit;
+      solid = λ some. x.solid (omega (arith, least));
+    }
 
 -- ---- what a natural number is read as
 pub natural_empty : (n : ℕ) → n < 2 ^ 104 → [] ≡ decimal n → ⊥

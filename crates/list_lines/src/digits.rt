@@ -40,13 +40,7 @@ pub(crate) fn natural(bytes: &[u8]) -> Option<u128>
 {
     match bytes {
         [] => None,
-        [b'0', more @ ..] => {
-            if more.is_empty() {
-                Some(0)
-            } else {
-                None
-            }
-        }
+        [b'0', more @ ..] => { if more.is_empty() { Some(0) } else { None } }
         _ => read_digits(bytes),
     }
 }
@@ -56,7 +50,11 @@ fn negative(size: u128) -> Option<i128>
     requires { size < 2 ^ 104 }
     ensures { Reads (λ z. unsigned_abs z < 2 ^ 104) signed_decimal (45 ∷ decimal size) result }
 {
-    if size == 0 { None } else { Some(-(size as i128)) }
+    if size == 0 {
+        None
+    } else {
+        Some(-(size as i128))
+    }
 }
 
 /// The whole number below 2^104 in size that is written so.

@@ -8,6 +8,9 @@
 mod columns;
 mod digits;
 mod fractions;
+mod line;
 mod marks;
 mod pairs;
 mod split;
+
+pub use line::{Entry, read_entry, read_page};

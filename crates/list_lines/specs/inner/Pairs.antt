@@ -1,5 +1,9 @@
 -- Two columns as one.
-use Rattle.std.specs.Prelude.{ℕ, List, ◌++◌, ◌∷◌}
+use Rattle.std.specs.Prelude.{ℕ, ℤ, List, ◌++◌, ◌∷◌}
+use Rattle.std.specs.Fmt.{signed_decimal}
+use Rattle.exact_frac.specs.declared.Frac.{Frac}
+use Rattle.plot_rack.specs.Lists.{frac_text}
+use Rattle.list_lines.specs.Values.{IsInRange, IsListedFrac}
 
 -- both values
 abbrev pub Both : {X Y : Type 0} → (X → Type 0) → (Y → Type 0) → X × Y → Type 0
@@ -8,3 +12,17 @@ Both First Second both = First both.0 × Second both.1
 -- one text, a blank and the other
 abbrev pub both_texts : {X Y : Type 0} → (X → List ℕ) → (Y → List ℕ) → X × Y → List ℕ
 both_texts first second both = first both.0 ++ 32 ∷ second both.1
+
+-- two points on the sheet
+abbrev pub IsPlaces : (ℤ × ℤ) × (ℤ × ℤ) → Type 0
+IsPlaces = Both (Both IsInRange IsInRange) (Both IsInRange IsInRange)
+
+abbrev pub places_text : (ℤ × ℤ) × (ℤ × ℤ) → List ℕ
+places_text = both_texts (both_texts signed_decimal signed_decimal) (both_texts signed_decimal signed_decimal)
+
+-- two points of a view
+abbrev pub IsEnds : (Frac × Frac) × (Frac × Frac) → Type 0
+IsEnds = Both (Both IsListedFrac IsListedFrac) (Both IsListedFrac IsListedFrac)
+
+abbrev pub ends_text : (Frac × Frac) × (Frac × Frac) → List ℕ
+ends_text = both_texts (both_texts frac_text frac_text) (both_texts frac_text frac_text)

@@ -1,4 +1,3 @@
-use Rattle.std.proofs.Common.{rules}
 use Rattle.plot_rack.specs.Lists.{mark_word}
 use Rattle.list_lines.specs.Values.{IsAny}
 use Rattle.list_lines.proofs.Heads.{no_value, free_mark}

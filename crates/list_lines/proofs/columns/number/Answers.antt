@@ -1,4 +1,3 @@
-use Rattle.std.proofs.Common.{rules}
 use Rattle.list_lines.proofs.Ratios.{kept}
 use Rattle.list_lines.proofs.Heads.{number_none, number_unread}
 use Rattle.list_lines.proofs.columns.number.Goals as goal

@@ -1,4 +1,3 @@
-use Rattle.std.proofs.Common.{rules}
 use Rattle.std.specs.Fmt.{signed_decimal}
 use Rattle.list_lines.specs.Values.{IsInRange}
 use Rattle.list_lines.proofs.Heads.{no_end, no_value, one_value, free_number, kept_word}

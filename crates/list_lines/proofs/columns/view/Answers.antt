@@ -1,4 +1,3 @@
-use Rattle.std.proofs.Common.{rules}
 use Rattle.list_lines.proofs.Heads.{view_none, view_unread}
 use Rattle.list_lines.proofs.columns.view.Goals as goal
 

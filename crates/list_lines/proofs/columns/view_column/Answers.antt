@@ -1,4 +1,3 @@
-use Rattle.std.proofs.Common.{rules}
 use Rattle.std.specs.Fmt.{decimal}
 use Rattle.list_lines.specs.Values.{IsView}
 use Rattle.list_lines.proofs.Heads.{no_end, no_value, one_value, free_view}

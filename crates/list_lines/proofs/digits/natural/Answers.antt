@@ -1,5 +1,4 @@
-use Rattle.std.proofs.Common.{◌≡◌, ◌≢◌, length, get_or, refl, rules, arith, sym, ap, ◌∙◌, subst, lit<}
-use Rattle.std.specs.Fmt.{decimal}
+use Rattle.std.proofs.Common.{◌≡◌, ◌≢◌, length, get_or, rules, arith, lit<}
 use Rattle.list_lines.proofs.Numerals.{by_empty, by_zero, by_padding, by_digits}
 use Rattle.list_lines.proofs.digits.natural.Goals as goal
 

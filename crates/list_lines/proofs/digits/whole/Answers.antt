@@ -1,8 +1,7 @@
-use Rattle.std.proofs.Common.{◌≡◌, ◌∷◌, ◌-◌, ◌<◌, ◌^◌, ℕ, drop, take, length, rules, arith, drop-cons, ◌∙◌}
-use Rattle.std.specs.Fmt.{decimal, signed_decimal}
+use Rattle.std.proofs.Common.{◌≡◌, ◌∷◌, ◌<◌, ◌^◌, ℕ, drop, arith, drop-cons}
+use Rattle.std.specs.Fmt.{decimal}
 use Rattle.std.proofs.lemmas.List.{take_rest}
-use Rattle.list_lines.specs.Columns.{Reads}
-use Rattle.list_lines.proofs.Numerals.{minus_none, plain_none}
+use Rattle.list_lines.proofs.Numerals.{minus_none}
 use Rattle.list_lines.proofs.digits.whole.Goals as goal
 
 pub returns-in_err-natural-in-45 : goal.returns-in_err-natural-in-45

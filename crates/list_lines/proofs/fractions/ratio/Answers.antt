@@ -1,4 +1,3 @@
-use Rattle.std.proofs.Common.{◌≡◌, rules, arith}
 use Rattle.list_lines.proofs.Ratios.{no_num, no_den, ratio_result, kept}
 use Rattle.list_lines.proofs.fractions.ratio.Goals as goal
 

@@ -1,6 +1,5 @@
-use Rattle.std.proofs.Common.{◌≡◌, ◌<◌, ◌^◌, unsigned_abs, to_z, of_z, pos, FitsSigned, rules, arith, to_z-of_z}
+use Rattle.std.proofs.Common.{to_z, FitsSigned, rules}
 use Rattle.std.specs.Int.{w128}
-use Rattle.std.proofs.lemmas.Int.{ints}
 use Rattle.list_lines.proofs.Ratios.{no_ratio, is_ratio, kept, kept_natural}
 use Rattle.list_lines.proofs.fractions.ratio_of.Goals as goal
 

@@ -1,5 +1,4 @@
-use Rattle.std.proofs.Common.{◌≡◌, rules, arith, lit<, refl, ◌∙◌, sym, ap}
-use Rattle.std.specs.Fmt.{signed_decimal}
+use Rattle.std.proofs.Common.{rules, refl}
 use Rattle.list_lines.proofs.Ratios.{no_whole, kept, whole_listed, whole_fits}
 use Rattle.list_lines.proofs.fractions.whole_fraction.Goals as goal
 

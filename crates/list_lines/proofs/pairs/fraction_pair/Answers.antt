@@ -1,4 +1,3 @@
-use Rattle.std.proofs.Common.{rules}
 use Rattle.plot_rack.specs.Lists.{frac_text}
 use Rattle.list_lines.specs.Values.{IsListedFrac}
 use Rattle.list_lines.proofs.Joins.{no_first, no_second, both}

@@ -1,4 +1,3 @@
-use Rattle.std.proofs.Common.{rules}
 use Rattle.std.specs.Fmt.{signed_decimal}
 use Rattle.list_lines.specs.Values.{IsInRange}
 use Rattle.list_lines.proofs.Heads.{kept_word}

@@ -1,4 +1,4 @@
-use Rattle.std.proofs.Common.{rules, arith}
+use Rattle.std.proofs.Common.{arith}
 use Rattle.list_lines.proofs.Parts.{free-more}
 use Rattle.list_lines.proofs.split.split_at_byte.Goals as goal
 
