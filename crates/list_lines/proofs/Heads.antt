@@ -1,5 +1,5 @@
 -- Columns of one value and of two.
-use Rattle.std.proofs.Common.{◌≡◌, ◌≢◌, ℕ, ◌<◌, ◌^◌, List, ◌∷◌, ◌++◌, ℤ, pos, negsuc, unsigned_abs, Option, Some, None, MatchOption, w64, to_z, of_z, to_z-of_z, FitsSigned, Bool, true, false, codes, rules, refl, sym, ◌∙◌, ap, subst, arith, lit<}
+use Rattle.std.proofs.Common.{◌≡◌, ◌≢◌, ℕ, ◌<◌, ◌≤◌, ◌^◌, List, ◌∷◌, ◌++◌, ℤ, pos, negsuc, unsigned_abs, Option, Some, None, MatchOption, w64, to_z, of_z, to_z-of_z, FitsSigned, Bool, true, false, codes, refl, sym, ◌∙◌, ap, subst, arith, rules, lit≤, lit<}
 use Rattle.std.specs.Prelude.{if◌then◌else◌, ◌==◌}
 use Rattle.std.specs.Fmt.{decimal, signed_decimal}
 use Rattle.std.proofs.lemmas.Int.{ints}
@@ -8,7 +8,7 @@ use Rattle.sheet_plan.specs.declared.sheet.Mark.{Mark}
 use Rattle.sheet_plan.specs.declared.sheet.Mark.TheVariants.{Solid, Dashed, Chain, Hatch}
 use Rattle.plot_rack.specs.Lists.{mark_word, frac_text}
 use Rattle.list_lines.specs.Columns.{IsFree, Reads, IsColumn, HasNoColumn}
-use Rattle.list_lines.specs.Values.{IsView, IsInRange, IsListedFrac, IsAny}
+use Rattle.list_lines.specs.Values.{IsView, IsInRange, IsSmall, IsListedFrac, IsAny}
 use Rattle.list_lines.proofs.Parts.{free-append, not_free, same_parts}
 use Rattle.list_lines.proofs.Numerals.{free_natural, free_whole, same_natural, same_whole}
 
@@ -51,14 +51,24 @@ whole_form n d end h num den false =
     (free-append end (signed_decimal n) (codes "/") (free_whole end n (below_48 end h) (not_45 end h) num) ((λ e. omega (arith, h, e)), tt))
     (free_whole end d (below_48 end h) (not_45 end h) (omega (arith, den)))
 
+pub free_short : (end : ℕ) → end < 45 → (f : Frac) → IsSmall f → IsFree end (frac_text f)
+free_short end h f l = whole_form f.num f.den end h l.num l.den (unsigned_abs f.den == 1)
+
 pub free_frac : (f : Frac) → IsListedFrac f → IsFree 32 (frac_text f)
-free_frac f l = whole_form f.num f.den 32 (lit< tt) l.small.num l.small.den (unsigned_abs f.den == 1)
+free_frac f l = free_short 32 (lit< tt) f l.small
+
+-- a letter is none of the bytes that end a column
+letter : (end byte : ℕ) → end < 45 → 45 ≤ byte → byte ≢ end
+letter end byte h k = λ e. omega (arith, h, k, e)
+
+pub free_word : (end : ℕ) → end < 45 → (m : Mark) → IsFree end (mark_word m)
+free_word end h Solid = (letter end 115 h (lit≤ tt), (letter end 111 h (lit≤ tt), (letter end 108 h (lit≤ tt), (letter end 105 h (lit≤ tt), (letter end 100 h (lit≤ tt), tt)))))
+free_word end h Dashed = (letter end 100 h (lit≤ tt), (letter end 97 h (lit≤ tt), (letter end 115 h (lit≤ tt), (letter end 104 h (lit≤ tt), (letter end 101 h (lit≤ tt), (letter end 100 h (lit≤ tt), tt))))))
+free_word end h Chain = (letter end 99 h (lit≤ tt), (letter end 104 h (lit≤ tt), (letter end 97 h (lit≤ tt), (letter end 105 h (lit≤ tt), (letter end 110 h (lit≤ tt), tt)))))
+free_word end h Hatch = (letter end 104 h (lit≤ tt), (letter end 97 h (lit≤ tt), (letter end 116 h (lit≤ tt), (letter end 99 h (lit≤ tt), (letter end 104 h (lit≤ tt), tt)))))
 
 pub free_mark : (m : Mark) → IsAny m → IsFree 32 (mark_word m)
-free_mark Solid h = search rules
-free_mark Dashed h = search rules
-free_mark Chain h = search rules
-free_mark Hatch h = search rules
+free_mark m h = free_word 32 (lit< tt) m
 
 pub free_view : (least view : ℕ) → IsView least view → IsFree 32 (decimal view)
 free_view least view h = free_natural 32 view (lit< tt) (omega (arith, h.size))
