@@ -236,3 +236,10 @@ shorter_page text rest p = shorter (page_line p.page) rest text (a_page_line p.p
 
 pub shorter_entry : (least : ℕ) (text : List ℕ) (e : Entry) (rest : List ℕ) → IsEntryAt least text e rest → length rest < length text
 shorter_entry least text e rest x = shorter (stroke_line x.stroke) rest text (a_stroke_line x.stroke x.listed) x.written
+
+pub empty_rest : (rest : List ℕ) → length rest ≡ 0 → rest ≡ []
+empty_rest [] h = refl
+empty_rest (b ∷ rest) h = absurd (omega (arith, h))
+
+pub some_rest : (rest : List ℕ) → length rest ≢ 0 → rest ≢ []
+some_rest rest h e = h (ap length e)
