@@ -1,16 +1,12 @@
 -- The lines of a list are those of its page and strokes.
-use Rattle.std.proofs.Common.{◌≡◌, ◌≢◌, ℕ, ◌+◌, ◌*◌, ◌<◌, ◌≤◌, ◌^◌, zero, suc, Bool, true, false, List, [], ◌∷◌, ◌++◌, codes, length, map, take, flat_map, ℤ, pos, refl, sym, ◌∙◌, ap, subst, append_assoc, append-nil, arith, rules, lit<, length-append}
+use Rattle.std.proofs.Common.{◌≡◌, ℕ, Bool, true, false, List, [], ◌∷◌, ◌++◌, codes, ℤ, pos, refl, sym, ◌∙◌, ap, append_assoc, arith, rules, lit<}
 use Rattle.std.specs.Prelude.{if◌then◌else◌, ◌==◌}
 use Rattle.std.specs.List.{concat}
-use Rattle.std.specs.Fmt.{decimal, signed_decimal}
+use Rattle.std.specs.Fmt.{signed_decimal}
 use Rattle.std.proofs.lemmas.Bool.{ne_eqb}
-use Rattle.exact_frac.specs.declared.Frac.{Frac}
-use Rattle.sheet_plan.specs.declared.sheet.Mark.{Mark}
-use Rattle.sheet_plan.specs.declared.sheet.Mark.TheVariants.{Solid, Dashed, Chain, Hatch}
 use Rattle.sheet_plan.specs.declared.sheet.Stroke.{Stroke}
-use Rattle.plot_rack.specs.Lists.{mark_word, frac_text, column, page_line, stroke_line, list_of}
+use Rattle.plot_rack.specs.Lists.{mark_word, frac_text, column, page_line, stroke_line}
 use Rattle.list_lines.specs.Columns.{IsFree}
-use Rattle.list_lines.specs.Values.{IsInRange, IsSmall, IsListedFrac}
 use Rattle.list_lines.specs.Lines.{IsListedPage, IsListed}
 use Rattle.list_lines.proofs.Parts.{free-append}
 use Rattle.list_lines.proofs.Heads.{free_number, free_short, free_word}
@@ -65,7 +61,8 @@ a_page_line page h = record {
       free-append 10 (codes "page" ++ column (signed_decimal page.0)) (column (signed_decimal page.1))
       (free-append 10 (codes "page") (column (signed_decimal page.0)) (search rules) (free_column (signed_decimal page.0) (free_number 10 (lit< tt) page.0 h.0)))
       (free_column (signed_decimal page.1) (free_number 10 (lit< tt) page.1 h.1));
-  is = refl }
+  is = refl;
+}
 
 more : (front text : List ℕ) → IsFree 10 front → IsFree 10 text → IsFree 10 (front ++ column text)
 more front text h k = free-append 10 front (column text) h (free_column text k)
@@ -82,4 +79,3 @@ a_stroke_line s h =
     let i = more _ (signed_decimal s.x2) g (free_number 10 (lit< tt) s.x2 h.x2) in
     let j = more _ (signed_decimal s.y2) i (free_number 10 (lit< tt) s.y2 h.y2) in
     record { bytes = _; free = j; is = refl }
-

@@ -1,5 +1,5 @@
 -- A list as it is read, line by line, and where no list goes on so.
-use Rattle.std.proofs.Common.{◌≡◌, ◌≢◌, ℕ, ◌+◌, ◌<◌, ◌≤◌, ◌^◌, zero, suc, List, [], ◌∷◌, ◌++◌, length, map, take, flat_map, All, AllPairs, ℤ, pos, refl, sym, ◌∙◌, ap, subst, append_assoc, append-nil, arith, rules, lit<, lit≤, get_or}
+use Rattle.std.proofs.Common.{◌≡◌, ◌≢◌, ℕ, ◌+◌, ◌<◌, ◌≤◌, zero, suc, List, [], ◌∷◌, ◌++◌, length, map, take, flat_map, All, AllPairs, ℤ, pos, refl, sym, ◌∙◌, ap, subst, append_assoc, append-nil, arith}
 use Rattle.std.specs.List.{AllZip, concat}
 use Rattle.std.proofs.lemmas.Int.{ints}
 use Rattle.std.proofs.lemmas.List.{flat_map_more, length-append, length-map, take-append-le}
@@ -62,8 +62,10 @@ others s strokes h i j d before within = h (suc i) (suc j) d (omega (arith, befo
 rising : (least : ℕ) (strokes : List Stroke) → All IsListed strokes → AllPairs Rises strokes → All (λ t. least ≤ t.view) strokes → IsRising least strokes
 rising least [] h p a = tt
 rising least (s ∷ strokes) h p a = (
-    All-head IsListed s strokes h, All-head (λ t. least ≤ t.view) s strokes a,
-    rising s.view strokes (All-tail IsListed s strokes h) (others s strokes p) (later s strokes p))
+  All-head IsListed s strokes h,
+  All-head (λ t. least ≤ t.view) s strokes a,
+  rising s.view strokes (All-tail IsListed s strokes h) (others s strokes p) (later s strokes p),
+)
 
 from_zero : (strokes : List Stroke) → All (λ t. 0 ≤ t.view) strokes
 from_zero strokes k d within = omega arith
@@ -125,8 +127,14 @@ pub record IsReadTo (text : List ℕ) (entries : List Entry) (least : ℕ) (rest
 
 pub started : (text rest : List ℕ) → IsPageAt text rest → IsReadTo text [] 0 rest
 started text rest p = record {
-  page = p.page; listed_page = p.listed; strokes = []; rises = tt; last = refl; each = tt;
-  written = p.written ∙ ap (λ (t : List ℕ). t ++ rest) (sym (append-nil (page_line p.page))) }
+  page = p.page;
+  listed_page = p.listed;
+  strokes = [];
+  rises = tt;
+  last = refl;
+  each = tt;
+  written = p.written ∙ ap (λ (t : List ℕ). t ++ rest) (sym (append-nil (page_line p.page)));
+}
 
 zip-push : (strokes : List Stroke) (entries : List Entry) (s : Stroke) (e : Entry) → AllZip IsEntryOf strokes entries → IsEntryOf s e → AllZip IsEntryOf (strokes ++ s ∷ []) (entries ++ e ∷ [])
 zip-push [] [] s e h k = (k, tt)
@@ -137,19 +145,23 @@ zip-push (x ∷ strokes) (y ∷ entries) s e h k = (h.0, zip-push strokes entrie
 pub one_more : (text : List ℕ) (entries : List Entry) (least : ℕ) (rest : List ℕ) (e : Entry) (behind : List ℕ) → IsReadTo text entries least rest → IsEntryAt least rest e behind
     → IsReadTo text (entries ++ e ∷ []) e.view behind
 one_more text entries least rest e behind r x = record {
-  page = r.page; listed_page = r.listed_page; strokes = r.strokes ++ x.stroke ∷ [];
+  page = r.page;
+  listed_page = r.listed_page;
+  strokes = r.strokes ++ x.stroke ∷ [];
   rises = rising-push 0 r.strokes x.stroke r.rises x.listed (subst (λ (v : ℕ). v ≤ x.stroke.view) (sym r.last) x.from);
   last = last-push 0 r.strokes x.stroke ∙ sym x.entry.view;
   each = zip-push r.strokes entries x.stroke e r.each x.entry;
   written =
       r.written ∙ ap (λ (t : List ℕ). list_of r.page r.strokes ++ t) x.written ∙ sym (append_assoc (list_of r.page r.strokes) (stroke_line x.stroke) behind)
-      ∙ ap (λ (t : List ℕ). t ++ behind) (flat_map_more stroke_line (page_line r.page) r.strokes x.stroke) }
+      ∙ ap (λ (t : List ℕ). t ++ behind) (flat_map_more stroke_line (page_line r.page) r.strokes x.stroke);
+}
 
 pub all_read : (text : List ℕ) (entries : List Entry) (least : ℕ) → IsReadTo text entries least [] → (strokes : List Stroke) × IsList text strokes × AllZip IsEntryOf strokes entries
 all_read text entries least r = (
-    r.strokes,
-    record { page = r.page; listed_page = r.listed_page; listed = listed 0 r.strokes r.rises; rising = paired 0 r.strokes r.rises; written = r.written ∙ append-nil (list_of r.page r.strokes) },
-    r.each)
+  r.strokes,
+  record { page = r.page; listed_page = r.listed_page; listed = listed 0 r.strokes r.rises; rising = paired 0 r.strokes r.rises; written = r.written ∙ append-nil (list_of r.page r.strokes) },
+  r.each,
+)
 
 -- ---- the line of a fault
 least_page : ℤ × ℤ
@@ -183,7 +195,8 @@ first_fault text none = record {
       let same : page_line b.is_list.page ∷ [] ≡ take 1 (lines_of text) = ap (take 1) (sym begun) ∙ b.same in
       let first = first_piece text (page_line b.is_list.page) (lines_of text) (pieces_whole text) same in
       none b.is_list.page first.0 b.is_list.listed_page first.1);
-  least = begins_none text }
+  least = begins_none text;
+}
 
 two_more : (n : ℕ) → n + 2 ≡ suc (suc n)
 two_more n = omega arith
@@ -194,7 +207,7 @@ later_none text entries least rest r some none b =
     let here : lines_of text ≡ page_line r.page ∷ (map stroke_line r.strokes ++ pieces_of rest) = ap lines_of r.written ∙ lines_of_list r.page r.strokes rest r.listed_page r.rises in
     let n = suc (suc (length r.strokes)) in
     let same : take (suc (suc (length r.strokes))) (page_line b.is_list.page ∷ map stroke_line b.strokes) ≡ take (suc (suc (length r.strokes))) (page_line r.page ∷ (map stroke_line r.strokes ++ pieces_of rest))
-      = ap (take n) (sym begun) ∙ b.same ∙ ap (take n) here in
+    = ap (take n) (sym begun) ∙ b.same ∙ ap (take n) here in
     let tail : take (suc (length r.strokes)) (map stroke_line b.strokes) ≡ take (suc (length r.strokes)) (map stroke_line r.strokes ++ pieces_of rest) = cc in
     differ 0 r.strokes b.strokes rest r.rises (rises_of b.list b.strokes b.is_list) some (subst (λ (v : ℕ). HasNoEntry v rest) (sym r.last) none) tail
 
@@ -203,8 +216,11 @@ later_begins text entries least rest r m h =
     let here : lines_of text ≡ page_line r.page ∷ (map stroke_line r.strokes ++ pieces_of rest) = ap lines_of r.written ∙ lines_of_list r.page r.strokes rest r.listed_page r.rises in
     let size : length (page_line r.page ∷ map stroke_line r.strokes) ≡ length r.strokes + 1 = omega (arith, length-map r.strokes stroke_line) in
     record {
-      list = list_of r.page r.strokes; strokes = r.strokes; is_list = a_list r.page r.strokes r.listed_page r.rises;
-      same = ap (take m) (whole_list r.page r.strokes r.listed_page r.rises) ∙ sym (take-append-le m (page_line r.page ∷ map stroke_line r.strokes) (pieces_of rest) (omega (arith, size, h))) ∙ ap (take m) (sym here) }
+      list = list_of r.page r.strokes;
+      strokes = r.strokes;
+      is_list = a_list r.page r.strokes r.listed_page r.rises;
+      same = ap (take m) (whole_list r.page r.strokes r.listed_page r.rises) ∙ sym (take-append-le m (page_line r.page ∷ map stroke_line r.strokes) (pieces_of rest) (omega (arith, size, h))) ∙ ap (take m) (sym here);
+    }
 
 zip_length : (strokes : List Stroke) (entries : List Entry) → AllZip IsEntryOf strokes entries → length strokes ≡ length entries
 zip_length [] [] h = refl
@@ -217,7 +233,8 @@ later_fault text entries least rest r some none =
     let size = zip_length r.strokes entries r.each in
     record {
       none = λ b. later_none text entries least rest r some none (subst (BeginsList text) (ap (λ (n : ℕ). n + 2) (sym size) ∙ two_more (length r.strokes)) b);
-      least = λ m h. later_begins text entries least rest r m (omega (arith, size, h)) }
+      least = λ m h. later_begins text entries least rest r m (omega (arith, size, h));
+    }
 
 -- a text with a fault is no list
 pub no_list : (text : List ℕ) (n : ℕ) → IsFaultLine text n → (strokes : List Stroke) → IsList text strokes → ⊥

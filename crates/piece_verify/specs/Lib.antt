@@ -1,1 +1,4 @@
 pub mod Lists
+pub mod Stands
+pub mod Checked
+pub mod inner

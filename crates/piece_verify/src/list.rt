@@ -6,10 +6,9 @@ ghost use Rattle.list_lines.specs.Lines.{IsEntryOf};
 ghost use Rattle.piece_verify.specs.Lists.{IsList, IsFaultLine};
 
 use exact_frac::OutOfMemory;
+pub use list_lines::Entry;
 use list_lines::{read_entry, read_page};
 use std::alloc::{AllocError, AllocFailed, Global};
-
-pub use list_lines::Entry;
 
 /// What a list says of its strokes, in order. They are fewer than 2^32.
 #[derive(Drop)]

@@ -1,4 +1,4 @@
-use Rattle.std.proofs.Common.{◌≡◌, ◌≢◌, ◌+◌, ◌≤◌, ℕ, List, [], ◌∷◌, length, length-append, subst, sym, ◌∙◌, ap, arith, rules, Err, Result}
+use Rattle.std.proofs.Common.{◌≡◌, ◌≢◌, ◌+◌, ℕ, [], ◌∷◌, length, length-append, subst, sym, ◌∙◌, ap, arith, rules, Err, Result}
 use Rattle.piece_verify.specs.Lists.{IsFaultLine}
 use Rattle.piece_verify.specs.declared.list.ListFault.{ListFault}
 use Rattle.piece_verify.specs.declared.list.ListError.{ListError}

@@ -1,4 +1,4 @@
-use Rattle.std.proofs.Common.{◌≡◌, ◌+◌, ◌≤◌, length, vec_len}
+use Rattle.std.proofs.Common.{◌+◌, ◌≤◌, length}
 use Rattle.piece_verify.proofs.Reading.{IsReadTo}
 use Rattle.piece_verify.proofs.list.read_list.Given as goal
 
