@@ -1,5 +1,5 @@
 -- Columns of one value and of two.
-use Rattle.std.proofs.Common.{◌≡◌, ◌≢◌, ℕ, ◌<◌, ◌≤◌, ◌^◌, List, ◌∷◌, ◌++◌, ℤ, pos, negsuc, unsigned_abs, Option, Some, None, MatchOption, w64, to_z, of_z, to_z-of_z, FitsSigned, Bool, true, false, codes, refl, sym, ◌∙◌, ap, subst, arith, rules, lit≤, lit<}
+use Rattle.std.proofs.Common.{◌≡◌, ◌≢◌, ℕ, ◌<◌, ◌≤◌, ◌^◌, List, ◌∷◌, ◌++◌, ℤ, pos, negsuc, unsigned_abs, Option, Some, None, MatchOption, w64, to_z, of_z, to_z-of_z, FitsSigned, Bool, true, false, codes, refl, sym, ◌∙◌, ap, subst, arith, lit≤, lit<}
 use Rattle.std.specs.Prelude.{if◌then◌else◌, ◌==◌}
 use Rattle.std.specs.Fmt.{decimal, signed_decimal}
 use Rattle.std.proofs.lemmas.Int.{ints}

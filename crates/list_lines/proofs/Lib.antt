@@ -1,3 +1,4 @@
+pub mod Alike
 pub mod Heads
 pub mod Joins
 pub mod Lines

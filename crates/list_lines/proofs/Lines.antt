@@ -1,5 +1,5 @@
 -- The lines of a list as columns.
-use Rattle.std.proofs.Common.{◌≡◌, ◌≢◌, ℕ, ◌<◌, ◌^◌, List, [], ◌∷◌, ◌++◌, codes, ℤ, refl, sym, ◌∙◌, ap, subst, append_assoc, append-nil, arith, lit<, rules}
+use Rattle.std.proofs.Common.{◌≡◌, ◌≢◌, ℕ, ◌<◌, ◌^◌, List, ◌∷◌, ◌++◌, codes, ℤ, refl, sym, ◌∙◌, ap, subst, append_assoc, arith, rules}
 use Rattle.std.specs.Fmt.{decimal, signed_decimal}
 use Rattle.exact_frac.specs.declared.Frac.{Frac}
 use Rattle.sheet_plan.specs.declared.sheet.Mark.{Mark}
@@ -8,11 +8,10 @@ use Rattle.plot_rack.specs.Lists.{mark_word, frac_text, column, stroke_line}
 use Rattle.list_lines.specs.declared.line.Entry.{Entry}
 use Rattle.list_lines.specs.Columns.{IsFree, IsColumn, HasNoColumn}
 use Rattle.list_lines.specs.Values.{IsView, IsAny, IsInRange}
-use Rattle.list_lines.specs.Lines.{IsListed, IsPageAt, HasNoPage, IsEntryAt, HasNoEntry}
+use Rattle.list_lines.specs.Lines.{IsPageAt, HasNoPage, IsEntryAt, HasNoEntry}
 use Rattle.list_lines.specs.inner.Pairs.{Both, both_texts, IsPlaces, places_text, IsEnds, ends_text}
 use Rattle.list_lines.proofs.Parts.{not_free, same_parts}
 use Rattle.list_lines.proofs.Joins.{no_first, no_second, both}
-use Rattle.list_lines.proofs.Numerals.{free_natural, same_natural}
 
 -- ---- the line of a page
 page_form : (a b rest : List ℕ) → (codes "page" ++ column a ++ column b ++ codes "\n") ++ rest ≡ codes "page" ++ 32 ∷ ((a ++ 32 ∷ b) ++ 10 ∷ rest)
@@ -74,7 +73,7 @@ four : (c d e f t : List ℕ) → ((c ++ 32 ∷ d) ++ 32 ∷ (e ++ 32 ∷ f)) ++
 four c d e f t = shift (c ++ 32 ∷ d) (e ++ 32 ∷ f) t ∙ ap (λ (u : List ℕ). (c ++ 32 ∷ d) ++ 32 ∷ u) (shift e f t) ∙ shift c d (32 ∷ (e ++ 32 ∷ (f ++ t)))
 
 -- ten columns behind one another
-abbrev ten : List ℕ → List ℕ → List ℕ → List ℕ → List ℕ → List ℕ → List ℕ → List ℕ → List ℕ → List ℕ → List ℕ → List ℕ
+abbrev pub ten : List ℕ → List ℕ → List ℕ → List ℕ → List ℕ → List ℕ → List ℕ → List ℕ → List ℕ → List ℕ → List ℕ → List ℕ
 ten a b c d e f g h i j t = a ++ 32 ∷ (b ++ 32 ∷ (c ++ 32 ∷ (d ++ 32 ∷ (e ++ 32 ∷ (f ++ 32 ∷ (g ++ 32 ∷ (h ++ 32 ∷ (i ++ 32 ∷ (j ++ t)))))))))
 
 nested : (a b c d e f g h i j t : List ℕ)
@@ -86,7 +85,7 @@ nested a b c d e f g h i j t =
     = shift front back t ∙ ap (λ (u : List ℕ). front ++ 32 ∷ u) (four g h i j t) ∙ four c d e f (32 ∷ (g ++ 32 ∷ (h ++ 32 ∷ (i ++ 32 ∷ (j ++ t))))) in
     shift a (b ++ 32 ∷ (front ++ 32 ∷ back)) t ∙ ap (λ (u : List ℕ). a ++ 32 ∷ u) (shift b (front ++ 32 ∷ back) t ∙ ap (λ (u : List ℕ). b ++ 32 ∷ u) inner)
 
-written : (a b c d e f g h i j rest : List ℕ)
+pub written : (a b c d e f g h i j rest : List ℕ)
     → (a ++ column b ++ column c ++ column d ++ column e ++ column f ++ column g ++ column h ++ column i ++ column j ++ codes "\n") ++ rest ≡ ten a b c d e f g h i j (10 ∷ rest)
 written a b c d e f g h i j rest = simp append_assoc refl
 
@@ -178,19 +177,6 @@ an_entry least text e second third fourth places rest one two three four =
       written = line.written ∙ sym (stroke_form s rest);
     }
 
--- ---- a line has one view
-behind_view : (s : Stroke) → List ℕ
-behind_view s = marked_text (s.mark, (((s.u1, s.v1), (s.u2, s.v2)), ((s.x1, s.y1), (s.x2, s.y2)))) ++ 10 ∷ []
-
-view_first : (s : Stroke) → stroke_line s ≡ decimal s.view ++ 32 ∷ behind_view s
-unfolding behind_view
-view_first s = sym (append-nil (stroke_line s)) ∙ stroke_form s [] ∙ append_assoc (decimal s.view) (32 ∷ marked_text (s.mark, (((s.u1, s.v1), (s.u2, s.v2)), ((s.x1, s.y1), (s.x2, s.y2))))) (10 ∷ [])
-
-view_size : (n : ℕ) → n < 2 ^ 32 → n < 2 ^ 104
+-- ---- a view's number is small
+pub view_size : (n : ℕ) → n < 2 ^ 32 → n < 2 ^ 104
 view_size n h = omega (arith, h)
-
-pub same_view : (s t : Stroke) → IsListed s → IsListed t → stroke_line s ≡ stroke_line t → s.view ≡ t.view
-same_view s t h k e =
-    let parts = same_parts 32 (decimal s.view) (behind_view s) (decimal t.view) (behind_view t)
-      (free_natural 32 s.view (lit< tt) (view_size s.view h.view)) (free_natural 32 t.view (lit< tt) (view_size t.view k.view)) (sym (view_first s) ∙ e ∙ view_first t) in
-    same_natural s.view t.view (view_size s.view h.view) (view_size t.view k.view) parts.0

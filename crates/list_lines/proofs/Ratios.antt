@@ -17,19 +17,23 @@ use Rattle.list_lines.proofs.Parts.{not_free, same_parts}
 use Rattle.list_lines.proofs.Numerals.{same_natural, same_whole, free_whole}
 
 -- ---- the two forms
-abbrev text_by : ℤ → ℤ → List ℕ
+abbrev pub text_by : ℤ → ℤ → List ℕ
 text_by n d = if unsigned_abs d == 1 then signed_decimal n else signed_decimal n ++ codes "/" ++ signed_decimal d
 
-record IsParted (n d : ℤ) (text : List ℕ) : Type 0 where
-  more : 1 < unsigned_abs d
-  is : text ≡ signed_decimal n ++ 47 ∷ decimal (unsigned_abs d)
+pub record IsWhole (n d : ℤ) (text : List ℕ) : Type 0 where
+  pub one : d ≡ pos 1
+  pub is : text ≡ signed_decimal n
+
+pub record IsParted (n d : ℤ) (text : List ℕ) : Type 0 where
+  pub more : 1 < unsigned_abs d
+  pub is : text ≡ signed_decimal n ++ 47 ∷ decimal (unsigned_abs d)
 
 parted_text : (n : ℤ) (d : ℕ) → 1 < d → text_by n (pos d) ≡ signed_decimal n ++ 47 ∷ decimal d
 parted_text n d more = rw (ne_eqb d 1 (λ e. omega (arith, e, more))) (append_assoc (signed_decimal n) (47 ∷ []) (decimal d))
 
-forms : (n d : ℤ) (text : List ℕ) → pos 0 <ℤ d → text ≡ text_by n d → (text ≡ signed_decimal n) ⊎ IsParted n d text
+pub forms : (n d : ℤ) (text : List ℕ) → pos 0 <ℤ d → text ≡ text_by n d → IsWhole n d text ⊎ IsParted n d text
 forms n (pos zero) text positive e = absurd (omega (arith, ints))
-forms n (pos (suc zero)) text positive e = inl e
+forms n (pos (suc zero)) text positive e = inl record { one = refl; is = e }
 forms n (pos (suc (suc d))) text positive e = let more : 1 < suc (suc d) = omega arith in inr record { more = more; is = e ∙ parted_text n (suc (suc d)) more }
 forms n (negsuc d) text positive e = absurd (omega (arith, ints))
 
@@ -39,12 +43,12 @@ record AreParts (n d : ℤ) (num den : List ℕ) : Type 0 where
   num_is : num ≡ signed_decimal n
   den_is : den ≡ decimal (unsigned_abs d)
 
-free_of_line : (z : ℤ) → unsigned_abs z < 2 ^ 104 → IsFree 47 (signed_decimal z)
+pub free_of_line : (z : ℤ) → unsigned_abs z < 2 ^ 104 → IsFree 47 (signed_decimal z)
 free_of_line z h = free_whole 47 z (lit< tt) (λ e. omega arith) h
 
 parts : (num den : List ℕ) (f : Frac) → IsFree 47 num → IsListedFrac f → num ++ 47 ∷ den ≡ frac_text f → AreParts f.num f.den num den
 parts num den f free l e = elim (forms f.num f.den (num ++ 47 ∷ den) f.positive e) [
-  | inl one ↦ absurd (not_free 47 num den (subst (λ (t : List ℕ). IsFree 47 t) (sym one) (free_of_line f.num l.small.num)))
+  | inl one ↦ absurd (not_free 47 num den (subst (λ (t : List ℕ). IsFree 47 t) (sym one.is) (free_of_line f.num l.small.num)))
   | inr two ↦ (let both = same_parts 47 num den (signed_decimal f.num) (decimal (unsigned_abs f.den)) free (free_of_line f.num l.small.num) two.is in
       record { more = two.more; num_is = both.0; den_is = both.1 })
 ]
@@ -52,13 +56,13 @@ parts num den f free l e = elim (forms f.num f.den (num ++ 47 ∷ den) f.positiv
 pub no_num : (num den : List ℕ) → IsFree 47 num → ((z : ℤ) → unsigned_abs z < 2 ^ 104 → num ≡ signed_decimal z → ⊥) → (f : Frac) → IsListedFrac f → num ++ 47 ∷ den ≡ frac_text f → ⊥
 no_num num den free none f l e = let p = parts num den f free l e in none f.num l.small.num p.num_is
 
-den_size : (n : ℕ) → n < 2 ^ 70 → n < 2 ^ 104
+pub den_size : (n : ℕ) → n < 2 ^ 70 → n < 2 ^ 104
 den_size n h = omega (arith, h)
 
 pub no_den : (num den : List ℕ) → IsFree 47 num → ((n : ℕ) → n < 2 ^ 104 → den ≡ decimal n → ⊥) → (f : Frac) → IsListedFrac f → num ++ 47 ∷ den ≡ frac_text f → ⊥
 no_den num den free none f l e = let p = parts num den f free l e in none (unsigned_abs f.den) (den_size (unsigned_abs f.den) l.small.den) p.den_is
 
-positive_size : (d : ℤ) → pos 0 <ℤ d → d ≡ pos (unsigned_abs d)
+pub positive_size : (d : ℤ) → pos 0 <ℤ d → d ≡ pos (unsigned_abs d)
 positive_size d h = omega (arith, ints)
 
 ratio_none : (num den : List ℕ) (z : ℤ) (n : ℕ) → IsFree 47 num → unsigned_abs z < 2 ^ 104 → n < 2 ^ 104 → num ≡ signed_decimal z → den ≡ decimal n → (IsRatio z n → ⊥)
@@ -91,7 +95,7 @@ ratio_result num den z n (Some f) free num_size size num_is den_is h = (
 -- ---- a text without `/`
 pub no_whole : (bytes : List ℕ) → IsFree 47 bytes → ((z : ℤ) → unsigned_abs z < 2 ^ 104 → bytes ≡ signed_decimal z → ⊥) → (f : Frac) → IsListedFrac f → bytes ≡ frac_text f → ⊥
 no_whole bytes free none f l e = elim (forms f.num f.den bytes f.positive e) [
-  | inl one ↦ none f.num l.small.num one
+  | inl one ↦ none f.num l.small.num one.is
   | inr two ↦ not_free 47 (signed_decimal f.num) (decimal (unsigned_abs f.den)) (subst (λ (t : List ℕ). IsFree 47 t) two.is free)
 ]
 

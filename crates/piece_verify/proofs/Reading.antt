@@ -9,7 +9,7 @@ use Rattle.sheet_plan.specs.declared.sheet.Stroke.{Stroke}
 use Rattle.plot_rack.specs.Lists.{page_line, stroke_line, list_of}
 use Rattle.list_lines.specs.declared.line.Entry.{Entry}
 use Rattle.list_lines.specs.Lines.{IsListedPage, IsListed, IsEntryOf, IsPageAt, HasNoPage, IsEntryAt, HasNoEntry}
-use Rattle.list_lines.proofs.Lines.{same_view}
+use Rattle.list_lines.proofs.Alike.{same_view, same_entry}
 use Rattle.piece_verify.specs.Lists.{pieces_of, lines_of, IsList, BeginsList, IsFaultLine}
 use Rattle.piece_verify.proofs.Lines.{IsLine, pieces_of_line, pieces_joined, lines_of_line, a_page_line, a_stroke_line}
 
@@ -235,6 +235,25 @@ later_fault text entries least rest r some none =
       none = λ b. later_none text entries least rest r some none (subst (BeginsList text) (ap (λ (n : ℕ). n + 2) (sym size) ∙ two_more (length r.strokes)) b);
       least = λ m h. later_begins text entries least rest r m (omega (arith, size, h));
     }
+
+-- ---- a text is one list
+same_lines : (least : ℕ) (strokes others : List Stroke) (entries : List Entry) → IsRising least strokes → IsRising least others → map stroke_line strokes ≡ map stroke_line others
+    → AllZip IsEntryOf strokes entries → AllZip IsEntryOf others entries
+same_lines least [] [] entries r o e z = z
+same_lines least [] (o ∷ others) entries r rises e z = absurd (no_line (stroke_line o) (map stroke_line others) e)
+same_lines least (s ∷ strokes) [] entries r o e z = absurd (a_line (stroke_line s) (map stroke_line strokes) e)
+same_lines least (s ∷ strokes) (o ∷ others) [] r rises e z = absurd z
+same_lines least (s ∷ strokes) (o ∷ others) (entry ∷ entries) r rises e z =
+    let head : stroke_line s ≡ stroke_line o = cc in
+    let tail : map stroke_line strokes ≡ map stroke_line others = cc in
+    let view : s.view ≡ o.view = same_view s o r.0 rises.0 head in
+    (same_entry s o entry r.0 rises.0 head z.0, same_lines s.view strokes others entries r.2 (subst (λ (v : ℕ). IsRising v others) (sym view) rises.2) tail z.1)
+
+pub one_list : (text : List ℕ) (strokes others : List Stroke) (entries : List Entry) → IsList text strokes → IsList text others → AllZip IsEntryOf strokes entries → AllZip IsEntryOf others entries
+one_list text strokes others entries l k z =
+    let same : page_line l.page ∷ map stroke_line strokes ≡ page_line k.page ∷ map stroke_line others = sym (lines_of_begun text strokes l) ∙ lines_of_begun text others k in
+    let tail : map stroke_line strokes ≡ map stroke_line others = cc in
+    same_lines 0 strokes others entries (rises_of text strokes l) (rises_of text others k) tail z
 
 -- a text with a fault is no list
 pub no_list : (text : List ℕ) (n : ℕ) → IsFaultLine text n → (strokes : List Stroke) → IsList text strokes → ⊥

@@ -66,7 +66,9 @@ fn fault(line: usize) -> ListError
 pub fn read_list(alloc: Global, bytes: &[u8]) -> Result<PieceList, ListError>
     requires { length bytes.now ≤ 16777216 }
     ensures list { IfOk result (λ list. (strokes : List Stroke) × IsList bytes.now strokes × AllZip IsEntryOf strokes list.entries.items) }
+    ensures entries { IfOk result (λ list. (strokes : List Stroke) → IsList bytes.now strokes → AllZip IsEntryOf strokes list.entries.items) }
     ensures fault { (f : ListFault) → result ≡ Err (ListError.List f) → IsFaultLine bytes.now f.line }
+    ensures refused { (f : ListFault) → result ≡ Err (ListError.List f) → (strokes : List Stroke) → IsList bytes.now strokes → ⊥ }
 {
     let mut entries = Vec::new(alloc);
     let Some(mut rest) = read_page(bytes) else {

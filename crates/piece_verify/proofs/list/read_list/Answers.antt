@@ -3,7 +3,7 @@ use Rattle.piece_verify.specs.Lists.{IsFaultLine}
 use Rattle.piece_verify.specs.declared.list.ListFault.{ListFault}
 use Rattle.piece_verify.specs.declared.list.ListError.{ListError}
 use Rattle.piece_verify.specs.declared.list.PieceList.{PieceList}
-use Rattle.piece_verify.proofs.Reading.{one_more, all_read, first_fault, later_fault, shorter_entry, empty_rest, some_rest}
+use Rattle.piece_verify.proofs.Reading.{one_more, all_read, first_fault, later_fault, shorter_entry, empty_rest, some_rest, one_list, no_list}
 use Rattle.piece_verify.proofs.list.read_list.Goals as goal
 
 line_of : (e : ListError) (n : ℕ) (f : ListFault) → e ≡ ListError.List (record { line = n }) → ◌≡◌ {A = Result PieceList ListError} (Err e) (Err (ListError.List f)) → n ≡ f.line
@@ -39,3 +39,15 @@ pub returns-clause-list : goal.returns-clause-list
 returns-clause-list c =
     let none : c.loop-rest.rest.now ≡ [] = empty_rest c.loop-rest.rest.now (search rules) in
     all_read c.args.bytes.now c.loop-rest.entries.items c.loop-rest.least (rw none at c.loop-rest.invariant.read)
+
+pub returns-clause-entries : goal.returns-clause-entries
+returns-clause-entries c = λ others l.
+    let none : c.loop-rest.rest.now ≡ [] = empty_rest c.loop-rest.rest.now (search rules) in
+    let read = all_read c.args.bytes.now c.loop-rest.entries.items c.loop-rest.least (rw none at c.loop-rest.invariant.read) in
+    one_list c.args.bytes.now read.0 others c.loop-rest.entries.items read.1 l read.2
+
+pub returns-in_default-read_entry-clause-refused : goal.returns-in_default-read_entry-clause-refused
+returns-in_default-read_entry-clause-refused c = λ f e strokes l.
+    let some : c.loop-rest.rest.now ≢ [] = some_rest c.loop-rest.rest.now (search rules) in
+    no_list c.args.bytes.now _
+    (later_fault c.args.bytes.now c.loop-rest.entries.items c.loop-rest.least c.loop-rest.rest.now c.loop-rest.invariant.read some c.in_default-read_entry.ensures) strokes l
