@@ -56,8 +56,7 @@ pub(crate) fn view_column(text: &[u8], least: u32) -> Option<(u32, &[u8])>
     ensures { MatchOption result (HasNoColumn (IsView least) decimal 32 text.now) (λ r. IsColumn (IsView least) decimal 32 text.now r.0 r.1.now) }
 {
     let (column, rest) = split_at_byte(text, b' ')?;
-    let view = view(column, least)?;
-    Some((view, rest))
+    Some((view(column, least)?, rest))
 }
 
 /// The column of a mark.

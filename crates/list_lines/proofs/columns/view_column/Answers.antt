@@ -14,5 +14,5 @@ returns-in_err-view c =
 
 pub returns : goal.returns
 returns c =
-    one_value (IsView c.args.least) decimal 32 c.args.text.now c.in_ok-column.column.now c.in_ok-column.rest.now c.in_ok-view.view (free_view c.args.least)
+    one_value (IsView c.args.least) decimal 32 c.args.text.now c.in_ok-column.column.now c.in_ok-column.rest.now c.in_ok-view.field-0 (free_view c.args.least)
     c.in_ok-column.ensures.0 c.in_ok-column.ensures.1 c.in_ok-view.ensures.0 c.in_ok-view.ensures.1
