@@ -7,6 +7,8 @@ use std::alloc::{AllocError, Global};
 pub(crate) enum Program {
     Draw,
     Sheet,
+    // The judge of piece lists.
+    Pieces,
 }
 
 // A run by its words, over these files, and what is told of its end. The desk fails some calls, which may leave a beginning, or it
@@ -61,6 +63,7 @@ impl Case {
         match self.program {
             Program::Draw => "drawing.svg",
             Program::Sheet => "sheet.svg",
+            Program::Pieces => "pieces.svg",
         }
     }
 

@@ -2,6 +2,7 @@
 ghost use Rattle.std.specs.Prelude.{◌≤◌, length};
 
 use crate::case::{Case, Program};
+use crate::judge;
 use dec_text::Name;
 use desk::{Desk, MemoryDesk, RoomDesk};
 use draw_core::draw;
@@ -114,6 +115,7 @@ fn run<D: Desk>(alloc: Global, case: &Case, desk: &mut D) -> io::Result<u8> {
     match case.program {
         Program::Draw => run_draw(alloc, &case.words, desk),
         Program::Sheet => Ok(sheet(alloc, &case.words, desk).status),
+        Program::Pieces => judge::check(alloc, &case.words, desk),
     }
 }
 

@@ -96,6 +96,7 @@ fn program_of(name: &str) -> Option<Program> {
     match name {
         "draw" => Some(Program::Draw),
         "sheet" => Some(Program::Sheet),
+        "pieces" => Some(Program::Pieces),
         _ => None,
     }
 }
