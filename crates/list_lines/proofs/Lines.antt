@@ -7,9 +7,9 @@ use Rattle.sheet_plan.specs.declared.sheet.Stroke.{Stroke}
 use Rattle.plot_rack.specs.Lists.{mark_word, frac_text, column, stroke_line}
 use Rattle.list_lines.specs.declared.line.Entry.{Entry}
 use Rattle.list_lines.specs.Columns.{IsFree, IsColumn, HasNoColumn}
-use Rattle.list_lines.specs.Values.{IsView, IsAny, IsInRange}
+use Rattle.list_lines.specs.Values.{IsView, IsAny}
 use Rattle.list_lines.specs.Lines.{IsPageAt, HasNoPage, IsEntryAt, HasNoEntry}
-use Rattle.list_lines.specs.inner.Pairs.{Both, both_texts, IsPlaces, places_text, IsEnds, ends_text}
+use Rattle.list_lines.specs.inner.Pairs.{Both, both_texts, AreNumbers, numbers_text, ArePlaces, places_text, AreEnds, ends_text}
 use Rattle.list_lines.proofs.Parts.{not_free, same_parts}
 use Rattle.list_lines.proofs.Joins.{no_first, no_second, both}
 
@@ -19,12 +19,6 @@ page_form a b rest = simp append_assoc refl
 
 page_free : IsFree 32 (codes "page")
 page_free = search rules
-
-abbrev numbers_text : ℤ × ℤ → List ℕ
-numbers_text = both_texts signed_decimal signed_decimal
-
-abbrev AreNumbers : ℤ × ℤ → Type 0
-AreNumbers = Both IsInRange IsInRange
 
 pub no_blank : (text : List ℕ) → IsFree 32 text → HasNoPage text
 no_blank text free page rest h e = not_free 32 (codes "page") (numbers_text page ++ 10 ∷ rest) (subst (IsFree 32) (e ∙ page_form (signed_decimal page.0) (signed_decimal page.1) rest) free)
@@ -49,7 +43,7 @@ abbrev Points : Type 0 → Type 0
 Points X = (X × X) × (X × X)
 
 abbrev IsDrawn : Points Frac × Points ℤ → Type 0
-IsDrawn = Both IsEnds IsPlaces
+IsDrawn = Both AreEnds ArePlaces
 
 abbrev drawn_text : Points Frac × Points ℤ → List ℕ
 drawn_text = both_texts ends_text places_text
@@ -123,17 +117,17 @@ no_body least text view second mark third one two none =
     no_line least text (no_second (IsView least) IsMarked decimal marked_text 10 text view second one (no_second IsAny IsDrawn mark_word drawn_text 10 second mark third two none))
 
 pub no_ends : (least : ℕ) (text : List ℕ) (view : ℕ) (second : List ℕ) (mark : Mark) (third : List ℕ) → IsColumn (IsView least) decimal 32 text view second → IsColumn IsAny mark_word 32 second mark third
-    → HasNoColumn IsEnds ends_text 32 third → HasNoEntry least text
-no_ends least text view second mark third one two none = no_body least text view second mark third one two (no_first IsEnds IsPlaces ends_text places_text 10 third none)
+    → HasNoColumn AreEnds ends_text 32 third → HasNoEntry least text
+no_ends least text view second mark third one two none = no_body least text view second mark third one two (no_first AreEnds ArePlaces ends_text places_text 10 third none)
 
 pub no_places : (least : ℕ) (text : List ℕ) (view : ℕ) (second : List ℕ) (mark : Mark) (third : List ℕ) (ends : Points Frac) (fourth : List ℕ)
-    → IsColumn (IsView least) decimal 32 text view second → IsColumn IsAny mark_word 32 second mark third → IsColumn IsEnds ends_text 32 third ends fourth
-    → HasNoColumn IsPlaces places_text 10 fourth → HasNoEntry least text
+    → IsColumn (IsView least) decimal 32 text view second → IsColumn IsAny mark_word 32 second mark third → IsColumn AreEnds ends_text 32 third ends fourth
+    → HasNoColumn ArePlaces places_text 10 fourth → HasNoEntry least text
 no_places least text view second mark third ends fourth one two three none =
-    no_body least text view second mark third one two (no_second IsEnds IsPlaces ends_text places_text 10 third ends fourth three none)
+    no_body least text view second mark third one two (no_second AreEnds ArePlaces ends_text places_text 10 third ends fourth three none)
 
 -- the stroke of the columns
-abbrev stroke_of : (e : Entry) → IsEnds ((e.u1, e.v1), (e.u2, e.v2)) → Points ℤ → Stroke
+abbrev stroke_of : (e : Entry) → AreEnds ((e.u1, e.v1), (e.u2, e.v2)) → Points ℤ → Stroke
 stroke_of e h places = record {
   view = e.view;
   mark = e.mark;
@@ -152,10 +146,10 @@ stroke_of e h places = record {
 }
 
 pub an_entry : (least : ℕ) (text : List ℕ) (e : Entry) (second third fourth : List ℕ) (places : Points ℤ) (rest : List ℕ)
-    → IsColumn (IsView least) decimal 32 text e.view second → IsColumn IsAny mark_word 32 second e.mark third → IsColumn IsEnds ends_text 32 third ((e.u1, e.v1), (e.u2, e.v2)) fourth
-    → IsColumn IsPlaces places_text 10 fourth places rest → IsEntryAt least text e rest
+    → IsColumn (IsView least) decimal 32 text e.view second → IsColumn IsAny mark_word 32 second e.mark third → IsColumn AreEnds ends_text 32 third ((e.u1, e.v1), (e.u2, e.v2)) fourth
+    → IsColumn ArePlaces places_text 10 fourth places rest → IsEntryAt least text e rest
 an_entry least text e second third fourth places rest one two three four =
-    let drawn = both IsEnds IsPlaces ends_text places_text 10 third ((e.u1, e.v1), (e.u2, e.v2)) fourth places rest three four in
+    let drawn = both AreEnds ArePlaces ends_text places_text 10 third ((e.u1, e.v1), (e.u2, e.v2)) fourth places rest three four in
     let marked = both IsAny IsDrawn mark_word drawn_text 10 second e.mark third ((((e.u1, e.v1), (e.u2, e.v2)), places)) rest two drawn in
     let line = both (IsView least) IsMarked decimal marked_text 10 text e.view second (e.mark, (((e.u1, e.v1), (e.u2, e.v2)), places)) rest one marked in
     let s : Stroke = stroke_of e three.holds places in

@@ -1,10 +1,8 @@
 // The lines of a list.
-ghost use Rattle.std.specs.Prelude.{◌≡◌, ◌<◌, ◌↔◌, IsTrue, codes, MatchOption, length, IfSome};
-ghost use Rattle.std.specs.Fmt.{decimal, signed_decimal};
-ghost use Rattle.plot_rack.specs.Lists.{mark_word, frac_text};
+ghost use Rattle.std.specs.Prelude.{◌≡◌, ◌↔◌, IsTrue, codes, MatchOption};
 ghost use Rattle.list_lines.specs.Columns.{IsColumn, HasNoColumn};
 ghost use Rattle.list_lines.specs.Lines.{IsPageAt, HasNoPage, IsEntryAt, HasNoEntry};
-ghost use Rattle.list_lines.specs.inner.Pairs.{IsPlaces, places_text, IsEnds, ends_text};
+ghost use Rattle.list_lines.specs.inner.Pairs.{ArePlaces, places_text, AreEnds, ends_text};
 
 use crate::columns::{mark_column, view_column};
 use crate::pairs::{fraction_pair, number_pair};
@@ -44,7 +42,7 @@ pub fn read_page(text: &[u8]) -> Option<&[u8]>
 
 /// The columns of two points on the sheet.
 fn places(text: &[u8]) -> Option<(((i64, i64), (i64, i64)), &[u8])>
-    ensures { MatchOption result (HasNoColumn IsPlaces places_text 10 text.now) (λ r. IsColumn IsPlaces places_text 10 text.now r.0 r.1.now) }
+    ensures { MatchOption result (HasNoColumn ArePlaces places_text 10 text.now) (λ r. IsColumn ArePlaces places_text 10 text.now r.0 r.1.now) }
 {
     let (from, text) = number_pair(text, b' ')?;
     let (to, rest) = number_pair(text, b'\n')?;
@@ -53,7 +51,7 @@ fn places(text: &[u8]) -> Option<(((i64, i64), (i64, i64)), &[u8])>
 
 /// The columns of two points of a view.
 fn ends(text: &[u8]) -> Option<(((Frac, Frac), (Frac, Frac)), &[u8])>
-    ensures { MatchOption result (HasNoColumn IsEnds ends_text 32 text.now) (λ r. IsColumn IsEnds ends_text 32 text.now r.0 r.1.now) }
+    ensures { MatchOption result (HasNoColumn AreEnds ends_text 32 text.now) (λ r. IsColumn AreEnds ends_text 32 text.now r.0 r.1.now) }
 {
     let (from, text) = fraction_pair(text)?;
     let (to, rest) = fraction_pair(text)?;

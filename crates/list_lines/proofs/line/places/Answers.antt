@@ -1,21 +1,19 @@
-use Rattle.std.specs.Fmt.{signed_decimal}
-use Rattle.list_lines.specs.Values.{IsInRange}
-use Rattle.list_lines.specs.inner.Pairs.{Both, both_texts}
+use Rattle.list_lines.specs.inner.Pairs.{AreNumbers, numbers_text}
 use Rattle.list_lines.proofs.Joins.{no_first, no_second, both}
 use Rattle.list_lines.proofs.line.places.Goals as goal
 
 pub returns-in_err-from : goal.returns-in_err-from
 returns-in_err-from c =
     rw c.from_residual.ensures
-    (no_first (Both IsInRange IsInRange) (Both IsInRange IsInRange) (both_texts signed_decimal signed_decimal) (both_texts signed_decimal signed_decimal) 10 c.args.text.now c.in_err-from.ensures)
+    (no_first AreNumbers AreNumbers numbers_text numbers_text 10 c.args.text.now c.in_err-from.ensures)
 
 pub returns-in_err-to : goal.returns-in_err-to
 returns-in_err-to c =
     rw c.from_residual-in_err-to.ensures
-    (no_second (Both IsInRange IsInRange) (Both IsInRange IsInRange) (both_texts signed_decimal signed_decimal) (both_texts signed_decimal signed_decimal) 10 c.args.text.now
+    (no_second AreNumbers AreNumbers numbers_text numbers_text 10 c.args.text.now
     c.in_ok-from.from c.in_ok-from.text.now c.in_ok-from.ensures c.in_err-to.ensures)
 
 pub returns : goal.returns
 returns c =
-    both (Both IsInRange IsInRange) (Both IsInRange IsInRange) (both_texts signed_decimal signed_decimal) (both_texts signed_decimal signed_decimal) 10 c.args.text.now
+    both AreNumbers AreNumbers numbers_text numbers_text 10 c.args.text.now
     c.in_ok-from.from c.in_ok-from.text.now c.in_ok-to.to c.in_ok-to.rest.now c.in_ok-from.ensures c.in_ok-to.ensures
