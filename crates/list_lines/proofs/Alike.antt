@@ -52,13 +52,15 @@ same_texts a b c d text p q ha hc hb hd (inl x) (inl y) = record { first = same_
 same_texts a b c d text p q ha hc hb hd (inl x) (inr y) = absurd (no_line a d text (signed_decimal c) ha x.is y.is)
 same_texts a b c d text p q ha hc hb hd (inr x) (inl y) = absurd (no_line c b text (signed_decimal a) hc y.is x.is)
 same_texts a b c d text p q ha hc hb hd (inr x) (inr y) =
-    let parts = same_parts 47 (signed_decimal a) (decimal (unsigned_abs b)) (signed_decimal c) (decimal (unsigned_abs d)) (free_of_line a ha) (free_of_line c hc) (sym x.is ∙ y.is) in
+    let parts =
+    same_parts 47 (signed_decimal a) (decimal (unsigned_abs b)) (signed_decimal c) (decimal (unsigned_abs d)) (free_of_line a ha) (free_of_line c hc) (sym x.is ∙ y.is) in
     let sizes = same_natural (unsigned_abs b) (unsigned_abs d) (den_size (unsigned_abs b) hb) (den_size (unsigned_abs d) hd) parts.1 in
     record { first = same_whole a c ha hc parts.0; second = positive_size b p ∙ ap pos sizes ∙ sym (positive_size d q) }
 
 pub same_frac : (f g : Frac) → IsSmall f → IsSmall g → frac_text f ≡ frac_text g → IsSameFrac f g
 same_frac f g h k e =
-    let same = same_texts f.num f.den g.num g.den (frac_text f) f.positive g.positive h.num k.num h.den k.den (forms f.num f.den (frac_text f) f.positive refl) (forms g.num g.den (frac_text f) g.positive e) in
+    let same = same_texts f.num f.den g.num g.den (frac_text f) f.positive g.positive h.num k.num h.den k.den (forms f.num f.den (frac_text f) f.positive refl) (forms g.num
+    g.den (frac_text f) g.positive e) in
     (same.first, same.second)
 
 -- ---- the columns of one line
@@ -74,7 +76,8 @@ record IsAlike (s t : Stroke) : Type 0 where
 tail_of : Stroke → List ℕ
 tail_of s = signed_decimal s.x1 ++ 32 ∷ (signed_decimal s.y1 ++ 32 ∷ (signed_decimal s.x2 ++ 32 ∷ (signed_decimal s.y2 ++ 10 ∷ [])))
 
-line_of : (s : Stroke) → stroke_line s ≡ decimal s.view ++ 32 ∷ (mark_word s.mark ++ 32 ∷ (frac_text s.u1 ++ 32 ∷ (frac_text s.v1 ++ 32 ∷ (frac_text s.u2 ++ 32 ∷ (frac_text s.v2 ++ 32 ∷ tail_of s)))))
+line_of : (s : Stroke)
+    → stroke_line s ≡ decimal s.view ++ 32 ∷ (mark_word s.mark ++ 32 ∷ (frac_text s.u1 ++ 32 ∷ (frac_text s.v1 ++ 32 ∷ (frac_text s.u2 ++ 32 ∷ (frac_text s.v2 ++ 32 ∷ tail_of s)))))
 unfolding tail_of
 line_of s = sym (append-nil (stroke_line s)) ∙ written (decimal s.view) (mark_word s.mark) (frac_text s.u1) (frac_text s.v1) (frac_text s.u2) (frac_text s.v2)
     (signed_decimal s.x1) (signed_decimal s.y1) (signed_decimal s.x2) (signed_decimal s.y2) []
@@ -84,7 +87,8 @@ free_fraction f h = free_short 32 (lit< tt) f h
 
 alike : (s t : Stroke) → IsListed s → IsListed t → stroke_line s ≡ stroke_line t → IsAlike s t
 alike s t h k e =
-    let a = same_parts 32 (decimal s.view) _ (decimal t.view) _ (free_natural 32 s.view (lit< tt) (view_size s.view h.view)) (free_natural 32 t.view (lit< tt) (view_size t.view k.view)) (sym (line_of s) ∙ e ∙ line_of t) in
+    let a = same_parts 32 (decimal s.view) _ (decimal t.view) _ (free_natural 32 s.view (lit< tt) (view_size s.view h.view)) (free_natural 32 t.view (lit< tt)
+    (view_size t.view k.view)) (sym (line_of s) ∙ e ∙ line_of t) in
     let b = same_parts 32 (mark_word s.mark) _ (mark_word t.mark) _ (free_word 32 (lit< tt) s.mark) (free_word 32 (lit< tt) t.mark) a.1 in
     let c = same_parts 32 (frac_text s.u1) _ (frac_text t.u1) _ (free_fraction s.u1 h.u1) (free_fraction t.u1 k.u1) b.1 in
     let d = same_parts 32 (frac_text s.v1) _ (frac_text t.v1) _ (free_fraction s.v1 h.v1) (free_fraction t.v1 k.v1) c.1 in

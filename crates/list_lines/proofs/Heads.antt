@@ -1,7 +1,9 @@
 -- Columns of one value and of two.
-use Rattle.std.proofs.Common.{◌≡◌, ◌≢◌, ℕ, ◌<◌, ◌≤◌, ◌^◌, List, ◌∷◌, ◌++◌, ℤ, pos, negsuc, unsigned_abs, Option, Some, None, MatchOption, w64, to_z, of_z, to_z-of_z, FitsSigned, Bool, true, false, codes, refl, sym, ◌∙◌, ap, subst, arith, lit≤, lit<}
-use Rattle.std.specs.Prelude.{if◌then◌else◌, ◌==◌}
+use Rattle.std.proofs.Common.{◌≡◌, ◌≢◌, ℕ, ◌<◌, ◌^◌, List, [], ◌∷◌, ◌++◌, ℤ, pos, negsuc, unsigned_abs, Option, Some, None, MatchOption, w64, to_z, of_z, to_z-of_z, FitsSigned, Bool, true, false, codes, refl, sym, ◌∙◌, ap, subst, arith, lit<}
+use Rattle.std.specs.Prelude.{nat_le, if◌then◌else◌, ◌==◌}
 use Rattle.std.specs.Fmt.{decimal, signed_decimal}
+use Rattle.std.specs.List.{list_all}
+use Rattle.std.proofs.lemmas.Bool.{and_parts, leb-true}
 use Rattle.std.proofs.lemmas.Int.{ints}
 use Rattle.exact_frac.specs.declared.Frac.{Frac}
 use Rattle.sheet_plan.specs.declared.sheet.Mark.{Mark}
@@ -21,7 +23,8 @@ pub no_value : {X : Type 0} (Holds : X → Type 0) (text_of : X → List ℕ) (e
 no_value Holds text_of end text head rest each free is none x tail h e =
     none x h (same_parts end head rest (text_of x) tail free (each x h) (sym is ∙ e)).0
 
-pub one_value : {X : Type 0} (Holds : X → Type 0) (text_of : X → List ℕ) (end : ℕ) (text head rest : List ℕ) (x : X) → ((x : X) → Holds x → IsFree end (text_of x)) → IsFree end head
+pub one_value : {X : Type 0} (Holds : X → Type 0) (text_of : X → List ℕ) (end : ℕ) (text head rest : List ℕ) (x : X) → ((x : X) → Holds x → IsFree end (text_of x))
+    → IsFree end head
     → text ≡ head ++ end ∷ rest → Holds x → head ≡ text_of x → IsColumn Holds text_of end text x rest
 one_value Holds text_of end text head rest x each free is holds read = record {
   holds = holds;
@@ -44,7 +47,8 @@ pub free_number : (end : ℕ) → end < 45 → (z : ℤ) → IsInRange z → IsF
 free_number end h z r = free_whole end z (below_48 end h) (not_45 end h) (number_size z r)
 
 -- the text of a fraction
-whole_form : (n d : ℤ) (end : ℕ) → end < 45 → unsigned_abs n < 2 ^ 104 → unsigned_abs d < 2 ^ 70 → (b : Bool) → IsFree end (if b then signed_decimal n else signed_decimal n ++ codes "/" ++ signed_decimal d)
+whole_form : (n d : ℤ) (end : ℕ) → end < 45 → unsigned_abs n < 2 ^ 104 → unsigned_abs d < 2 ^ 70 → (b : Bool)
+    → IsFree end (if b then signed_decimal n else signed_decimal n ++ codes "/" ++ signed_decimal d)
 whole_form n d end h num den true = free_whole end n (below_48 end h) (not_45 end h) num
 whole_form n d end h num den false =
     free-append end (signed_decimal n ++ codes "/") (signed_decimal d)
@@ -57,15 +61,18 @@ free_short end h f l = whole_form f.num f.den end h l.num l.den (unsigned_abs f.
 pub free_frac : (f : Frac) → IsListedFrac f → IsFree 32 (frac_text f)
 free_frac f l = free_short 32 (lit< tt) f l.small
 
--- a letter is none of the bytes that end a column
-letter : (end byte : ℕ) → end < 45 → 45 ≤ byte → byte ≢ end
-letter end byte h k = λ e. omega (arith, h, k, e)
+-- bytes from `-` on are none of those that end a column
+from_minus : (end : ℕ) (bytes : List ℕ) → end < 45 → list_all (nat_le 45) bytes ≡ true → IsFree end bytes
+from_minus end [] h k = tt
+from_minus end (byte ∷ bytes) h k =
+    let both = and_parts (nat_le 45 byte) (list_all (nat_le 45) bytes) k in
+    ((λ e. omega (arith, h, e, leb-true 45 byte both.0)), from_minus end bytes h both.1)
 
 pub free_word : (end : ℕ) → end < 45 → (m : Mark) → IsFree end (mark_word m)
-free_word end h Solid = (letter end 115 h (lit≤ tt), (letter end 111 h (lit≤ tt), (letter end 108 h (lit≤ tt), (letter end 105 h (lit≤ tt), (letter end 100 h (lit≤ tt), tt)))))
-free_word end h Dashed = (letter end 100 h (lit≤ tt), (letter end 97 h (lit≤ tt), (letter end 115 h (lit≤ tt), (letter end 104 h (lit≤ tt), (letter end 101 h (lit≤ tt), (letter end 100 h (lit≤ tt), tt))))))
-free_word end h Chain = (letter end 99 h (lit≤ tt), (letter end 104 h (lit≤ tt), (letter end 97 h (lit≤ tt), (letter end 105 h (lit≤ tt), (letter end 110 h (lit≤ tt), tt)))))
-free_word end h Hatch = (letter end 104 h (lit≤ tt), (letter end 97 h (lit≤ tt), (letter end 116 h (lit≤ tt), (letter end 99 h (lit≤ tt), (letter end 104 h (lit≤ tt), tt)))))
+free_word end h Solid = from_minus end (codes "solid") h refl
+free_word end h Dashed = from_minus end (codes "dashed") h refl
+free_word end h Chain = from_minus end (codes "chain") h refl
+free_word end h Hatch = from_minus end (codes "hatch") h refl
 
 pub free_mark : (m : Mark) → IsAny m → IsFree 32 (mark_word m)
 free_mark m h = free_word 32 (lit< tt) m
@@ -74,14 +81,16 @@ pub free_view : (least view : ℕ) → IsView least view → IsFree 32 (decimal 
 free_view least view h = free_natural 32 view (lit< tt) (omega (arith, h.size))
 
 -- ---- a number that is narrow enough
-pub view_none : (least n : ℕ) (bytes : List ℕ) → n < 2 ^ 104 → bytes ≡ decimal n → (o : Option ℕ) → MatchOption o (IsView least n → ⊥) (λ view. (view ≡ n) × IsView least n) → Reads (IsView least) decimal bytes o
+pub view_none : (least n : ℕ) (bytes : List ℕ) → n < 2 ^ 104 → bytes ≡ decimal n → (o : Option ℕ) → MatchOption o (IsView least n → ⊥) (λ view. (view ≡ n) × IsView least n)
+    → Reads (IsView least) decimal bytes o
 view_none least n bytes size is None none = λ v h e. none (subst (IsView least) (same_natural v n (omega (arith, h.size)) size (sym e ∙ is)) h)
 view_none least n bytes size is (Some view) same = (subst (IsView least) (sym same.0) same.1, is ∙ ap decimal (sym same.0))
 
 pub view_unread : (least : ℕ) (bytes : List ℕ) → ((n : ℕ) → n < 2 ^ 104 → bytes ≡ decimal n → ⊥) → (v : ℕ) → IsView least v → bytes ≡ decimal v → ⊥
 view_unread least bytes none v h e = none v (omega (arith, h.size)) e
 
-pub number_none : (z : ℤ) (bytes : List ℕ) → unsigned_abs z < 2 ^ 104 → bytes ≡ signed_decimal z → (o : Option ℤ) → MatchOption o (IsInRange z → ⊥) (λ narrow. (narrow ≡ z) × IsInRange z) → Reads IsInRange signed_decimal bytes o
+pub number_none : (z : ℤ) (bytes : List ℕ) → unsigned_abs z < 2 ^ 104 → bytes ≡ signed_decimal z → (o : Option ℤ)
+    → MatchOption o (IsInRange z → ⊥) (λ narrow. (narrow ≡ z) × IsInRange z) → Reads IsInRange signed_decimal bytes o
 number_none z bytes size is None none = λ y h e. none (subst IsInRange (same_whole y z (number_size y h) size (sym e ∙ is)) h)
 number_none z bytes size is (Some narrow) same = (subst IsInRange (sym same.0) same.1, is ∙ ap signed_decimal (sym same.0))
 

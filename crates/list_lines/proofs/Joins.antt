@@ -3,7 +3,8 @@ use Rattle.std.proofs.Common.{◌≡◌, ℕ, List, ◌∷◌, ◌++◌, sym, �
 use Rattle.list_lines.specs.Columns.{IsColumn, HasNoColumn}
 use Rattle.list_lines.specs.inner.Pairs.{Both, both_texts}
 
-apart : {X Y : Type 0} (first : X → List ℕ) (second : Y → List ℕ) (end : ℕ) (p : X × Y) (tail : List ℕ) → both_texts first second p ++ end ∷ tail ≡ first p.0 ++ 32 ∷ (second p.1 ++ end ∷ tail)
+apart : {X Y : Type 0} (first : X → List ℕ) (second : Y → List ℕ) (end : ℕ) (p : X × Y) (tail : List ℕ)
+    → both_texts first second p ++ end ∷ tail ≡ first p.0 ++ 32 ∷ (second p.1 ++ end ∷ tail)
 apart first second end p tail = append_assoc (first p.0) (32 ∷ second p.1) (end ∷ tail)
 
 pub no_first : {X Y : Type 0} (P : X → Type 0) (Q : Y → Type 0) (first : X → List ℕ) (second : Y → List ℕ) (end : ℕ) (text : List ℕ)

@@ -21,7 +21,8 @@ page_free : IsFree 32 (codes "page")
 page_free = search rules
 
 pub no_blank : (text : List ℕ) → IsFree 32 text → HasNoPage text
-no_blank text free page rest h e = not_free 32 (codes "page") (numbers_text page ++ 10 ∷ rest) (subst (IsFree 32) (e ∙ page_form (signed_decimal page.0) (signed_decimal page.1) rest) free)
+no_blank text free page rest h e =
+    not_free 32 (codes "page") (numbers_text page ++ 10 ∷ rest) (subst (IsFree 32) (e ∙ page_form (signed_decimal page.0) (signed_decimal page.1) rest) free)
 
 pub no_word : (text word behind : List ℕ) → IsFree 32 word → text ≡ word ++ 32 ∷ behind → word ≢ codes "page" → HasNoPage text
 no_word text word behind free is other page rest h e =
@@ -29,9 +30,11 @@ no_word text word behind free is other page rest h e =
 
 pub no_numbers : (text word behind : List ℕ) → IsFree 32 word → text ≡ word ++ 32 ∷ behind → HasNoColumn AreNumbers numbers_text 10 behind → HasNoPage text
 no_numbers text word behind free is none page rest h e =
-    none page rest h (same_parts 32 word behind (codes "page") (numbers_text page ++ 10 ∷ rest) free page_free (sym is ∙ e ∙ page_form (signed_decimal page.0) (signed_decimal page.1) rest)).1
+    none page rest h (same_parts 32 word behind (codes "page") (numbers_text page ++ 10 ∷ rest) free page_free
+    (sym is ∙ e ∙ page_form (signed_decimal page.0) (signed_decimal page.1) rest)).1
 
-pub a_page : (text word behind : List ℕ) (page : ℤ × ℤ) (rest : List ℕ) → text ≡ word ++ 32 ∷ behind → word ≡ codes "page" → IsColumn AreNumbers numbers_text 10 behind page rest → IsPageAt text rest
+pub a_page : (text word behind : List ℕ) (page : ℤ × ℤ) (rest : List ℕ) → text ≡ word ++ 32 ∷ behind → word ≡ codes "page"
+    → IsColumn AreNumbers numbers_text 10 behind page rest → IsPageAt text rest
 a_page text word behind page rest is same one = record {
   page = page;
   listed = one.holds;
@@ -104,19 +107,24 @@ no_line least text none s rest h from e =
       (
         tt,
         (
-          ((record { small = h.u1; lowest = s.u1_lowest }, record { small = h.v1; lowest = s.v1_lowest }), (record { small = h.u2; lowest = s.u2_lowest }, record { small = h.v2; lowest = s.v2_lowest })),
+          (
+            (record { small = h.u1; lowest = s.u1_lowest }, record { small = h.v1; lowest = s.v1_lowest }),
+            (record { small = h.u2; lowest = s.u2_lowest }, record { small = h.v2; lowest = s.v2_lowest }),
+          ),
           ((h.x1, h.y1), (h.x2, h.y2)),
         ),
       ),
     )
     (e ∙ stroke_form s rest)
 
-no_body : (least : ℕ) (text : List ℕ) (view : ℕ) (second : List ℕ) (mark : Mark) (third : List ℕ) → IsColumn (IsView least) decimal 32 text view second → IsColumn IsAny mark_word 32 second mark third
+no_body : (least : ℕ) (text : List ℕ) (view : ℕ) (second : List ℕ) (mark : Mark) (third : List ℕ) → IsColumn (IsView least) decimal 32 text view second
+    → IsColumn IsAny mark_word 32 second mark third
     → HasNoColumn IsDrawn drawn_text 10 third → HasNoEntry least text
 no_body least text view second mark third one two none =
     no_line least text (no_second (IsView least) IsMarked decimal marked_text 10 text view second one (no_second IsAny IsDrawn mark_word drawn_text 10 second mark third two none))
 
-pub no_ends : (least : ℕ) (text : List ℕ) (view : ℕ) (second : List ℕ) (mark : Mark) (third : List ℕ) → IsColumn (IsView least) decimal 32 text view second → IsColumn IsAny mark_word 32 second mark third
+pub no_ends : (least : ℕ) (text : List ℕ) (view : ℕ) (second : List ℕ) (mark : Mark) (third : List ℕ) → IsColumn (IsView least) decimal 32 text view second
+    → IsColumn IsAny mark_word 32 second mark third
     → HasNoColumn AreEnds ends_text 32 third → HasNoEntry least text
 no_ends least text view second mark third one two none = no_body least text view second mark third one two (no_first AreEnds ArePlaces ends_text places_text 10 third none)
 
@@ -146,7 +154,10 @@ stroke_of e h places = record {
 }
 
 pub an_entry : (least : ℕ) (text : List ℕ) (e : Entry) (second third fourth : List ℕ) (places : Points ℤ) (rest : List ℕ)
-    → IsColumn (IsView least) decimal 32 text e.view second → IsColumn IsAny mark_word 32 second e.mark third → IsColumn AreEnds ends_text 32 third ((e.u1, e.v1), (e.u2, e.v2)) fourth
+    → IsColumn (IsView least) decimal 32 text e.view second → IsColumn IsAny mark_word 32 second e.mark third → IsColumn AreEnds ends_text 32 third (
+      (e.u1, e.v1),
+      (e.u2, e.v2),
+    ) fourth
     → IsColumn ArePlaces places_text 10 fourth places rest → IsEntryAt least text e rest
 an_entry least text e second third fourth places rest one two three four =
     let drawn = both AreEnds ArePlaces ends_text places_text 10 third ((e.u1, e.v1), (e.u2, e.v2)) fourth places rest three four in

@@ -85,7 +85,8 @@ read_whole byte bytes n solid e = elim (next byte 0) [
   | inl none ↦ absurd (none-some n (sym (ap (option_and_then (read_on bytes)) none) ∙ e))
   | inr x ↦ (let more = read_more bytes (10 * 0 + (byte - 48)) n (first_value byte x.least solid) x.size (sym (ap (option_and_then (read_on bytes)) x.is) ∙ e) in
       let none : 10 * 0 + (byte - 48) ≡ byte - 48 = omega arith in
-      let same : decimal (10 * 0 + (byte - 48)) ≡ byte ∷ [] = ap decimal none ∙ decimal_digit (byte - 48) (digit_below byte x.least x.most) ∙ ap (λ (b : ℕ). b ∷ []) (glyph byte x.least) in
+      let same : decimal (10 * 0 + (byte - 48)) ≡ byte ∷ [] =
+      ap decimal none ∙ decimal_digit (byte - 48) (digit_below byte x.least x.most) ∙ ap (λ (b : ℕ). b ∷ []) (glyph byte x.least) in
       record { size = more.size; is = sym (ap (λ (t : List ℕ). t ++ bytes) same) ∙ more.is })
 ]
 
@@ -211,7 +212,8 @@ negative_none size none (negsuc n) small e =
 behind : (b : ℕ) (bs ds : List ℕ) → b ∷ bs ≡ 45 ∷ ds → bs ≡ ds
 behind b bs ds e = cc
 
-pub minus_none : (bytes digits : List ℕ) → bytes ≡ 45 ∷ digits → ((n : ℕ) → n < 2 ^ 104 → digits ≡ decimal n → ⊥) → (z : ℤ) → unsigned_abs z < 2 ^ 104 → bytes ≡ signed_decimal z → ⊥
+pub minus_none : (bytes digits : List ℕ) → bytes ≡ 45 ∷ digits → ((n : ℕ) → n < 2 ^ 104 → digits ≡ decimal n → ⊥) → (z : ℤ) → unsigned_abs z < 2 ^ 104
+    → bytes ≡ signed_decimal z → ⊥
 minus_none bytes digits is none (pos n) small e = let k = natural_led 45 digits n small (sym is ∙ e) in omega (arith, k)
 minus_none bytes digits is none (negsuc n) small e = none (suc n) small (behind 45 digits (decimal (suc n)) (sym is ∙ e))
 
@@ -224,7 +226,8 @@ plain_none bytes plain none (negsuc n) small e = plain (first_is bytes (decimal 
 
 pub same_whole : (y z : ℤ) → unsigned_abs y < 2 ^ 104 → unsigned_abs z < 2 ^ 104 → signed_decimal y ≡ signed_decimal z → y ≡ z
 same_whole (pos m) (pos n) h k e = ap pos (same_natural m n h k e)
-same_whole (negsuc m) (negsuc n) h k e = let same : suc m ≡ suc n = same_natural (suc m) (suc n) h k (behind 45 (decimal (suc m)) (decimal (suc n)) e) in let one : m ≡ n = omega (arith, same) in ap negsuc one
+same_whole (negsuc m) (negsuc n) h k e =
+    let same : suc m ≡ suc n = same_natural (suc m) (suc n) h k (behind 45 (decimal (suc m)) (decimal (suc n)) e) in let one : m ≡ n = omega (arith, same) in ap negsuc one
 same_whole (pos m) (negsuc n) h k e = absurd (let least = natural_led 45 (decimal (suc n)) m h (sym e) in omega (arith, least))
 same_whole (negsuc m) (pos n) h k e = absurd (let least = natural_led 45 (decimal (suc m)) n k e in omega (arith, least))
 
@@ -233,7 +236,8 @@ larger : (byte m : ℕ) → byte < 48 → 48 + m ≢ byte
 larger byte m h = λ e. omega (arith, h, e)
 
 pub free_natural : (byte n : ℕ) → byte < 48 → n < 2 ^ 104 → IsFree byte (decimal n)
-free_natural byte n h size = decimal_by_steps_wide (λ m ds. IsFree byte ds) (λ m small. (larger byte m h, tt)) (λ m ds least x. free-append byte ds ((48 + m % 10) ∷ []) x (larger byte (m % 10) h, tt)) n (below n size)
+free_natural byte n h size = decimal_by_steps_wide (λ m ds. IsFree byte ds) (λ m small. (larger byte m h, tt)) (λ m ds least x. free-append byte ds ((48 + m % 10) ∷ []) x
+    (larger byte (m % 10) h, tt)) n (below n size)
 
 pub free_whole : (byte : ℕ) (z : ℤ) → byte < 48 → 45 ≢ byte → unsigned_abs z < 2 ^ 104 → IsFree byte (signed_decimal z)
 free_whole byte (pos n) h k size = free_natural byte n h size

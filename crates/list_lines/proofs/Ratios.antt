@@ -53,7 +53,8 @@ parts num den f free l e = elim (forms f.num f.den (num ++ 47 ∷ den) f.positiv
       record { more = two.more; num_is = both.0; den_is = both.1 })
 ]
 
-pub no_num : (num den : List ℕ) → IsFree 47 num → ((z : ℤ) → unsigned_abs z < 2 ^ 104 → num ≡ signed_decimal z → ⊥) → (f : Frac) → IsListedFrac f → num ++ 47 ∷ den ≡ frac_text f → ⊥
+pub no_num : (num den : List ℕ) → IsFree 47 num → ((z : ℤ) → unsigned_abs z < 2 ^ 104 → num ≡ signed_decimal z → ⊥) → (f : Frac) → IsListedFrac f
+    → num ++ 47 ∷ den ≡ frac_text f → ⊥
 no_num num den free none f l e = let p = parts num den f free l e in none f.num l.small.num p.num_is
 
 pub den_size : (n : ℕ) → n < 2 ^ 70 → n < 2 ^ 104
@@ -132,7 +133,10 @@ no_ratio a b n g is h other r = other (ap (of_z w128) (one_divisor a n g (subst 
 pub whole_listed : (f : Frac) → unsigned_abs f.num < 2 ^ 104 → f.den ≡ pos 1 → IsListedFrac f
 whole_listed f size one = record {
   small = record { num = size; den = subst (λ (d : ℤ). unsigned_abs d < 2 ^ 70) (sym one) (lit< tt) };
-  lowest = subst (λ (d : ℤ). IsGreatestDivisor f.num d (pos 1)) (sym one) record { not_negative = omega (arith, ints); greatest = (one-dvd (unsigned_abs f.num), dvd_refl 1, λ k h own. own) };
+  lowest = subst (λ (d : ℤ). IsGreatestDivisor f.num d (pos 1)) (sym one) record {
+    not_negative = omega (arith, ints);
+    greatest = (one-dvd (unsigned_abs f.num), dvd_refl 1, λ k h own. own);
+  };
 }
 
 pub whole_fits : (z : ℤ) → unsigned_abs z < 2 ^ 104 → unsigned_abs z < 2 ^ 127

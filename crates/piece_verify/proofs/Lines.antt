@@ -26,7 +26,8 @@ pieces_behind (byte ∷ bytes) rest free = rw (ne_eqb byte 10 free.0, pieces_beh
 
 pub pieces_of_line : (line rest : List ℕ) → IsLine line → pieces_of (line ++ rest) ≡ line ∷ pieces_of rest
 pieces_of_line line rest l =
-    ap (λ (t : List ℕ). pieces_of (t ++ rest)) l.is ∙ ap pieces_of (append_assoc l.bytes (10 ∷ []) rest) ∙ pieces_behind l.bytes rest l.free ∙ ap (λ (t : List ℕ). t ∷ pieces_of rest) (sym l.is)
+    ap (λ (t : List ℕ). pieces_of (t ++ rest)) l.is ∙ ap pieces_of (append_assoc l.bytes (10 ∷ []) rest) ∙ pieces_behind l.bytes rest l.free
+    ∙ ap (λ (t : List ℕ). t ∷ pieces_of rest) (sym l.is)
 
 begun_joined : (byte : ℕ) (lines : List (List ℕ)) → concat (begun_by byte lines) ≡ byte ∷ concat lines
 begun_joined byte [] = refl

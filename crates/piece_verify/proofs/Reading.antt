@@ -71,7 +71,8 @@ from_zero : (strokes : List Stroke) → All (λ t. 0 ≤ t.view) strokes
 from_zero strokes k d within = omega arith
 
 -- ---- their lines
-pieces_of_strokes : (least : ℕ) (strokes : List Stroke) (rest : List ℕ) → IsRising least strokes → pieces_of (flat_map stroke_line strokes ++ rest) ≡ map stroke_line strokes ++ pieces_of rest
+pieces_of_strokes : (least : ℕ) (strokes : List Stroke) (rest : List ℕ) → IsRising least strokes
+    → pieces_of (flat_map stroke_line strokes ++ rest) ≡ map stroke_line strokes ++ pieces_of rest
 pieces_of_strokes least [] rest r = refl
 pieces_of_strokes least (s ∷ strokes) rest r =
     ap pieces_of (append_assoc (stroke_line s) (flat_map stroke_line strokes) rest) ∙ pieces_of_line (stroke_line s) (flat_map stroke_line strokes ++ rest) (a_stroke_line s r.0)
@@ -85,7 +86,8 @@ lines_of_list page strokes rest h r =
 
 whole_list : (page : ℤ × ℤ) (strokes : List Stroke) → IsListedPage page → IsRising 0 strokes → lines_of (list_of page strokes) ≡ page_line page ∷ map stroke_line strokes
 whole_list page strokes h r =
-    ap lines_of (sym (append-nil (list_of page strokes))) ∙ lines_of_list page strokes [] h r ∙ ap (λ (t : List (List ℕ)). page_line page ∷ t) (append-nil (map stroke_line strokes))
+    ap lines_of (sym (append-nil (list_of page strokes))) ∙ lines_of_list page strokes [] h r
+    ∙ ap (λ (t : List (List ℕ)). page_line page ∷ t) (append-nil (map stroke_line strokes))
 
 -- ---- no list goes on so
 no_line : (line : List ℕ) (lines : List (List ℕ)) → [] ≡ line ∷ lines → ⊥
@@ -136,7 +138,8 @@ started text rest p = record {
   written = p.written ∙ ap (λ (t : List ℕ). t ++ rest) (sym (append-nil (page_line p.page)));
 }
 
-zip-push : (strokes : List Stroke) (entries : List Entry) (s : Stroke) (e : Entry) → AllZip IsEntryOf strokes entries → IsEntryOf s e → AllZip IsEntryOf (strokes ++ s ∷ []) (entries ++ e ∷ [])
+zip-push : (strokes : List Stroke) (entries : List Entry) (s : Stroke) (e : Entry) → AllZip IsEntryOf strokes entries → IsEntryOf s e
+    → AllZip IsEntryOf (strokes ++ s ∷ []) (entries ++ e ∷ [])
 zip-push [] [] s e h k = (k, tt)
 zip-push [] (x ∷ entries) s e h k = absurd h
 zip-push (x ∷ strokes) [] s e h k = absurd h
@@ -156,10 +159,17 @@ one_more text entries least rest e behind r x = record {
       ∙ ap (λ (t : List ℕ). t ++ behind) (flat_map_more stroke_line (page_line r.page) r.strokes x.stroke);
 }
 
-pub all_read : (text : List ℕ) (entries : List Entry) (least : ℕ) → IsReadTo text entries least [] → (strokes : List Stroke) × IsList text strokes × AllZip IsEntryOf strokes entries
+pub all_read : (text : List ℕ) (entries : List Entry) (least : ℕ) → IsReadTo text entries least []
+    → (strokes : List Stroke) × IsList text strokes × AllZip IsEntryOf strokes entries
 all_read text entries least r = (
   r.strokes,
-  record { page = r.page; listed_page = r.listed_page; listed = listed 0 r.strokes r.rises; rising = paired 0 r.strokes r.rises; written = r.written ∙ append-nil (list_of r.page r.strokes) },
+  record {
+    page = r.page;
+    listed_page = r.listed_page;
+    listed = listed 0 r.strokes r.rises;
+    rising = paired 0 r.strokes r.rises;
+    written = r.written ∙ append-nil (list_of r.page r.strokes);
+  },
   r.each,
 )
 
@@ -201,25 +211,29 @@ first_fault text none = record {
 two_more : (n : ℕ) → n + 2 ≡ suc (suc n)
 two_more n = omega arith
 
-later_none : (text : List ℕ) (entries : List Entry) (least : ℕ) (rest : List ℕ) (r : IsReadTo text entries least rest) → rest ≢ [] → HasNoEntry least rest → BeginsList text (suc (suc (length r.strokes))) → ⊥
+later_none : (text : List ℕ) (entries : List Entry) (least : ℕ) (rest : List ℕ) (r : IsReadTo text entries least rest) → rest ≢ [] → HasNoEntry least rest
+    → BeginsList text (suc (suc (length r.strokes))) → ⊥
 later_none text entries least rest r some none b =
     let begun = lines_of_begun b.list b.strokes b.is_list in
-    let here : lines_of text ≡ page_line r.page ∷ (map stroke_line r.strokes ++ pieces_of rest) = ap lines_of r.written ∙ lines_of_list r.page r.strokes rest r.listed_page r.rises in
+    let here : lines_of text ≡ page_line r.page ∷ (map stroke_line r.strokes ++ pieces_of rest) =
+    ap lines_of r.written ∙ lines_of_list r.page r.strokes rest r.listed_page r.rises in
     let n = suc (suc (length r.strokes)) in
-    let same : take (suc (suc (length r.strokes))) (page_line b.is_list.page ∷ map stroke_line b.strokes) ≡ take (suc (suc (length r.strokes))) (page_line r.page ∷ (map stroke_line r.strokes ++ pieces_of rest))
+    let same : take n (page_line b.is_list.page ∷ map stroke_line b.strokes) ≡ take n (page_line r.page ∷ (map stroke_line r.strokes ++ pieces_of rest))
     = ap (take n) (sym begun) ∙ b.same ∙ ap (take n) here in
     let tail : take (suc (length r.strokes)) (map stroke_line b.strokes) ≡ take (suc (length r.strokes)) (map stroke_line r.strokes ++ pieces_of rest) = cc in
     differ 0 r.strokes b.strokes rest r.rises (rises_of b.list b.strokes b.is_list) some (subst (λ (v : ℕ). HasNoEntry v rest) (sym r.last) none) tail
 
 later_begins : (text : List ℕ) (entries : List Entry) (least : ℕ) (rest : List ℕ) (r : IsReadTo text entries least rest) (m : ℕ) → m ≤ length r.strokes + 1 → BeginsList text m
 later_begins text entries least rest r m h =
-    let here : lines_of text ≡ page_line r.page ∷ (map stroke_line r.strokes ++ pieces_of rest) = ap lines_of r.written ∙ lines_of_list r.page r.strokes rest r.listed_page r.rises in
+    let here : lines_of text ≡ page_line r.page ∷ (map stroke_line r.strokes ++ pieces_of rest) =
+    ap lines_of r.written ∙ lines_of_list r.page r.strokes rest r.listed_page r.rises in
     let size : length (page_line r.page ∷ map stroke_line r.strokes) ≡ length r.strokes + 1 = omega (arith, length-map r.strokes stroke_line) in
     record {
       list = list_of r.page r.strokes;
       strokes = r.strokes;
       is_list = a_list r.page r.strokes r.listed_page r.rises;
-      same = ap (take m) (whole_list r.page r.strokes r.listed_page r.rises) ∙ sym (take-append-le m (page_line r.page ∷ map stroke_line r.strokes) (pieces_of rest) (omega (arith, size, h))) ∙ ap (take m) (sym here);
+      same = ap (take m) (whole_list r.page r.strokes r.listed_page r.rises)
+          ∙ sym (take-append-le m (page_line r.page ∷ map stroke_line r.strokes) (pieces_of rest) (omega (arith, size, h))) ∙ ap (take m) (sym here);
     }
 
 zip_length : (strokes : List Stroke) (entries : List Entry) → AllZip IsEntryOf strokes entries → length strokes ≡ length entries
@@ -228,7 +242,8 @@ zip_length [] (e ∷ entries) h = absurd h
 zip_length (s ∷ strokes) [] h = absurd h
 zip_length (s ∷ strokes) (e ∷ entries) h = ap suc (zip_length strokes entries h.1)
 
-pub later_fault : (text : List ℕ) (entries : List Entry) (least : ℕ) (rest : List ℕ) → IsReadTo text entries least rest → rest ≢ [] → HasNoEntry least rest → IsFaultLine text (length entries + 2)
+pub later_fault : (text : List ℕ) (entries : List Entry) (least : ℕ) (rest : List ℕ) → IsReadTo text entries least rest → rest ≢ [] → HasNoEntry least rest
+    → IsFaultLine text (length entries + 2)
 later_fault text entries least rest r some none =
     let size = zip_length r.strokes entries r.each in
     record {
@@ -249,7 +264,8 @@ same_lines least (s ∷ strokes) (o ∷ others) (entry ∷ entries) r rises e z 
     let view : s.view ≡ o.view = same_view s o r.0 rises.0 head in
     (same_entry s o entry r.0 rises.0 head z.0, same_lines s.view strokes others entries r.2 (subst (λ (v : ℕ). IsRising v others) (sym view) rises.2) tail z.1)
 
-pub one_list : (text : List ℕ) (strokes others : List Stroke) (entries : List Entry) → IsList text strokes → IsList text others → AllZip IsEntryOf strokes entries → AllZip IsEntryOf others entries
+pub one_list : (text : List ℕ) (strokes others : List Stroke) (entries : List Entry) → IsList text strokes → IsList text others → AllZip IsEntryOf strokes entries
+    → AllZip IsEntryOf others entries
 one_list text strokes others entries l k z =
     let same : page_line l.page ∷ map stroke_line strokes ≡ page_line k.page ∷ map stroke_line others = sym (lines_of_begun text strokes l) ∙ lines_of_begun text others k in
     let tail : map stroke_line strokes ≡ map stroke_line others = cc in

@@ -9,7 +9,8 @@ returns-in_err-column c = rw c.from_residual.ensures (no_end IsListedFrac frac_t
 pub returns-in_err-fraction : goal.returns-in_err-fraction
 returns-in_err-fraction c =
     rw c.from_residual-in_err-fraction.ensures
-    (no_value IsListedFrac frac_text 32 c.args.text.now c.in_ok-column.column.now c.in_ok-column.rest.now free_frac c.in_ok-column.ensures.0 c.in_ok-column.ensures.1 c.in_err-fraction.ensures)
+    (no_value IsListedFrac frac_text 32 c.args.text.now c.in_ok-column.column.now c.in_ok-column.rest.now free_frac c.in_ok-column.ensures.0 c.in_ok-column.ensures.1
+    c.in_err-fraction.ensures)
 
 pub returns : goal.returns
 returns c =

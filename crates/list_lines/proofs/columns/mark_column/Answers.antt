@@ -6,4 +6,5 @@ use Rattle.list_lines.proofs.columns.mark_column.Goals as goal
 pub returns-in_err-mark : goal.returns-in_err-mark
 returns-in_err-mark c =
     rw c.from_residual-in_err-mark.ensures
-    (no_value IsAny mark_word 32 c.args.text.now c.in_ok-column.column.now c.in_ok-column.rest.now free_mark c.in_ok-column.ensures.0 c.in_ok-column.ensures.1 c.in_err-mark.ensures)
+    (no_value IsAny mark_word 32 c.args.text.now c.in_ok-column.column.now c.in_ok-column.rest.now free_mark c.in_ok-column.ensures.0 c.in_ok-column.ensures.1
+    c.in_err-mark.ensures)

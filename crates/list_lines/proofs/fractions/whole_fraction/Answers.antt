@@ -6,7 +6,9 @@ pub returns-in_err-whole : goal.returns-in_err-whole
 returns-in_err-whole c = rw c.from_residual.ensures (no_whole c.args.bytes.now c.requires c.in_err-whole.ensures)
 
 pub invariant_of-result : goal.invariant_of-result
-invariant_of-result c = let same = kept c.in_ok-whole.field-0 c.in_ok-whole.ensures.0 in record { positive = search rules; not_least = rw same (whole_fits c.in_ok-whole.field-0 c.in_ok-whole.ensures.0) }
+invariant_of-result c =
+    let same = kept c.in_ok-whole.field-0 c.in_ok-whole.ensures.0 in
+    record { positive = search rules; not_least = rw same (whole_fits c.in_ok-whole.field-0 c.in_ok-whole.ensures.0) }
 
 pub returns : goal.returns
 returns c =

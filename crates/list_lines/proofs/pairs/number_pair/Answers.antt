@@ -10,7 +10,8 @@ returns-in_err-first c = rw c.from_residual.ensures (no_first IsInRange IsInRang
 pub returns-in_err-second : goal.returns-in_err-second
 returns-in_err-second c =
     rw c.from_residual-in_err-second.ensures
-    (no_second IsInRange IsInRange signed_decimal signed_decimal c.args.end c.args.text.now c.in_ok-first.first c.in_ok-first.text.now c.in_ok-first.ensures c.in_err-second.ensures)
+    (no_second IsInRange IsInRange signed_decimal signed_decimal c.args.end c.args.text.now c.in_ok-first.first c.in_ok-first.text.now c.in_ok-first.ensures
+    c.in_err-second.ensures)
 
 pub returns : goal.returns
 returns c =

@@ -20,13 +20,15 @@ pub returns-in_default-read_entry-clause-fault : goal.returns-in_default-read_en
 returns-in_default-read_entry-clause-fault c = λ f e.
     let size : c.len.result ≡ length c.loop-rest.entries.items = search rules in
     let some : c.loop-rest.rest.now ≢ [] = some_rest c.loop-rest.rest.now (search rules) in
-    subst (IsFaultLine c.args.bytes.now) (ap (λ (n : ℕ). n + 2) (sym size) ∙ line_of c.fault-in_default-read_entry.result (c.len.result + 2) f c.fault-in_default-read_entry.ensures e)
+    subst (IsFaultLine c.args.bytes.now) (ap (λ (n : ℕ). n + 2) (sym size) ∙ line_of c.fault-in_default-read_entry.result (c.len.result + 2) f
+    c.fault-in_default-read_entry.ensures e)
     (later_fault c.args.bytes.now c.loop-rest.entries.items c.loop-rest.least c.loop-rest.rest.now c.loop-rest.invariant.read some c.in_default-read_entry.ensures)
 
 pub loop-rest-preserved : goal.loop-rest-preserved
 loop-rest-preserved c =
     let less = shorter_entry c.loop-rest.least c.loop-rest.rest.now c.in-Some-read_entry.entry c.in-Some-read_entry.behind.now c.in-Some-read_entry.ensures in
-    let more : length c.push.new.self.items ≡ length c.loop-rest.entries.items + 1 = rw (c.in_ok-push.ensures.items) (length-append c.loop-rest.entries.items (c.in-Some-read_entry.entry ∷ [])) in
+    let more : length c.push.new.self.items ≡ length c.loop-rest.entries.items + 1 =
+    rw (c.in_ok-push.ensures.items) (length-append c.loop-rest.entries.items (c.in-Some-read_entry.entry ∷ [])) in
     record {
       read =
           rw c.in_ok-push.ensures.items
