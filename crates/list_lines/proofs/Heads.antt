@@ -1,4 +1,4 @@
--- Columns of one value and of two.
+-- Columns of one value.
 use Rattle.std.proofs.Common.{◌≡◌, ◌≢◌, ℕ, ◌<◌, ◌^◌, List, [], ◌∷◌, ◌++◌, ℤ, pos, negsuc, unsigned_abs, Option, Some, None, MatchOption, w64, to_z, of_z, to_z-of_z, FitsSigned, Bool, true, false, codes, refl, sym, ◌∙◌, ap, subst, arith, lit<}
 use Rattle.std.specs.Prelude.{nat_le, if◌then◌else◌, ◌==◌}
 use Rattle.std.specs.Fmt.{decimal, signed_decimal}
