@@ -3,9 +3,6 @@ ghost use Rattle.std.specs.Prelude.{◌≡◌, ◌≤◌, length, IfOk, IsErrOf}
 ghost use Rattle.desk.specs.Files.{Rose};
 ghost use Rattle.disk_desk.specs.Disk.{disk_state};
 
-#[cfg(test)]
-mod tests;
-
 use crate::identity::Fetched;
 use crate::reading::{Reading, read_at};
 use crate::writing::keep_file;

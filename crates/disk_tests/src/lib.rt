@@ -1,0 +1,9 @@
+//! Tests of the desk of real files: files, a pipe, texts that are said and warned, and what a desk doesn't overwrite.
+#![tactic(auto)]
+
+#[cfg(test)]
+mod files;
+#[cfg(test)]
+mod folders;
+#[cfg(test)]
+mod names;
