@@ -9,7 +9,7 @@ use cross_find::{Crossing, Meter};
 use cut_count::{border_cross, cut_bound, cut_cross, spans_cut};
 use cut_plane::{Section, borders};
 use edge_pick::{Crease, Picked, pick};
-use exact_frac::Frac;
+use exact_frac::{Frac, OutOfMemory};
 use fixtures::{
     BENEATH, BENEATH_CORNERS, CORNERS, CUBES, INWARD_TEXT, LEAN, LEAN_CORNERS, SHELL_CORNERS,
     SHELLS, TUBE, TUBE_CORNERS, is_seen, solid, solid_of,
@@ -19,10 +19,15 @@ use solid_mesh::Solid;
 use span_count::{AllOutlines, CountSpan, EdgeSpans};
 use span_slow::{Span, View, spans_slow};
 use std::alloc::Global;
-use std::test::Fail;
+use std::process::Abort;
 
 // The counted spans are hidden where the plain program's are.
-fn is_told(alloc: Global, solid: &Solid, section: &Section, entry: &EdgeSpans) -> Result<bool, Fail>
+fn is_told(
+    alloc: Global,
+    solid: &Solid,
+    section: &Section,
+    entry: &EdgeSpans,
+) -> Result<bool, OutOfMemory>
     requires borders { AreBorders (plane_of section.now.cut) (solid_part solid.now) section.now.segments.items section.now.loops.items }
 {
     if !is_seen(solid, &section.cut.dir(), entry.edge) {
@@ -125,16 +130,19 @@ fn is_added_up(solid: &Solid, section: &Section, picked: &Picked, entry: &EdgeSp
 }
 
 // The first edge of a cut view at which the counts differ from the plain program, or from the sums of single tests.
-fn first_other(alloc: Global, solid: &Solid, cut: &Cut) -> Result<Option<u32>, Fail> {
+fn first_other(
+    rt: &impl Abort,
+    alloc: Global,
+    solid: &Solid,
+    cut: &Cut,
+) -> Result<Option<u32>, OutOfMemory> {
     let section = borders(alloc, solid, cut)?;
     let picked = pick(alloc, solid, &section.cut.dir(), Crease::Normal)?;
     let most = cut_bound(solid, &section, &picked);
     let finder = AllOutlines::new(&picked);
     let mut meter = Meter { tests: 0 };
     let entries = spans_cut(alloc, solid, &section, &picked, &finder, &mut meter)?;
-    if meter.tests > most {
-        return Err("too many tests".into());
-    }
+    assert!(rt; meter.tests <= most, "too many tests");
     for entry in &entries {
         if !is_told(alloc, solid, &section, entry)?
             || !is_added_up(solid, &section, &picked, entry)
@@ -145,38 +153,69 @@ fn first_other(alloc: Global, solid: &Solid, cut: &Cut) -> Result<Option<u32>, F
     Ok(None)
 }
 
-#[test]
-fn cut_counts_tell_what_the_plain_program_finds(rt: HostRuntime) -> Result<(), Fail> {
-    let alloc = rt.alloc();
-    let tube = solid(alloc, &TUBE_CORNERS, &TUBE).ok_or("no tube")?;
-    let shells = solid(alloc, &SHELL_CORNERS, &SHELLS).ok_or("no shells")?;
-    let beneath = solid(alloc, &BENEATH_CORNERS, &BENEATH).ok_or("no part")?;
-    // What a cut leaves of this tetrahedron is seen within its section.
+// A tetrahedron beneath a cube of which what a cut leaves is seen within its section.
+fn narrow(alloc: Global) -> Option<Solid> {
     let mut corners = BENEATH_CORNERS;
     corners[11] = [10_500, 3_500, -1_000];
-    let narrow = solid(alloc, &corners, &BENEATH).ok_or("no part")?;
-    let lean = solid(alloc, &LEAN_CORNERS, &LEAN).ok_or("no part")?;
-    let cubes = solid(alloc, &CORNERS, &CUBES).ok_or("no cubes")?;
-    let inward = solid_of(alloc, INWARD_TEXT).ok_or("no part")?;
-    for (name, part, axis, at, from_high) in [
-        ("tube", &tube, Axis::Y, 15_000, false),
-        ("tube along its bore's wall", &tube, Axis::Y, 10_000, false),
-        ("tube before", &tube, Axis::Y, -1_000, false),
-        ("tube behind", &tube, Axis::Y, 40_000, false),
-        ("tube from above", &tube, Axis::Z, 10_000, true),
-        ("shells", &shells, Axis::Z, 15_000, true),
-        ("beneath", &beneath, Axis::Z, 5_000, true),
-        ("beneath from below", &beneath, Axis::Z, -2_500, false),
-        ("narrow from below", &narrow, Axis::Z, -1_500, false),
-        ("lean", &lean, Axis::Z, 5, true),
-        ("lean from the low side", &lean, Axis::X, 5, false),
-        ("cubes", &cubes, Axis::Y, 5, false),
-        ("inward", &inward, Axis::X, 15_000, true),
-    ] {
-        let Ok(cut) = Cut::new(axis, at, from_high) else {
-            return Err("no cut".into());
+    solid(alloc, &corners, &BENEATH)
+}
+
+// The axis and the place of a plane, and whether it is seen from the high side.
+type Plane = (Axis, i64, bool);
+
+// Across the bore, along its wall, before the tube and behind it, and from above.
+const TUBE_PLANES: [Plane; 5] = [
+    (Axis::Y, 15_000, false),
+    (Axis::Y, 10_000, false),
+    (Axis::Y, -1_000, false),
+    (Axis::Y, 40_000, false),
+    (Axis::Z, 10_000, true),
+];
+
+const BENEATH_PLANES: [Plane; 2] = [(Axis::Z, 5_000, true), (Axis::Z, -2_500, false)];
+
+const LEAN_PLANES: [Plane; 2] = [(Axis::Z, 5, true), (Axis::X, 5, false)];
+
+fn check(rt: &impl Abort, alloc: Global, name: &str, part: Option<Solid>, planes: &[Plane]) {
+    let Some(part) = part else {
+        panic!(rt; "no {name}");
+    };
+    for (axis, at, from_high) in planes {
+        let Ok(cut) = Cut::new(*axis, *at, *from_high) else {
+            panic!(rt; "no cut");
         };
-        assert_eq!(rt; first_other(alloc, part, &cut)?, None, "{name}");
+        match first_other(rt, alloc, &part, &cut) {
+            Ok(other) => assert!(rt; other.is_none(), "{name}, {axis:?}, {at}: {other:?}"),
+            Err(_) => panic!(rt; "no memory"),
+        }
     }
-    Ok(())
+}
+
+#[test]
+fn cut_counts_tell_what_the_plain_program_finds(rt: HostRuntime) {
+    let alloc = rt.alloc();
+    let tube = solid(alloc, &TUBE_CORNERS, &TUBE);
+    check(&rt, alloc, "tube", tube, &TUBE_PLANES);
+    let shells = solid(alloc, &SHELL_CORNERS, &SHELLS);
+    check(&rt, alloc, "shells", shells, &[(Axis::Z, 15_000, true)]);
+    let beneath = solid(alloc, &BENEATH_CORNERS, &BENEATH);
+    check(&rt, alloc, "beneath", beneath, &BENEATH_PLANES);
+    check(
+        &rt,
+        alloc,
+        "narrow from below",
+        narrow(alloc),
+        &[(Axis::Z, -1_500, false)],
+    );
+    let lean = solid(alloc, &LEAN_CORNERS, &LEAN);
+    check(&rt, alloc, "lean", lean, &LEAN_PLANES);
+    let cubes = solid(alloc, &CORNERS, &CUBES);
+    check(&rt, alloc, "cubes", cubes, &[(Axis::Y, 5, false)]);
+    check(
+        &rt,
+        alloc,
+        "inward",
+        solid_of(alloc, INWARD_TEXT),
+        &[(Axis::X, 15_000, true)],
+    );
 }

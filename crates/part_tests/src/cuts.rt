@@ -3,85 +3,91 @@ use crate::shares::share;
 use cross_find::Meter;
 use cut_count::border_cover;
 use cut_plane::{Section, borders, inside};
-use exact_frac::Frac;
+use exact_frac::{Frac, OutOfMemory};
 use fixtures::{
     BENEATH, BENEATH_CORNERS, SHELL_CORNERS, SHELLS, TUBE, TUBE_CORNERS, section, solid,
 };
 use lattice::{Axis, Corner, Cut, Dir, Spot, across, upward};
 use section_parity::crossings;
-use std::alloc::{AllocError, Global};
-use std::test::Fail;
+use solid_mesh::Solid;
+use std::alloc::Global;
+use std::process::Abort;
 
-fn tube(alloc: Global, axis: Axis, at: i64, from_high: bool) -> Result<Section, Fail> {
-    let tube = solid(alloc, &TUBE_CORNERS, &TUBE).ok_or("no tube")?;
-    Ok(section(alloc, &tube, axis, at, from_high).ok_or("no section")?)
+fn tube(alloc: Global, axis: Axis, at: i64, from_high: bool) -> Option<Section> {
+    let tube = solid(alloc, &TUBE_CORNERS, &TUBE)?;
+    section(alloc, &tube, axis, at, from_high)
 }
 
-fn shells(alloc: Global) -> Result<Section, Fail> {
-    let shells = solid(alloc, &SHELL_CORNERS, &SHELLS).ok_or("no shells")?;
-    Ok(section(alloc, &shells, Axis::Z, 15_000, true).ok_or("no section")?)
+fn shells(alloc: Global) -> Option<Section> {
+    let shells = solid(alloc, &SHELL_CORNERS, &SHELLS)?;
+    section(alloc, &shells, Axis::Z, 15_000, true)
 }
 
-// The triangles of the segments.
-fn numbers(alloc: Global, section: &Section) -> Result<Vec<u32>, AllocError> {
-    section
-        .segments
-        .iter()
-        .map(|segment| segment.tri)
-        .collect(alloc)
+// The section has segments of these triangles, and its loops begin at these places.
+fn is_made_of(section: &Section, triangles: &[u32], loops: &[u32]) -> bool {
+    for (segment, tri) in section.segments.iter().zip(triangles) {
+        if segment.tri != *tri {
+            return false;
+        }
+    }
+    section.segments.len() == triangles.len() && *section.loops.as_slice() == *loops
 }
+
+fn check_loops(rt: &impl Abort, section: Option<Section>, triangles: &[u32], loops: &[u32]) {
+    let Some(section) = section else {
+        panic!(rt; "no section");
+    };
+    assert!(rt; is_made_of(&section, triangles, loops), "{section:?}");
+}
+
+const ACROSS_Y: [u32; 16] = [2, 3, 18, 19, 11, 10, 27, 26, 6, 30, 31, 14, 15, 23, 22, 7];
+
+const ACROSS_X: [u32; 14] = [0, 1, 16, 19, 18, 21, 20, 5, 4, 28, 27, 26, 25, 24];
+
+const OF_SHELLS: [u32; 16] = [4, 7, 6, 9, 8, 11, 10, 5, 16, 19, 18, 21, 20, 23, 22, 17];
 
 #[test]
-fn loops_of_cuts(rt: HostRuntime) -> Result<(), Fail> {
+fn loops_of_cuts(rt: HostRuntime) {
     let alloc = rt.alloc();
-    for (section, triangles, loops) in [
-        (
-            tube(alloc, Axis::Y, 15_000, false)?,
-            [2, 3, 18, 19, 11, 10, 27, 26, 6, 30, 31, 14, 15, 23, 22, 7].as_slice(),
-            [0, 8].as_slice(),
-        ),
-        (
-            tube(alloc, Axis::X, 25_000, false)?,
-            &[0, 1, 16, 19, 18, 21, 20, 5, 4, 28, 27, 26, 25, 24],
-            &[0],
-        ),
-        (
-            shells(alloc)?,
-            &[4, 7, 6, 9, 8, 11, 10, 5, 16, 19, 18, 21, 20, 23, 22, 17],
-            &[0, 8],
-        ),
-        // This one takes nothing away.
-        (tube(alloc, Axis::Y, -1_000, false)?, &[], &[]),
-    ] {
-        assert_eq!(rt; numbers(alloc, &section)?.as_slice(), triangles);
-        assert_eq!(rt; section.loops.as_slice(), loops);
-    }
-    Ok(())
+    check_loops(&rt, tube(alloc, Axis::Y, 15_000, false), &ACROSS_Y, &[0, 8]);
+    check_loops(&rt, tube(alloc, Axis::X, 25_000, false), &ACROSS_X, &[0]);
+    check_loops(&rt, shells(alloc), &OF_SHELLS, &[0, 8]);
+    // This one takes nothing away.
+    check_loops(&rt, tube(alloc, Axis::Y, -1_000, false), &[], &[]);
 }
 
 // The spot is seen at so many quarters of a unit.
-fn is_at(d: &Dir, p: &Spot, u: i32, v: i32) -> bool {
-    across(d, p) == share(u, 4) && upward(d, p) == share(v, 4)
+fn is_at(d: &Dir, p: &Spot, place: [i32; 2]) -> bool {
+    across(d, p) == share(place[0], 4) && upward(d, p) == share(place[1], 4)
+}
+
+// The number of a segment, and from where to where it goes, in quarters of a unit.
+type Numbered = (usize, [i32; 2], [i32; 2]);
+
+const SEGMENTS: [Numbered; 4] = [
+    (0, [59_997, 0], [120_000, 0]),
+    (3, [120_000, 120_000], [60_003, 120_000]),
+    (8, [60_001, 40_000], [40_000, 40_000]),
+    (15, [80_000, 40_000], [60_001, 40_000]),
+];
+
+fn has_segment(section: &Section, row: &Numbered) -> bool {
+    let d = section.cut.dir();
+    match section.segments.get(row.0) {
+        Some(x) => is_at(&d, &x.a, row.1) && is_at(&d, &x.b, row.2),
+        None => false,
+    }
 }
 
 #[test]
-fn ends_of_segments(rt: HostRuntime) -> Result<(), Fail> {
-    let tube = tube(rt.alloc(), Axis::Z, 10_000, true)?;
-    let d = tube.cut.dir();
-    assert_eq!(rt; tube.segments.len(), 16);
-    for (place, from, to) in [
-        (0, (59_997, 0), (120_000, 0)),
-        (3, (120_000, 120_000), (60_003, 120_000)),
-        (8, (60_001, 40_000), (40_000, 40_000)),
-        (15, (80_000, 40_000), (60_001, 40_000)),
-    ] {
-        let Some(x) = tube.segments.get(place) else {
-            return Err("no segment".into());
-        };
-        assert!(rt; is_at(&d, &x.a, from.0, from.1), "{place}");
-        assert!(rt; is_at(&d, &x.b, to.0, to.1), "{place}");
+fn ends_of_segments(rt: HostRuntime) {
+    let Some(tube) = tube(rt.alloc(), Axis::Z, 10_000, true) else {
+        panic!(rt; "no tube");
+    };
+    assert!(rt; tube.segments.len() == 16);
+    for row in &SEGMENTS {
+        assert!(rt; has_segment(&tube, row), "{row:?}");
     }
-    Ok(())
 }
 
 // An odd number of segments count for the spot.
@@ -94,38 +100,44 @@ fn is_counted_odd(section: &Section, p: &Spot) -> bool {
     odd
 }
 
+const PLACES: [([i16; 2], bool); 14] = [
+    ([5_000, 5_000], true),
+    ([15_000, 15_000], false),
+    ([25_000, 25_000], true),
+    ([31_000, 15_000], false),
+    ([-1_000, 15_000], false),
+    // at the V of level borders, and on borders
+    ([15_000, 0], true),
+    ([15_000, 30_000], false),
+    ([0, 15_000], true),
+    ([30_000, 15_000], false),
+    ([10_000, 15_000], false),
+    ([20_000, 15_000], true),
+    ([5_000, 10_000], true),
+    ([15_000, 10_000], false),
+    ([15_000, 20_000], true),
+];
+
+// Whether a place is in the tube, by the segments that count for it too, and in the shells.
+fn are_in(tube: &Section, shells: &Section, place: &[i16; 2]) -> [bool; 3] {
+    let p = above(place[0], place[1]);
+    [
+        inside(tube, &p),
+        is_counted_odd(tube, &p),
+        inside(shells, &p),
+    ]
+}
+
 #[test]
-fn inside_and_outside(rt: HostRuntime) -> Result<(), Fail> {
-    let tube = tube(rt.alloc(), Axis::Z, 10_000, true)?;
-    let shells = shells(rt.alloc())?;
-    let rows: [([i16; 2], bool); 14] = [
-        ([5_000, 5_000], true),
-        ([15_000, 15_000], false),
-        ([25_000, 25_000], true),
-        ([31_000, 15_000], false),
-        ([-1_000, 15_000], false),
-        // at the V of level borders, and on borders
-        ([15_000, 0], true),
-        ([15_000, 30_000], false),
-        ([0, 15_000], true),
-        ([30_000, 15_000], false),
-        ([10_000, 15_000], false),
-        ([20_000, 15_000], true),
-        ([5_000, 10_000], true),
-        ([15_000, 10_000], false),
-        ([15_000, 20_000], true),
-    ];
-    for ([x, y], expected) in rows {
-        let p = above(x, y);
-        assert_eq!(rt; inside(&tube, &p), expected, "in the tube at {x}, {y}");
-        assert_eq!(rt;
-            is_counted_odd(&tube, &p),
-            expected,
-            "of the tube at {x}, {y}"
-        );
-        assert_eq!(rt; inside(&shells, &p), expected, "in the shells at {x}, {y}");
+fn inside_and_outside(rt: HostRuntime) {
+    let alloc = rt.alloc();
+    let (Some(tube), Some(shells)) = (tube(alloc, Axis::Z, 10_000, true), shells(alloc)) else {
+        panic!(rt; "no section");
+    };
+    for (place, expected) in &PLACES {
+        let found = are_in(&tube, &shells, place);
+        assert!(rt; found == [*expected; 3], "{place:?}: {found:?}");
     }
-    Ok(())
 }
 
 fn above(x: i16, y: i16) -> Spot {
@@ -136,29 +148,50 @@ fn above(x: i16, y: i16) -> Spot {
     })
 }
 
-#[test]
-fn edges_beneath_a_section(rt: HostRuntime) -> Result<(), Fail> {
-    let solid = solid(rt.alloc(), &BENEATH_CORNERS, &BENEATH).ok_or("no solid")?;
+// Where an edge is over or under the border of a section 5 mm above the cube's lowest face, in ascending order.
+fn places_on(alloc: Global, solid: &Solid, edge: u32) -> Result<Option<Vec<Frac>>, OutOfMemory> {
     let Ok(cut) = Cut::new(Axis::Z, 5000, true) else {
-        return Err("no cut".into());
+        return Ok(None);
     };
-    let section = borders(rt.alloc(), &solid, &cut)?;
-    let half = Frac { num: 1, den: 2 };
-    let (first, second) = (share(0, 5), share(5, 5));
-    for (edge, expected) in [
-        // from corner 8 to 9, from 9 to 10, from 10 to 8, from 8 to 11 and from 11 to 9
-        (18, [share(3, 5)].as_slice()),
-        (19, &[share(2, 5)]),
-        (20, &[]),
-        (21, &[]),
-        (22, &[half]),
-        // the diagonal of the cube's lowest face, both of whose ends are on the border
-        (2, &[first, first, second, second]),
-    ] {
-        assert!(rt; edge < solid.edges());
-        let mut places = crossings(rt.alloc(), &solid, &section, edge)?;
-        places.sort()?;
-        assert_eq!(rt; places.as_slice(), expected, "of edge {edge}");
+    let section = borders(alloc, solid, &cut)?;
+    if edge >= solid.edges() {
+        return Ok(None);
     }
-    Ok(())
+    let mut places = crossings(alloc, solid, &section, edge)?;
+    places.sort()?;
+    Ok(Some(places))
+}
+
+// The places are so many tenths of the edge.
+fn are_tenths(places: &[Frac], tenths: &[i32]) -> bool {
+    for (place, number) in places.iter().zip(tenths) {
+        if *place != share(*number, 10) {
+            return false;
+        }
+    }
+    places.len() == tenths.len()
+}
+
+const BENEATH_PLACES: [(u32, &[i32]); 6] = [
+    // from corner 8 to 9, from 9 to 10, from 10 to 8, from 8 to 11 and from 11 to 9
+    (18, &[6]),
+    (19, &[4]),
+    (20, &[]),
+    (21, &[]),
+    (22, &[5]),
+    // the diagonal of the cube's lowest face, both of whose ends are on the border
+    (2, &[0, 0, 10, 10]),
+];
+
+#[test]
+fn edges_beneath_a_section(rt: HostRuntime) {
+    let Some(solid) = solid(rt.alloc(), &BENEATH_CORNERS, &BENEATH) else {
+        panic!(rt; "no solid");
+    };
+    for (edge, expected) in BENEATH_PLACES {
+        match places_on(rt.alloc(), &solid, edge) {
+            Ok(Some(places)) => assert!(rt; are_tenths(&places, expected), "{edge}: {places:?}"),
+            _ => panic!(rt; "no places"),
+        }
+    }
 }

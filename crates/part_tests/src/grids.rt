@@ -12,6 +12,7 @@ use out_grid::{CellMeter, GridOutlines, cell_bound};
 use solid_mesh::Solid;
 use span_count::{AllOutlines, CountSpan, EdgeSpans, bound, spans_counted};
 use std::alloc::{AllocError, Global};
+use std::process::Abort;
 use std::test::Fail;
 
 // The edge, the ends and the counts of a span.
@@ -85,58 +86,110 @@ fn through_grid(
     })
 }
 
-#[test]
-fn counts_through_a_grid_are_those_through_all_outlines(rt: HostRuntime) -> Result<(), Fail> {
-    let alloc = rt.alloc();
-    for (name, part, x, y, z) in [
-        ("cubes", solid(alloc, &CORNERS, &CUBES), 0, -1, 0),
-        ("wedge", solid(alloc, &CORNERS, &CUBE_AND_WEDGE), 0, -1, 0),
-        ("thirds", solid_of(alloc, THIRDS_TEXT), 0, -1, 0),
-        ("bracket", solid_of(alloc, BRACKET_TEXT), 1, -2, 1),
-        ("cube", solid_of(alloc, CUBE_TEXT), 1, -1, 1),
-        ("inward", solid_of(alloc, INWARD_TEXT), 1, -1, 1),
-        ("welded", solid_of(alloc, WELDED_TEXT), 0, 0, 1),
-        ("tube", solid(alloc, &TUBE_CORNERS, &TUBE), 1, -2, 3),
-    ] {
-        let part = part.ok_or("no part")?;
-        let d = Dir::new(x, y, z)?;
-        let all = through_all(alloc, &part, &d)?;
-        assert!(rt; all.tests <= all.most, "{name}");
-        for columns in [1, 2, 7, 256] {
-            let Gridded {
-                view,
-                cells,
-                most_cells,
-            } = through_grid(alloc, &part, &d, columns)?;
-            assert_eq!(rt; view.spans, all.spans, "{name}, {columns} columns");
-            assert!(rt; view.tests <= all.tests, "{name}, {columns} columns");
-            assert!(rt;
-                0 < cells && cells <= most_cells,
-                "{name}, {columns} columns"
-            );
-        }
+// Through the grid the counts are the same; no more tests are made, and no more cells are counted than may be.
+fn is_same(through: &Gridded, all: &Told) -> bool {
+    through.view.spans == all.spans
+        && through.view.tests <= all.tests
+        && 0 < through.cells
+        && through.cells <= through.most_cells
+}
+
+fn check(rt: &impl Abort, alloc: Global, name: &str, part: Option<Solid>, d: [i64; 3]) {
+    let (Some(part), Ok(d)) = (part, Dir::new(d[0], d[1], d[2])) else {
+        panic!(rt; "no {name}");
+    };
+    let Ok(all) = through_all(alloc, &part, &d) else {
+        panic!(rt; "no memory");
+    };
+    assert!(rt; all.tests <= all.most, "{name}");
+    for columns in [1, 2, 7, 256] {
+        let Ok(through) = through_grid(alloc, &part, &d, columns) else {
+            panic!(rt; "no memory");
+        };
+        assert!(rt; is_same(&through, &all), "{name}, {columns} columns");
     }
-    Ok(())
+}
+
+#[test]
+fn counts_through_a_grid_are_those_through_all_outlines(rt: HostRuntime) {
+    let alloc = rt.alloc();
+    check(
+        &rt,
+        alloc,
+        "cubes",
+        solid(alloc, &CORNERS, &CUBES),
+        [0, -1, 0],
+    );
+    check(
+        &rt,
+        alloc,
+        "wedge",
+        solid(alloc, &CORNERS, &CUBE_AND_WEDGE),
+        [0, -1, 0],
+    );
+    check(
+        &rt,
+        alloc,
+        "thirds",
+        solid_of(alloc, THIRDS_TEXT),
+        [0, -1, 0],
+    );
+    check(
+        &rt,
+        alloc,
+        "bracket",
+        solid_of(alloc, BRACKET_TEXT),
+        [1, -2, 1],
+    );
+    check(&rt, alloc, "cube", solid_of(alloc, CUBE_TEXT), [1, -1, 1]);
+    check(
+        &rt,
+        alloc,
+        "inward",
+        solid_of(alloc, INWARD_TEXT),
+        [1, -1, 1],
+    );
+    check(
+        &rt,
+        alloc,
+        "welded",
+        solid_of(alloc, WELDED_TEXT),
+        [0, 0, 1],
+    );
+    check(
+        &rt,
+        alloc,
+        "tube",
+        solid(alloc, &TUBE_CORNERS, &TUBE),
+        [1, -2, 3],
+    );
+}
+
+// Whether an outline that is put into a cell without one stands there. Looking at the cell and putting count one cell each.
+fn is_put(alloc: Global, solid: &Solid, d: &Dir, crease: Crease) -> Result<bool, OutOfMemory> {
+    let picked = pick(alloc, solid, d, crease)?;
+    let most = cell_bound(solid, d, &picked, 7);
+    let mut meter = CellMeter { cells: 0 };
+    let mut grid = GridOutlines::new(alloc, solid, d, &picked, 7, &mut meter)?;
+    let Some(last) = picked.outlines.last() else {
+        return Ok(false);
+    };
+    if grid.cell(0, 0, &mut meter).len() != 0 {
+        return Ok(false);
+    }
+    let before = meter.cells;
+    if before > most + 1 {
+        return Ok(false);
+    }
+    grid.put(0, 0, *last, &mut meter)?;
+    Ok(*grid.cell(0, 0, &mut meter) == *[*last].as_slice() && meter.cells - before == 2)
 }
 
 #[test]
 fn a_put_outline_stands_last(rt: HostRuntime) -> Result<(), Fail> {
-    let alloc = rt.alloc();
-    let solid = solid(alloc, &CORNERS, &CUBES).ok_or("no solid")?;
+    let solid = solid(rt.alloc(), &CORNERS, &CUBES).ok_or("no solid")?;
     let d = Dir::new(0, -1, 0)?;
-    let picked = pick(alloc, &solid, &d, Crease::Normal)?;
-    let most = cell_bound(&solid, &d, &picked, 7);
-    let mut meter = CellMeter { cells: 0 };
-    let mut grid = GridOutlines::new(alloc, &solid, &d, &picked, 7, &mut meter)?;
-    let last = picked.outlines.last().copied().ok_or("no outline")?;
     // a cell is three units wide; the corners reach from -5 on, and the cubes from 0 on
-    if grid.cell(0, 0, &mut meter).len() != 0 {
-        return Err("the corner has an outline".into());
-    }
-    let before = meter.cells;
-    assert!(rt; before <= most + 1);
-    grid.put(0, 0, last, &mut meter)?;
-    assert_eq!(rt; grid.cell(0, 0, &mut meter), [last].as_slice());
-    assert_eq!(rt; meter.cells - before, 2);
+    assert!(rt; is_put(rt.alloc(), &solid, &d, Crease::Normal)?);
     Ok(())
 }

@@ -5,7 +5,7 @@ ghost use Rattle.lattice.specs.Points.{of_dir};
 ghost use Rattle.line_merge.specs.Merging.{AreStrips};
 
 use exact_frac::OutOfMemory;
-use lattice::{Corner, Dir, Line, Spot, Strip, StripKind, Style, same_sight};
+use lattice::{Corner, Dir, Line, Piece, Spot, Strip, StripKind, Style, same_sight};
 use line_merge::merge;
 use std::alloc::Global;
 use std::process::Abort;
@@ -69,30 +69,43 @@ fn strips(
     Ok(strips)
 }
 
-fn check(
-    rt: &impl Abort,
-    alloc: Global,
-    given: &[Row<StripKind>],
-    want: &[Row<Style>],
-) -> Result<(), OutOfMemory> {
+// The spot is seen at this place.
+fn is_at(spot: &Spot, u: i8, v: i8) -> bool {
+    spot.x == i128::from(u) && spot.z == i128::from(v) && spot.w == 1
+}
+
+fn is_piece(piece: &Piece, row: &Row<Style>) -> bool {
+    let (u, v, s, t, style) = *row;
+    is_at(&piece.a, u, v) && is_at(&piece.b, s, t) && piece.style == style
+}
+
+// The pieces are those of the rows, in their order.
+fn are_pieces(pieces: &[Piece], rows: &[Row<Style>]) -> bool {
+    for (piece, row) in pieces.iter().zip(rows) {
+        if !is_piece(piece, row) {
+            return false;
+        }
+    }
+    pieces.len() == rows.len()
+}
+
+fn check(rt: &impl Abort, alloc: Global, case: &Case) {
     let Ok(front) = Dir::new(0, -1, 0) else {
         panic!(rt; "no direction");
     };
-    let strips = strips(rt, alloc, &front, given)?;
-    let pieces = merge(alloc, &front, &strips)?;
-    assert_eq!(rt; pieces.len(), want.len(), "{pieces:?}");
-    for (piece, (u, v, s, t, style)) in pieces.iter().zip(want) {
-        assert_eq!(rt;
-            (piece.a.x, piece.a.z, piece.a.w),
-            (i128::from(*u), i128::from(*v), 1)
-        );
-        assert_eq!(rt;
-            (piece.b.x, piece.b.z, piece.b.w),
-            (i128::from(*s), i128::from(*t), 1)
-        );
-        assert_eq!(rt; piece.style, *style);
+    let Ok(strips) = strips(rt, alloc, &front, case.0) else {
+        panic!(rt; "no memory");
+    };
+    match merge(alloc, &front, &strips) {
+        Ok(pieces) => assert!(rt; are_pieces(&pieces, case.1), "{pieces:?}"),
+        Err(_) => panic!(rt; "no memory"),
     }
-    Ok(())
+}
+
+fn check_all(rt: &impl Abort, alloc: Global, cases: &[Case]) {
+    for case in cases {
+        check(rt, alloc, case);
+    }
 }
 
 // Strips of one line.
@@ -149,11 +162,8 @@ const ONE_LINE: [Case; 10] = [
 ];
 
 #[test]
-fn one_line(rt: HostRuntime) -> Result<(), OutOfMemory> {
-    for (given, want) in ONE_LINE {
-        check(&rt, rt.alloc(), given, want)?;
-    }
-    Ok(())
+fn one_line(rt: HostRuntime) {
+    check_all(&rt, rt.alloc(), &ONE_LINE);
 }
 
 // Strips of different lines, and the order of pieces.
@@ -199,11 +209,8 @@ const SEVERAL_LINES: [Case; 6] = [
 ];
 
 #[test]
-fn several_lines(rt: HostRuntime) -> Result<(), OutOfMemory> {
-    for (given, want) in SEVERAL_LINES {
-        check(&rt, rt.alloc(), given, want)?;
-    }
-    Ok(())
+fn several_lines(rt: HostRuntime) {
+    check_all(&rt, rt.alloc(), &SEVERAL_LINES);
 }
 
 // Traces: whole where nothing else is drawn, and nowhere else.
@@ -244,9 +251,6 @@ const TRACES: [Case; 4] = [
 ];
 
 #[test]
-fn traces(rt: HostRuntime) -> Result<(), OutOfMemory> {
-    for (given, want) in TRACES {
-        check(&rt, rt.alloc(), given, want)?;
-    }
-    Ok(())
+fn traces(rt: HostRuntime) {
+    check_all(&rt, rt.alloc(), &TRACES);
 }

@@ -5,7 +5,7 @@ use edge_pick::{Crease, Picked, pick};
 use fixtures::{CORNERS, CUBE_AND_WEDGE, CUBES, solid};
 use lattice::Dir;
 use std::alloc::{AllocError, Global};
-use std::test::Fail;
+use std::process::Abort;
 
 // 48 points of a circle of 30,000 units, counterclockwise.
 const CIRCLE: [[i16; 2]; 48] = [
@@ -101,10 +101,10 @@ fn picked(
     triangles: &[[u32; 3]],
     d: [i64; 3],
     crease: Crease,
-) -> Result<Picked, Fail> {
-    let solid = solid(alloc, corners, triangles).ok_or("no solid")?;
-    let [x, y, z] = d;
-    Ok(pick(alloc, &solid, &Dir::new(x, y, z)?, crease)?)
+) -> Option<Picked> {
+    let solid = solid(alloc, corners, triangles)?;
+    let d = Dir::new(d[0], d[1], d[2]).ok()?;
+    pick(alloc, &solid, &d, crease).ok()
 }
 
 // The numbers of drawn edges and of outlines, and the last run.
@@ -116,58 +116,95 @@ fn counts(p: &Picked) -> (usize, usize, Option<u32>) {
     )
 }
 
-#[test]
-fn picks_of_cubes(rt: HostRuntime) -> Result<(), Fail> {
-    for (triangles, d, expected) in [
-        (&CUBES[..12], FRONT, (8, 8, Some(1))),
-        (&CUBES[..12], OBLIQUE, (12, 6, Some(0))),
-        (&CUBES, FRONT, (16, 16, Some(3))),
-        (&CUBES, OBLIQUE, (24, 12, Some(1))),
-        (&CUBE_AND_WEDGE, FRONT, (14, 14, Some(3))),
-        (&CUBE_AND_WEDGE, OBLIQUE, (21, 13, Some(1))),
-    ] {
-        let p = picked(rt.alloc(), &CORNERS, triangles, d, Crease::Normal)?;
-        assert_eq!(rt; counts(&p), expected);
+type Counts = (usize, usize, Option<u32>);
+
+// The counts from the front, and from above a corner.
+fn check_cubes(rt: &impl Abort, alloc: Global, triangles: &[[u32; 3]], expected: [Counts; 2]) {
+    let front = picked(alloc, &CORNERS, triangles, FRONT, Crease::Normal);
+    let oblique = picked(alloc, &CORNERS, triangles, OBLIQUE, Crease::Normal);
+    match (front, oblique) {
+        (Some(p), Some(q)) => assert_eq!(rt; [counts(&p), counts(&q)], expected),
+        _ => panic!(rt; "no solid"),
     }
-    Ok(())
 }
 
 #[test]
-fn picks_of_the_front(rt: HostRuntime) -> Result<(), Fail> {
-    let p = picked(rt.alloc(), &CORNERS, &CUBES[..12], FRONT, Crease::Coarse)?;
+fn picks_of_cubes(rt: HostRuntime) {
+    check_cubes(
+        &rt,
+        rt.alloc(),
+        &CUBES[..12],
+        [(8, 8, Some(1)), (12, 6, Some(0))],
+    );
+    check_cubes(
+        &rt,
+        rt.alloc(),
+        &CUBES,
+        [(16, 16, Some(3)), (24, 12, Some(1))],
+    );
+    check_cubes(
+        &rt,
+        rt.alloc(),
+        &CUBE_AND_WEDGE,
+        [(14, 14, Some(3)), (21, 13, Some(1))],
+    );
+}
+
+#[test]
+fn picks_of_the_front(rt: HostRuntime) {
+    let Some(p) = picked(rt.alloc(), &CORNERS, &CUBES[..12], FRONT, Crease::Coarse) else {
+        panic!(rt; "no solid");
+    };
     let edges = [1, 4, 5, 8, 10, 12, 13, 15].as_slice();
-    assert_eq!(rt; (p.drawn.as_slice(), p.outlines.as_slice()), (edges, edges));
-    assert_eq!(rt; p.runs.as_slice(), [0, 1, 1, 0, 1, 1, 0, 0].as_slice());
-    Ok(())
+    assert!(rt; *p.drawn.as_slice() == *edges && *p.outlines.as_slice() == *edges);
+    assert!(rt; *p.runs.as_slice() == *[0, 1, 1, 0, 1, 1, 0, 0].as_slice());
+}
+
+// The sides, each so many of the 48 points, the direction, and the numbers of drawn edges with each of the three creases, and of
+// outlines.
+type Prism = (u32, usize, [i64; 3], [usize; 3], usize);
+
+const PRISMS: [Prism; 6] = [
+    (12, 4, FRONT, [36, 36, 34], 26),
+    (12, 4, OBLIQUE, [36, 36, 32], 18),
+    (24, 2, FRONT, [72, 66, 50], 50),
+    (24, 2, OBLIQUE, [72, 66, 50], 26),
+    (48, 1, FRONT, [144, 98, 98], 98),
+    (48, 1, OBLIQUE, [144, 98, 98], 50),
+];
+
+// The counts of a prism over each `step`th of the 48 points.
+fn prism_counts(
+    alloc: Global,
+    sides: u32,
+    step: usize,
+    d: [i64; 3],
+    crease: Crease,
+) -> Option<Counts> {
+    if step == 0 || sides < 3 || sides > 48 {
+        return None;
+    }
+    let corners = prism_corners(alloc, step).ok()?;
+    let triangles = prism_triangles(alloc, sides).ok()?;
+    let picked = picked(alloc, &corners, &triangles, d, crease)?;
+    Some(counts(&picked))
+}
+
+fn check_prism(rt: &impl Abort, alloc: Global, prism: &Prism) {
+    let (sides, step, d, drawn, outlines) = *prism;
+    for (crease, edges) in [Crease::Fine, Crease::Normal, Crease::Coarse]
+        .iter()
+        .zip(drawn)
+    {
+        let found = prism_counts(alloc, sides, step, d, *crease);
+        let expected = Some((edges, outlines, Some(0)));
+        assert!(rt; found == expected, "{prism:?}: {found:?}");
+    }
 }
 
 #[test]
-fn picks_of_prisms(rt: HostRuntime) -> Result<(), Fail> {
-    for (sides, step, d, crease, drawn, outlines) in [
-        (12, 4, FRONT, Crease::Fine, 36, 26),
-        (12, 4, FRONT, Crease::Normal, 36, 26),
-        (12, 4, FRONT, Crease::Coarse, 34, 26),
-        (12, 4, OBLIQUE, Crease::Fine, 36, 18),
-        (12, 4, OBLIQUE, Crease::Normal, 36, 18),
-        (12, 4, OBLIQUE, Crease::Coarse, 32, 18),
-        (24, 2, FRONT, Crease::Fine, 72, 50),
-        (24, 2, FRONT, Crease::Normal, 66, 50),
-        (24, 2, FRONT, Crease::Coarse, 50, 50),
-        (24, 2, OBLIQUE, Crease::Fine, 72, 26),
-        (24, 2, OBLIQUE, Crease::Normal, 66, 26),
-        (24, 2, OBLIQUE, Crease::Coarse, 50, 26),
-        (48, 1, FRONT, Crease::Fine, 144, 98),
-        (48, 1, FRONT, Crease::Normal, 98, 98),
-        (48, 1, FRONT, Crease::Coarse, 98, 98),
-        (48, 1, OBLIQUE, Crease::Fine, 144, 50),
-        (48, 1, OBLIQUE, Crease::Normal, 98, 50),
-        (48, 1, OBLIQUE, Crease::Coarse, 98, 50),
-    ] {
-        assert!(rt; step > 0 && sides >= 3 && sides <= 48);
-        let corners = prism_corners(rt.alloc(), step)?;
-        let triangles = prism_triangles(rt.alloc(), sides)?;
-        let p = picked(rt.alloc(), &corners, &triangles, d, crease)?;
-        assert_eq!(rt; counts(&p), (drawn, outlines, Some(0)));
+fn picks_of_prisms(rt: HostRuntime) {
+    for prism in &PRISMS {
+        check_prism(&rt, rt.alloc(), prism);
     }
-    Ok(())
 }

@@ -4,10 +4,8 @@ use fixtures::{CUBES, soup};
 use sample_part::boxes;
 use solid_mesh::{Edge, MeshError, MeshFault, PairMeter, Solid, box_test, pair_test};
 use std::alloc::Global;
+use std::process::Abort;
 use std::test::Fail;
-
-// A tetrahedron on the cube's corners 0, 3, 1 and 4.
-const TETRA: [[u32; 3]; 4] = [[0, 3, 1], [0, 1, 4], [0, 4, 3], [1, 3, 4]];
 
 // The cube, and over it a tetrahedron with its tip, corner 9, down.
 const OVER: [[u32; 3]; 16] = [
@@ -67,39 +65,49 @@ fn checked(
     }
 }
 
+const FAULTS: [(i16, &[[u32; 3]], MeshFault); 9] = [
+    (11, &[[0, 3, 1], [8, 1, 0], [1, 8, 0]], MeshFault::Flat(1)),
+    (
+        11,
+        &[[0, 3, 1], [0, 4, 1], [0, 1, 4]],
+        MeshFault::SameWay(0, 1),
+    ),
+    // the first side of the last triangle is the second's, and its second side is the first's
+    (
+        11,
+        &[[0, 1, 2], [3, 4, 0], [4, 0, 1]],
+        MeshFault::SameWay(0, 2),
+    ),
+    // a tetrahedron on the cube's corners 0, 3, 1 and 4 without a side, and its bottom alone
+    (
+        11,
+        &[[0, 3, 1], [0, 1, 4], [0, 4, 3]],
+        MeshFault::Unpaired(0, 1),
+    ),
+    (11, &[[0, 3, 1]], MeshFault::Unpaired(0, 0)),
+    (11, &[[0, 3, 1], [1, 3, 0]], MeshFault::Double(0, 1)),
+    (
+        11,
+        &[[0, 1, 2], [4, 5, 6], [5, 4, 6], [1, 0, 2]],
+        MeshFault::Double(1, 2),
+    ),
+    // a tip on the cube, and in it
+    (10, &OVER, MeshFault::Meet(7, 13)),
+    (9, &OVER, MeshFault::Meet(7, 13)),
+];
+
+fn check_fault(rt: &impl Abort, alloc: Global, tip: i16, triangles: &[[u32; 3]], fault: MeshFault) {
+    let mut meter = PairMeter { boxes: 0, pairs: 0 };
+    let found = checked(alloc, tip, triangles, &mut meter).err();
+    assert!(rt; found == Some(Some(MeshError::Mesh(fault))), "{found:?}");
+}
+
 #[test]
 fn the_first_fault_is_told(rt: HostRuntime) {
-    let [bottom, side, third, _] = TETRA;
-    for (tip, triangles, fault) in [
-        (
-            11,
-            [bottom, [8, 1, 0], [1, 8, 0]].as_slice(),
-            MeshFault::Flat(1),
-        ),
-        (11, &[bottom, [0, 4, 1], side], MeshFault::SameWay(0, 1)),
-        // the first side of the last triangle is the second's, and its second side is the first's
-        (
-            11,
-            &[[0, 1, 2], [3, 4, 0], [4, 0, 1]],
-            MeshFault::SameWay(0, 2),
-        ),
-        (11, &[bottom, side, third], MeshFault::Unpaired(0, 1)),
-        (11, &CUBES[..11], MeshFault::Unpaired(3, 2)),
-        (11, &[bottom], MeshFault::Unpaired(0, 0)),
-        (11, &[bottom, [1, 3, 0]], MeshFault::Double(0, 1)),
-        (
-            11,
-            &[[0, 1, 2], [4, 5, 6], [5, 4, 6], [1, 0, 2]],
-            MeshFault::Double(1, 2),
-        ),
-        // a tip on the cube, and in it
-        (10, &OVER, MeshFault::Meet(7, 13)),
-        (9, &OVER, MeshFault::Meet(7, 13)),
-    ] {
-        let mut meter = PairMeter { boxes: 0, pairs: 0 };
-        let found = checked(rt.alloc(), tip, triangles, &mut meter).err();
-        assert_eq!(rt; found, Some(Some(MeshError::Mesh(fault))));
+    for (tip, triangles, fault) in FAULTS {
+        check_fault(&rt, rt.alloc(), tip, triangles, fault);
     }
+    check_fault(&rt, rt.alloc(), 11, &CUBES[..11], MeshFault::Unpaired(3, 2));
 }
 
 #[test]
@@ -217,164 +225,173 @@ fn meets(
     Some(pair_test(&soup, 0, 1, &mut meter))
 }
 
+// What a side is called, its ends and their numbers, and whether it meets the face.
+type Side = (&'static str, [[i16; 3]; 2], [u32; 2], bool);
+
+const SIDES: [Side; 8] = [
+    (
+        "on into it from a shared corner",
+        [[2, 2, 0], [9, 9, 9]],
+        [0, 3],
+        true,
+    ),
+    (
+        "away from a shared corner",
+        [[2, -2, 0], [9, 9, 9]],
+        [0, 3],
+        false,
+    ),
+    (
+        "at a corner with another number",
+        [[0, 0, 0], [-1, 0, 0]],
+        [3, 4],
+        true,
+    ),
+    ("of length 0, in it", [[1, 1, 0], [1, 1, 0]], [3, 4], true),
+    (
+        "of length 0, beside it",
+        [[5, 5, 0], [5, 5, 0]],
+        [3, 4],
+        false,
+    ),
+    (
+        "of length 0, from a shared corner",
+        [[0, 0, 0], [9, 9, 9]],
+        [0, 3],
+        false,
+    ),
+    (
+        "one corner number, in it",
+        [[1, 1, 0], [9, 9, 9]],
+        [3, 3],
+        true,
+    ),
+    (
+        "one corner number, its own",
+        [[1, 1, 0], [9, 9, 9]],
+        [0, 0],
+        false,
+    ),
+];
+
 #[test]
 fn a_side_and_a_face(rt: HostRuntime) {
-    for (name, ends, side, expected) in [
-        (
-            "on into it from a shared corner",
-            [[2, 2, 0], [9, 9, 9]],
-            [0, 3],
-            true,
-        ),
-        (
-            "away from a shared corner",
-            [[2, -2, 0], [9, 9, 9]],
-            [0, 3],
-            false,
-        ),
-        (
-            "at a corner with another number",
-            [[0, 0, 0], [-1, 0, 0]],
-            [3, 4],
-            true,
-        ),
-        ("of length 0, in it", [[1, 1, 0], [1, 1, 0]], [3, 4], true),
-        (
-            "of length 0, beside it",
-            [[5, 5, 0], [5, 5, 0]],
-            [3, 4],
-            false,
-        ),
-        (
-            "of length 0, from a shared corner",
-            [[0, 0, 0], [9, 9, 9]],
-            [0, 3],
-            false,
-        ),
-        (
-            "one corner number, in it",
-            [[1, 1, 0], [9, 9, 9]],
-            [3, 3],
-            true,
-        ),
-        (
-            "one corner number, its own",
-            [[1, 1, 0], [9, 9, 9]],
-            [0, 0],
-            false,
-        ),
-    ] {
-        let found = meets(rt.alloc(), &FACE, &ends, side, 2);
-        assert_eq!(rt; found, Some(expected), "{name}");
+    for (name, ends, side, expected) in &SIDES {
+        let found = meets(rt.alloc(), &FACE, ends, *side, 2);
+        assert!(rt; found == Some(*expected), "{name}");
     }
 }
 
 // The number is that of the triangle's last corner. Where it is 1, the first corner is there twice.
+type FlatSide = (&'static str, Face, u32, [[i16; 3]; 2], [u32; 2], bool);
+
+const FLAT_SIDES: [FlatSide; 16] = [
+    ("across it", LINE, 2, [[4, -1, 0], [4, 1, 0]], [3, 4], true),
+    (
+        "across its first side",
+        SPLIT,
+        2,
+        [[1, -1, 0], [1, 1, 0]],
+        [3, 4],
+        true,
+    ),
+    (
+        "across its last side",
+        SPLIT,
+        2,
+        [[4, -1, 0], [4, 1, 0]],
+        [3, 4],
+        true,
+    ),
+    (
+        "past its end",
+        LINE,
+        2,
+        [[7, -1, 0], [7, 1, 0]],
+        [3, 4],
+        false,
+    ),
+    ("over it", LINE, 2, [[4, -1, 1], [4, 1, 1]], [3, 4], false),
+    ("beside it", LINE, 2, [[0, 1, 0], [6, 1, 0]], [3, 4], false),
+    (
+        "in its line, up to it",
+        LINE,
+        2,
+        [[9, 0, 0], [6, 0, 0]],
+        [3, 4],
+        true,
+    ),
+    (
+        "in its line, apart",
+        LINE,
+        2,
+        [[9, 0, 0], [7, 0, 0]],
+        [3, 4],
+        false,
+    ),
+    (
+        "in its line, around it",
+        LINE,
+        2,
+        [[-1, 0, 0], [9, 0, 0]],
+        [3, 4],
+        true,
+    ),
+    (
+        "along it from a shared corner",
+        LINE,
+        2,
+        [[4, 0, 0], [9, 9, 9]],
+        [2, 3],
+        true,
+    ),
+    (
+        "back from it",
+        LINE,
+        2,
+        [[-1, 0, 0], [9, 9, 9]],
+        [0, 3],
+        false,
+    ),
+    ("up from it", LINE, 2, [[1, 1, 0], [9, 9, 9]], [0, 3], false),
+    (
+        "through a point",
+        POINT,
+        2,
+        [[0, 0, 0], [2, 2, 2]],
+        [3, 4],
+        true,
+    ),
+    (
+        "past a point",
+        POINT,
+        2,
+        [[0, 0, 0], [2, 2, 3]],
+        [3, 4],
+        false,
+    ),
+    (
+        "across one with a corner twice",
+        LINE,
+        1,
+        [[4, -1, 0], [4, 1, 0]],
+        [3, 4],
+        true,
+    ),
+    (
+        "along one with a corner twice",
+        LINE,
+        1,
+        [[4, 0, 0], [9, 9, 9]],
+        [0, 3],
+        true,
+    ),
+];
+
 #[test]
 fn a_side_and_a_flat_triangle(rt: HostRuntime) {
-    for (name, face, last, ends, side, expected) in [
-        ("across it", LINE, 2, [[4, -1, 0], [4, 1, 0]], [3, 4], true),
-        (
-            "across its first side",
-            SPLIT,
-            2,
-            [[1, -1, 0], [1, 1, 0]],
-            [3, 4],
-            true,
-        ),
-        (
-            "across its last side",
-            SPLIT,
-            2,
-            [[4, -1, 0], [4, 1, 0]],
-            [3, 4],
-            true,
-        ),
-        (
-            "past its end",
-            LINE,
-            2,
-            [[7, -1, 0], [7, 1, 0]],
-            [3, 4],
-            false,
-        ),
-        ("over it", LINE, 2, [[4, -1, 1], [4, 1, 1]], [3, 4], false),
-        ("beside it", LINE, 2, [[0, 1, 0], [6, 1, 0]], [3, 4], false),
-        (
-            "in its line, up to it",
-            LINE,
-            2,
-            [[9, 0, 0], [6, 0, 0]],
-            [3, 4],
-            true,
-        ),
-        (
-            "in its line, apart",
-            LINE,
-            2,
-            [[9, 0, 0], [7, 0, 0]],
-            [3, 4],
-            false,
-        ),
-        (
-            "in its line, around it",
-            LINE,
-            2,
-            [[-1, 0, 0], [9, 0, 0]],
-            [3, 4],
-            true,
-        ),
-        (
-            "along it from a shared corner",
-            LINE,
-            2,
-            [[4, 0, 0], [9, 9, 9]],
-            [2, 3],
-            true,
-        ),
-        (
-            "back from it",
-            LINE,
-            2,
-            [[-1, 0, 0], [9, 9, 9]],
-            [0, 3],
-            false,
-        ),
-        ("up from it", LINE, 2, [[1, 1, 0], [9, 9, 9]], [0, 3], false),
-        (
-            "through a point",
-            POINT,
-            2,
-            [[0, 0, 0], [2, 2, 2]],
-            [3, 4],
-            true,
-        ),
-        (
-            "past a point",
-            POINT,
-            2,
-            [[0, 0, 0], [2, 2, 3]],
-            [3, 4],
-            false,
-        ),
-        (
-            "across one with a corner twice",
-            LINE,
-            1,
-            [[4, -1, 0], [4, 1, 0]],
-            [3, 4],
-            true,
-        ),
-        (
-            "along one with a corner twice",
-            LINE,
-            1,
-            [[4, 0, 0], [9, 9, 9]],
-            [0, 3],
-            true,
-        ),
-    ] {
-        let found = meets(rt.alloc(), &face, &ends, side, last);
-        assert_eq!(rt; found, Some(expected), "{name}");
+    for (name, face, last, ends, side, expected) in &FLAT_SIDES {
+        let found = meets(rt.alloc(), face, ends, *side, *last);
+        assert!(rt; found == Some(*expected), "{name}");
     }
 }
