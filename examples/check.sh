@@ -1,12 +1,14 @@
 #!/bin/sh
 # Draws each sheet that sheets.txt names and compares it with the one that is kept in sheets/, and so the further files that its
-# job asks for; and lists the strokes of the bracket's sheet as sheet makes it, which is compared with the list in lists/.
-# Usage: examples/check.sh [DRAW [SHEET]]; these are the built programs, crates/draw_cli/out/draw_cli and
-# crates/sheet_cli/out/sheet_cli where they aren't given.
+# job asks for; and lists the strokes of the bracket's sheet as sheet makes it, which is compared with the list in lists/. Then it has
+# the kept piece lists judged, and draws the detail of the pillow block that README.md shows.
+# Usage: examples/check.sh [DRAW [SHEET [PIECES]]]; these are the built programs, crates/draw_cli/out/draw_cli,
+# crates/sheet_cli/out/sheet_cli and crates/piece_cli/out/piece_cli where they aren't given.
 set -u
 here=$(dirname "$0")
 program=$(realpath "${1:-$here/../crates/draw_cli/out/draw_cli}") || exit 1
 sheet=$(realpath "${2:-$here/../crates/sheet_cli/out/sheet_cli}") || exit 1
+pieces=$(realpath "${3:-$here/../crates/piece_cli/out/piece_cli}") || exit 1
 cd "$here" || exit 1
 drawn=$(mktemp -d) || exit 1
 trap 'rm -rf "$drawn"' EXIT
@@ -39,6 +41,23 @@ if cmp -s "$drawn/bracket.list" lists/bracket.list; then
     echo "bracket.list: as kept"
 else
     echo "bracket.list: differs from lists/bracket.list"
+    wrong=1
+fi
+for list in bracket wedge; do
+    job=bracket.toml
+    [ "$list" = wedge ] && job=front.toml
+    if [ "$("$pieces" check "$list.off" "$job" "sheets/$list.pieces")" = right ]; then
+        echo "$list.pieces: right"
+    else
+        echo "$list.pieces: not right"
+        wrong=1
+    fi
+done
+"$pieces" detail pillow.off pillow.toml 0 45000 -5000 138000 45000 2:1 "$drawn/pillow-detail.svg" || wrong=1
+if cmp -s "$drawn/pillow-detail.svg" ../docs/pillow-detail.svg; then
+    echo "pillow-detail.svg: as kept"
+else
+    echo "pillow-detail.svg: differs from docs/pillow-detail.svg"
     wrong=1
 fi
 exit "$wrong"

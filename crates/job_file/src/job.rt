@@ -28,6 +28,34 @@ pub struct Scale {
     ghost listed: { IsTrue (is_scale num den) },
 }
 
+impl Scale {
+    ghost use Rattle.std.specs.Prelude.{◌≡◌, option_map};
+    ghost use Rattle.job_file.specs.Scales.{scales};
+    ghost use Rattle.job_file.specs.Seen.{scale_seen};
+    ghost use Rattle.job_file.specs.Steps.{look_up};
+
+    /// The scale that is written so.
+    pub fn of(text: &str) -> Option<Scale>
+        ensures { option_map scale_seen result ≡ look_up scales text.now }
+    {
+        match text {
+            "50:1" => Some(Scale { num: 50, den: 1 }),
+            "20:1" => Some(Scale { num: 20, den: 1 }),
+            "10:1" => Some(Scale { num: 10, den: 1 }),
+            "5:1" => Some(Scale { num: 5, den: 1 }),
+            "2:1" => Some(Scale { num: 2, den: 1 }),
+            "1:1" => Some(Scale { num: 1, den: 1 }),
+            "1:2" => Some(Scale { num: 1, den: 2 }),
+            "1:5" => Some(Scale { num: 1, den: 5 }),
+            "1:10" => Some(Scale { num: 1, den: 10 }),
+            "1:20" => Some(Scale { num: 1, den: 20 }),
+            "1:50" => Some(Scale { num: 1, den: 50 }),
+            "1:100" => Some(Scale { num: 1, den: 100 }),
+            _ => None,
+        }
+    }
+}
+
 /// What a drawing shows, and how. A unit is 10^-`decimals` mm; the part's text is read in lengths of `unit`. The title has at most 120 bytes, without ASCII control
 /// characters and what XML doesn't allow. There are at most 8 outputs, all different, each of 1 to 16 bytes from `a` to `z`
 /// and `0` to `9`, and none is `svg`. There are 1 to 12 views, and no two have one name.

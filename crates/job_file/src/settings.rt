@@ -112,21 +112,12 @@ pub fn paper(table: &Table) -> Result<Paper, JobFault>
 fn scale_of(text: &str) -> Option<Option<Scale>>
     ensures { option_map (option_map scale_seen) result ≡ look_up fits text.now }
 {
-    match text {
-        "fit" => Some(None),
-        "50:1" => Some(Some(Scale { num: 50, den: 1 })),
-        "20:1" => Some(Some(Scale { num: 20, den: 1 })),
-        "10:1" => Some(Some(Scale { num: 10, den: 1 })),
-        "5:1" => Some(Some(Scale { num: 5, den: 1 })),
-        "2:1" => Some(Some(Scale { num: 2, den: 1 })),
-        "1:1" => Some(Some(Scale { num: 1, den: 1 })),
-        "1:2" => Some(Some(Scale { num: 1, den: 2 })),
-        "1:5" => Some(Some(Scale { num: 1, den: 5 })),
-        "1:10" => Some(Some(Scale { num: 1, den: 10 })),
-        "1:20" => Some(Some(Scale { num: 1, den: 20 })),
-        "1:50" => Some(Some(Scale { num: 1, den: 50 })),
-        "1:100" => Some(Some(Scale { num: 1, den: 100 })),
-        _ => None,
+    if text == "fit" {
+        return Some(None);
+    }
+    match Scale::of(text) {
+        Some(scale) => Some(Some(scale)),
+        None => None,
     }
 }
 

@@ -4,12 +4,12 @@ pub mod OneList
 pub mod OneView
 pub mod CutLines
 pub mod PlainLines
+pub mod Shrinking
+pub mod ViewLines
+pub mod ViewOrder
 mod CornerLines
 mod InOrder
 mod LinesAlong
 mod LinesListed
 mod LinesThrough
-mod Shrinking
 mod TraceLines
-mod ViewLines
-mod ViewOrder

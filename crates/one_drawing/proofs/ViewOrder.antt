@@ -77,7 +77,7 @@ up_to_of_lies d a b p hp less lies = by (three_ways d (of_spot a) p) (three_ways
         (inl both.0, inl both.1)
 
 module _ (d : Triple) (a b : Spot) (p : Point) where
-  lies_first : OnOneSight d (of_spot a) p → LiesBetween d a b p
+  pub lies_first : OnOneSight d (of_spot a) p → LiesBetween d a b p
   lies_first h = (1, 0, omega arith, sight_on d (spot_sum a b 1 0) (of_spot a) p a.positive (sight_back d (of_spot a) (spot_sum a b 1 0) at) h)
     where
       end : (r : Triple) → dot r (scaled (of_spot a)) *ℤ (spot_sum a b 1 0).w ≡ dot r (scaled (spot_sum a b 1 0)) *ℤ a.w
@@ -86,7 +86,7 @@ module _ (d : Triple) (a b : Spot) (p : Point) where
       at : OnOneSight d (of_spot a) (spot_sum a b 1 0)
       at = record { across = end (right_axis d); upward = end (up_axis d) }
 
-  lies_second : OnOneSight d (of_spot b) p → LiesBetween d a b p
+  pub lies_second : OnOneSight d (of_spot b) p → LiesBetween d a b p
   lies_second h = (0, 1, omega arith, sight_on d (spot_sum a b 0 1) (of_spot b) p b.positive (sight_back d (of_spot b) (spot_sum a b 0 1) at) h)
     where
       end : (r : Triple) → dot r (scaled (of_spot b)) *ℤ (spot_sum a b 0 1).w ≡ dot r (scaled (spot_sum a b 0 1)) *ℤ b.w

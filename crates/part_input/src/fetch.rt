@@ -10,14 +10,14 @@ use std::alloc::{AllocError, Global};
 // How many bytes a fetch asks for.
 const BLOCK: usize = 65_536;
 
-// Why a file wasn't fetched.
+/// Why a file wasn't fetched.
 #[derive(Clone, Copy)]
-pub(crate) enum FetchFault {
-    // A fetch failed.
+pub enum FetchFault {
+    /// A fetch failed.
     Failed,
-    // More bytes than the limit were taken.
+    /// More bytes than the limit were taken.
     TooLong,
-    // Memory ran out.
+    /// Memory ran out.
     Memory,
 }
 

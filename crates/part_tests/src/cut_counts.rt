@@ -129,28 +129,36 @@ fn is_added_up(solid: &Solid, section: &Section, picked: &Picked, entry: &EdgeSp
     true
 }
 
-// The first edge of a cut view at which the counts differ from the plain program, or from the sums of single tests.
-fn first_other(
-    rt: &impl Abort,
+// The spans of each edge are told and added up.
+fn are_right(
     alloc: Global,
     solid: &Solid,
-    cut: &Cut,
-) -> Result<Option<u32>, OutOfMemory> {
+    section: &Section,
+    picked: &Picked,
+    entries: &[EdgeSpans],
+) -> Result<bool, OutOfMemory>
+    requires borders { AreBorders (plane_of section.now.cut) (solid_part solid.now) section.now.segments.items section.now.loops.items }
+{
+    for entry in entries {
+        if !is_told(alloc, solid, section, entry)? || !is_added_up(solid, section, picked, entry) {
+            return Ok(false);
+        }
+    }
+    Ok(true)
+}
+
+// The counts of a cut view are as the plain program and the sums of single tests tell, and take no more tests than they may.
+fn is_right(alloc: Global, solid: &Solid, cut: &Cut) -> Result<bool, OutOfMemory> {
     let section = borders(alloc, solid, cut)?;
     let picked = pick(alloc, solid, &section.cut.dir(), Crease::Normal)?;
     let most = cut_bound(solid, &section, &picked);
     let finder = AllOutlines::new(&picked);
     let mut meter = Meter { tests: 0 };
     let entries = spans_cut(alloc, solid, &section, &picked, &finder, &mut meter)?;
-    assert!(rt; meter.tests <= most, "too many tests");
-    for entry in &entries {
-        if !is_told(alloc, solid, &section, entry)?
-            || !is_added_up(solid, &section, &picked, entry)
-        {
-            return Ok(Some(entry.edge));
-        }
+    if meter.tests > most {
+        return Ok(false);
     }
-    Ok(None)
+    are_right(alloc, solid, &section, &picked, &entries)
 }
 
 // A tetrahedron beneath a cube of which what a cut leaves is seen within its section.
@@ -184,10 +192,10 @@ fn check(rt: &impl Abort, alloc: Global, name: &str, part: Option<Solid>, planes
         let Ok(cut) = Cut::new(*axis, *at, *from_high) else {
             panic!(rt; "no cut");
         };
-        match first_other(rt, alloc, &part, &cut) {
-            Ok(other) => assert!(rt; other.is_none(), "{name}, {axis:?}, {at}: {other:?}"),
-            Err(_) => panic!(rt; "no memory"),
-        }
+        assert!(rt;
+            is_right(alloc, &part, &cut) == Ok(true),
+            "{name}, {axis:?}, {at}"
+        );
     }
 }
 

@@ -86,28 +86,39 @@ fn through_grid(
     })
 }
 
-// Through the grid the counts are the same; no more tests are made, and no more cells are counted than may be.
-fn is_same(through: &Gridded, all: &Told) -> bool {
-    through.view.spans == all.spans
-        && through.view.tests <= all.tests
-        && 0 < through.cells
-        && through.cells <= through.most_cells
+// Through a grid of so many columns the counts are the same; no more tests are made, and no more cells are counted than may be.
+fn is_same(
+    alloc: Global,
+    solid: &Solid,
+    d: &Dir,
+    columns: u32,
+    all: &Told,
+) -> Result<bool, OutOfMemory> {
+    let through = through_grid(alloc, solid, d, columns)?;
+    Ok(
+        through.view.spans == all.spans
+            && through.view.tests <= all.tests
+            && 0 < through.cells
+            && through.cells <= through.most_cells,
+    )
+}
+
+// The same through grids with few columns and with many; and no more tests are made through all outlines than may be.
+fn are_same(alloc: Global, solid: &Solid, d: &Dir) -> Result<bool, OutOfMemory> {
+    let all = through_all(alloc, solid, d)?;
+    for columns in [1, 2, 7, 256] {
+        if !is_same(alloc, solid, d, columns, &all)? {
+            return Ok(false);
+        }
+    }
+    Ok(all.tests <= all.most)
 }
 
 fn check(rt: &impl Abort, alloc: Global, name: &str, part: Option<Solid>, d: [i64; 3]) {
     let (Some(part), Ok(d)) = (part, Dir::new(d[0], d[1], d[2])) else {
         panic!(rt; "no {name}");
     };
-    let Ok(all) = through_all(alloc, &part, &d) else {
-        panic!(rt; "no memory");
-    };
-    assert!(rt; all.tests <= all.most, "{name}");
-    for columns in [1, 2, 7, 256] {
-        let Ok(through) = through_grid(alloc, &part, &d, columns) else {
-            panic!(rt; "no memory");
-        };
-        assert!(rt; is_same(&through, &all), "{name}, {columns} columns");
-    }
+    assert!(rt; are_same(alloc, &part, &d) == Ok(true), "{name}");
 }
 
 #[test]

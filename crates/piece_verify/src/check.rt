@@ -70,7 +70,7 @@ pub fn view_strips(
 }
 
 /// From where a view of the job is seen.
-fn view_dir(job: &Job, view: u32) -> Dir
+pub fn view_dir(job: &Job, view: u32) -> Dir
     requires { view < length job.now.views.items }
     ensures { (asked : JobView) → IsViewOf job.now view asked → of_dir result ≡ direction_seen asked.spec }
 {

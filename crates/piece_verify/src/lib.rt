@@ -10,5 +10,5 @@ mod check;
 mod compare;
 mod list;
 
-pub use check::{Verdict, check_list, view_strips};
+pub use check::{Verdict, check_list, view_dir, view_strips};
 pub use list::{Entry, ListError, ListFault, PieceList, read_list};

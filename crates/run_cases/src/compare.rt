@@ -115,7 +115,7 @@ fn run<D: Desk>(alloc: Global, case: &Case, desk: &mut D) -> io::Result<u8> {
     match case.program {
         Program::Draw => run_draw(alloc, &case.words, desk),
         Program::Sheet => Ok(sheet(alloc, &case.words, desk).status),
-        Program::Pieces => judge::check(alloc, &case.words, desk),
+        Program::Pieces => judge::judge(alloc, &case.words, desk),
     }
 }
 

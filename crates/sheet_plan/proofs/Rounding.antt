@@ -2,7 +2,7 @@
 use Rattle.std.proofs.Common.{◌≡◌, ℕ, zero, suc, ◌+◌, ◌*◌, ◌<◌, ◌≤◌, ◌^◌, arith, subst, ◌∙◌, sym, mul-le-mul}
 use Rattle.std.specs.Prelude.{ℤ, pos, ◌+ℤ◌, ◌-ℤ◌, ◌*ℤ◌, ◌<ℤ◌, ◌≤ℤ◌, unsigned_abs}
 use Rattle.std.proofs.lemmas.Int.{ints}
-use Rattle.integers.proofs.Comparisons.{twice_positive}
+use Rattle.integers.proofs.Comparisons.{twice_positive, times_one}
 use Rattle.integers.specs.Floors.{IsFloor, floor_of}
 use Rattle.integers.proofs.Floors.{floor_of-unique, IsFloor-nested, IsFloor-shifted}
 use Rattle.integers.proofs.FloorSizes.{IsFloor-size}
@@ -18,6 +18,16 @@ rounded_is r t f n w d hw hd inner outer =
 
 pub rounded_size : (r t d : ℤ) → pos 0 <ℤ d → 10 ^ 9 ≤ unsigned_abs d → unsigned_abs t ≤ 2 ^ 75 → IsFloor r (t +ℤ d) (pos 2 *ℤ d) → unsigned_abs r ≤ 2 ^ 45
 rounded_size r t d hd least small f = IsFloor-size r (t +ℤ d) (pos 2 *ℤ d) (2 ^ 45) (twice_positive d hd) (omega (arith, ints)) f
+
+-- the same of a whole number
+pub whole_is : (r n d : ℤ) → pos 0 <ℤ d → IsFloor r (pos 2 *ℤ n +ℤ d) (pos 2 *ℤ d) → r ≡ nearest n (d *ℤ pos 1)
+whole_is r n d hd f = floor_of-unique r (pos 2 *ℤ n +ℤ d) (pos 2 *ℤ d) (twice_positive d hd) f ∙ (λ i. floor_of (pos 2 *ℤ n +ℤ times_one d i) (pos 2 *ℤ times_one d i))
+
+pub whole_size : (r f n d : ℤ) → pos 0 <ℤ d → 10 ^ 9 ≤ unsigned_abs d → unsigned_abs f ≤ 2 ^ 43 → unsigned_abs n ≤ 2 ^ 40 → IsFloor r (pos 2 *ℤ (f *ℤ n) +ℤ d) (pos 2 *ℤ d) → unsigned_abs r ≤ 2 ^ 54
+whole_size r f n d hd least hf hn h = IsFloor-size r (pos 2 *ℤ (f *ℤ n) +ℤ d) (pos 2 *ℤ d) (2 ^ 54) (twice_positive d hd) (bound (f *ℤ n) d least (abs_times f n (2 ^ 43) (2 ^ 40) hf hn)) h
+  where
+    bound : (m d : ℤ) → 10 ^ 9 ≤ unsigned_abs d → unsigned_abs m ≤ 2 ^ 43 * 2 ^ 40 → unsigned_abs (pos 2 *ℤ m +ℤ d) ≤ 2 ^ 54 * unsigned_abs (pos 2 *ℤ d)
+    bound m d least small = omega (arith, ints)
 
 -- how large the floor of a multiple is
 pub times_size : (f a c : ℤ) → unsigned_abs f ≤ 2 ^ 44 → unsigned_abs a ≤ 2 ^ 30 → unsigned_abs c ≤ 2 ^ 44 → unsigned_abs (f *ℤ a +ℤ c) ≤ 2 ^ 75

@@ -19,5 +19,6 @@ mod strokes;
 pub use bounds::Extent;
 pub use errors::PlanError;
 pub use extents::extent;
+pub use numbers::Ruler;
 pub use planning::plan;
 pub use sheet::{Mark, Sheet, Spread, Stroke};

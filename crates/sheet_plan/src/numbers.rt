@@ -5,13 +5,13 @@ ghost use Rattle.lattice.specs.Points.{of_dir, of_vector};
 ghost use Rattle.lattice.specs.Triple.{IsWithin, dot, right_axis, up_axis};
 ghost use Rattle.sheet_plan.specs.Numbers.{shortening_of, square_of, nearest, measure_of, sheet_length};
 
-use exact_frac::{Frac, isqrt};
+use exact_frac::{Frac, isqrt, round_half_up};
 use job_file::Scale;
 use lattice::{Dir, Vector};
 
 /// What turns units into lengths on the sheet: a scale, and the number of decimals of a unit, which is 10^-`decimals` mm.
 #[derive(Clone, Copy)]
-pub(crate) struct Ruler {
+pub struct Ruler {
     pub scale: Scale,
     pub decimals: u8,
     ghost few_decimals: { decimals ≤ 6 },
@@ -36,6 +36,24 @@ impl Ruler {
         ensures size { unsigned_abs result ≤ 2 ^ 45 }
     {
         rounded(self.factor(square(&d.up())), self.divisor(), v)
+    }
+
+    /// A whole number of U, as a length on the sheet. It may be as large as a window of a view is.
+    pub fn whole_across(&self, d: &Dir, u: i64) -> i64
+        requires { unsigned_abs u ≤ 2 ^ 40 }
+        ensures value { result ≡ sheet_length (measure_of self.now.scale self.now.decimals) (square_of (right_axis (of_dir d.now))) u (pos 1) }
+        ensures size { unsigned_abs result ≤ 2 ^ 54 }
+    {
+        whole_length(self.factor(square(&d.right())), self.divisor(), u)
+    }
+
+    /// A whole number of V, as a length on the sheet.
+    pub fn whole_upward(&self, d: &Dir, v: i64) -> i64
+        requires { unsigned_abs v ≤ 2 ^ 40 }
+        ensures value { result ≡ sheet_length (measure_of self.now.scale self.now.decimals) (square_of (up_axis (of_dir d.now))) v (pos 1) }
+        ensures size { unsigned_abs result ≤ 2 ^ 54 }
+    {
+        whole_length(self.factor(square(&d.up())), self.divisor(), v)
     }
 
     /// What a product with an axis of this squared length is multiplied by.
@@ -74,6 +92,20 @@ fn shortening(square: u64) -> u64
     ensures size { result ≤ 10 ^ 9 }
 {
     isqrt(1_000_000_000_000_000_000 / square)
+}
+
+/// The whole number, multiplied by `factor` and divided by `divisor`, rounded to the nearest whole number, and halves up.
+fn whole_length(factor: i128, divisor: i128, number: i64) -> i64
+    requires not_negative { pos 0 ≤ℤ factor }
+    requires factor_fits { unsigned_abs factor ≤ 2 ^ 43 }
+    requires positive { pos 0 <ℤ divisor }
+    requires least { 10 ^ 9 ≤ unsigned_abs divisor }
+    requires divisor_fits { unsigned_abs divisor ≤ 2 ^ 57 }
+    requires near { unsigned_abs number ≤ 2 ^ 40 }
+    ensures value { result ≡ nearest (factor *ℤ number) (divisor *ℤ pos 1) }
+    ensures size { unsigned_abs result ≤ 2 ^ 54 }
+{
+    round_half_up(times(factor, number.into()), divisor) as i64
 }
 
 /// The product, multiplied by `factor` and divided by `divisor`, rounded to the nearest whole number, and halves up. The

@@ -49,94 +49,97 @@ const HIDDEN: Mark = Mark::Dashed;
 
 const HATCH: Mark = Mark::Hatch;
 
+const JOINED: [(&str, &[Line], &str); 9] = [
+    (
+        "a box",
+        &[
+            (0, HIDDEN, (0, 0), (100, 0)),
+            (0, HIDDEN, (100, 0), (100, 50)),
+            (0, HIDDEN, (100, 50), (0, 50)),
+            (0, HIDDEN, (0, 50), (0, 0)),
+        ],
+        "M0 0L100 0M100 0L100 50M100 50L0 50M0 50L0 0",
+    ),
+    (
+        "a T",
+        &[
+            (0, HIDDEN, (0, 0), (100, 0)),
+            (0, HIDDEN, (100, 0), (200, 0)),
+            (0, HIDDEN, (100, 0), (100, 100)),
+        ],
+        "M0 0L100 0M100 0L200 0M100 0L100 100",
+    ),
+    (
+        "a T of two marks",
+        &[
+            (0, HIDDEN, (0, 0), (100, 0)),
+            (0, SEEN, (100, 0), (100, 100)),
+            (0, HIDDEN, (100, 0), (200, 0)),
+        ],
+        "M0 0L100 0L200 0M100 0L100 100",
+    ),
+    (
+        "strokes that are one point",
+        &[
+            (0, HIDDEN, (100, 0), (100, 0)),
+            (0, HIDDEN, (200, 0), (100, 0)),
+            (0, HIDDEN, (0, 0), (100, 0)),
+            (0, HIDDEN, (300, 0), (300, 0)),
+        ],
+        "M200 0L100 0L0 0",
+    ),
+    (
+        "two views",
+        &[
+            (0, HIDDEN, (0, 0), (100, 0)),
+            (1, HIDDEN, (100, 0), (200, 0)),
+        ],
+        "M0 0L100 0M100 0L200 0",
+    ),
+    (
+        "two marks",
+        &[(0, HIDDEN, (0, 0), (100, 0)), (0, SEEN, (100, 0), (200, 0))],
+        "M0 0L100 0M100 0L200 0",
+    ),
+    (
+        "a hatching",
+        &[(0, HATCH, (0, 0), (100, 0)), (0, HATCH, (100, 0), (200, 0))],
+        "M0 0L100 0M100 0L200 0",
+    ),
+    (
+        "turns by 45 degrees, and by more",
+        &[
+            (0, SEEN, (200, 100), (300, 199)),
+            (0, SEEN, (0, 0), (100, 0)),
+            (0, SEEN, (100, 0), (200, 100)),
+            (0, SEEN, (300, 199), (300, 300)),
+        ],
+        "M0 0L100 0L200 100L300 199M300 199L300 300",
+    ),
+    (
+        "an octagon of strokes that are turned",
+        &[
+            (0, HIDDEN, (100, 0), (0, 0)),
+            (0, HIDDEN, (100, 0), (150, 50)),
+            (0, HIDDEN, (150, 150), (150, 50)),
+            (0, HIDDEN, (150, 150), (100, 200)),
+            (0, HIDDEN, (0, 200), (100, 200)),
+            (0, HIDDEN, (0, 200), (-50, 150)),
+            (0, HIDDEN, (-50, 50), (-50, 150)),
+            (0, HIDDEN, (-50, 50), (0, 0)),
+        ],
+        "M100 0L0 0L-50 50L-50 150L0 200L100 200L150 150L150 50Z",
+    ),
+];
+
 #[test]
-fn strokes_joined_to_paths(rt: HostRuntime) -> Result<(), Fail> {
-    for (what, lines, expected) in [
-        (
-            "a box",
-            [
-                (0, HIDDEN, (0, 0), (100, 0)),
-                (0, HIDDEN, (100, 0), (100, 50)),
-                (0, HIDDEN, (100, 50), (0, 50)),
-                (0, HIDDEN, (0, 50), (0, 0)),
-            ]
-            .as_slice(),
-            "M0 0L100 0M100 0L100 50M100 50L0 50M0 50L0 0",
-        ),
-        (
-            "a T",
-            &[
-                (0, HIDDEN, (0, 0), (100, 0)),
-                (0, HIDDEN, (100, 0), (200, 0)),
-                (0, HIDDEN, (100, 0), (100, 100)),
-            ],
-            "M0 0L100 0M100 0L200 0M100 0L100 100",
-        ),
-        (
-            "a T of two marks",
-            &[
-                (0, HIDDEN, (0, 0), (100, 0)),
-                (0, SEEN, (100, 0), (100, 100)),
-                (0, HIDDEN, (100, 0), (200, 0)),
-            ],
-            "M0 0L100 0L200 0M100 0L100 100",
-        ),
-        (
-            "strokes that are one point",
-            &[
-                (0, HIDDEN, (100, 0), (100, 0)),
-                (0, HIDDEN, (200, 0), (100, 0)),
-                (0, HIDDEN, (0, 0), (100, 0)),
-                (0, HIDDEN, (300, 0), (300, 0)),
-            ],
-            "M200 0L100 0L0 0",
-        ),
-        (
-            "two views",
-            &[
-                (0, HIDDEN, (0, 0), (100, 0)),
-                (1, HIDDEN, (100, 0), (200, 0)),
-            ],
-            "M0 0L100 0M100 0L200 0",
-        ),
-        (
-            "two marks",
-            &[(0, HIDDEN, (0, 0), (100, 0)), (0, SEEN, (100, 0), (200, 0))],
-            "M0 0L100 0M100 0L200 0",
-        ),
-        (
-            "a hatching",
-            &[(0, HATCH, (0, 0), (100, 0)), (0, HATCH, (100, 0), (200, 0))],
-            "M0 0L100 0M100 0L200 0",
-        ),
-        (
-            "turns by 45 degrees, and by more",
-            &[
-                (0, SEEN, (200, 100), (300, 199)),
-                (0, SEEN, (0, 0), (100, 0)),
-                (0, SEEN, (100, 0), (200, 100)),
-                (0, SEEN, (300, 199), (300, 300)),
-            ],
-            "M0 0L100 0L200 100L300 199M300 199L300 300",
-        ),
-        (
-            "an octagon of strokes that are turned",
-            &[
-                (0, HIDDEN, (100, 0), (0, 0)),
-                (0, HIDDEN, (100, 0), (150, 50)),
-                (0, HIDDEN, (150, 150), (150, 50)),
-                (0, HIDDEN, (150, 150), (100, 200)),
-                (0, HIDDEN, (0, 200), (100, 200)),
-                (0, HIDDEN, (0, 200), (-50, 150)),
-                (0, HIDDEN, (-50, 50), (-50, 150)),
-                (0, HIDDEN, (-50, 50), (0, 0)),
-            ],
-            "M100 0L0 0L-50 50L-50 150L0 200L100 200L150 150L150 50Z",
-        ),
-    ] {
-        assert_eq!(rt; told(rt.alloc(), lines)?.as_str(), expected, "{what}");
+fn strokes_joined_to_paths(rt: HostRuntime) {
+    for (what, lines, expected) in &JOINED {
+        match told(rt.alloc(), lines) {
+            Ok(found) => assert!(rt; found.as_str() == *expected, "{what}: {found}"),
+            Err(_) => panic!(rt; "no memory"),
+        }
     }
-    Ok(())
 }
 
 // How far along a circle of 64 parts and the radius 100000 a part begins, from one side to the other.
@@ -169,12 +172,20 @@ fn circle(alloc: Global, radius: u16) -> Result<Vec<Stroke>, OutOfMemory> {
     Ok(strokes)
 }
 
+// Whether strokes are joined to one closed path, and its points.
+fn closed_points(alloc: Global, strokes: &[Stroke]) -> Result<Option<usize>, OutOfMemory> {
+    let paths = paths(alloc, strokes)?;
+    match paths.as_slice() {
+        [path] if path.closed => Ok(Some(path.points.len())),
+        _ => Ok(None),
+    }
+}
+
 #[test]
 fn circles_are_one_closed_path(rt: HostRuntime) -> Result<(), Fail> {
     for (radius, points) in [(10, 56), (100, 64), (1000, 64), (5000, 64)] {
-        let paths = paths(rt.alloc(), &circle(rt.alloc(), radius)?)?;
-        let first = paths.first().map(|path| (path.closed, path.points.len()));
-        assert_eq!(rt; (paths.len(), first), (1, Some((true, points))), "{radius}");
+        let found = closed_points(rt.alloc(), &circle(rt.alloc(), radius)?)?;
+        assert!(rt; found == Some(points), "{radius}: {found:?}");
     }
     Ok(())
 }
@@ -196,41 +207,55 @@ fn through(alloc: Global, closed: bool, places: &[(i64, i64)]) -> Result<Path, O
     })
 }
 
+// Whether a path is closed, its points, and the length of a dash and of a gap.
+type Dashed = (bool, &'static [(i64, i64)], Option<(u64, u64)>);
+
 // From 0.6 mm on a path has dashes, at least two; with a length of 9.75 mm an open one has three, with 11.25 mm a closed one.
-#[test]
-fn dashes_that_fit(rt: HostRuntime) -> Result<(), Fail> {
-    for (closed, places, expected) in [
-        (false, [(0, 0), (59, 0)].as_slice(), None),
-        (false, &[(0, 0), (60, 0)], Some((240_000, 120_000))),
-        (false, &[(0, 0), (974, 0)], Some((3_896_000, 1_948_000))),
-        (false, &[(0, 0), (975, 0)], Some((2_437_500, 1_218_750))),
-        (
-            false,
-            &[(975, 0), (575, 0), (0, 0)],
-            Some((2_437_500, 1_218_750)),
-        ),
-        (false, &[(0, 0), (300, 400)], Some((2_000_000, 1_000_000))),
-        (false, &[(0, 0), (60, 60)], Some((339_411, 169_705))),
-        (true, &[(0, 0), (14, 0), (14, 15), (0, 15)], None),
-        (
-            true,
-            &[(0, 0), (15, 0), (15, 15), (0, 15)],
-            Some((200_000, 100_000)),
-        ),
-        (
-            true,
-            &[(0, 0), (281, 0), (281, 281), (0, 281)],
-            Some((3_746_666, 1_873_333)),
-        ),
-        (
-            true,
-            &[(0, 0), (281, 0), (281, 282), (0, 282)],
-            Some((2_502_222, 1_251_111)),
-        ),
-    ] {
-        let path = through(rt.alloc(), closed, places)?;
-        let found = dashes_of(&path).map(|dashes| (dashes.dash, dashes.gap));
-        assert_eq!(rt; found, expected, "{places:?}");
+const DASHED: [Dashed; 11] = [
+    (false, &[(0, 0), (59, 0)], None),
+    (false, &[(0, 0), (60, 0)], Some((240_000, 120_000))),
+    (false, &[(0, 0), (974, 0)], Some((3_896_000, 1_948_000))),
+    (false, &[(0, 0), (975, 0)], Some((2_437_500, 1_218_750))),
+    (
+        false,
+        &[(975, 0), (575, 0), (0, 0)],
+        Some((2_437_500, 1_218_750)),
+    ),
+    (false, &[(0, 0), (300, 400)], Some((2_000_000, 1_000_000))),
+    (false, &[(0, 0), (60, 60)], Some((339_411, 169_705))),
+    (true, &[(0, 0), (14, 0), (14, 15), (0, 15)], None),
+    (
+        true,
+        &[(0, 0), (15, 0), (15, 15), (0, 15)],
+        Some((200_000, 100_000)),
+    ),
+    (
+        true,
+        &[(0, 0), (281, 0), (281, 281), (0, 281)],
+        Some((3_746_666, 1_873_333)),
+    ),
+    (
+        true,
+        &[(0, 0), (281, 0), (281, 282), (0, 282)],
+        Some((2_502_222, 1_251_111)),
+    ),
+];
+
+// The dashes of a path.
+fn dashes(path: &Path) -> Option<(u64, u64)> {
+    match dashes_of(path) {
+        Some(dashes) => Some((dashes.dash, dashes.gap)),
+        None => None,
     }
-    Ok(())
+}
+
+#[test]
+fn dashes_that_fit(rt: HostRuntime) {
+    for (closed, places, expected) in &DASHED {
+        let Ok(path) = through(rt.alloc(), *closed, places) else {
+            panic!(rt; "no memory");
+        };
+        let found = dashes(&path);
+        assert!(rt; found == *expected, "{places:?}: {found:?}");
+    }
 }

@@ -130,48 +130,59 @@ const DROPPED: Outcome = Outcome {
     dropped: true,
 };
 
+// A list plotter, and two others with one suffix, which mark these outcomes.
+fn three(
+    alloc: Global,
+    first: &Rc<Cell<Outcome>>,
+    second: &Rc<Cell<Outcome>>,
+) -> Result<Vec<Box<dyn Plotter>>, OutOfMemory> {
+    let mut boxes: Vec<Box<dyn Plotter>> = Vec::new(alloc);
+    boxes.push(Box::new(alloc, ListPlotter::new(alloc))?)?;
+    boxes.push(Box::new(alloc, Counter::new(alloc, first)?)?)?;
+    boxes.push(Box::new(alloc, Counter::new(alloc, second)?)?)?;
+    Ok(boxes)
+}
+
 #[test]
 fn the_first_of_a_suffix(rt: HostRuntime) -> Result<(), Fail> {
     let alloc = rt.alloc();
     let (first, second) = (new_outcome(alloc)?, new_outcome(alloc)?);
-    let mut boxes: Vec<Box<dyn Plotter>> = Vec::new(alloc);
-    boxes.push(Box::new(alloc, ListPlotter::new(alloc))?)?;
-    boxes.push(Box::new(alloc, Counter::new(alloc, &first)?)?)?;
-    boxes.push(Box::new(alloc, Counter::new(alloc, &second)?)?)?;
-    let names = [Name::new(alloc, "count")?];
-    let mut rack = Rack::choose(alloc, boxes, &names)?;
-    assert!(rt; rack.len() == 1);
-    assert_eq!(rt; second.get(), DROPPED);
-    rack.draw(42000, 29700, &[stroke(Mark::Solid), stroke(Mark::Hatch)])?;
-    assert_eq!(rt;
-        first.get(),
-        Outcome {
-            strokes: 2,
-            dropped: false
-        }
-    );
-    assert_eq!(rt; rack.suffix(0), "count");
-    assert_eq!(rt; rack.text(0), b"2".as_slice());
-    drop(rack);
-    assert_eq!(rt;
-        first.get(),
-        Outcome {
-            strokes: 2,
-            dropped: true
-        }
-    );
+    let boxes = three(alloc, &first, &second)?;
+    let strokes = [stroke(Mark::Solid), stroke(Mark::Hatch)];
+    let text = text_by(alloc, boxes, "count", &strokes)?;
+    assert!(rt; text.as_slice() == b"2".as_slice());
+    assert!(rt; first.get().strokes == 2 && second.get() == DROPPED);
     Ok(())
+}
+
+#[test]
+fn the_second_of_a_suffix_is_dropped(rt: HostRuntime) -> Result<(), Fail> {
+    let alloc = rt.alloc();
+    let (first, second) = (new_outcome(alloc)?, new_outcome(alloc)?);
+    let names = [Name::new(alloc, "count")?];
+    let rack = Rack::choose(alloc, three(alloc, &first, &second)?, &names)?;
+    assert!(rt; rack.len() == 1);
+    assert!(rt; second.get() == DROPPED && !first.get().dropped);
+    assert!(rt; rack.suffix(0) == "count");
+    drop(rack);
+    assert!(rt; first.get() == DROPPED);
+    Ok(())
+}
+
+// A plotter that marks this outcome.
+fn one(alloc: Global, outcome: &Rc<Cell<Outcome>>) -> Result<Vec<Box<dyn Plotter>>, OutOfMemory> {
+    let mut boxes: Vec<Box<dyn Plotter>> = Vec::new(alloc);
+    boxes.push(Box::new(alloc, Counter::new(alloc, outcome)?)?)?;
+    Ok(boxes)
 }
 
 #[test]
 fn what_is_not_named_is_dropped(rt: HostRuntime) -> Result<(), Fail> {
     let alloc = rt.alloc();
     let handed_in = new_outcome(alloc)?;
-    let mut boxes: Vec<Box<dyn Plotter>> = Vec::new(alloc);
-    boxes.push(Box::new(alloc, Counter::new(alloc, &handed_in)?)?)?;
-    let mut rack = Rack::choose(alloc, boxes, &[])?;
+    let mut rack = Rack::choose(alloc, one(alloc, &handed_in)?, &[])?;
     rack.draw(42000, 29700, &[stroke(Mark::Dashed)])?;
-    assert_eq!(rt; (rack.len(), handed_in.get()), (0, DROPPED));
+    assert!(rt; rack.len() == 0 && handed_in.get() == DROPPED);
     Ok(())
 }
 
@@ -179,14 +190,12 @@ fn what_is_not_named_is_dropped(rt: HostRuntime) -> Result<(), Fail> {
 fn a_name_without_a_plotter(rt: HostRuntime) -> Result<(), Fail> {
     let alloc = rt.alloc();
     let handed_in = new_outcome(alloc)?;
-    let mut boxes: Vec<Box<dyn Plotter>> = Vec::new(alloc);
-    boxes.push(Box::new(alloc, Counter::new(alloc, &handed_in)?)?)?;
     let names = [Name::new(alloc, "count")?, Name::new(alloc, "mill")?];
-    let refused = Rack::choose(alloc, boxes, &names).map(|rack| rack.len());
-    assert_eq!(rt;
-        (refused, handed_in.get()),
-        (Err(RackError::NoPlotter(1)), DROPPED)
-    );
+    match Rack::choose(alloc, one(alloc, &handed_in)?, &names) {
+        Err(fault) => assert!(rt; fault == RackError::NoPlotter(1)),
+        Ok(_) => panic!(rt; "a plotter"),
+    }
+    assert!(rt; handed_in.get() == DROPPED);
     Ok(())
 }
 
@@ -241,21 +250,28 @@ fn text_by(
     Ok(rack.text(0).to_vec(alloc)?)
 }
 
+// The plotters of HP-GL and of DXF.
+fn plotters(alloc: Global) -> Result<Vec<Box<dyn Plotter>>, OutOfMemory> {
+    let mut boxes: Vec<Box<dyn Plotter>> = Vec::new(alloc);
+    boxes.push(Box::new(alloc, HpglPlotter::new(alloc))?)?;
+    boxes.push(Box::new(alloc, DxfPlotter::new(alloc))?)?;
+    Ok(boxes)
+}
+
+// The plotter with this suffix makes this text of the strokes.
+fn makes(alloc: Global, suffix: &str, strokes: &[Stroke], text: &str) -> Result<bool, Fail> {
+    let found = text_by(alloc, plotters(alloc)?, suffix, strokes)?;
+    Ok(found.as_slice() == text.as_bytes())
+}
+
 #[test]
 fn hpgl_and_dxf(rt: HostRuntime) -> Result<(), Fail> {
     let alloc = rt.alloc();
     let strokes = drawn_strokes(alloc)?;
-    for (suffix, strokes, expected) in [
-        ("hpgl", strokes.as_slice(), HPGL),
-        ("hpgl", &[], "IN;PU0,0;\n"),
-        ("dxf", strokes.as_slice(), DXF),
-        ("dxf", &[], "0\nSECTION\n2\nENTITIES\n0\nENDSEC\n0\nEOF\n"),
-    ] {
-        let mut boxes: Vec<Box<dyn Plotter>> = Vec::new(alloc);
-        boxes.push(Box::new(alloc, HpglPlotter::new(alloc))?)?;
-        boxes.push(Box::new(alloc, DxfPlotter::new(alloc))?)?;
-        let text = text_by(alloc, boxes, suffix, strokes)?;
-        assert_eq!(rt; text.as_slice(), expected.as_bytes(), "{suffix}");
-    }
+    assert!(rt; makes(alloc, "hpgl", &strokes, HPGL)?);
+    assert!(rt; makes(alloc, "dxf", &strokes, DXF)?);
+    assert!(rt; makes(alloc, "hpgl", &[], "IN;PU0,0;\n")?);
+    let none = "0\nSECTION\n2\nENTITIES\n0\nENDSEC\n0\nEOF\n";
+    assert!(rt; makes(alloc, "dxf", &[], none)?);
     Ok(())
 }

@@ -8,6 +8,7 @@ use fixtures::{CUBE_TEXT, solid_of};
 use job_file::Scale;
 use lattice::{Corner, Dir, HatchLine, Piece, Spot, Style};
 use sheet_plan::{Mark, Sheet, Spread, Stroke, extent};
+use solid_mesh::Solid;
 use std::alloc::Global;
 use std::test::Fail;
 use svg_page::svg;
@@ -39,37 +40,47 @@ fn spot(corner: &[i16; 3]) -> Spot {
     })
 }
 
-#[test]
-fn extents_of_the_cube(rt: HostRuntime) -> Result<(), Fail> {
-    let solid = solid_of(rt.alloc(), CUBE_TEXT).ok_or("no cube")?;
-    for ((x, y, z), numbers) in [
-        ((0, -1, 0), (0, 10000, 0, 10000)),
-        ((0, 1, 0), (-10000, 0, 0, 10000)),
-        ((0, 0, 1), (0, 10000, 0, 10000)),
-        ((1, -1, 1), (0, 20000, -10000, 30000)),
-    ] {
-        let e = extent(&solid, &Dir::new(x, y, z)?);
-        assert_eq!(rt; (e.u_min, e.u_max, e.v_min, e.v_max), numbers);
-    }
-    Ok(())
+// The direction, and from where to where the cube reaches to the right and upward.
+const EXTENTS: [([i64; 3], [i64; 4]); 4] = [
+    ([0, -1, 0], [0, 10000, 0, 10000]),
+    ([0, 1, 0], [-10000, 0, 0, 10000]),
+    ([0, 0, 1], [0, 10000, 0, 10000]),
+    ([1, -1, 1], [0, 20000, -10000, 30000]),
+];
+
+fn extent_from(solid: &Solid, d: &[i64; 3]) -> Option<[i64; 4]> {
+    let d = Dir::new(d[0], d[1], d[2]).ok()?;
+    let e = extent(solid, &d);
+    Some([e.u_min, e.u_max, e.v_min, e.v_max])
 }
+
+#[test]
+fn extents_of_the_cube(rt: HostRuntime) {
+    let Some(solid) = solid_of(rt.alloc(), CUBE_TEXT) else {
+        panic!(rt; "no cube");
+    };
+    for (d, expected) in &EXTENTS {
+        assert!(rt; extent_from(&solid, d) == Some(*expected), "{d:?}");
+    }
+}
+
+const CORNERS: [([i16; 3], (i64, i64)); 8] = [
+    ([0, 0, 0], (2000, 3225)),
+    ([10_000, 0, 0], (2707, 3633)),
+    ([10_000, 10_000, 0], (3414, 3225)),
+    ([0, 10_000, 0], (2707, 2817)),
+    ([0, 0, 10_000], (2000, 2409)),
+    ([10_000, 0, 10_000], (2707, 2817)),
+    ([10_000, 10_000, 10_000], (3414, 2409)),
+    ([0, 10_000, 10_000], (2707, 2000)),
+];
 
 #[test]
 fn corners_of_the_cube_seen_from_above_a_corner(rt: HostRuntime) -> Result<(), Fail> {
     let d = Dir::new(1, -1, 1)?;
     let sheet = a3(rt.alloc(), d, 3225, Scale { num: 1, den: 1 })?;
-    let rows: [([i16; 3], (i64, i64)); 8] = [
-        ([0, 0, 0], (2000, 3225)),
-        ([10_000, 0, 0], (2707, 3633)),
-        ([10_000, 10_000, 0], (3414, 3225)),
-        ([0, 10_000, 0], (2707, 2817)),
-        ([0, 0, 10_000], (2000, 2409)),
-        ([10_000, 0, 10_000], (2707, 2817)),
-        ([10_000, 10_000, 10_000], (3414, 2409)),
-        ([0, 10_000, 10_000], (2707, 2000)),
-    ];
-    for (corner, place) in rows {
-        assert_eq!(rt; sheet.point(0, &spot(&corner)), place, "{corner:?}");
+    for (corner, place) in &CORNERS {
+        assert!(rt; sheet.point(0, &spot(corner)) == *place, "{corner:?}");
     }
     Ok(())
 }
@@ -103,18 +114,15 @@ fn halves_are_rounded_up(rt: HostRuntime) -> Result<(), Fail> {
         z: 0,
         w: 4,
     };
-    assert_eq!(rt; full.point(0, &up), (4001, 2000));
-    assert_eq!(rt; full.point(0, &down), (0, -2001));
-    assert_eq!(rt; full.point(0, &thirds), (2667, 0));
-    assert_eq!(rt; half.point(0, &quarters), (2438, 0));
+    assert!(rt; full.point(0, &up) == (4001, 2000));
+    assert!(rt; full.point(0, &down) == (0, -2001));
+    assert!(rt; full.point(0, &thirds) == (2667, 0));
+    assert!(rt; half.point(0, &quarters) == (2438, 0));
     Ok(())
 }
 
-#[test]
-fn a_stroke_in_lowest_terms(rt: HostRuntime) -> Result<(), Fail> {
-    let d = Dir::new(0, -1, 0)?;
-    let sheet = a3(rt.alloc(), d, 4500, Scale { num: 1, den: 1 })?;
-    let piece = Piece {
+fn dashed_piece() -> Piece {
+    Piece {
         a: Spot {
             x: 10000,
             y: 0,
@@ -128,25 +136,33 @@ fn a_stroke_in_lowest_terms(rt: HostRuntime) -> Result<(), Fail> {
             w: 8,
         },
         style: Style::Dashed,
-    };
+    }
+}
+
+fn is(x: &Frac, num: i128, den: i128) -> bool {
+    x.num == num && x.den == den
+}
+
+// It is a stroke of this mark between two points of the sheet.
+fn is_drawn(s: &Stroke, mark: Mark, ends: [i64; 4]) -> bool {
+    s.view == 0 && s.mark == mark && [s.x1, s.y1, s.x2, s.y2] == ends
+}
+
+#[test]
+fn a_stroke_in_lowest_terms(rt: HostRuntime) -> Result<(), Fail> {
+    let d = Dir::new(0, -1, 0)?;
+    let sheet = a3(rt.alloc(), d, 4500, Scale { num: 1, den: 1 })?;
+    let piece = dashed_piece();
     let s = sheet.stroke(0, &piece);
-    assert_eq!(rt; (s.view, s.mark), (0, Mark::Dashed));
-    assert_eq!(rt;
-        (s.u1.num, s.u1.den, s.v1.num, s.v1.den),
-        (5000, 1, 5000, 1)
-    );
-    assert_eq!(rt;
-        (s.u2.num, s.u2.den, s.v2.num, s.v2.den),
-        (35005, 4, 10000, 1)
-    );
-    assert_eq!(rt; (s.x1, s.y1, s.x2, s.y2), (2500, 4000, 2875, 3500));
+    assert!(rt; is(&s.u1, 5000, 1) && is(&s.v1, 5000, 1));
+    assert!(rt; is(&s.u2, 35005, 4) && is(&s.v2, 10000, 1));
+    assert!(rt; is_drawn(&s, Mark::Dashed, [2500, 4000, 2875, 3500]));
     let line = HatchLine {
         a: piece.a,
         b: piece.b,
     };
     let s = sheet.hatch_stroke(0, &line);
-    assert_eq!(rt; (s.view, s.mark), (0, Mark::Hatch));
-    assert_eq!(rt; (s.x1, s.y1, s.x2, s.y2), (2500, 4000, 2875, 3500));
+    assert!(rt; is_drawn(&s, Mark::Hatch, [2500, 4000, 2875, 3500]));
     Ok(())
 }
 
@@ -154,13 +170,13 @@ fn a_stroke_in_lowest_terms(rt: HostRuntime) -> Result<(), Fail> {
 fn hatch_lines_are_3_mm_apart(rt: HostRuntime) -> Result<(), Fail> {
     let d = Dir::new(0, -1, 0)?;
     let mut sheet = a3(rt.alloc(), d, 4500, Scale { num: 1, den: 1 })?;
-    assert_eq!(rt; sheet.spacing(), 3000);
+    assert!(rt; sheet.spacing() == 3000);
     sheet.scale = Scale { num: 20, den: 1 };
-    assert_eq!(rt; sheet.spacing(), 150);
+    assert!(rt; sheet.spacing() == 150);
     sheet.decimals = 0;
-    assert_eq!(rt; sheet.spacing(), 1);
+    assert!(rt; sheet.spacing() == 1);
     sheet.scale = Scale { num: 1, den: 100 };
-    assert_eq!(rt; sheet.spacing(), 300);
+    assert!(rt; sheet.spacing() == 300);
     Ok(())
 }
 
@@ -196,22 +212,29 @@ pub(crate) fn stroke(view: u8, mark: Mark, from: (i64, i64), to: (i64, i64)) -> 
     }
 }
 
-#[test]
-fn a_title_and_a_view_without_strokes(rt: HostRuntime) -> Result<(), Fail> {
+// A sheet with two views from the front.
+fn two_views(alloc: Global) -> Result<Sheet, Fail>
+    ensures { IfOk result (λ sheet. length sheet.places.items ≡ 2) }
+{
     let d = Dir::new(0, -1, 0)?;
-    let mut sheet = a3(rt.alloc(), d, 3000, Scale { num: 1, den: 1 })?;
+    let mut sheet = a3(alloc, d, 3000, Scale { num: 1, den: 1 })?;
     sheet.places.push(Spread {
         d,
         x0: 2000,
         y0: 3000,
     })?;
-    assert!(rt; sheet.places.len() == 2);
+    Ok(sheet)
+}
+
+#[test]
+fn a_title_and_a_view_without_strokes(rt: HostRuntime) -> Result<(), Fail> {
+    let sheet = two_views(rt.alloc())?;
     let title = Name::new(rt.alloc(), "A & B <1>\"")?;
     let strokes = [
         stroke(1, Mark::Dashed, (2500, 3000), (-2500, 3000)),
         stroke(1, Mark::Hatch, (2500, 3000), (3500, 2000)),
     ];
     let text = svg(rt.alloc(), &sheet, &title, &strokes)?;
-    assert_eq!(rt; text.as_slice(), TITLED.as_bytes());
+    assert!(rt; text.as_slice() == TITLED.as_bytes());
     Ok(())
 }

@@ -4,9 +4,8 @@ ghost use Rattle.std.specs.Prelude.{◌<◌, ◌≤ℤ◌, ◌^◌, unsigned_abs
 use exact_frac::OutOfMemory;
 use job_file::{Job, JobView};
 use lattice::Dir;
-use sheet_plan::{Extent, plan};
+use sheet_plan::{Extent, Sheet, plan};
 use std::alloc::Global;
-use std::test::Fail;
 
 // From where a view reaches and how far, to the right and upward, in hundreds of units.
 type Reach = (i16, u16, i16, u16);
@@ -92,73 +91,73 @@ fn extents_of(
     Ok(extents)
 }
 
-// Where the views of a job stand, which reach so far.
-fn places_of(alloc: Global, text: &str, reaches: &[Reach]) -> Result<Vec<(i64, i64)>, Fail> {
+// The sheet of a job whose views reach so far.
+fn sheet_of(alloc: Global, text: &str, reaches: &[Reach]) -> Option<Sheet> {
     let Ok(job) = Job::read(alloc, text.as_bytes()) else {
-        return Err("no job".into());
+        return None;
     };
-    let extents = extents_of(alloc, &job.views, reaches)?;
+    let extents = extents_of(alloc, &job.views, reaches).ok()?;
     if job.views.len() != extents.len() {
-        return Err("other views".into());
+        return None;
     }
-    let Ok(sheet) = plan(alloc, &job, &extents) else {
-        return Err("no sheet".into());
-    };
-    let mut places = Vec::new(alloc);
-    for place in &sheet.places {
-        places.push((place.x0, place.y0))?;
-    }
-    Ok(places)
+    plan(alloc, &job, &extents).ok()
 }
 
-#[test]
-fn places_of_views(rt: HostRuntime) -> Result<(), Fail> {
-    for (text, reaches, places) in [
-        (
-            "",
-            BRACKET.as_slice(),
-            [(2000, 4000), (2000, 7500), (8500, 4000)].as_slice(),
-        ),
-        (
-            SIX_VIEWS,
-            &FLAT_BOX,
-            &[
-                (5500, 6500),
-                (16500, 6500),
-                (12000, 6500),
-                (2000, 6500),
-                (5500, 10000),
-                (5500, 2000),
-            ],
-        ),
-        (
-            THIRD,
-            &FLAT_BOX,
-            &[
-                (5500, 6500),
-                (16500, 6500),
-                (4000, 6500),
-                (10000, 6500),
-                (5500, 4000),
-                (5500, 8000),
-            ],
-        ),
-        (
-            "[[view]]\ntoward = [1, -1, 1]\n",
-            &[CUBE_FROM_A_CORNER],
-            &[(2000, 3225)],
-        ),
-        (
-            "[[view]]\ntoward = [1, -1, 1]\n[[view]]\nname = \"front\"\n[[view]]\ntoward = [1, -1, 1]\n",
-            &[CUBE_FROM_A_CORNER, (0, 100, 0, 100), CUBE_FROM_A_CORNER],
-            &[(2000, 5725), (2000, 3000), (4914, 5725)],
-        ),
-    ] {
-        assert_eq!(rt;
-            places_of(rt.alloc(), text, reaches)?.as_slice(),
-            places,
-            "{text}"
-        );
+// The views of the sheet stand at these places.
+fn stand(sheet: &Sheet, places: &[(i64, i64)]) -> bool {
+    for (view, place) in sheet.places.iter().zip(places) {
+        if (view.x0, view.y0) != *place {
+            return false;
+        }
     }
-    Ok(())
+    sheet.places.len() == places.len()
+}
+
+// The text of a job, how far its views reach, and where they stand.
+const PLACES: [(&str, &[Reach], &[(i64, i64)]); 5] = [
+    ("", &BRACKET, &[(2000, 4000), (2000, 7500), (8500, 4000)]),
+    (
+        SIX_VIEWS,
+        &FLAT_BOX,
+        &[
+            (5500, 6500),
+            (16500, 6500),
+            (12000, 6500),
+            (2000, 6500),
+            (5500, 10000),
+            (5500, 2000),
+        ],
+    ),
+    (
+        THIRD,
+        &FLAT_BOX,
+        &[
+            (5500, 6500),
+            (16500, 6500),
+            (4000, 6500),
+            (10000, 6500),
+            (5500, 4000),
+            (5500, 8000),
+        ],
+    ),
+    (
+        "[[view]]\ntoward = [1, -1, 1]\n",
+        &[CUBE_FROM_A_CORNER],
+        &[(2000, 3225)],
+    ),
+    (
+        "[[view]]\ntoward = [1, -1, 1]\n[[view]]\nname = \"front\"\n[[view]]\ntoward = [1, -1, 1]\n",
+        &[CUBE_FROM_A_CORNER, (0, 100, 0, 100), CUBE_FROM_A_CORNER],
+        &[(2000, 5725), (2000, 3000), (4914, 5725)],
+    ),
+];
+
+#[test]
+fn places_of_views(rt: HostRuntime) {
+    for (text, reaches, places) in &PLACES {
+        let Some(sheet) = sheet_of(rt.alloc(), text, reaches) else {
+            panic!(rt; "no sheet of {text}");
+        };
+        assert!(rt; stand(&sheet, places), "{text}");
+    }
 }

@@ -1,0 +1,5 @@
+pub mod DetailRight
+pub mod ViewDetails
+mod Covered
+mod StripsInside
+mod WindowSides

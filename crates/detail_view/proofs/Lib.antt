@@ -1,0 +1,7 @@
+mod Chains
+mod Decided
+mod Drawing
+mod Endings
+mod Readings
+mod Runs
+mod Showings

@@ -1,0 +1,7 @@
+pub mod Drawn
+pub mod Faults
+pub mod Run
+pub mod Seen
+pub mod Steps
+pub mod Words
+pub mod inner

@@ -1,0 +1,4 @@
+-- What only this crate's own functions cite.
+pub mod Drawing
+pub mod Judging
+pub mod Showing

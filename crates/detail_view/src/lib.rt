@@ -1,0 +1,15 @@
+//! The program `pieces`: it judges a list of pieces, and draws what of a view stands in a window.
+#![tactic(auto)]
+
+mod check;
+mod detail;
+mod fault;
+mod inputs;
+mod numbers;
+mod run;
+mod words;
+
+pub use fault::{PiecesFault, PiecesOutcome};
+pub use run::pieces;
+pub use window_clip::{Window, clip};
+pub use words::{CheckWords, DetailWords, Words, read_words};
