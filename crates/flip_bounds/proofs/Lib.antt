@@ -1,2 +1,4 @@
 pub mod Lengths
 pub mod Nearness
+pub mod Feet
+pub mod FootFaces
