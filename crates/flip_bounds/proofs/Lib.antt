@@ -2,3 +2,4 @@ pub mod Lengths
 pub mod Nearness
 pub mod Feet
 pub mod FootFaces
+pub mod Slivers
