@@ -3,3 +3,4 @@ pub mod Nearness
 pub mod Feet
 pub mod FootFaces
 pub mod Slivers
+pub mod FlipFaces
