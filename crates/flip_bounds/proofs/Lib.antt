@@ -4,3 +4,6 @@ pub mod Feet
 pub mod FootFaces
 pub mod Slivers
 pub mod FlipFaces
+pub mod FlipTriangles
+pub mod Changed
+pub mod FlipsNear
