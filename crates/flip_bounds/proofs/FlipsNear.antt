@@ -3,7 +3,7 @@ use Rattle.std.proofs.Common.{◌≡◌, ℕ, ◌+◌, ◌<◌, ◌≤◌, max, 
 use Rattle.std.specs.Prelude.{ℤ, pos, ◌<ℤ◌}
 use Rattle.std.proofs.lemmas.Bool.Decides.{eqb_tells}
 use Rattle.std.proofs.lemmas.List.{length-set}
-use Rattle.std.proofs.lemmas.List.Elements.{All-contains, All-set}
+use Rattle.std.proofs.lemmas.List.Elements.{All-contains, All-map, All-set}
 use Rattle.std.proofs.lemmas.Option.{slice_get_within}
 use Rattle.integers.proofs.Absolutes.{natural_positive}
 use Rattle.lattice.specs.declared.points.Corner.{Corner}
@@ -252,3 +252,48 @@ flips_near corners most n k given last flips greatest = record {
           r.on,
           near-wider q r.point (point_positive f.a f.b f.c q face) (surface_positive (part_with corners given) r.point r.on) x.bound k (most_bound f.number x at) r.near,
         )
+
+-- ---- what each flip keeps of all triangles
+module _ (corners : List Corner) (most : ℕ) (P : Bounded → Type 0) where
+  abbrev IsKept : Type 0
+  IsKept = (old new : List Bounded) (x : IsFlip corners most old new) → P (record { tri = first_of x.a x.b x.c x.d; bound = x.bound }) × P (record { tri = second_of x.a x.b x.c x.d; bound = x.bound })
+
+  all_after : IsKept → (n : ℕ) (s t : List Bounded) → AreFlips corners most n s t → All P s → All P t
+  all_after kept _ _ _ (none s) all = all
+  all_after kept _ _ _ (more n s t u flips x) all =
+      subst (λ (v : List Bounded). All P v) (sym x.changed)
+      (All-set P (slice_set t x.i (record { tri = first_of x.a x.b x.c x.d; bound = x.bound })) x.j (record { tri = second_of x.a x.b x.c x.d; bound = x.bound }) (kept t u x).1
+      (All-set P t x.i (record { tri = first_of x.a x.b x.c x.d; bound = x.bound }) (kept t u x).0 (all_after kept n s t flips all)))
+
+-- the greatest bound is within what flips may reach
+pub flips_within : (corners : List Corner) (most n k : ℕ) (given : List Tri) (last : List Bounded) → AreFlips corners most n (map unmoved given) last → IsGreatestBound last k → k ≤ most
+flips_within corners most n k given last flips greatest = by_bound greatest.1
+  where
+    all : All (λ (x : Bounded). x.bound ≤ most) last
+    all = all_after corners most (λ (x : Bounded). x.bound ≤ most) (λ old new x. (x.within, x.within)) n (map unmoved given) last flips (All-map (λ (x : Bounded). x.bound ≤ most) unmoved given (λ k d h. omega arith))
+
+    by_bound : (k ≡ 0) ⊎ ((x : Bounded) × Contains last x × (x.bound ≡ k)) → k ≤ most
+    by_bound (inl e) = omega arith
+    by_bound (inr (x, listed, e)) = let within = All-contains (λ (y : Bounded). y.bound ≤ most) last x all listed in subst (λ (m : ℕ). m ≤ most) e within
+
+-- there are as many triangles
+pub flips_count : (corners : List Corner) (most n : ℕ) (first last : List Bounded) → AreFlips corners most n first last → length last ≡ length first
+flips_count corners most _ _ _ (none s) = refl
+flips_count corners most _ _ _ (more n s t u flips x) =
+    ap length x.changed
+    ∙ length-set (slice_set t x.i (record { tri = first_of x.a x.b x.c x.d; bound = x.bound })) x.j (record { tri = second_of x.a x.b x.c x.d; bound = x.bound })
+    ∙ length-set t x.i (record { tri = first_of x.a x.b x.c x.d; bound = x.bound }) ∙ flips_count corners most n s t flips
+
+-- corner numbers stay in range
+pub flips_in_range : (corners : List Corner) (most n : ℕ) (first last : List Bounded) → AreFlips corners most n first last
+    → All (λ (x : Bounded). IsBelow (length corners) x.tri) first → All (λ (x : Bounded). IsBelow (length corners) x.tri) last
+flips_in_range corners most n first last =
+    all_after corners most (λ (x : Bounded). IsBelow (length corners) x.tri)
+    (λ old new x. (below (first_of x.a x.b x.c x.d) (first_placed corners most old new x), below (second_of x.a x.b x.c x.d) (second_placed corners most old new x))) n first last
+  where
+    below : (t : Tri) → Placed corners t → IsBelow (length corners) t
+    below t h = record {
+      a = slice_get_within corners t.a h.a h.at_a;
+      b = slice_get_within corners t.b h.b h.at_b;
+      c = slice_get_within corners t.c h.c h.at_c;
+    }
