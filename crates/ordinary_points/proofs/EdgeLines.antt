@@ -20,7 +20,7 @@ use Rattle.ordinary_points.proofs.Marks.{IsStill, IsHeld}
 abbrev pub line_between : Triple → Corner → Corner → StepLine
 line_between d a b = record { step = difference a b; number = pos 2 *ℤ det d (difference a b) (scaled (point_of a)) }
 
-edge_point-is_point : (a b : Corner) (q : Point) → IsPointOfEdge a b q → IsPoint q
+pub edge_point-is_point : (a b : Corner) (q : Point) → IsPointOfEdge a b q → IsPoint q
 edge_point-is_point a b q (i, j, some, is) = subst IsPoint (sym is) (natural_positive (i + j) some)
 
 on_line_between : (d : Triple) (a b : Corner) (q : Point) → IsPointOfEdge a b q → IsOnStepLine d (line_between d a b) q

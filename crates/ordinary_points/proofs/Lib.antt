@@ -4,4 +4,6 @@ mod ForEach
 mod Marks
 mod EdgeLines
 mod CornerMarks
+mod BorderEnds
+pub mod CutViews
 pub mod PlainViews
