@@ -1,19 +1,16 @@
 -- The foot of a triangle's height, and the share of the height by which points of faces move.
-use Rattle.std.proofs.Common.{◌≡◌, ℕ, zero, suc, ◌+◌, ◌*◌, ◌<◌, ◌≤◌, ◌⊎◌, inl, inr, [], ◌∷◌, refl, sym, ap, ◌∙◌, subst, arith}
-use Rattle.std.specs.Prelude.{ℤ, pos, ◌+ℤ◌, ◌-ℤ◌, ◌*ℤ◌, ◌≤ℤ◌, ◌<ℤ◌}
+use Rattle.std.proofs.Common.{◌≡◌, ℕ, ◌+◌, ◌*◌, ◌<◌, [], ◌∷◌, refl, sym, ap, ◌∙◌, subst, arith}
+use Rattle.std.specs.Prelude.{ℤ, pos, ◌+ℤ◌, ◌-ℤ◌, ◌*ℤ◌, ◌≤ℤ◌}
 use Rattle.std.proofs.lemmas.Int.{ints}
-use Rattle.integers.proofs.Absolutes.{natural_not_negative, natural_positive, natural_of_positive}
-use Rattle.integers.proofs.Comparisons.{at_most_by, not_negative_of_positive}
-use Rattle.integers.proofs.Ring.{var, con, ◌⊕◌, ◌⊖◌, ◌⊗◌, ring}
-use Rattle.integers.proofs.Signs.{mul_pos, mul_nonneg}
+use Rattle.integers.proofs.Absolutes.{natural_not_negative}
+use Rattle.integers.proofs.Comparisons.{at_most_by}
+use Rattle.integers.proofs.Ring.{var, ◌⊕◌, ◌⊖◌, ◌⊗◌, ring}
+use Rattle.integers.proofs.Signs.{mul_nonneg}
 use Rattle.lattice.specs.declared.points.Corner.{Corner}
 use Rattle.lattice.specs.Triple.{Triple}
 use Rattle.lattice.specs.Points.{Point}
-use Rattle.geometry.specs.Faces.{face_sum, IsPointOfFace}
-use Rattle.geometry.proofs.FacePoints.{face_point-round, face_point-turned}
-use Rattle.flip_bounds.specs.Near.{square, apart, span_of, AreNear}
-use Rattle.flip_bounds.proofs.Lengths.{times, IsLong, long-times, product_order, squares_order}
-use Rattle.flip_bounds.proofs.Nearness.{near-itself, near-symmetric}
+use Rattle.flip_bounds.specs.Near.{apart, span_of, AreNear}
+use Rattle.flip_bounds.proofs.Lengths.{times, IsNoLonger, no_longer-times, product_order, squares_order}
 
 -- the way from the point of a and b with the weights n and m to c, times the sum of both weights
 abbrev pub height_way : Corner → Corner → Corner → ℤ → ℤ → Triple
@@ -26,13 +23,13 @@ height_way a b c m n = record {
 -- the point of a and b with the weights n and m is at most r 1024ths of a unit from c
 pub record IsFoot (a b c : Corner) (m n r : ℕ) : Type 0 where
   pub some : 0 < m + n
-  pub long : IsLong (pos 1048576) (height_way a b c (pos m) (pos n)) (pos r *ℤ (pos m +ℤ pos n))
+  pub near : IsNoLonger (pos 1048576) (height_way a b c (pos m) (pos n)) (pos r *ℤ (pos m +ℤ pos n))
 
 pub foot-turned : (a b c : Corner) (m n r : ℕ) → IsFoot a b c m n r → IsFoot b a c n m r
 foot-turned a b c m n r h = record {
   some = turned m n h.some;
-  long = subst (λ (s : Triple). IsLong (pos 1048576) s (pos r *ℤ (pos n +ℤ pos m))) same
-  (subst (λ (v : ℤ). IsLong (pos 1048576) (height_way a b c (pos m) (pos n)) (pos r *ℤ v)) (exchanged (pos m) (pos n)) h.long);
+  near = subst (λ (s : Triple). IsNoLonger (pos 1048576) s (pos r *ℤ (pos n +ℤ pos m))) same
+      (subst (λ (v : ℤ). IsNoLonger (pos 1048576) (height_way a b c (pos m) (pos n)) (pos r *ℤ v)) (exchanged (pos m) (pos n)) h.near);
 }
   where
     turned : (m n : ℕ) → 0 < m + n → 0 < n + m
@@ -53,7 +50,7 @@ module _ (a b c : Corner) (m n r : ℕ) (foot : IsFoot a b c m n r) where
   pub moved : (p q : Point) (t : ℤ) → pos 0 ≤ℤ t → apart p q ≡ times t (height_way a b c (pos m) (pos n)) → (t *ℤ (pos m +ℤ pos n)) ≤ℤ (p.w *ℤ q.w) → AreNear r p q
   moved p q t ht way share =
       through _ _ _
-      (subst (λ (s : Triple). IsLong (pos 1048576) s (t *ℤ (pos r *ℤ (pos m +ℤ pos n)))) (sym way) (long-times (pos 1048576) (omega (arith, ints)) t (height_way a b c (pos m) (pos n)) (pos r *ℤ (pos m +ℤ pos n)) foot.long))
+      (subst (λ (s : Triple). IsNoLonger (pos 1048576) s (t *ℤ (pos r *ℤ (pos m +ℤ pos n)))) (sym way) (no_longer-times (pos 1048576) (omega (arith, ints)) t (height_way a b c (pos m) (pos n)) (pos r *ℤ (pos m +ℤ pos n)) foot.near))
       (squares_order (t *ℤ (pos r *ℤ (pos m +ℤ pos n))) (span_of r p q)
       (mul_nonneg t _ ht (mul_nonneg (pos r) _ (natural_not_negative r) (sum_not_negative m n)))
       (subst (λ (v : ℤ). v ≤ℤ span_of r p q) (sym (turn t (pos r) (pos m +ℤ pos n))) (product_order (pos r) _ _ (natural_not_negative r) share)))

@@ -5,7 +5,7 @@ use Rattle.std.proofs.lemmas.Int.{ints}
 use Rattle.integers.proofs.Ring.{var, con, ◌⊕◌, ◌⊗◌, ring}
 use Rattle.lattice.specs.declared.points.Corner.{Corner}
 use Rattle.lattice.specs.Points.{Point}
-use Rattle.geometry.specs.Faces.{face_sum, IsPointOfFace}
+use Rattle.geometry.specs.Faces.{IsPointOfFace}
 use Rattle.geometry.proofs.FacePoints.{face_point-round, face_point-turned}
 use Rattle.flip_bounds.proofs.Feet.{IsFoot, foot-turned}
 use Rattle.flip_bounds.proofs.FootFaces.{IsNearFace, near-edge, near-apex}

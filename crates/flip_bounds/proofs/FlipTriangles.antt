@@ -1,5 +1,5 @@
 -- One flip: each point of the sliver or its neighbour is near one of the two new triangles, and each point of these is near the neighbour.
-use Rattle.std.proofs.Common.{◌≡◌, ℕ, ◌⊎◌, inl, inr, List, Some, slice_get, refl, sym, subst}
+use Rattle.std.proofs.Common.{ℕ, ◌⊎◌, inl, inr, List, refl, sym, subst}
 use Rattle.lattice.specs.declared.points.Corner.{Corner}
 use Rattle.lattice.specs.declared.soup.Tri.{Tri}
 use Rattle.lattice.specs.Points.{Point}
@@ -8,7 +8,7 @@ use Rattle.geometry.proofs.FacePoints.{face_point-round}
 use Rattle.geometry.proofs.Listed.{same_element}
 use Rattle.flip_bounds.specs.declared.bounded.Bounded.{Bounded}
 use Rattle.flip_bounds.specs.Near.{AreNear}
-use Rattle.flip_bounds.specs.Heights.{Placed, IsLower}
+use Rattle.flip_bounds.specs.Heights.{Placed}
 use Rattle.flip_bounds.specs.Flips.{tri, IsRound, first_of, second_of, IsRise, IsFlip}
 use Rattle.flip_bounds.proofs.Feet.{IsFoot}
 use Rattle.flip_bounds.proofs.FootFaces.{IsNearFace}

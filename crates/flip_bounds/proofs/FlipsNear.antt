@@ -1,6 +1,5 @@
 -- Flips move a surface no farther than the bounds that are carried with its triangles.
-use Rattle.std.proofs.Common.{◌≡◌, ℕ, ◌+◌, ◌<◌, ◌≤◌, max, ◌⊎◌, inl, inr, List, All, Contains, Some, length, map, slice_get, slice_set, refl, sym, subst, ap, ◌∙◌, arith}
-use Rattle.std.specs.Prelude.{ℤ, pos, ◌<ℤ◌}
+use Rattle.std.proofs.Common.{◌≡◌, ℕ, ◌+◌, ◌≤◌, max, ◌⊎◌, inl, inr, List, All, Contains, Some, length, map, slice_get, slice_set, refl, sym, subst, ap, ◌∙◌, arith}
 use Rattle.std.proofs.lemmas.Bool.Decides.{eqb_tells}
 use Rattle.std.proofs.lemmas.List.{length-set}
 use Rattle.std.proofs.lemmas.List.Elements.{All-contains, All-map, All-set}
@@ -11,12 +10,12 @@ use Rattle.lattice.specs.declared.soup.Tri.{Tri}
 use Rattle.lattice.specs.Points.{Point, IsPoint}
 use Rattle.lattice.specs.Triangles.{IsBelow}
 use Rattle.geometry.specs.Faces.{IsPointOfFace}
-use Rattle.geometry.specs.Parts.{Part, part_with, Face}
+use Rattle.geometry.specs.Parts.{Part, part_with}
 use Rattle.geometry.proofs.Listed.{same_element}
 use Rattle.flip_bounds.specs.declared.bounded.Bounded.{Bounded}
-use Rattle.flip_bounds.specs.Near.{AreNear, IsOnSurface, LiesNear, AreNearSurfaces}
+use Rattle.flip_bounds.specs.Near.{AreNear, IsOnSurface, AreNearSurfaces}
 use Rattle.flip_bounds.specs.Heights.{Placed}
-use Rattle.flip_bounds.specs.Flips.{tri, first_of, second_of, IsFlip, AreFlips, unmoved, IsGreatestBound}
+use Rattle.flip_bounds.specs.Flips.{first_of, second_of, IsFlip, AreFlips, unmoved, IsGreatestBound}
 use Rattle.flip_bounds.specs.Flips.AreFlips.{none, more}
 use Rattle.flip_bounds.proofs.Changed.{set_same, set_other, map_place, map_place_back, Contains-place}
 use Rattle.flip_bounds.proofs.Nearness.{near-itself, near-wider, near-through}
@@ -76,12 +75,19 @@ at_first corners given = record {
         }
 
 -- ---- one flip
+-- the two triangles that stand there after it
+abbrev first_new : {corners : List Corner} {most : ℕ} {old new : List Bounded} → IsFlip corners most old new → Bounded
+first_new x = record { tri = first_of x.a x.b x.c x.d; bound = x.bound }
+
+abbrev second_new : {corners : List Corner} {most : ℕ} {old new : List Bounded} → IsFlip corners most old new → Bounded
+second_new x = record { tri = second_of x.a x.b x.c x.d; bound = x.bound }
+
 module _ (corners : List Corner) (most : ℕ) (old new : List Bounded) (x : IsFlip corners most old new) where
   abbrev first : Bounded
-  first = record { tri = first_of x.a x.b x.c x.d; bound = x.bound }
+  first = first_new x
 
   abbrev second : Bounded
-  second = record { tri = second_of x.a x.b x.c x.d; bound = x.bound }
+  second = second_new x
 
   first_listed : slice_get new x.i ≡ Some first
   first_listed =
@@ -100,9 +106,9 @@ module _ (corners : List Corner) (most : ℕ) (old new : List Bounded) (x : IsFl
   -- what stood at a place
   before : (place : ℕ) (y : Bounded) → slice_get old place ≡ Some y → (y ≡ x.sliver) ⊎ (y ≡ x.neighbour) ⊎ (slice_get new place ≡ Some y)
   before place y at = elim (eqb_tells place x.i) [
-    inl h ↦ inl (same_element old place x.i y x.sliver h.1 at x.at_sliver)
+    | inl h ↦ inl (same_element old place x.i y x.sliver h.1 at x.at_sliver)
     | inr h ↦ elim (eqb_tells place x.j) [
-      inl k ↦ inr (inl (same_element old place x.j y x.neighbour k.1 at x.at_neighbour))
+      | inl k ↦ inr (inl (same_element old place x.j y x.neighbour k.1 at x.at_neighbour))
       | inr k ↦ inr (inr (others_stay place h.1 k.1 ∙ at))
     ]
   ]
@@ -110,9 +116,9 @@ module _ (corners : List Corner) (most : ℕ) (old new : List Bounded) (x : IsFl
   -- and what stands there now
   after : (place : ℕ) (y : Bounded) → slice_get new place ≡ Some y → (y ≡ first) ⊎ (y ≡ second) ⊎ (slice_get old place ≡ Some y)
   after place y at = elim (eqb_tells place x.i) [
-    inl h ↦ inl (same_element new place x.i y first h.1 at first_listed)
+    | inl h ↦ inl (same_element new place x.i y first h.1 at first_listed)
     | inr h ↦ elim (eqb_tells place x.j) [
-      inl k ↦ inr (inl (same_element new place x.j y second k.1 at second_listed))
+      | inl k ↦ inr (inl (same_element new place x.j y second k.1 at second_listed))
       | inr k ↦ inr (inr (sym (others_stay place h.1 k.1) ∙ at))
     ]
   ]
@@ -256,14 +262,14 @@ flips_near corners most n k given last flips greatest = record {
 -- ---- what each flip keeps of all triangles
 module _ (corners : List Corner) (most : ℕ) (P : Bounded → Type 0) where
   abbrev IsKept : Type 0
-  IsKept = (old new : List Bounded) (x : IsFlip corners most old new) → P (record { tri = first_of x.a x.b x.c x.d; bound = x.bound }) × P (record { tri = second_of x.a x.b x.c x.d; bound = x.bound })
+  IsKept = (old new : List Bounded) (x : IsFlip corners most old new) → P (first_new x) × P (second_new x)
 
   all_after : IsKept → (n : ℕ) (s t : List Bounded) → AreFlips corners most n s t → All P s → All P t
   all_after kept _ _ _ (none s) all = all
   all_after kept _ _ _ (more n s t u flips x) all =
       subst (λ (v : List Bounded). All P v) (sym x.changed)
-      (All-set P (slice_set t x.i (record { tri = first_of x.a x.b x.c x.d; bound = x.bound })) x.j (record { tri = second_of x.a x.b x.c x.d; bound = x.bound }) (kept t u x).1
-      (All-set P t x.i (record { tri = first_of x.a x.b x.c x.d; bound = x.bound }) (kept t u x).0 (all_after kept n s t flips all)))
+      (All-set P (slice_set t x.i (first_new x)) x.j (second_new x) (kept t u x).1
+      (All-set P t x.i (first_new x) (kept t u x).0 (all_after kept n s t flips all)))
 
 -- the greatest bound is within what flips may reach
 pub flips_within : (corners : List Corner) (most n k : ℕ) (given : List Tri) (last : List Bounded) → AreFlips corners most n (map unmoved given) last → IsGreatestBound last k → k ≤ most
@@ -281,8 +287,8 @@ pub flips_count : (corners : List Corner) (most n : ℕ) (first last : List Boun
 flips_count corners most _ _ _ (none s) = refl
 flips_count corners most _ _ _ (more n s t u flips x) =
     ap length x.changed
-    ∙ length-set (slice_set t x.i (record { tri = first_of x.a x.b x.c x.d; bound = x.bound })) x.j (record { tri = second_of x.a x.b x.c x.d; bound = x.bound })
-    ∙ length-set t x.i (record { tri = first_of x.a x.b x.c x.d; bound = x.bound }) ∙ flips_count corners most n s t flips
+    ∙ length-set (slice_set t x.i (first_new x)) x.j (second_new x)
+    ∙ length-set t x.i (first_new x) ∙ flips_count corners most n s t flips
 
 -- corner numbers stay in range
 pub flips_in_range : (corners : List Corner) (most n : ℕ) (first last : List Bounded) → AreFlips corners most n first last

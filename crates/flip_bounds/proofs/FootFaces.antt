@@ -1,6 +1,6 @@
 -- Faces beside the foot of a triangle's height: each point of a face at the foot's edge is near a face with the apex, and the other way about.
 use Rattle.std.proofs.Common.{◌≡◌, ℕ, zero, suc, ◌+◌, ◌*◌, ◌<◌, ◌⊎◌, inl, inr, refl, sym, ◌∙◌, subst, arith}
-use Rattle.std.specs.Prelude.{ℤ, pos, ◌+ℤ◌, ◌*ℤ◌, ◌≤ℤ◌, ◌<ℤ◌}
+use Rattle.std.specs.Prelude.{ℤ, pos, ◌+ℤ◌, ◌*ℤ◌}
 use Rattle.std.proofs.lemmas.Int.{ints}
 use Rattle.integers.proofs.Absolutes.{natural_not_negative, natural_positive, natural_of_positive}
 use Rattle.integers.proofs.Signs.{mul_pos, mul_nonneg}
@@ -63,13 +63,13 @@ module _ (a b c e : Corner) (m n r : ℕ) (foot : IsFoot a b c m n r) where
     face_sum a c e d (j * (m + n)) (k * m),
     (d, j * (m + n), k * m, natural_of_positive _ _ (to_weight i j k d m n side) (mul_pos (pos m) (pos (i + j + k)) (natural_positive m rising) (natural_positive _ some)), refl),
     moved a b c m n r foot (face_sum a b e i j k) (face_sum a c e d (j * (m + n)) (k * m)) (pos (i + j + k) *ℤ pos j)
-    (mul_nonneg (pos (i + j + k)) (pos j) (natural_not_negative (i + j + k)) (natural_not_negative j))
-    (λ t. record {
-      x = to_apex-on_axis i j k d m n side a.x b.x c.x e.x t;
-      y = to_apex-on_axis i j k d m n side a.y b.y c.y e.y t;
-      z = to_apex-on_axis i j k d m n side a.z b.z c.z e.z t;
-    })
-    (to_share i j k d m n side),
+        (mul_nonneg (pos (i + j + k)) (pos j) (natural_not_negative (i + j + k)) (natural_not_negative j))
+        (λ t. record {
+          x = to_apex-on_axis i j k d m n side a.x b.x c.x e.x t;
+          y = to_apex-on_axis i j k d m n side a.y b.y c.y e.y t;
+          z = to_apex-on_axis i j k d m n side a.z b.z c.z e.z t;
+        })
+        (to_share i j k d m n side),
   )
 
   -- on a's side of the foot
@@ -83,14 +83,14 @@ module _ (a b c e : Corner) (m n r : ℕ) (foot : IsFoot a b c m n r) where
     face_sum a b e (i * (m + n) + k * n) (k * m) (j * (m + n)),
     (i * (m + n) + k * n, k * m, j * (m + n), natural_of_positive _ _ (from_weight i j k m n) (mul_pos (pos (i + j + k)) (pos (m + n)) (natural_positive _ some) (natural_positive _ foot.some)), refl),
     near-symmetric r (face_sum a b e (i * (m + n) + k * n) (k * m) (j * (m + n))) (face_sum a e c i j k)
-    (moved a b c m n r foot (face_sum a b e (i * (m + n) + k * n) (k * m) (j * (m + n))) (face_sum a e c i j k) (pos (i + j + k) *ℤ pos k)
-    (mul_nonneg (pos (i + j + k)) (pos k) (natural_not_negative (i + j + k)) (natural_not_negative k))
-    (λ t. record {
-      x = from_apex-on_axis i j k m n a.x b.x c.x e.x t;
-      y = from_apex-on_axis i j k m n a.y b.y c.y e.y t;
-      z = from_apex-on_axis i j k m n a.z b.z c.z e.z t;
-    })
-    (from_share i j k m n)),
+        (moved a b c m n r foot (face_sum a b e (i * (m + n) + k * n) (k * m) (j * (m + n))) (face_sum a e c i j k) (pos (i + j + k) *ℤ pos k)
+        (mul_nonneg (pos (i + j + k)) (pos k) (natural_not_negative (i + j + k)) (natural_not_negative k))
+        (λ t. record {
+          x = from_apex-on_axis i j k m n a.x b.x c.x e.x t;
+          y = from_apex-on_axis i j k m n a.y b.y c.y e.y t;
+          z = from_apex-on_axis i j k m n a.z b.z c.z e.z t;
+        })
+        (from_share i j k m n)),
   )
 
 -- from the edge to the apex, on either side of the foot

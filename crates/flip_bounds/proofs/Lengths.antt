@@ -1,9 +1,9 @@
 -- Lengths of vectors by their squares: of a multiple and of a sum.
-use Rattle.std.proofs.Common.{◌≡◌, ℕ, [], ◌∷◌, refl, sym, ap, ◌∙◌, arith}
+use Rattle.std.proofs.Common.{◌≡◌, [], ◌∷◌, refl, ap, ◌∙◌, arith}
 use Rattle.std.specs.Prelude.{ℤ, pos, ◌+ℤ◌, ◌-ℤ◌, ◌*ℤ◌, ◌≤ℤ◌, ◌<ℤ◌}
 use Rattle.std.proofs.lemmas.Int.{ints, by_lt_z}
 use Rattle.integers.proofs.Comparisons.{at_most_by, gap_of_at_most}
-use Rattle.integers.proofs.Ring.{var, con, ◌⊕◌, ◌⊖◌, ◌⊗◌, ring, less_by, gap_of_less}
+use Rattle.integers.proofs.Ring.{var, con, ◌⊕◌, ◌⊖◌, ◌⊗◌, ring, gap_of_less}
 use Rattle.integers.proofs.Signs.{mul_pos, mul_nonneg, square_nonneg}
 use Rattle.lattice.specs.Triple.{Triple, dot, cross}
 use Rattle.lattice.proofs.Vectors.{Letters, letters, dots, crosses}
@@ -77,12 +77,12 @@ square-cross s t =
     ring (s.x ∷ s.y ∷ s.z ∷ t.x ∷ t.y ∷ t.z ∷ []) ((dots on on ⊗ dots to to) ⊖ (dots on to ⊗ dots on to)) (dots over over) refl
 
 -- ---- the length of a vector, times the root of k, is at most a
-abbrev pub IsLong : ℤ → Triple → ℤ → Type 0
-IsLong k s a = (k *ℤ square s) ≤ℤ (a *ℤ a)
+abbrev pub IsNoLonger : ℤ → Triple → ℤ → Type 0
+IsNoLonger k s a = (k *ℤ square s) ≤ℤ (a *ℤ a)
 
 module _ (k : ℤ) (some : pos 0 ≤ℤ k) where
   -- by Cauchy and Schwarz
-  product_within : (s t : Triple) (a b : ℤ) → pos 0 ≤ℤ a → pos 0 ≤ℤ b → IsLong k s a → IsLong k t b → (k *ℤ dot s t) ≤ℤ (a *ℤ b)
+  product_within : (s t : Triple) (a b : ℤ) → pos 0 ≤ℤ a → pos 0 ≤ℤ b → IsNoLonger k s a → IsNoLonger k t b → (k *ℤ dot s t) ≤ℤ (a *ℤ b)
   product_within s t a b ha hb hs ht =
       order_of_squares (k *ℤ dot s t) (a *ℤ b) (mul_nonneg a b ha hb)
       (chain _ _ _ _ (at_most_by _ _ _ (gap k (dot s t) (square s) (square t) _ (square-cross s t)) (mul_nonneg _ _ (square_nonneg k) (square_not_negative (cross s t))))
@@ -101,8 +101,8 @@ module _ (k : ℤ) (some : pos 0 ≤ℤ k) where
       turn a b = ring (a ∷ b ∷ []) ((var 0 ⊗ var 0) ⊗ (var 1 ⊗ var 1)) ((var 0 ⊗ var 1) ⊗ (var 0 ⊗ var 1)) refl
 
   -- so a sum is no longer than the lengths together
-  pub long-plus : (s t : Triple) (a b : ℤ) → pos 0 ≤ℤ a → pos 0 ≤ℤ b → IsLong k s a → IsLong k t b → IsLong k (plus s t) (a +ℤ b)
-  long-plus s t a b ha hb hs ht =
+  pub no_longer-plus : (s t : Triple) (a b : ℤ) → pos 0 ≤ℤ a → pos 0 ≤ℤ b → IsNoLonger k s a → IsNoLonger k t b → IsNoLonger k (plus s t) (a +ℤ b)
+  no_longer-plus s t a b ha hb hs ht =
       add (k *ℤ square s) (k *ℤ square t) (k *ℤ dot s t) (a *ℤ a) (b *ℤ b) (a *ℤ b) _ _ (ap (λ v. k *ℤ v) (square-plus s t) ∙ spread k (square s) (square t) (dot s t)) (whole a b) hs ht
       (product_within s t a b ha hb hs ht)
     where
@@ -117,8 +117,8 @@ module _ (k : ℤ) (some : pos 0 ≤ℤ k) where
       add p q m a b c x y e f h k l = omega (arith, ints)
 
   -- a multiple
-  pub long-times : (c : ℤ) (s : Triple) (a : ℤ) → IsLong k s a → IsLong k (times c s) (c *ℤ a)
-  long-times c s a h =
+  pub no_longer-times : (c : ℤ) (s : Triple) (a : ℤ) → IsNoLonger k s a → IsNoLonger k (times c s) (c *ℤ a)
+  no_longer-times c s a h =
       same _ _ _ _ (ap (λ v. k *ℤ v) (square-times c s) ∙ turn k c (square s)) (turn_square c a) (product_order (c *ℤ c) (k *ℤ square s) (a *ℤ a) (square_nonneg c) h)
     where
       same : (x y z w : ℤ) → x ≡ y → z ≡ w → y ≤ℤ w → x ≤ℤ z

@@ -8,9 +8,9 @@ use Rattle.integers.proofs.Ring.{var, con, ◌⊕◌, ◌⊖◌, ◌⊗◌, ring
 use Rattle.integers.proofs.Signs.{mul_pos, mul_nonneg, nonneg_of_mul, square_nonneg}
 use Rattle.lattice.specs.Triple.{Triple}
 use Rattle.lattice.specs.Points.{Point, IsPoint}
-use Rattle.lattice.proofs.Vectors.{Letters, letters, dots}
+use Rattle.lattice.proofs.Vectors.{Letters, dots}
 use Rattle.flip_bounds.specs.Near.{square, apart, span_of, AreNear}
-use Rattle.flip_bounds.proofs.Lengths.{plus, times, IsLong, long-plus, long-times, square-times, squares_order}
+use Rattle.flip_bounds.proofs.Lengths.{plus, times, IsNoLonger, no_longer-plus, no_longer-times, square-times, squares_order}
 
 -- no length at all
 pub near-itself : (n : ℕ) (p : Point) → AreNear n p p
@@ -74,8 +74,8 @@ way_through p q r = λ i. record { x = on p.x p.w q.x q.w r.x r.w i; y = on p.y 
         ((var 5 ⊗ ((var 2 ⊗ var 1) ⊖ (var 0 ⊗ var 3))) ⊕ (var 1 ⊗ ((var 4 ⊗ var 3) ⊖ (var 2 ⊗ var 5)))) refl
 
 -- a positive factor of the vector and of the length goes
-long-from_times : (k c : ℤ) (s : Triple) (a : ℤ) → pos 0 <ℤ c → IsLong k (times c s) (c *ℤ a) → IsLong k s a
-long-from_times k c s a hc h =
+no_longer-from_times : (k c : ℤ) (s : Triple) (a : ℤ) → pos 0 <ℤ c → IsNoLonger k (times c s) (c *ℤ a) → IsNoLonger k s a
+no_longer-from_times k c s a hc h =
     at_most_of_gap _ _ (nonneg_of_mul (c *ℤ c) _ (mul_pos c c hc hc) (subst (λ (v : ℤ). pos 0 ≤ℤ v) (gap k c (square s) a _ (square-times c s)) (gap_of_at_most _ _ h)))
   where
     gap : (k c p a q : ℤ) → q ≡ (c *ℤ c) *ℤ p → ((c *ℤ a) *ℤ (c *ℤ a)) -ℤ (k *ℤ q) ≡ (c *ℤ c) *ℤ ((a *ℤ a) -ℤ (k *ℤ p))
@@ -85,14 +85,14 @@ long-from_times k c s a hc h =
 
 pub near-through : (n m : ℕ) (p q r : Point) → IsPoint p → IsPoint q → IsPoint r → AreNear n p q → AreNear m q r → AreNear (n + m) p r
 near-through n m p q r hp hq hr first second =
-    long-from_times (pos 1048576) q.w (apart p r) (span_of (n + m) p r) hq
-    (subst (λ (s : Triple). IsLong (pos 1048576) s (q.w *ℤ span_of (n + m) p r)) (sym (way_through p q r))
-    (subst (λ (a : ℤ). IsLong (pos 1048576) (plus (times r.w (apart p q)) (times p.w (apart q r))) a) (spans (pos n) (pos m) (pos (n + m)) p.w q.w r.w (pos-sum n m))
-    (long-plus (pos 1048576) (omega (arith, ints)) (times r.w (apart p q)) (times p.w (apart q r)) (r.w *ℤ span_of n p q) (p.w *ℤ span_of m q r)
+    no_longer-from_times (pos 1048576) q.w (apart p r) (span_of (n + m) p r) hq
+    (subst (λ (s : Triple). IsNoLonger (pos 1048576) s (q.w *ℤ span_of (n + m) p r)) (sym (way_through p q r))
+    (subst (λ (a : ℤ). IsNoLonger (pos 1048576) (plus (times r.w (apart p q)) (times p.w (apart q r))) a) (spans (pos n) (pos m) (pos (n + m)) p.w q.w r.w (pos-sum n m))
+    (no_longer-plus (pos 1048576) (omega (arith, ints)) (times r.w (apart p q)) (times p.w (apart q r)) (r.w *ℤ span_of n p q) (p.w *ℤ span_of m q r)
     (mul_nonneg r.w (span_of n p q) (not_negative_of_positive _ hr) (span_not_negative p q hp hq n))
     (mul_nonneg p.w (span_of m q r) (not_negative_of_positive _ hp) (span_not_negative q r hq hr m))
-    (long-times (pos 1048576) (omega (arith, ints)) r.w (apart p q) (span_of n p q) first)
-    (long-times (pos 1048576) (omega (arith, ints)) p.w (apart q r) (span_of m q r) second))))
+    (no_longer-times (pos 1048576) (omega (arith, ints)) r.w (apart p q) (span_of n p q) first)
+    (no_longer-times (pos 1048576) (omega (arith, ints)) p.w (apart q r) (span_of m q r) second))))
   where
     spans : (n m k u v w : ℤ) → k ≡ n +ℤ m → (w *ℤ (n *ℤ (u *ℤ v))) +ℤ (u *ℤ (m *ℤ (v *ℤ w))) ≡ v *ℤ (k *ℤ (u *ℤ w))
     spans n m k u v w e =

@@ -4,14 +4,14 @@ use Rattle.std.specs.Prelude.{ℤ, pos, ◌+ℤ◌, ◌-ℤ◌, ◌*ℤ◌, ◌�
 use Rattle.std.proofs.lemmas.Int.{ints}
 use Rattle.integers.proofs.Absolutes.{abs_of_not_negative}
 use Rattle.integers.proofs.Comparisons.{not_negative_of_positive}
-use Rattle.integers.proofs.Ring.{Expr, var, con, ◌⊕◌, ◌⊖◌, ◌⊗◌, ring}
+use Rattle.integers.proofs.Ring.{var, con, ◌⊕◌, ◌⊖◌, ◌⊗◌, ring}
 use Rattle.lattice.specs.declared.points.Corner.{Corner}
 use Rattle.lattice.specs.Triple.{Triple, dot, cross}
 use Rattle.lattice.specs.Points.{difference}
 use Rattle.lattice.proofs.Vectors.{Letters, letters, dots}
 use Rattle.flip_bounds.specs.Near.{square}
 use Rattle.flip_bounds.specs.Heights.{side_square, area_square}
-use Rattle.flip_bounds.proofs.Lengths.{IsLong, product_order, square-cross, square_not_negative}
+use Rattle.flip_bounds.proofs.Lengths.{IsNoLonger, product_order, square-cross, square_not_negative}
 use Rattle.flip_bounds.proofs.Feet.{IsFoot, height_way}
 
 abbrev between : Letters → Letters → Letters
@@ -90,8 +90,8 @@ module _ (a b c : Corner) (area side : ℤ) (r : ℕ) (is_area : area ≡ area_s
   unfolding m
   is_square = ap square (height_way-is a b c m n side both) ∙ square-way (difference a c) (difference a b) side m area is_side refl is_area
 
-  is_long : IsLong (pos 1048576) (height_way a b c m n) (pos r *ℤ (m +ℤ n))
-  is_long =
+  is_near : IsNoLonger (pos 1048576) (height_way a b c m n) (pos r *ℤ (m +ℤ n))
+  is_near =
       within _ _ _ _ (ap (λ v. pos 1048576 *ℤ v) is_square ∙ turn side area) (ap (λ v. (pos r *ℤ v) *ℤ (pos r *ℤ v)) both ∙ turn_square (pos r) side)
       (product_order side (area *ℤ pos 1048576) ((pos r *ℤ pos r) *ℤ side) (not_negative_of_positive side some) enough)
     where
@@ -110,8 +110,8 @@ module _ (a b c : Corner) (area side : ℤ) (r : ℕ) (is_area : area ≡ area_s
     unsigned_abs n,
     record {
       some = not_both m n side both some;
-      long = subst (λ (v : ℤ). IsLong (pos 1048576) (height_way a b c v (pos (unsigned_abs n))) (pos r *ℤ (v +ℤ pos (unsigned_abs n)))) (sym (abs_of_not_negative m from_start))
-      (subst (λ (v : ℤ). IsLong (pos 1048576) (height_way a b c m v) (pos r *ℤ (m +ℤ v))) (sym (abs_of_not_negative n to_end)) is_long);
+      near = subst (λ (v : ℤ). IsNoLonger (pos 1048576) (height_way a b c v (pos (unsigned_abs n))) (pos r *ℤ (v +ℤ pos (unsigned_abs n)))) (sym (abs_of_not_negative m from_start))
+          (subst (λ (v : ℤ). IsNoLonger (pos 1048576) (height_way a b c m v) (pos r *ℤ (m +ℤ v))) (sym (abs_of_not_negative n to_end)) is_near);
     },
   )
     where
