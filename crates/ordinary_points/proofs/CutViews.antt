@@ -21,6 +21,7 @@ use Rattle.ordinary_points.proofs.CornerMarks.{corner_marks, corner_marks-few, c
 use Rattle.ordinary_points.proofs.Crossings.{StepLine, IsOnStepLine, crossings}
 use Rattle.ordinary_points.proofs.EdgeLines.{line_between, edge_lines, edge_held}
 use Rattle.ordinary_points.proofs.ForEach.{for_faces, for_edges-few, for_faces-few, Contains-for_faces}
+use Rattle.ordinary_points.proofs.Lists.{at_most_one_each, length-joined}
 use Rattle.ordinary_points.proofs.Marks.{IsStill, IsHeld, parallel_steps, except_at}
 
 -- ---- the line of a border
@@ -62,17 +63,15 @@ module _ (c : Plane) (s : Part) (halves : List ℕ) (edges : AreEdges s halves) 
   abbrev lines : List StepLine
   lines = edge_lines d s halves ++ border_lines
 
-  lines-few : length lines ≤ length halves + length s.triangles
-  lines-few = sum _ _ _ _ _ (length-append (edge_lines d s halves) border_lines) (for_edges-few (line_between d) s halves) (for_faces-few (border_line c) s)
-    where
-      sum : (l a b m n : ℕ) → l ≡ a + b → a ≤ 1 * m → b ≤ 1 * n → l ≤ m + n
-      sum l a b m n e f g = omega arith
-
   marks-few : length marks ≤ length s.corners + length halves
-  marks-few = sum _ _ _ _ _ (length-append (corner_marks s) (end_marks c s halves)) (corner_marks-few s) (end_marks-few c s halves)
-    where
-      sum : (l a b m n : ℕ) → l ≡ a + b → a ≤ 1 * m → b ≤ 1 * n → l ≤ m + n
-      sum l a b m n e f g = omega arith
+  marks-few =
+      length-joined (corner_marks s) (end_marks c s halves) (length s.corners) (length halves)
+      (at_most_one_each _ _ (corner_marks-few s)) (at_most_one_each _ _ (end_marks-few c s halves))
+
+  lines-few : length lines ≤ length halves + length s.triangles
+  lines-few =
+      length-joined (edge_lines d s halves) border_lines (length halves) (length s.triangles)
+      (at_most_one_each _ _ (for_edges-few (line_between d) s halves)) (at_most_one_each _ _ (for_faces-few (border_line c) s))
 
   held : (p : Point) (x : EdgeOrBorder s) → IsSeenOverInCut c x p → IsStill d (step_of c x) ⊎ IsHeld d lines p (step_of c x)
   held p (edge e) seen = edge_held d s halves edges lines (λ l here. Contains-append_left (edge_lines d s halves) border_lines l here) e p seen

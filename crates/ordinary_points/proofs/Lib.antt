@@ -6,4 +6,7 @@ mod EdgeLines
 mod CornerMarks
 mod BorderEnds
 pub mod CutViews
+mod TraceLines
+mod TraceEnds
+pub mod TraceViews
 pub mod PlainViews

@@ -47,5 +47,9 @@ pairs-suc (suc m) = halves (suc (suc m) * (suc (suc m) - 1)) (suc m * (suc m - 1
     halves : (p q k : ℕ) → p ≡ q + 2 * k → p / 2 ≡ k + q / 2
     halves p q k e = omega arith
 
+-- ---- counts
 pub at_most_one_each : (l n : ℕ) → l ≤ 1 * n → l ≤ n
 at_most_one_each l n h = omega arith
+
+pub length-joined : {X : Type 0} (xs ys : List X) (m n : ℕ) → length xs ≤ m → length ys ≤ n → length (xs ++ ys) ≤ m + n
+length-joined xs ys m n h g = omega (arith, length-append xs ys)
