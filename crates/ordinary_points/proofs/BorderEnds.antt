@@ -3,8 +3,7 @@ use Rattle.std.proofs.Common.{◌≡◌, ◌⊎◌, inl, inr, ℕ, ◌+◌, ◌*
 use Rattle.std.specs.Prelude.{ℤ, pos, ◌+ℤ◌, ◌-ℤ◌, ◌*ℤ◌, ◌<ℤ◌}
 use Rattle.std.proofs.lemmas.Int.{ints, unsigned_abs-mul}
 use Rattle.integers.proofs.Absolutes.{natural_positive, pos-sum, pos-product, some_abs_of_positive, some_abs_of_negative}
-use Rattle.integers.proofs.Comparisons.{positive_not_zero, negative_not_zero}
-use Rattle.integers.proofs.Ring.{var, con, ◌⊕◌, ◌⊖◌, ◌⊗◌, ring, by_one}
+use Rattle.integers.proofs.Ring.{var, ◌⊕◌, ◌⊖◌, ◌⊗◌, ring, by_one}
 use Rattle.integers.proofs.Signs.{zero_of_mul}
 use Rattle.lattice.specs.declared.points.Corner.{Corner}
 use Rattle.lattice.specs.Cuts.{Plane, toward_of, IsBeyond, IsOnPlane, IsBeforePlane}
@@ -20,7 +19,7 @@ use Rattle.ordinary_points.specs.Exceptions.{IsInSightOfOne}
 use Rattle.ordinary_points.proofs.EdgeLines.{edge_point-is_point}
 use Rattle.ordinary_points.proofs.ForEach.{for_edges, for_edges-few, for_edges-all, Contains-for_edges}
 
--- of two weights of one value the products are the same: each corner's height is the other's weight
+-- weights i, j and m, n in one ratio give one point, in its product with any vector
 one_product : (s : Triple) (a b : Corner) (i j m n : ℕ) → i * n ≡ j * m → dot s (scaled (edge_sum a b m n)) *ℤ pos (i + j) ≡ dot s (scaled (edge_sum a b i j)) *ℤ pos (m + n)
 one_product s a b i j m n same =
     (λ t. dot-edge_sum s a b m n t *ℤ pos-sum i j t)

@@ -1,6 +1,5 @@
 -- The corners of a part as marks in a view, and that what is off all marks and crossings is ordinary there.
 use Rattle.std.proofs.Common.{List, [], ◌∷◌, All, Contains, length, flat_map, ℕ, ◌*◌, ◌≤◌, arith}
-use Rattle.std.specs.Prelude.{pos}
 use Rattle.std.proofs.lemmas.Int.{ints}
 use Rattle.std.proofs.lemmas.List.Elements.{All-cons, All-nil}
 use Rattle.lattice.specs.declared.points.Corner.{Corner}

@@ -1,6 +1,6 @@
 -- Lines of a view along steps, and where two of them cross: what is seen on both is on the line of sight of that place.
-use Rattle.std.proofs.Common.{◌≡◌, ◌⊎◌, inl, inr, ℕ, zero, suc, ◌+◌, ◌*◌, ◌<◌, ◌≤◌, List, [], ◌∷◌, ◌++◌, All, Contains, length, flat_map, unsigned_abs, refl, sym, subst, ap, ◌∙◌, arith}
-use Rattle.std.specs.Prelude.{ℤ, pos, negsuc, ◌+ℤ◌, ◌-ℤ◌, ◌*ℤ◌, ◌<ℤ◌}
+use Rattle.std.proofs.Common.{◌≡◌, ℕ, zero, suc, ◌+◌, ◌*◌, ◌<◌, ◌≤◌, List, [], ◌∷◌, ◌++◌, All, Contains, length, flat_map, unsigned_abs, refl, sym, subst, ap, ◌∙◌, arith}
+use Rattle.std.specs.Prelude.{ℤ, pos, negsuc, ◌+ℤ◌, ◌-ℤ◌, ◌*ℤ◌}
 use Rattle.std.proofs.lemmas.Int.{ints}
 use Rattle.std.proofs.lemmas.List.{length-append}
 use Rattle.std.proofs.lemmas.List.Elements.{All-append, All-cons, All-nil, Contains-append_left, Contains-append_right}
@@ -36,7 +36,7 @@ IsSeenOn d l p = (q : Point) × IsPoint q × IsOnStepLine d l q × OnOneSight d 
 abbrev pub turn_of : Triple → StepLine → StepLine → ℤ
 turn_of d l m = det d l.step m.step
 
--- the place where two lines cross, by a factor k of all its numbers
+-- the place where two lines cross, each of its numbers times k
 abbrev place_by : ℤ → Triple → StepLine → StepLine → Point
 place_by k d l m = record {
   x = k *ℤ ((l.number *ℤ m.step.x) -ℤ (m.number *ℤ l.step.x));
@@ -84,7 +84,7 @@ module _ (d : Triple) (l m : StepLine) where
   place_on_second : (k : ℤ) → IsOnStepLine d m (place_by k d l m)
   place_on_second k = ring (values k) (con (pos 2) ⊗ dots D (crosses T mixed)) (var 10 ⊗ (con (pos 2) ⊗ (var 11 ⊗ turn))) refl
 
--- what is square to two vectors is along the direction, by the third: the vectors' determinant times it, less so many times the direction
+-- what is at right angles to d x s and to d x t is along d: det d s t times it is det e s t times d
 module _ (d s t e : Triple) (first : dot (cross d s) e ≡ pos 0) (second : dot (cross d t) e ≡ pos 0) where
   abbrev all : List ℤ
   all = d.x ∷ d.y ∷ d.z ∷ s.x ∷ s.y ∷ s.z ∷ t.x ∷ t.y ∷ t.z ∷ e.x ∷ e.y ∷ e.z ∷ []

@@ -1,8 +1,7 @@
 -- The points that aren't ordinary in a cut view are on few lines of sight: those of the corners and of the ends of borders, and one for
 -- each pair of edges or borders.
-use Rattle.std.proofs.Common.{◌≡◌, ◌⊎◌, inl, inr, ℕ, ◌+◌, ◌*◌, ◌<◌, ◌≤◌, List, [], ◌∷◌, ◌++◌, Contains, length, refl, sym, subst, arith}
-use Rattle.std.specs.Prelude.{ℤ, pos, ◌+ℤ◌, ◌-ℤ◌, ◌*ℤ◌}
-use Rattle.std.proofs.lemmas.List.{length-append}
+use Rattle.std.proofs.Common.{◌≡◌, ◌⊎◌, inr, ℕ, ◌+◌, ◌≤◌, List, [], ◌∷◌, ◌++◌, length, refl, sym, subst}
+use Rattle.std.specs.Prelude.{ℤ, pos, ◌-ℤ◌, ◌*ℤ◌}
 use Rattle.std.proofs.lemmas.List.Elements.{All-append, Contains-append_left, Contains-append_right}
 use Rattle.integers.proofs.Absolutes.{natural_positive}
 use Rattle.integers.proofs.Ring.{var, con, ◌⊕◌, ◌⊖◌, ◌⊗◌, ring, by_two}
@@ -13,7 +12,7 @@ use Rattle.lattice.specs.Triple.{Triple, dot, cross, det}
 use Rattle.lattice.proofs.Vectors.{letters, dots, crosses}
 use Rattle.geometry.specs.Cuts.{EdgeOrBorder, edge, border, step_of, IsOnBorder, IsSeenOverInCut, IsOrdinaryInCut}
 use Rattle.geometry.specs.Faces.{normal, IsPointOfFace}
-use Rattle.geometry.specs.Parts.{Part, Face, Edge, AreEdges}
+use Rattle.geometry.specs.Parts.{Part, Face, AreEdges}
 use Rattle.geometry.proofs.BorderSteps.{along_normal}
 use Rattle.ordinary_points.specs.Exceptions.{pairs_of, IsInSightOfOne, HoldsExceptAt}
 use Rattle.ordinary_points.proofs.BorderEnds.{end_marks, end_marks-few, end_marks-points, off_end}

@@ -1,14 +1,13 @@
 -- The lines of a part's edges in a view, and that they hold what is seen over an edge.
-use Rattle.std.proofs.Common.{◌≡◌, ◌⊎◌, inl, inr, ℕ, ◌+◌, ◌<◌, List, [], ◌∷◌, Contains, refl, sym, subst, ◌∙◌, arith}
+use Rattle.std.proofs.Common.{◌≡◌, ◌⊎◌, inl, inr, ℕ, ◌+◌, List, [], ◌∷◌, Contains, refl, sym, subst}
 use Rattle.std.specs.Prelude.{ℤ, pos, ◌+ℤ◌, ◌-ℤ◌, ◌*ℤ◌}
-use Rattle.std.proofs.lemmas.Int.{ints}
 use Rattle.integers.proofs.Absolutes.{natural_positive, pos-sum}
 use Rattle.integers.proofs.Ring.{Expr, var, con, ◌⊕◌, ◌⊖◌, ◌⊗◌, ring, by_one}
 use Rattle.lattice.specs.declared.points.Corner.{Corner}
 use Rattle.lattice.specs.Points.{Point, IsPoint, point_of, scaled, OnOneSight}
-use Rattle.lattice.specs.Triple.{Triple, cross, det}
+use Rattle.lattice.specs.Triple.{Triple, det}
 use Rattle.lattice.proofs.Vectors.{Letters, letters, dots, crosses}
-use Rattle.geometry.specs.Faces.{difference, edge_sum, IsPointOfEdge}
+use Rattle.geometry.specs.Faces.{difference, IsPointOfEdge}
 use Rattle.geometry.specs.Parts.{Part, Edge, AreEdges}
 use Rattle.geometry.specs.Views.{IsSeenOver}
 use Rattle.geometry.proofs.FacePoints.{edge_point-turned}

@@ -4,7 +4,7 @@ use Rattle.std.proofs.lemmas.Bool.{cases_order}
 use Rattle.std.proofs.lemmas.List.Elements.{All-cons, All-nil}
 use Rattle.lattice.specs.declared.points.Corner.{Corner}
 use Rattle.lattice.specs.declared.soup.Tri.{Tri}
-use Rattle.geometry.specs.Parts.{Part, Face, Edge, IsHalf, IsTwin, AreEdges, start_of, end_of}
+use Rattle.geometry.specs.Parts.{Part, Face, Edge, IsHalf, AreEdges, start_of, end_of}
 use Rattle.geometry.proofs.Listed.{same_element}
 use Rattle.geometry.proofs.EachEdge.{turned_edge}
 use Rattle.ordinary_points.proofs.Lists.{Contains-first, Contains-listed, Contains-flat_map, All-flat_map, length-flat_map-few}

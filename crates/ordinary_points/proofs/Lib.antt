@@ -1,4 +1,5 @@
 mod Lists
+pub mod EdgesListed
 mod Crossings
 mod ForEach
 mod Marks
@@ -10,3 +11,4 @@ mod TraceLines
 mod TraceEnds
 pub mod TraceViews
 pub mod PlainViews
+pub mod EachPart

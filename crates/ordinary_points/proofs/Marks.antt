@@ -1,13 +1,13 @@
 -- When all points but those on a few lines of sight are so: what is on no line of sight of some marks, nor of a crossing of some lines.
-use Rattle.std.proofs.Common.{◌≡◌, ◌⊎◌, inl, inr, ℕ, zero, suc, ◌+◌, ◌≤◌, List, [], ◌∷◌, ◌++◌, All, Contains, length, true, false, Bool, refl, sym, subst, ap, ◌∙◌, arith}
-use Rattle.std.specs.Prelude.{ℤ, pos, negsuc, ◌+ℤ◌, ◌-ℤ◌, ◌*ℤ◌}
+use Rattle.std.proofs.Common.{◌≡◌, ◌⊎◌, inl, inr, ℕ, zero, suc, ◌+◌, ◌≤◌, List, [], ◌∷◌, ◌++◌, All, Contains, length, sym, subst, arith}
+use Rattle.std.specs.Prelude.{ℤ, pos, ◌*ℤ◌}
 use Rattle.std.proofs.lemmas.Bool.{cases_eq}
 use Rattle.std.proofs.lemmas.Int.{ints, by_lt_z}
 use Rattle.std.proofs.lemmas.List.{length-append}
 use Rattle.std.proofs.lemmas.List.Elements.{All-append, Contains-append_left, Contains-append_right}
-use Rattle.integers.proofs.Comparisons.{same_of_both, zero_times, times_zero}
+use Rattle.integers.proofs.Comparisons.{same_of_both}
 use Rattle.lattice.specs.Points.{Point, IsPoint, OnOneSight, across_of, upward_of}
-use Rattle.lattice.specs.Triple.{Triple, cross, det, IsZero}
+use Rattle.lattice.specs.Triple.{Triple, det}
 use Rattle.geometry.proofs.TracePoints.{det_turned}
 use Rattle.integers.proofs.Lists.{Contains-later}
 use Rattle.ordinary_points.specs.Exceptions.{pairs_of, IsInSightOfOne, HoldsExceptAt}

@@ -1,5 +1,5 @@
 -- The points that aren't ordinary in a plain view are on few lines of sight: those of the corners, and one for each pair of edges.
-use Rattle.std.proofs.Common.{ℕ, ◌+◌, ◌*◌, ◌≤◌, List, Contains, length, arith}
+use Rattle.std.proofs.Common.{ℕ, ◌+◌, List, length}
 use Rattle.lattice.specs.Triple.{Triple}
 use Rattle.geometry.specs.Parts.{Part, AreEdges}
 use Rattle.geometry.specs.Views.{IsOrdinary}

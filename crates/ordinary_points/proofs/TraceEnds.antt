@@ -1,9 +1,9 @@
 -- The ends of traces in a view: each trace has one at the least place of a corner along it, and one at the greatest.
-use Rattle.std.proofs.Common.{◌≡◌, ◌≢◌, ◌⊎◌, inl, inr, ℕ, zero, suc, ◌+◌, ◌*◌, ◌≤◌, List, [], ◌∷◌, ◌++◌, All, Contains, length, flat_map, refl, sym, subst, ap, ◌∙◌, arith}
+use Rattle.std.proofs.Common.{◌≡◌, ◌≢◌, ◌⊎◌, inl, inr, ℕ, zero, suc, ◌+◌, ◌*◌, ◌≤◌, List, [], ◌∷◌, ◌++◌, All, Contains, length, flat_map, refl, sym, subst, ◌∙◌, arith}
 use Rattle.std.specs.Prelude.{ℤ, pos, ◌+ℤ◌, ◌-ℤ◌, ◌*ℤ◌, ◌<ℤ◌, ◌≤ℤ◌}
 use Rattle.std.proofs.lemmas.Int.{ints, by_lt_z}
 use Rattle.std.proofs.lemmas.List.{length-append}
-use Rattle.std.proofs.lemmas.List.Elements.{All-append, All-cons, All-nil, Contains-append_left, Contains-append_right}
+use Rattle.std.proofs.lemmas.List.Elements.{All-cons, All-nil, Contains-append_left, Contains-append_right}
 use Rattle.integers.proofs.Comparisons.{at_most_by, at_most_itself, at_most_of_less, gap_of_at_most, not_negative_of_positive, times_one}
 use Rattle.integers.proofs.Lists.{Contains-later}
 use Rattle.integers.proofs.Ring.{var, ◌⊖◌, ◌⊗◌, ring}
@@ -15,7 +15,7 @@ use Rattle.lattice.specs.Cuts.{Plane, unit_of}
 use Rattle.lattice.specs.Points.{Point, IsPoint, point_of, OnOneSight}
 use Rattle.lattice.specs.Triple.{Triple}
 use Rattle.geometry.specs.Parts.{Part}
-use Rattle.geometry.specs.Traces.{component_of, coordinate_of, third_of, IsAlong, IsAmongCorners, IsOnTrace, IsOutermost, IsTraceEnd}
+use Rattle.geometry.specs.Traces.{component_of, coordinate_of, third_of, IsAmongCorners, IsOnTrace, IsOutermost, IsTraceEnd}
 use Rattle.geometry.proofs.Sights.{sight_on}
 use Rattle.geometry.proofs.TracePoints.{one_of_others, third_aside, unit_here, unit_elsewhere, sight_of_coordinates}
 use Rattle.ordinary_points.specs.Exceptions.{IsInSightOfOne}
@@ -193,8 +193,7 @@ module _ (d : Triple) (s : Part) (c : Plane) (sight : Axis) (q : Point) (on : Is
 
   end_in_sight : IsOutermost s run q → IsInSightOfOne d (ends_of_cut sight s c) q
   end_in_sight outermost =
-      let end = outermost_at s run q on.there on.within_run outermost in
-      (
+      let end = outermost_at s run q on.there on.within_run outermost in (
         place_at run c end.corner,
         Contains-flat_map (mark_at run c) (end_corners s run) end.corner (place_at run c end.corner) end.listed (Contains-first (place_at run c end.corner) []),
         at_end end,

@@ -1,7 +1,6 @@
 -- The lines of traces in a view, one for each cut: a view is along one axis at most, and that axis tells along which a trace runs.
-use Rattle.std.proofs.Common.{◌≡◌, ◌≢◌, zero, suc, List, [], ◌∷◌, Contains, length, flat_map, ℕ, ◌*◌, ◌≤◌, refl, sym, subst, arith}
+use Rattle.std.proofs.Common.{◌≡◌, ◌≢◌, zero, suc, List, [], ◌∷◌, Contains, length, flat_map, ◌*◌, ◌≤◌, refl, sym, subst, arith}
 use Rattle.std.specs.Prelude.{ℤ, pos, negsuc, ◌-ℤ◌, ◌*ℤ◌}
-use Rattle.std.proofs.lemmas.Int.{ints}
 use Rattle.integers.proofs.Ring.{Expr, var, con, ◌⊕◌, ◌⊖◌, ◌⊗◌, ring, by_two}
 use Rattle.lattice.specs.declared.points.Axis.{Axis}
 use Rattle.lattice.specs.declared.points.Axis.TheVariants.{X, Y, Z}
@@ -11,7 +10,7 @@ use Rattle.lattice.specs.Triple.{Triple, det}
 use Rattle.lattice.proofs.Vectors.{Letters, letters, dots, crosses}
 use Rattle.geometry.specs.Parts.{Part}
 use Rattle.geometry.specs.Traces.{coordinate_of, third_of, IsAlong, TraceRuns}
-use Rattle.ordinary_points.proofs.Crossings.{StepLine, IsOnStepLine}
+use Rattle.ordinary_points.proofs.Crossings.{StepLine}
 use Rattle.ordinary_points.proofs.Lists.{Contains-first, Contains-flat_map, length-flat_map-few}
 use Rattle.ordinary_points.proofs.Marks.{IsHeld}
 

@@ -1,12 +1,10 @@
 -- The points that aren't ordinary in a plain view beside the traces of cuts are on few lines of sight: those of the corners and of the two
 -- ends of each trace, and one for each pair of edges or traces.
-use Rattle.std.proofs.Common.{◌≡◌, ◌⊎◌, inl, inr, ℕ, ◌+◌, ◌*◌, ◌≤◌, List, ◌++◌, All, Contains, length, sym, subst}
-use Rattle.std.specs.Prelude.{ℤ, pos}
+use Rattle.std.proofs.Common.{◌⊎◌, inl, inr, ℕ, ◌+◌, ◌*◌, ◌≤◌, List, ◌++◌, Contains, length, sym, subst}
 use Rattle.std.proofs.lemmas.List.Elements.{All-append, Contains-append_left, Contains-append_right}
 use Rattle.lattice.specs.Cuts.{Plane}
 use Rattle.lattice.specs.Points.{Point, IsPoint}
-use Rattle.lattice.specs.Triple.{Triple, det}
-use Rattle.geometry.specs.Faces.{difference}
+use Rattle.lattice.specs.Triple.{Triple}
 use Rattle.geometry.specs.Parts.{Part, AreEdges}
 use Rattle.geometry.specs.Traces.{TraceRuns, EdgeRuns, IsOrdinaryBeside}
 use Rattle.ordinary_points.specs.Exceptions.{pairs_of, IsInSightOfOne, HoldsExceptAt}
