@@ -107,6 +107,15 @@ module _ (d s t e : Triple) (first : dot (cross d s) e ≡ pos 0) (second : dot 
   along_z : det d s t *ℤ e.z ≡ det e s t *ℤ d.z
   along_z = by_two _ _ (dot (cross d s) e) (pos 0) t.z (dot (cross d t) e) (pos 0) (pos 0 -ℤ s.z) (ring all (gap E.z D.z) (parts S.z T.z) refl) first second
 
+-- two points at each of which twice a value is the same number times w
+pub one_number : (a b n v w : ℤ) → pos 2 *ℤ a ≡ n *ℤ v → pos 2 *ℤ b ≡ n *ℤ w → a *ℤ w ≡ b *ℤ v
+one_number a b n v w e f =
+    same_of_products (a *ℤ w) (b *ℤ v) (pos 2) (omega (arith, ints))
+    (by_two _ _ (pos 2 *ℤ a) (n *ℤ v) w (pos 2 *ℤ b) (n *ℤ w) (pos 0 -ℤ v)
+    (ring (a ∷ b ∷ n ∷ v ∷ w ∷ [])
+    (((var 0 ⊗ var 4) ⊗ con (pos 2)) ⊖ ((var 1 ⊗ var 3) ⊗ con (pos 2)))
+    ((((con (pos 2) ⊗ var 0) ⊖ (var 2 ⊗ var 3)) ⊗ var 4) ⊕ (((con (pos 2) ⊗ var 1) ⊖ (var 2 ⊗ var 4)) ⊗ (con (pos 0) ⊖ var 3))) refl) e f)
+
 -- ---- points on a line
 module _ (d : Triple) where
   det_is : (s t : Triple) → det d s t ≡ dot (cross d s) t
@@ -121,14 +130,6 @@ module _ (d : Triple) where
     where
       of_det : (r : Point) → IsOnStepLine d l r → pos 2 *ℤ dot (cross d l.step) (scaled r) ≡ l.number *ℤ r.w
       of_det r h = ap (λ (z : ℤ). pos 2 *ℤ z) (sym (det_is l.step (scaled r))) ∙ h
-
-      one_number : (a b n v w : ℤ) → pos 2 *ℤ a ≡ n *ℤ v → pos 2 *ℤ b ≡ n *ℤ w → a *ℤ w ≡ b *ℤ v
-      one_number a b n v w e f =
-          same_of_products (a *ℤ w) (b *ℤ v) (pos 2) (omega (arith, ints))
-          (by_two _ _ (pos 2 *ℤ a) (n *ℤ v) w (pos 2 *ℤ b) (n *ℤ w) (pos 0 -ℤ v)
-          (ring (a ∷ b ∷ n ∷ v ∷ w ∷ [])
-          (((var 0 ⊗ var 4) ⊗ con (pos 2)) ⊖ ((var 1 ⊗ var 3) ⊗ con (pos 2)))
-          ((((con (pos 2) ⊗ var 0) ⊖ (var 2 ⊗ var 3)) ⊗ var 4) ⊕ (((con (pos 2) ⊗ var 1) ⊖ (var 2 ⊗ var 4)) ⊗ (con (pos 0) ⊖ var 3))) refl) e f)
 
   somewhere_of_turn : (s t : Triple) → ¬ (det d s t ≡ pos 0) → ¬ IsZero d
   somewhere_of_turn s t turns nothing = turns ((λ i. (nothing.x i *ℤ (cross s t).x +ℤ nothing.y i *ℤ (cross s t).y) +ℤ nothing.z i *ℤ (cross s t).z) ∙ none (cross s t).x (cross s t).y (cross s t).z)

@@ -12,3 +12,4 @@ mod TraceEnds
 pub mod TraceViews
 pub mod PlainViews
 pub mod EachPart
+pub mod OnePoint
