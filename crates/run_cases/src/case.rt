@@ -9,6 +9,8 @@ pub(crate) enum Program {
     Sheet,
     // The judge of piece lists.
     Pieces,
+    // The mender of parts.
+    Mend,
 }
 
 // A run by its words, over these files, and what is told of its end. The desk fails some calls, which may leave a beginning, or it
@@ -64,6 +66,7 @@ impl Case {
             Program::Draw => "drawing.svg",
             Program::Sheet => "sheet.svg",
             Program::Pieces => "pieces.svg",
+            Program::Mend => "mended.off",
         }
     }
 

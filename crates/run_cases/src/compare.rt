@@ -6,6 +6,7 @@ use crate::judge;
 use dec_text::Name;
 use desk::{Desk, MemoryDesk, RoomDesk};
 use draw_core::draw;
+use mend_core::mend;
 use plot_rack::{DxfPlotter, HpglPlotter, ListPlotter, Plotter};
 use sheet_core::sheet;
 use std::alloc::{AllocError, Global};
@@ -116,6 +117,7 @@ fn run<D: Desk>(alloc: Global, case: &Case, desk: &mut D) -> io::Result<u8> {
         Program::Draw => run_draw(alloc, &case.words, desk),
         Program::Sheet => Ok(sheet(alloc, &case.words, desk).status),
         Program::Pieces => judge::judge(alloc, &case.words, desk),
+        Program::Mend => Ok(mend(alloc, &case.words, desk).status),
     }
 }
 

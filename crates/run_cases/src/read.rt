@@ -97,6 +97,7 @@ fn program_of(name: &str) -> Option<Program> {
         "draw" => Some(Program::Draw),
         "sheet" => Some(Program::Sheet),
         "pieces" => Some(Program::Pieces),
+        "mend" => Some(Program::Mend),
         _ => None,
     }
 }
