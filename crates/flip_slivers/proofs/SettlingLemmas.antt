@@ -1,0 +1,84 @@
+-- From the given triangles to those that are left.
+use Rattle.std.proofs.Common.{◌≡◌, ℕ, ◌<◌, ◌≤◌, ◌+◌, List, [], ◌∷◌, length, map, get_or, refl, sym, ap, ◌∙◌, subst, arith, inl, inr, ◌⊎◌, ⊎_elim, Vec, Global}
+use Rattle.std.specs.Prelude.{Contains}
+use Rattle.std.specs.List.{All}
+use Rattle.std.proofs.lemmas.List.{length-map, get_or_default}
+use Rattle.std.proofs.lemmas.Bool.{cases_eq}
+use Rattle.std.proofs.lemmas.List.Elements.{All-map, Contains-get_or}
+use Rattle.lattice.specs.declared.points.Corner.{Corner}
+use Rattle.lattice.specs.declared.soup.Tri.{Tri}
+use Rattle.lattice.specs.Triangles.{IsBelow}
+use Rattle.geometry.specs.Parts.{part_with}
+use Rattle.flip_bounds.specs.declared.bounded.Bounded.{Bounded}
+use Rattle.flip_bounds.specs.Near.{AreNearSurfaces}
+use Rattle.flip_bounds.specs.Flips.{AreFlips, unmoved, IsGreatestBound}
+use Rattle.flip_bounds.proofs.FlipsNear.{flips_near, flips_within, flips_count, flips_in_range}
+use Rattle.flip_slivers.specs.Flipped.{IsFlipped}
+use Rattle.flip_slivers.specs.inner.Around.{IsAround, lists_of, triangles_of}
+use Rattle.flip_slivers.specs.inner.Choices.{IsLaid}
+
+pub unmoved_back : (triangles : List Tri) → triangles_of (map unmoved triangles) ≡ triangles
+unmoved_back [] = refl
+unmoved_back (t ∷ triangles) = ap (λ (ts : List Tri). t ∷ ts) (unmoved_back triangles)
+
+pub start_laid : (corners : List Corner) (triangles : List Tri) (surface : List Bounded) (around : List (Vec ℕ Global)) → surface ≡ map unmoved triangles → length around ≡ length corners
+    → IsAround triangles (lists_of around) → All (IsBelow (length corners)) triangles → IsLaid corners surface around
+start_laid corners triangles surface around start long listed in_range = record {
+  for_each = long;
+  listed = let P : List Tri → Type 0 = λ ts. IsAround ts (lists_of around) in subst P (sym (ap triangles_of start ∙ unmoved_back triangles)) listed;
+  in_range = let P : List Bounded → Type 0 = λ s. All (λ (x : Bounded). IsBelow (length corners) x.tri) s in
+      subst P (sym start) (All-map (λ (x : Bounded). IsBelow (length corners) x.tri) unmoved triangles in_range);
+}
+
+-- what `flip_slivers` promises, of the last surface
+pub record Settled (corners : List Corner) (most : ℕ) (given left : List Tri) (flips moved : ℕ) : Type 0 where
+  pub flipped : IsFlipped corners most given left flips moved
+  pub count : length left ≡ length given
+  pub in_range : All (IsBelow (length corners)) left
+  pub near : AreNearSurfaces moved (part_with corners given) (part_with corners left)
+  pub within : moved ≤ most
+
+abbrev pub settled : (corners : List Corner) (most : ℕ) (given left : List Tri) (first last : List Bounded) (flips moved : ℕ) → All (IsBelow (length corners)) given → first ≡ map unmoved given
+    → AreFlips corners most flips first last → left ≡ triangles_of last → IsGreatestBound last moved → Settled corners most given left flips moved
+settled corners most given left first last flips moved in_range start by_flips bare greatest =
+    let P : List Bounded → Type 0 = λ s. AreFlips corners most flips s last in
+    let from : AreFlips corners most flips (map unmoved given) last = subst P start by_flips in
+    let Q : List Tri → Type 0 = λ ts. All (IsBelow (length corners)) ts in
+    let N : List Tri → Type 0 = λ ts. AreNearSurfaces moved (part_with corners given) (part_with corners ts) in
+    record {
+      flipped = record { last = last; by_flips = from; is_triangles = bare; is_moved = greatest };
+      count = ap length bare ∙ length-map last (λ (x : Bounded). x.tri) ∙ flips_count corners most flips (map unmoved given) last from ∙ length-map given unmoved;
+      in_range = subst Q (sym bare) (All-map (IsBelow (length corners)) (λ (x : Bounded). x.tri) last
+          (flips_in_range corners most flips (map unmoved given) last from (All-map (λ (x : Bounded). IsBelow (length corners) x.tri) unmoved given in_range)));
+      near = subst N (sym bare) (flips_near corners most flips moved given last from greatest);
+      within = flips_within corners most flips moved given last from greatest;
+    }
+
+-- ---- the greatest bound of the first triangles
+pub record IsGreatestOfFirst (surface : List Bounded) (count most : ℕ) : Type 0 where
+  pub none_greater : (k : ℕ) (d : Bounded) → k < count → (get_or surface k d).bound ≤ most
+  pub carried : (most ≡ 0) ⊎ ((x : Bounded) × Contains surface x × (x.bound ≡ most))
+
+pub greatest_of_all : (surface : List Bounded) (count most : ℕ) → length surface ≤ count → IsGreatestOfFirst surface count most → IsGreatestBound surface most
+greatest_of_all surface count most all first = (λ x has. bounded x has, first.carried)
+  where
+    bounded : (x : Bounded) → Contains surface x → x.bound ≤ most
+    bounded x (k, below, is) = let P : Bounded → Type 0 = λ y. y.bound ≤ most in subst P is (first.none_greater k x (omega arith))
+
+pub more_greatest : (surface : List Bounded) (count most now : ℕ) (d : Bounded) → count < length surface → IsGreatestOfFirst surface count most
+    → ((most < (get_or surface count d).bound) × (now ≡ (get_or surface count d).bound)) ⊎ (((get_or surface count d).bound ≤ most) × (now ≡ most)) → IsGreatestOfFirst surface (count + 1) now
+more_greatest surface count most now d within first = ⊎_elim
+    (λ (more, is). record {
+      none_greater = λ k e below. elim (cases_eq k count) [
+        | inl same ↦ let at : (get_or surface k e).bound ≡ (get_or surface count d).bound = ap (λ (i : ℕ). (get_or surface i e).bound) same ∙ ap (λ (x : Bounded). x.bound) (get_or_default surface count e d within) in omega arith
+        | inr other ↦ let earlier : k < count = omega arith in let low : (get_or surface k e).bound ≤ most = first.none_greater k e earlier in omega arith
+      ];
+      carried = inr (get_or surface count d, Contains-get_or surface count d within, sym is);
+    })
+    (λ (low, is). record {
+      none_greater = λ k e below. elim (cases_eq k count) [
+        | inl same ↦ let at : (get_or surface k e).bound ≡ (get_or surface count d).bound = ap (λ (i : ℕ). (get_or surface i e).bound) same ∙ ap (λ (x : Bounded). x.bound) (get_or_default surface count e d within) in omega arith
+        | inr other ↦ let earlier : k < count = omega arith in let before : (get_or surface k e).bound ≤ most = first.none_greater k e earlier in omega arith
+      ];
+      carried = let P : ℕ → Type 0 = λ n. (n ≡ 0) ⊎ ((x : Bounded) × Contains surface x × (x.bound ≡ n)) in subst P (sym is) first.carried;
+    })

@@ -1,0 +1,41 @@
+use Rattle.std.proofs.Common.{length, get_or, refl, inl, inr}
+use Rattle.flip_bounds.specs.declared.bounded.Bounded.{Bounded}
+use Rattle.flip_bounds.specs.Flips.{tri}
+use Rattle.flip_slivers.proofs.ChoiceLemmas.{turned_at, turned_below}
+use Rattle.flip_slivers.proofs.choices.flip_at.Goals as goal
+
+abbrev nothing : Bounded
+nothing = record { tri = record { a = 0; b = 0; c = 0 }; bound = 0 }
+
+pub flip_on-requires : goal.flip_on-requires
+flip_on-requires c =
+    let t = (get_or c.args.surface.now c.args.place nothing).tri in
+    record {
+      laid = c.requires.laid;
+      most = c.requires.most;
+      place = c.requires.place;
+      below = turned_below (length c.args.corners.now) c.args.surface.now c.args.place nothing t c.requires.place c.requires.laid.in_range (inl refl);
+      turned = turned_at c.args.surface.now c.args.place nothing t c.requires.place (inl refl);
+    }
+
+pub flip_on-requires-2 : goal.flip_on-requires-2
+flip_on-requires-2 c =
+    let t = (get_or c.args.surface.now c.args.place nothing).tri in
+    record {
+      laid = c.requires.laid;
+      most = c.requires.most;
+      place = c.requires.place;
+      below = turned_below (length c.args.corners.now) c.args.surface.now c.args.place nothing (tri t.b t.c t.a) c.requires.place c.requires.laid.in_range (inr (inl refl));
+      turned = turned_at c.args.surface.now c.args.place nothing (tri t.b t.c t.a) c.requires.place (inr (inl refl));
+    }
+
+pub flip_on-requires-3 : goal.flip_on-requires-3
+flip_on-requires-3 c =
+    let t = (get_or c.args.surface.now c.args.place nothing).tri in
+    record {
+      laid = c.requires.laid;
+      most = c.requires.most;
+      place = c.requires.place;
+      below = turned_below (length c.args.corners.now) c.args.surface.now c.args.place nothing (tri t.c t.a t.b) c.requires.place c.requires.laid.in_range (inr (inr refl));
+      turned = turned_at c.args.surface.now c.args.place nothing (tri t.c t.a t.b) c.requires.place (inr (inr refl));
+    }

@@ -1,0 +1,3 @@
+pub mod Flipped
+pub mod Pairs
+pub mod inner

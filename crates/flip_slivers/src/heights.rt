@@ -1,0 +1,135 @@
+// The least heights of triangles: which is lower, and how far a flip moves points.
+ghost use Rattle.std.specs.Prelude.{◌≡◌, ◌+◌, ◌*◌, ◌<◌, ◌≤◌, ◌^◌, ◌↔◌, length, IsTrue, pos, ◌*ℤ◌, ◌<ℤ◌};
+ghost use Rattle.lattice.specs.Triangles.{IsBelow};
+ghost use Rattle.flip_bounds.specs.Heights.{HasHeight, IsLongest, IsLower, IsRoundedUp, side_square, area_square};
+ghost use Rattle.flip_bounds.specs.Flips.{IsRise};
+
+use exact_frac::{Frac, isqrt};
+use lattice::{Corner, Tri, Vector, cross};
+use std::cmp::Ordering;
+
+/// The square of twice a triangle's area, and that of a longest side: the square of its least height is `area / side`.
+#[derive(Clone, Copy, Debug)]
+pub(crate) struct Height {
+    pub area: u128,
+    pub side: u128,
+    ghost area_in_range: { area < 2 ^ 88 },
+    ghost side_in_range: { side < 2 ^ 44 },
+}
+
+/// The height of the triangle with these corner numbers.
+pub(crate) fn height_at(corners: &[Corner], t: &Tri) -> Height
+    requires { IsBelow (length corners.now) t.now }
+    ensures { HasHeight corners.now t.now (pos result.area) (pos result.side) }
+{
+    let a = &corners[t.a as usize];
+    let b = &corners[t.b as usize];
+    let c = &corners[t.c as usize];
+    height_of(a, b, c)
+}
+
+/// The height of the triangle with these corners.
+fn height_of(a: &Corner, b: &Corner, c: &Corner) -> Height
+    ensures area { pos result.area ≡ area_square a.now b.now c.now }
+    ensures side { IsLongest a.now b.now c.now (pos result.side) }
+{
+    let first = side_between(a, b);
+    let second = side_between(b, c);
+    let third = side_between(c, a);
+    Height {
+        area: area_between(a, b, c),
+        side: first.max(second).max(third),
+    }
+}
+
+/// The square of the side from a to b.
+pub(crate) fn side_between(a: &Corner, b: &Corner) -> u128
+    ensures value { pos result ≡ side_square a.now b.now }
+    ensures size { result < 2 ^ 44 }
+{
+    let way = Vector::between(a, b);
+    way.dot(&way).unsigned_abs()
+}
+
+/// The square of twice the triangle's area.
+fn area_between(a: &Corner, b: &Corner, c: &Corner) -> u128
+    ensures value { pos result ≡ area_square a.now b.now c.now }
+    ensures size { result < 2 ^ 88 }
+{
+    let normal = cross(&Vector::between(a, b), &Vector::between(a, c));
+    normal.dot(&normal).unsigned_abs()
+}
+
+/// The lesser height of s and t is less than those of u and v.
+pub(crate) fn rises(corners: &[Corner], s: &Tri, t: &Tri, u: &Tri, v: &Tri) -> bool
+    requires first { IsBelow (length corners.now) s.now }
+    requires second { IsBelow (length corners.now) t.now }
+    requires third { IsBelow (length corners.now) u.now }
+    requires fourth { IsBelow (length corners.now) v.now }
+    ensures { IsTrue result → IsRise corners.now s.now t.now u.now v.now }
+{
+    (is_lower(corners, s, u) && is_lower(corners, s, v))
+        || (is_lower(corners, t, u) && is_lower(corners, t, v))
+}
+
+/// The least height of the first triangle is less than that of the second.
+fn is_lower(corners: &[Corner], t: &Tri, u: &Tri) -> bool
+    requires first { IsBelow (length corners.now) t.now }
+    requires second { IsBelow (length corners.now) u.now }
+    ensures { IsTrue result → IsLower corners.now t.now u.now }
+{
+    is_less(&height_at(corners, t), &height_at(corners, u))
+}
+
+/// The first height is less. One that has no side is none.
+fn is_less(h: &Height, k: &Height) -> bool
+    ensures { IsTrue result → (pos h.now.area *ℤ pos k.now.side) <ℤ (pos k.now.area *ℤ pos h.now.side) }
+{
+    h.side > 0 && k.side > 0 && ratio_of(h).cmp(&ratio_of(k)) == Ordering::Less
+}
+
+/// The square of the height as a fraction.
+fn ratio_of(h: &Height) -> Frac
+    requires { 0 < h.now.side }
+    ensures num { result.num ≡ pos h.now.area }
+    ensures den { result.den ≡ pos h.now.side }
+{
+    Frac {
+        num: h.area as i128,
+        den: h.side as i128,
+    }
+}
+
+/// The height is at most 2 units.
+pub(crate) fn is_low(h: &Height) -> bool
+    ensures { IsTrue result ↔ (h.now.area ≤ 4 * h.now.side) }
+{
+    h.area <= 4 * h.side
+}
+
+/// The height in 1024ths of a unit, rounded up.
+pub(crate) fn rise_of(h: &Height) -> u32
+    requires long { 0 < h.now.side }
+    requires low { h.now.area ≤ 4 * h.now.side }
+    ensures rounded { IsRoundedUp result (pos h.now.area) (pos h.now.side) }
+    ensures small { result ≤ 4096 }
+{
+    let scaled = h.area * 1_048_576;
+    let root = whole_root(scaled, h.side);
+    if u128::from(root) * u128::from(root) * h.side < scaled {
+        root + 1
+    } else {
+        root
+    }
+}
+
+/// The whole part of the square root of `n / d`.
+fn whole_root(n: u128, d: u128) -> u32
+    requires positive { 0 < d }
+    requires small { n ≤ 4194304 * d }
+    ensures at_most { (result * result) * d ≤ n }
+    ensures greatest { n < ((result + 1) * (result + 1)) * d }
+    ensures small { result ≤ 2048 }
+{
+    isqrt((n / d) as u64) as u32
+}

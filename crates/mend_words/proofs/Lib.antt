@@ -1,0 +1,4 @@
+pub mod WordLemmas
+pub mod RowLemmas
+pub mod TurnLemmas
+pub mod SentenceLemmas

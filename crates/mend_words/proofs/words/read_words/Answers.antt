@@ -1,0 +1,26 @@
+use Rattle.std.proofs.Common.{◌∙◌, option_map, rules, ap}
+use Rattle.mend_words.specs.Names.{asked_by, asks_of, mend}
+use Rattle.mend_words.specs.inner.Seen.{sentence_seen}
+use Rattle.mend_words.proofs.words.read_words.Goals as goal
+
+pub returns-in_err-read-clause-usage : goal.returns-in_err-read-clause-usage
+unfolding asked_by
+returns-in_err-read-clause-usage c usage = ap asks_of (c.in_err-read.ensures.usage (search rules))
+
+pub returns-in-Help-clause-asked : goal.returns-in-Help-clause-asked
+unfolding asked_by
+returns-in-Help-clause-asked c = ap asks_of (c.in_ok-read.ensures.read ∙ ap sentence_seen c.in-Help.is)
+
+pub returns-in-Version-clause-asked : goal.returns-in-Version-clause-asked
+unfolding asked_by
+returns-in-Version-clause-asked c = ap asks_of (c.in_ok-read.ensures.read ∙ ap sentence_seen c.in-Version.is)
+
+pub returns-in_err-request_of-in-Texts-clause-usage : goal.returns-in_err-request_of-in-Texts-clause-usage
+unfolding asked_by
+returns-in_err-request_of-in-Texts-clause-usage c usage =
+    ap asks_of (c.in_ok-read.ensures.read ∙ ap sentence_seen c.in-Texts.is) ∙ ap (option_map mend) (c.in_err-request_of-in-Texts.ensures.usage (search rules))
+
+pub returns-in_ok-request_of-in-Texts-clause-asked : goal.returns-in_ok-request_of-in-Texts-clause-asked
+unfolding asked_by
+returns-in_ok-request_of-in-Texts-clause-asked c =
+    ap asks_of (c.in_ok-read.ensures.read ∙ ap sentence_seen c.in-Texts.is) ∙ ap (option_map mend) c.in_ok-request_of-in-Texts.ensures.named

@@ -1,0 +1,12 @@
+//! The words behind the program's name: `PART [--out OUT] [--decimals K] [--limit N]`, or `--help` or `--version`.
+#![tactic(auto)]
+
+mod command;
+mod numbers;
+mod request;
+#[cfg(test)]
+mod tests;
+mod words;
+
+pub use request::{Asked, Out, Request};
+pub use words::read_words;

@@ -1,0 +1,9 @@
+pub mod Words
+pub mod Numerals
+pub mod CoordinateNumbers
+pub mod Taken
+pub mod LinesRead
+pub mod Reading
+pub mod PartTexts
+pub mod Sizes
+pub mod Written
