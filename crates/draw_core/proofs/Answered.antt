@@ -11,12 +11,13 @@ use Rattle.part_input.specs.declared.fault.Input.{Input}
 use Rattle.part_input.specs.declared.fault.Input.TheVariants.{Job as TheJob, Part as ThePart}
 use Rattle.part_input.specs.declared.fault.Fault.{Fault}
 use Rattle.part_input.specs.declared.fault.Fault.TheVariants.{Usage, ReadFault, Job as JobUnread, NoPlotter, SampleRange, Part as PartUnread, Nothing, Mesh, WriteFault, Memory}
-use Rattle.part_input.proofs.Answered.{IsOfNoWriting, of_steps, of_steady, uncounted, given, refused}
+use Rattle.part_input.proofs.Answered.{of_steps, of_steady, uncounted, given, refused}
 use Rattle.part_input.proofs.Singles.{IsSingle}
-use Rattle.draw_core.specs.Outputs.{CountsWrites, HasNoWriteFault}
 use Rattle.draw_core.specs.Run.{HasPlotters, Drawn, PlansSheet, TakesMetJob, DrawsFiles, Runs, HasJobFile, HasFiles}
 use Rattle.draw_core.specs.inner.Faults.{IsWriteOutcome}
 use Rattle.draw_core.proofs.OneAnswer.{one_answer}
+use Rattle.put_texts.specs.Faults.{CountsWrites, HasNoWriteFault}
+use Rattle.put_texts.proofs.Counting.{not_written}
 
 -- ---- files that are there
 -- steps in order don't come to this fault where none of them does
@@ -70,10 +71,6 @@ module _ (suffixes : List (List ℕ)) (files : Files) (input : Input) where
   never_missing words there (inl (e, none)) = not_read input Usage refl e
   never_missing words there (inr (named, is, h)) = files_there named (subst (λ (o : Option Named). IfSome o (HasFiles files)) is there) h
 
-pub not_written : (e : Fault) → HasNoWriteFault (Some e) → IsOfNoWriting e
-not_written (WriteFault target) w = w
-not_written e w = tt
-
 module _ (suffixes words : List (List ℕ)) (files : Files) where
   abbrev Steps : Result Drawn Fault → Type 0
   Steps = Runs suffixes words files
@@ -109,8 +106,3 @@ module _ (suffixes words : List (List ℕ)) (files : Files) where
     pub no_read : (e : Fault) (old new : ℕ) → IsMissing Steps e → CountsReads (Some e) old new → new ≡ old
     no_read (ReadFault input) old new m counts = absurd (never_missing suffixes files input words there m)
     no_read e old new m counts = counts
-
--- without a fault of writing none was counted
-pub no_write : (fault : Option Fault) (old new : ℕ) → HasNoWriteFault fault → CountsWrites fault old new → new ≡ old
-no_write (Some (WriteFault target)) old new w counts = absurd w
-no_write fault old new w counts = counts

@@ -12,4 +12,3 @@ pub mod SheetFacts
 pub mod StrokeLists
 pub mod Unmet
 pub mod ViewSums
-pub mod Warnings

@@ -1,4 +1,3 @@
-pub mod Desks
 pub mod Drawing
 pub mod Lines
 pub mod Numbers

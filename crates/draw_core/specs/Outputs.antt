@@ -1,7 +1,7 @@
 -- The outputs of a job, and the files that a run keeps.
 use Rattle.std.specs.Prelude.{◌≡◌, ℕ, ◌+◌, ◌-◌, List, [], ◌∷◌, length, take, drop, slice_get, codes, Option, Some, None, is_some, if◌then◌else◌}
 use Rattle.std.specs.Str.{bytes_eq}
-use Rattle.desk.specs.Files.{Files, Keeps, MayKeepFront, Rose}
+use Rattle.desk.specs.Files.{Files, Keeps, MayKeepFront}
 use Rattle.plot_rack.specs.Choices.{first_with}
 use Rattle.svg_page.specs.Texts.{◌⊕◌}
 use Rattle.part_input.specs.declared.fault.Target.{Target}
@@ -56,13 +56,3 @@ LeavesAll None old new files = KeepsAll old new files
 LeavesAll (Some (WriteFault target)) old new files = LeavesUpTo (place_of target) old new files
 LeavesAll (Some Memory) old new files = (n : ℕ) × KeepsAll old new (take n files)
 LeavesAll (Some fault) old new files = ⊥
-
--- ---- counts
--- the count of the faults of writing rose where one is answered, and else it stands
-abbrev pub CountsWrites : Option Fault → ℕ → ℕ → Type 0
-CountsWrites (Some (WriteFault target)) old new = Rose old new
-CountsWrites fault old new = new ≡ old
-
-abbrev pub HasNoWriteFault : Option Fault → Type 0
-HasNoWriteFault (Some (WriteFault target)) = ⊥
-HasNoWriteFault fault = Unit {0}

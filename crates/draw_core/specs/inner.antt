@@ -1,5 +1,4 @@
 -- What only this crate's own functions cite.
-pub mod Desks
 pub mod Faults
 pub mod Kept
 pub mod Made

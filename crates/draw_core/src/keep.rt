@@ -1,31 +1,20 @@
-// Keeps the files of a drawing, says its summary, and warns.
-ghost use Rattle.std.specs.Prelude.{◌≡◌, ◌++◌, true, map, None, Some, IfSome, IfNone, string_bytes};
-ghost use Rattle.desk.specs.Files.{OnlyWarns, AppendsFront, Keeps};
-ghost use Rattle.draw_core.specs.Desks.{HearsAll};
-ghost use Rattle.draw_core.specs.inner.Desks.{OnlyFilesAndWarned, OnlySaidAndWarned, OnlyWrites};
+// Keeps the files of a drawing, says its summary, and warns of a fault.
+ghost use Rattle.std.specs.Prelude.{◌≡◌, true, map, None, Some, IfSome, IfNone, string_bytes};
 ghost use Rattle.draw_core.specs.Lines.{Warns, WarnsWhole};
 ghost use Rattle.draw_core.specs.inner.Made.{file_seen};
-ghost use Rattle.draw_core.specs.Outputs.{LeavesAll, CountsWrites, HasNoWriteFault};
+ghost use Rattle.draw_core.specs.Outputs.{LeavesAll};
 ghost use Rattle.draw_core.specs.inner.Faults.{IsWriteOutcome};
 ghost use Rattle.draw_core.specs.inner.Kept.{LeavesOne, OnlyFiles, TargetsInOrder, IsOfSaying};
 ghost use Rattle.draw_core.specs.Summary.{Says};
+ghost use Rattle.put_texts.specs.Desks.{HearsAll, OnlyFilesAndWarned, OnlySaidAndWarned, OnlyWrites};
+ghost use Rattle.put_texts.specs.Faults.{CountsWrites, HasNoWriteFault};
 
 use crate::lines::MEMORY_LINE;
 use crate::outputs::Output;
 use crate::summary::Summary;
 use desk::{Desk, DeskFault};
 use part_input::{Fault, Target};
-
-/// Warns by a line. A desk that can't is not asked again.
-pub fn warn<D: Desk>(line: &str, desk: &mut D)
-    ensures front { (D.state desk.old).tells_warned ≡ true →
-        AppendsFront (D.state desk.old).warned (D.state desk.new).warned line.now }
-    ensures whole { HearsAll (D.state desk.old) (D.state desk.new) →
-        (D.state desk.new).warned ≡ (D.state desk.old).warned ++ line.now }
-    ensures changes { OnlyWarns (D.state desk.old) (D.state desk.new) }
-{
-    let _unheard = desk.warn(line.as_bytes());
-}
+use put_texts::warn;
 
 /// Keeps a file, and tells why it couldn't, of which it warns.
 fn keep_output<D: Desk>(output: &Output, desk: &mut D) -> Option<Fault>

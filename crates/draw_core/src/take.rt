@@ -11,10 +11,10 @@ ghost use Rattle.part_input.specs.Steps.{Gives, IsMissing};
 ghost use Rattle.plot_rack.specs.Choices.{AreChosen};
 ghost use Rattle.plot_rack.specs.Racks.{boxes_of};
 ghost use Rattle.solid_mesh.specs.Solids.{solid_part};
-ghost use Rattle.draw_core.specs.Outputs.{HasNoWriteFault};
 ghost use Rattle.draw_core.specs.Run.{HasPlotters, PlansSheet, DrawsFiles, Runs, AnswersWords, IsOfUsualJob, IsOfJob, IsOfSheet, IsOfFiles, RunsInOrder};
 ghost use Rattle.draw_core.specs.inner.Faults.{IsOfOutputs, ReadsInOrder};
 ghost use Rattle.draw_core.specs.inner.Taken.{drawn_of, IsDrawn, HasItsPlotters, GoesWhereNamed};
+ghost use Rattle.put_texts.specs.Faults.{HasNoWriteFault};
 
 use crate::drawing::Drawing;
 use crate::numbered::{Numbered, numbered_drawing};

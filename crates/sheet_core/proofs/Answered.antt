@@ -1,9 +1,8 @@
 -- The fault of a run is that of its steps, unless memory ran out; and files that are there are no fault of reading.
 use Rattle.std.proofs.Common.{◌≡◌, inl, ℕ, List, [], Option, Some, None, IfSome, Result, Ok, Err, refl}
 use Rattle.desk.specs.Files.{Files, Rose}
-use Rattle.draw_core.specs.Outputs.{CountsWrites, HasNoWriteFault}
 use Rattle.draw_core.specs.Run.{PlansSheet}
-use Rattle.draw_core.proofs.Answered.{never_then, not_read, job_there, part_there, not_written}
+use Rattle.draw_core.proofs.Answered.{never_then, not_read, job_there, part_there}
 use Rattle.part_input.specs.Faults.{CountsReads}
 use Rattle.part_input.specs.Jobs.{TakesJob, ReadsJob, TakesReadJob}
 use Rattle.part_input.specs.Parts.{TakesSolid}
@@ -13,6 +12,8 @@ use Rattle.part_input.specs.declared.fault.Fault.{Fault}
 use Rattle.part_input.specs.declared.fault.Fault.TheVariants.{ReadFault, Job as JobUnread, WriteFault}
 use Rattle.part_input.proofs.Answered.{of_steps, of_steady, given, refused}
 use Rattle.part_input.proofs.Singles.{IsSingle}
+use Rattle.put_texts.specs.Faults.{CountsWrites, HasNoWriteFault}
+use Rattle.put_texts.proofs.Counting.{not_written}
 use Rattle.sheet_core.specs.Run.{DrawsPart, Draws, HasFiles, HasFilesAsked}
 use Rattle.sheet_words.specs.Names.{Asks, help, version, sheet}
 

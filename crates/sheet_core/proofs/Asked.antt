@@ -6,11 +6,11 @@ use Rattle.draw_core.specs.Run.{Drawn}
 use Rattle.draw_core.specs.declared.drawing.Drawing.{Drawing}
 use Rattle.part_input.specs.Steps.{Refuses, IsMissing}
 use Rattle.part_input.specs.declared.fault.Fault.{Fault}
-use Rattle.draw_core.specs.Outputs.{CountsWrites, HasNoWriteFault}
 use Rattle.part_input.specs.Parts.{IsOfSampleOr, sample_size}
 use Rattle.part_input.specs.declared.fault.Target.{Target}
 use Rattle.part_input.specs.declared.fault.Fault.TheVariants.{Usage, ReadFault, WriteFault, Memory}
 use Rattle.part_input.proofs.Chains.{refuses_as, missing_as}
+use Rattle.put_texts.specs.Faults.{CountsWrites, HasNoWriteFault}
 use Rattle.sheet_core.specs.Run.{Draws, Runs, AnswersNamed, AnswersWords, IsOfFiles, IsOfJob, ReadsInOrder, RunsInOrder, IsWritten}
 use Rattle.sheet_core.specs.inner.Faults.{IsOfWriting}
 use Rattle.sheet_core.proofs.Putting.{by_writing}

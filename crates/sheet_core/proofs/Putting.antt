@@ -1,42 +1,19 @@
--- Texts that are put one after the other: one, one and then the others, and a warning at the end.
-use Rattle.std.proofs.Common.{◌≡◌, inl, inr, ℕ, ◌++◌, List, [], ◌∷◌, Option, None, Some, true, refl, sym, ap, subst, ◌∙◌}
+-- The faults of putting the texts of a request are those of writing them.
+use Rattle.std.proofs.Common.{◌≡◌, inl, inr, ℕ, List, Option, None, Some, refl}
 use Rattle.std.specs.Prelude.{IfSome, IsSome}
-use Rattle.desk.specs.Files.{Files, DeskState, AppendsFront, OnlyWarns, Rose}
-use Rattle.draw_core.specs.Desks.{HearsAll}
-use Rattle.draw_core.specs.Outputs.{CountsWrites, HasNoWriteFault}
-use Rattle.draw_core.specs.inner.Desks.{OnlyWrites, OnlyFilesAndWarned, OnlySaidAndWarned}
 use Rattle.part_input.specs.declared.fault.Fault.{Fault}
 use Rattle.part_input.specs.declared.fault.Fault.TheVariants.{Usage, ReadFault, JobTooLong, Job as JobUnread, NoPlotter, SampleRange, PartTooLong, Part as PartUnread, Nothing, Mesh, DoesNotFit, WriteFault, Memory}
 use Rattle.part_input.specs.declared.fault.Target.{Target}
 use Rattle.part_input.specs.declared.fault.Target.TheVariants.{Out, Plot, Summary}
-use Rattle.sheet_core.specs.Order.{Way, Text, nowhere, aloud, under, IsFaultAt, IsOfWay, KeepsText, KeepsTextPart, SaysText, SaysTextPart, InOrder, SparesFile, SparesWord}
-use Rattle.sheet_core.specs.Writing.{way_of, list_way, unless_said, texts_for, IsOfTarget}
+use Rattle.put_texts.specs.Noting.{unless_said}
+use Rattle.put_texts.specs.Order.{aloud, IsFaultAt, IsOfWay}
+use Rattle.put_texts.specs.Puts.{IsOfTexts}
+use Rattle.put_texts.proofs.Putting.{by_fault, of_way}
+use Rattle.sheet_core.specs.Writing.{way_of, list_way, texts_for, IsOfTarget}
 use Rattle.sheet_core.specs.inner.Faults.{IsOfWriting}
-use Rattle.sheet_core.specs.inner.Puts.{KeepsBy, SaysBy, IsOfTexts, IsPut, IsUnwarned, one_text, told_by}
-use Rattle.sheet_lines.specs.Lines.{fault_line}
 use Rattle.sheet_words.specs.Names.{Goal, ListGoal, Named, said, svg_file, pdf_file, list_said, list_file}
 
-never : (f : Fault) → None ≡ Some f → ⊥
-never f e = subst (λ (o : Option Fault). IfSome o (λ g. ⊥)) e tt
-
--- ---- faults
--- what holds of a fault of writing this and of want of memory holds of each fault of putting it
-pub by_fault : (P : Fault → Type 0) (target : Target) → P (WriteFault target) → P Memory → (f : Fault) → IsFaultAt target f → P f
-by_fault P target w m (WriteFault other) is = subst (λ (t : Target). P (WriteFault t)) (sym is) w
-by_fault P target w m Memory is = m
-by_fault P target w m Usage is = absurd is
-by_fault P target w m (ReadFault input) is = absurd is
-by_fault P target w m JobTooLong is = absurd is
-by_fault P target w m (JobUnread cause) is = absurd is
-by_fault P target w m (NoPlotter name) is = absurd is
-by_fault P target w m SampleRange is = absurd is
-by_fault P target w m PartTooLong is = absurd is
-by_fault P target w m (PartUnread cause) is = absurd is
-by_fault P target w m Nothing is = absurd is
-by_fault P target w m (Mesh fault) is = absurd is
-by_fault P target w m (DoesNotFit need_w need_h have_w have_h) is = absurd is
-
--- and of each fault of writing the texts of a request
+-- what holds of a fault of writing each text of a request, and of want of memory, holds of each fault of writing them
 pub by_writing : (named : Named) (P : Fault → Type 0) → ((target : Target) → IsOfTarget named target → P (WriteFault target)) → P Memory → (f : Fault) → IsOfWriting named f → P f
 by_writing named P w m (WriteFault target) is = w target is
 by_writing named P w m Memory is = m
@@ -51,11 +28,6 @@ by_writing named P w m (PartUnread cause) is = absurd is
 by_writing named P w m Nothing is = absurd is
 by_writing named P w m (Mesh fault) is = absurd is
 by_writing named P w m (DoesNotFit need_w need_h have_w have_h) is = absurd is
-
-of_way : (way : Way) (target : Target) (f : Fault) → IsOfWay way target f → IsFaultAt target f
-of_way nowhere target f is = absurd is
-of_way aloud target f is = is
-of_way (under name) target f is = is
 
 module _ (named : Named) (f : Fault) where
   of_list : (list : Option ListGoal) → IsOfWay (list_way list) (Plot 0) f → IsSome list × IsFaultAt (Plot 0) f
@@ -88,206 +60,3 @@ module _ (named : Named) (f : Fault) where
 pub all_of_writing : (named : Named) (page list summary : List ℕ) (fault : Option Fault) → IfSome fault (IsOfTexts (texts_for named page list summary)) → IfSome fault (IsOfWriting named)
 all_of_writing named page list summary None h = tt
 all_of_writing named page list summary (Some f) h = of_writing named f page list summary h
-
--- ---- texts in order
-module _ {X : Type 0} (whole : Way → List ℕ → X → X → Type 0) (part : Way → Fault → List ℕ → X → X → Type 0) (t : Text) (rest : List Text) where
-  -- the first one fails
-  stops_at : (f : Fault) (old new : X) → InOrder whole part (Some f) (t ∷ []) old new → InOrder whole part (Some f) (t ∷ rest) old new
-  stops_at f old new (inl h) = inl h
-  stops_at f old new (inr (between, put, none)) = absurd none
-
-  -- the first one is put, and the others go on
-  goes_on : (fault : Option Fault) (old between new : X) → InOrder whole part None (t ∷ []) old between → InOrder whole part fault rest between new → InOrder whole part fault (t ∷ rest) old new
-  goes_on None old between new (put, h, same) after = (put, h, subst (λ (x : X). InOrder whole part None rest x new) same after)
-  goes_on (Some f) old between new (put, h, same) after = inr (put, h, subst (λ (x : X). InOrder whole part (Some f) rest x new) same after)
-
--- ---- one text
--- a text that goes nowhere is put at once
-pub nothing_put : (line : Fault → List ℕ) (target : Target) (bytes : List ℕ) (state : DeskState) → IsPut line (one_text nowhere target bytes) None state state
-nothing_put line target bytes state = record {
-  of_texts = tt;
-  files = λ told. (state.files, refl, refl);
-  said = λ told. (state.said, refl, refl);
-  spared = (state.files, refl, refl);
-  silent = (state.said, refl, refl);
-  writes = refl;
-  steady = λ steady. tt;
-  firm = λ firm is. never Memory is;
-  warned = λ told. tt;
-  whole = λ hears. tt;
-  changes = refl;
-}
-
-module _ (named : Named) (line : List ℕ) (target : Target) (same : line ≡ fault_line (Some named) None (WriteFault target)) (bytes : List ℕ) where
-  told : (f : Fault) → IsFaultAt target f → told_by line f ≡ fault_line (Some named) None f
-  told f is = by_fault (λ (f : Fault). told_by line f ≡ fault_line (Some named) None f) target same refl f is
-
-  module _ (old new : DeskState) where
-    front : (fault : Option Fault) → IfSome fault (IsFaultAt target) → IfSome fault (λ f. AppendsFront old.warned new.warned (told_by line f))
-        → IfSome fault (λ f. AppendsFront old.warned new.warned (fault_line (Some named) None f))
-    front None is h = tt
-    front (Some f) is h = subst (AppendsFront old.warned new.warned) (told f is) h
-
-    all : (fault : Option Fault) → IfSome fault (IsFaultAt target) → IfSome fault (λ f. new.warned ≡ old.warned ++ told_by line f)
-        → IfSome fault (λ f. new.warned ≡ old.warned ++ fault_line (Some named) None f)
-    all None is h = tt
-    all (Some f) is h = subst (λ (text : List ℕ). new.warned ≡ old.warned ++ text) (told f is) h
-
-    -- one that is said
-    aloud_faults : (fault : Option Fault) → IfSome fault (IsFaultAt target) → IfSome fault (IsOfTexts (one_text aloud target bytes))
-    aloud_faults None is = tt
-    aloud_faults (Some f) is = inl is
-
-    aloud_files : (fault : Option Fault) → IfSome fault (IsFaultAt target) → new.files ≡ old.files → InOrder KeepsText KeepsTextPart fault (one_text aloud target bytes) old.files new.files
-    aloud_files None is still = (new.files, still, refl)
-    aloud_files (Some f) is still = inl (is, still)
-
-    aloud_said : (fault : Option Fault) → IfSome fault (IsFaultAt target) → SaysBy aloud bytes fault old.said new.said → InOrder SaysText SaysTextPart fault (one_text aloud target bytes) old.said new.said
-    aloud_said None is h = (new.said, h, refl)
-    aloud_said (Some f) is h = inl (is, h)
-
-    aloud_spared : (fault : Option Fault) → IfSome fault (IsFaultAt target) → new.files ≡ old.files
-        → InOrder (λ way bytes. SparesFile way) (λ way fault bytes. SparesFile way) fault (one_text aloud target bytes) old.files new.files
-    aloud_spared None is still = (new.files, still, refl)
-    aloud_spared (Some f) is still = inl (is, still)
-
-    aloud_silent : (fault : Option Fault) → IfSome fault (IsFaultAt target)
-        → InOrder (λ way bytes. SparesWord way) (λ way fault bytes. SparesWord way) fault (one_text aloud target bytes) old.said new.said
-    aloud_silent None is = (new.said, tt, refl)
-    aloud_silent (Some f) is = inl (is, tt)
-
-    -- one that is kept
-    under_faults : (name : List ℕ) (fault : Option Fault) → IfSome fault (IsFaultAt target) → IfSome fault (IsOfTexts (one_text (under name) target bytes))
-    under_faults name None is = tt
-    under_faults name (Some f) is = inl is
-
-    under_files : (name : List ℕ) (fault : Option Fault) → IfSome fault (IsFaultAt target) → KeepsBy (under name) bytes fault old.files new.files
-        → InOrder KeepsText KeepsTextPart fault (one_text (under name) target bytes) old.files new.files
-    under_files name None is h = (new.files, h, refl)
-    under_files name (Some f) is h = inl (is, h)
-
-    under_said : (name : List ℕ) (fault : Option Fault) → IfSome fault (IsFaultAt target) → new.said ≡ old.said → InOrder SaysText SaysTextPart fault (one_text (under name) target bytes) old.said new.said
-    under_said name None is still = (new.said, still, refl)
-    under_said name (Some f) is still = inl (is, still)
-
-    under_spared : (name : List ℕ) (fault : Option Fault) → IfSome fault (IsFaultAt target)
-        → InOrder (λ way bytes. SparesFile way) (λ way fault bytes. SparesFile way) fault (one_text (under name) target bytes) old.files new.files
-    under_spared name None is = (new.files, tt, refl)
-    under_spared name (Some f) is = inl (is, tt)
-
-    under_silent : (name : List ℕ) (fault : Option Fault) → IfSome fault (IsFaultAt target) → new.said ≡ old.said
-        → InOrder (λ way bytes. SparesWord way) (λ way fault bytes. SparesWord way) fault (one_text (under name) target bytes) old.said new.said
-    under_silent name None is still = (new.said, still, refl)
-    under_silent name (Some f) is still = inl (is, still)
-
-    module _ (fault : Option Fault) (is : IfSome fault (IsFaultAt target)) (writes : CountsWrites fault old.write_faults new.write_faults) (steady : old.steady ≡ true → HasNoWriteFault fault)
-        (firm : old.firm ≡ true → fault ≡ Some Memory → ⊥)
-        (warned : old.tells_warned ≡ true → IfSome fault (λ f. AppendsFront old.warned new.warned (told_by line f)))
-        (whole : HearsAll old new → IfSome fault (λ f. new.warned ≡ old.warned ++ told_by line f)) where
-      pub said_put : (old.tells_said ≡ true → SaysBy aloud bytes fault old.said new.said) → OnlySaidAndWarned old new → IsPut (fault_line (Some named) None) (one_text aloud target bytes) fault old new
-      said_put spoken changes = record {
-        of_texts = aloud_faults fault is;
-        files = λ told. aloud_files fault is (ap (λ (s : DeskState). s.files) changes);
-        said = λ told. aloud_said fault is (spoken told);
-        spared = aloud_spared fault is (ap (λ (s : DeskState). s.files) changes);
-        silent = aloud_silent fault is;
-        writes = writes;
-        steady = steady;
-        firm = firm;
-        warned = λ told. front fault is (warned told);
-        whole = λ hears. all fault is (whole hears);
-        changes = changes ∙ ap (λ (f : Files). record old { files = f; said = new.said; warned = new.warned; write_faults = new.write_faults; warn_faults = new.warn_faults }) (sym (ap (λ (s : DeskState). s.files) changes));
-      }
-
-      pub kept_put : (name : List ℕ) → (old.tells ≡ true → KeepsBy (under name) bytes fault old.files new.files) → OnlyFilesAndWarned old new → IsPut (fault_line (Some named) None) (one_text (under name) target bytes) fault old new
-      kept_put name files changes = record {
-        of_texts = under_faults name fault is;
-        files = λ told. under_files name fault is (files told);
-        said = λ told. under_said name fault is (ap (λ (s : DeskState). s.said) changes);
-        spared = under_spared name fault is;
-        silent = under_silent name fault is (ap (λ (s : DeskState). s.said) changes);
-        writes = writes;
-        steady = steady;
-        firm = firm;
-        warned = λ told. front fault is (warned told);
-        whole = λ hears. all fault is (whole hears);
-        changes = changes ∙ ap (λ (w : List ℕ). record old { files = new.files; said = w; warned = new.warned; write_faults = new.write_faults; warn_faults = new.warn_faults }) (sym (ap (λ (s : DeskState). s.said) changes));
-      }
-
--- ---- one text, and then others
-module _ (line : Fault → List ℕ) (t : Text) (rest : List Text) (old : DeskState) where
-  only : (f : Fault) → IsOfTexts (t ∷ []) f → IsOfTexts (t ∷ rest) f
-  only f (inl h) = inl h
-  only f (inr h) = absurd h
-
-  later : (fault : Option Fault) → IfSome fault (IsOfTexts rest) → IfSome fault (IsOfTexts (t ∷ rest))
-  later None h = tt
-  later (Some f) h = inr h
-
-  -- the first one failed
-  pub stops : (f : Fault) (new : DeskState) → IsPut line (t ∷ []) (Some f) old new → IsPut line (t ∷ rest) (Some f) old new
-  stops f new put = record {
-    of_texts = only f put.of_texts;
-    files = λ told. stops_at KeepsText KeepsTextPart t rest f old.files new.files (put.files told);
-    said = λ told. stops_at SaysText SaysTextPart t rest f old.said new.said (put.said told);
-    spared = stops_at (λ way bytes. SparesFile way) (λ way fault bytes. SparesFile way) t rest f old.files new.files put.spared;
-    silent = stops_at (λ way bytes. SparesWord way) (λ way fault bytes. SparesWord way) t rest f old.said new.said put.silent;
-    writes = put.writes;
-    steady = put.steady;
-    firm = put.firm;
-    warned = put.warned;
-    whole = put.whole;
-    changes = put.changes;
-  }
-
-  -- the first one was put, and nothing was warned
-  pub follows : (fault : Option Fault) (between new : DeskState) → IsPut line (t ∷ []) None old between → IsUnwarned old between → IsPut line rest fault between new → IsPut line (t ∷ rest) fault old new
-  follows fault between new first still after =
-      let same = first.changes in
-      record {
-        of_texts = later fault after.of_texts;
-        files = λ told. goes_on KeepsText KeepsTextPart t rest fault old.files between.files new.files (first.files told) (after.files (ap (λ (s : DeskState). s.tells) same ∙ told));
-        said = λ told. goes_on SaysText SaysTextPart t rest fault old.said between.said new.said (first.said told) (after.said (ap (λ (s : DeskState). s.tells_said) same ∙ told));
-        spared = goes_on (λ way bytes. SparesFile way) (λ way fault bytes. SparesFile way) t rest fault old.files between.files new.files first.spared after.spared;
-        silent = goes_on (λ way bytes. SparesWord way) (λ way fault bytes. SparesWord way) t rest fault old.said between.said new.said first.silent after.silent;
-        writes = subst (λ (n : ℕ). CountsWrites fault n new.write_faults) first.writes after.writes;
-        steady = λ steady. after.steady (ap (λ (s : DeskState). s.steady) same ∙ steady);
-        firm = λ firm is. after.firm (ap (λ (s : DeskState). s.firm) same ∙ firm) is;
-        warned = λ told. subst (λ (w : List ℕ). IfSome fault (λ f. AppendsFront w new.warned (line f))) still.warned (after.warned (ap (λ (s : DeskState). s.tells_warned) same ∙ told));
-        whole = λ hears. subst (λ (w : List ℕ). IfSome fault (λ f. new.warned ≡ w ++ line f)) still.warned
-            (after.whole (record {
-              tells = ap (λ (s : DeskState). s.tells_warned) same ∙ hears.tells;
-              firm = ap (λ (s : DeskState). s.firm) same ∙ hears.firm;
-              no_fault = λ rose. hears.no_fault (subst (λ (n : ℕ). Rose n new.warn_faults) still.warn_faults rose);
-            }));
-        changes = subst (λ (s : DeskState). new ≡ record s { files = new.files; said = new.said; warned = new.warned; write_faults = new.write_faults; warn_faults = new.warn_faults }) same after.changes;
-      }
-
--- ---- a warning behind texts that are put
-whole_change : (old new : DeskState) → OnlyWarns old new → OnlyWrites old new
-whole_change old new warns =
-    let files = sym (ap (λ (s : DeskState). s.files) warns) in
-    let said = sym (ap (λ (s : DeskState). s.said) warns) in
-    let writes = sym (ap (λ (s : DeskState). s.write_faults) warns) in
-    warns
-    ∙ ap (λ (f : Files). record old { files = f; warned = new.warned; warn_faults = new.warn_faults }) files
-    ∙ ap (λ (w : List ℕ). record old { files = new.files; said = w; warned = new.warned; warn_faults = new.warn_faults }) said
-    ∙ ap (λ (n : ℕ). record old { files = new.files; said = new.said; warned = new.warned; write_faults = n; warn_faults = new.warn_faults }) writes
-
-pub noted : (line : Fault → List ℕ) (texts : List Text) (old between new : DeskState) → IsPut line texts None old between → OnlyWarns between new → IsPut line texts None old new
-noted line texts old between new put warns =
-    let files = sym (ap (λ (s : DeskState). s.files) warns) in
-    let said = sym (ap (λ (s : DeskState). s.said) warns) in
-    record {
-      of_texts = tt;
-      files = λ told. subst (λ (f : Files). InOrder KeepsText KeepsTextPart None texts old.files f) files (put.files told);
-      said = λ told. subst (λ (w : List ℕ). InOrder SaysText SaysTextPart None texts old.said w) said (put.said told);
-      spared = subst (λ (f : Files). InOrder (λ way bytes. SparesFile way) (λ way fault bytes. SparesFile way) None texts old.files f) files put.spared;
-      silent = subst (λ (w : List ℕ). InOrder (λ way bytes. SparesWord way) (λ way fault bytes. SparesWord way) None texts old.said w) said put.silent;
-      writes = ap (λ (s : DeskState). s.write_faults) warns ∙ put.writes;
-      steady = put.steady;
-      firm = put.firm;
-      warned = λ told. tt;
-      whole = λ hears. tt;
-      changes = subst (λ (s : DeskState). new ≡ record s { files = new.files; said = new.said; warned = new.warned; write_faults = new.write_faults; warn_faults = new.warn_faults }) put.changes (whole_change between new warns);
-    }

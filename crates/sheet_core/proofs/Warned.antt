@@ -2,14 +2,15 @@
 use Rattle.std.proofs.Common.{◌≡◌, ◌⊎◌, inl, inr, ℕ, ◌++◌, List, Option, None, Some, refl, sym, ap, subst, ◌∙◌}
 use Rattle.std.specs.Prelude.{IfSome, IfNone}
 use Rattle.desk.specs.Files.{Files, DeskState, AppendsFront, OnlyReads, Rose}
-use Rattle.draw_core.specs.Desks.{HearsAll}
 use Rattle.draw_core.specs.declared.drawing.Drawing.{Drawing}
 use Rattle.part_input.specs.declared.fault.Fault.{Fault}
 use Rattle.part_input.specs.declared.fault.Fault.TheVariants.{Memory}
+use Rattle.put_texts.specs.Desks.{HearsAll}
+use Rattle.put_texts.specs.Noting.{Notes, NotesWhole}
+use Rattle.put_texts.specs.Order.{InOrder, KeepsText, KeepsTextPart, SaysText, SaysTextPart, SparesFile, SparesWord}
 use Rattle.sheet_core.specs.Lines.{IsPlaceFor, Warns, WarnsWhole}
-use Rattle.sheet_core.specs.Order.{InOrder, KeepsText, KeepsTextPart, SaysText, SaysTextPart, SparesFile, SparesWord}
 use Rattle.sheet_core.specs.Summary.{summary_of}
-use Rattle.sheet_core.specs.Writing.{Notes, NotesWhole, Writes, summary_way}
+use Rattle.sheet_core.specs.Writing.{Writes, summary_way}
 use Rattle.sheet_core.specs.inner.Faults.{IsOfWriting}
 use Rattle.sheet_core.proofs.Putting.{by_writing}
 use Rattle.sheet_lines.specs.Lines.{fault_line}

@@ -1,6 +1,5 @@
 pub mod Lines
 pub mod Moved
-pub mod Order
 pub mod Pages
 pub mod Run
 pub mod Summary

@@ -1,14 +1,15 @@
 -- Where the texts of a drawing go, and what a run leaves of them.
-use Rattle.std.specs.Prelude.{◌≡◌, ◌++◌, ℕ, true, List, [], ◌∷◌, Option, Some, None, IfNone, IsSome}
+use Rattle.std.specs.Prelude.{◌≡◌, ℕ, true, List, [], ◌∷◌, Option, Some, None, IfNone, IsSome}
 use Rattle.std.proofs.Common.{zero, suc}
-use Rattle.desk.specs.Files.{DeskState, AppendsFront}
+use Rattle.desk.specs.Files.{DeskState}
 use Rattle.cut_marks.specs.declared.views.ViewMarks.{ViewMarks}
-use Rattle.draw_core.specs.Desks.{HearsAll}
 use Rattle.draw_core.specs.declared.drawing.Drawing.{Drawing}
 use Rattle.part_input.specs.declared.fault.Fault.{Fault}
 use Rattle.part_input.specs.declared.fault.Target.{Target}
 use Rattle.part_input.specs.declared.fault.Target.TheVariants.{Out, Plot, Summary}
-use Rattle.sheet_core.specs.Order.{Way, Text, nowhere, aloud, under, SaysText, SaysTextPart, KeepsTexts, SaysTexts, SparesFiles, SparesSaid}
+use Rattle.put_texts.specs.Desks.{HearsAll}
+use Rattle.put_texts.specs.Noting.{IsQuiet, Notes, NotesWhole, unless_said}
+use Rattle.put_texts.specs.Order.{Way, Text, nowhere, aloud, under, SaysText, SaysTextPart, KeepsTexts, SaysTexts, SparesFiles, SparesSaid}
 use Rattle.sheet_core.specs.Pages.{IsPageWith, shown_strokes}
 use Rattle.sheet_core.specs.Summary.{summary_of}
 use Rattle.sheet_core.specs.declared.lines.TheConstants.{HELP, VERSION}
@@ -43,12 +44,6 @@ list_way None = nowhere
 list_way (Some list_said) = aloud
 list_way (Some (list_file name)) = under name
 
--- what else is said where a text isn't
-abbrev pub unless_said : Way → Way → Way
-unless_said nowhere way = way
-unless_said aloud way = nowhere
-unless_said (under name) way = way
-
 -- the summary is said, unless the sheet or the list is
 abbrev pub summary_way : Named → Way
 summary_way named = unless_said (way_of named.out) (unless_said (list_way named.list) aloud)
@@ -60,23 +55,6 @@ texts_for named page list summary =
     ∷ record { way = list_way named.list; target = Plot 0; bytes = list }
     ∷ record { way = summary_way named; target = Summary; bytes = summary }
     ∷ []
-
--- beside a text that is said a run without a fault warns by the summary: by a prefix of it, and where no warning fails by all of it
-abbrev pub Notes : Way → List ℕ → List ℕ → List ℕ → Type 0
-Notes nowhere summary old new = AppendsFront old new summary
-Notes aloud summary old new = new ≡ old
-Notes (under name) summary old new = new ≡ old
-
-abbrev pub NotesWhole : Way → List ℕ → List ℕ → List ℕ → Type 0
-NotesWhole nowhere summary old new = new ≡ old ++ summary
-NotesWhole aloud summary old new = new ≡ old
-NotesWhole (under name) summary old new = new ≡ old
-
--- and else it doesn't try to
-abbrev pub IsQuiet : Way → ℕ → ℕ → Type 0
-IsQuiet nowhere old new = Unit {0}
-IsQuiet aloud old new = new ≡ old
-IsQuiet (under name) old new = new ≡ old
 
 -- What a run with a drawing writes: the text of one page that shows it, the list of that page's strokes, and the summary of both, put
 -- in this order, as far as the fault allows; and with no fault the warning in place of a summary that isn't said. On every desk what

@@ -1,8 +1,8 @@
 // The ends of runs.
 ghost use Rattle.std.specs.Prelude.{◌≡◌, ◌⊎◌, ◌++◌, true, None, Some, IfSome};
 ghost use Rattle.desk.specs.Files.{AppendsFront, OnlyWarns};
-ghost use Rattle.draw_core.specs.Desks.{HearsAll};
 ghost use Rattle.part_input.specs.Faults.{status_of};
+ghost use Rattle.put_texts.specs.Desks.{HearsAll};
 ghost use Rattle.sheet_core.specs.inner.Faults.{IsOfReading};
 ghost use Rattle.sheet_lines.specs.Lines.{fault_line};
 ghost use Rattle.sheet_lines.specs.Unread.{AreUnreadLines};
@@ -10,8 +10,9 @@ ghost use Rattle.sheet_words.specs.Seen.{named_seen};
 
 use crate::take::Refusal;
 use desk::Desk;
-use draw_core::{Outcome, warn};
+use draw_core::Outcome;
 use part_input::Fault;
+use put_texts::warn;
 use sheet_lines::{MEMORY_LINE, UnreadLines, line_of};
 use sheet_words::Request;
 use std::alloc::Global;

@@ -1,16 +1,16 @@
 // The top call: from the words and a desk to a sheet.
 ghost use Rattle.std.specs.Prelude.{◌≡◌, ◌⊎◌, ◌++◌, true, None, Some, Ok, IfOk, IfSome, IfNone, is_some};
 ghost use Rattle.desk.specs.Files.{AppendsFront, Rose};
-ghost use Rattle.draw_core.specs.Desks.{OnlyRuns, HearsAll};
 ghost use Rattle.draw_core.specs.Drawing.{drawn_in, IsDrawing};
-ghost use Rattle.draw_core.specs.Outputs.{CountsWrites, HasNoWriteFault};
-ghost use Rattle.draw_core.specs.inner.Desks.{OnlySaidAndWarned, OnlyWrites};
 ghost use Rattle.draw_words.specs.Seen.{texts};
 ghost use Rattle.part_input.specs.Faults.{CountsReads, status_of};
 ghost use Rattle.part_input.specs.Steps.{Refuses, IsAnswerOf, IsMissing};
+ghost use Rattle.put_texts.specs.Desks.{HearsAll, OnlyRuns, OnlySaidAndWarned, OnlyWrites};
+ghost use Rattle.put_texts.specs.Faults.{CountsWrites, HasNoWriteFault};
+ghost use Rattle.put_texts.specs.Noting.{IsQuiet};
 ghost use Rattle.sheet_core.specs.Lines.{named_in, Warns, WarnsWhole};
 ghost use Rattle.sheet_core.specs.Run.{Draws, Runs, AnswersNamed, AnswersWords, ReadsInOrder, RunsInOrder, HasFilesAsked, IsWritten, HasDrawing};
-ghost use Rattle.sheet_core.specs.Writing.{IsQuiet, IsQuietIfAsked, SpeaksIfTold, Tells, TellsAsked, Writes, WritesAsked, summary_way};
+ghost use Rattle.sheet_core.specs.Writing.{IsQuietIfAsked, SpeaksIfTold, Tells, TellsAsked, Writes, WritesAsked, summary_way};
 ghost use Rattle.sheet_core.specs.inner.Faults.{IsOfTelling, IsOfWriting};
 ghost use Rattle.sheet_lines.specs.Lines.{fault_line};
 ghost use Rattle.sheet_words.specs.Names.{asked_by, sheet as of_sheet};

@@ -5,13 +5,14 @@ use Rattle.draw_words.specs.Names.{named_by}
 use Rattle.draw_words.specs.Seen.{texts}
 use Rattle.plot_rack.specs.Racks.{boxes_of}
 use Rattle.draw_core.specs.inner.Kept.{WritesRack}
-use Rattle.draw_core.specs.Desks.{HearsAll}
 use Rattle.draw_core.specs.Lines.{WarnsWhole}
 use Rattle.draw_core.specs.Run.{Runs}
 use Rattle.draw_core.specs.Summary.{SaysSummary}
 use Rattle.draw_core.specs.inner.Taken.{drawn_of}
-use Rattle.draw_core.proofs.Answered.{drawn_counted, drawn_steady, refused_counted, refused_steady, no_read, no_write}
+use Rattle.draw_core.proofs.Answered.{drawn_counted, drawn_steady, refused_counted, refused_steady, no_read}
 use Rattle.draw_core.proofs.Drawings.{made_of, writes_named, same_outputs}
+use Rattle.put_texts.specs.Desks.{HearsAll}
+use Rattle.put_texts.proofs.Counting.{no_write}
 use Rattle.draw_core.proofs.run.draw.Goals as goal
 
 pub returns-in-Ok-clause-part : goal.returns-in-Ok-clause-part

@@ -5,8 +5,8 @@ use Rattle.draw_core.specs.Drawing.{drawn_in}
 use Rattle.draw_core.specs.declared.drawing.Drawing.{Drawing}
 use Rattle.part_input.specs.Steps.{IsMissing, Refuses}
 use Rattle.part_input.proofs.Chains.{missing_as, refuses_as}
-use Rattle.draw_core.specs.Outputs.{CountsWrites, HasNoWriteFault}
 use Rattle.part_input.specs.declared.fault.Fault.{Fault}
+use Rattle.put_texts.specs.Faults.{CountsWrites, HasNoWriteFault}
 use Rattle.sheet_core.specs.Run.{AnswersNamed, DrawsPart, Draws, IsWritten}
 use Rattle.sheet_core.proofs.Asked.{answers_files, counts_files, either, said_or_memory, undrawn_files, unwritten_files}
 use Rattle.sheet_core.proofs.Warned.{all_from, heard_later, warns_refused, warns_refused_whole, warns_writing, warns_writing_whole}

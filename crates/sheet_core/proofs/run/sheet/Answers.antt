@@ -1,7 +1,7 @@
 use Rattle.std.proofs.Common.{◌≡◌, ◌∙◌, Option, Some, ap, subst}
 use Rattle.std.specs.Prelude.{IfSome}
-use Rattle.draw_core.proofs.Answered.{no_write}
 use Rattle.draw_words.specs.Seen.{texts}
+use Rattle.put_texts.proofs.Counting.{no_write}
 use Rattle.sheet_core.specs.Run.{Draws, Runs, HasFilesAsked}
 use Rattle.sheet_core.proofs.Answered.{answered, steadily, no_read}
 use Rattle.sheet_core.proofs.Asked.{refuses, misses, comes_to, some_drawn}

@@ -1,7 +1,8 @@
 use Rattle.std.proofs.Common.{ℕ, List, ap, subst, ◌∙◌, string_bytes}
 use Rattle.std.specs.Prelude.{IfNone}
+use Rattle.put_texts.specs.Noting.{Notes, NotesWhole}
 use Rattle.sheet_core.specs.Pages.{shown_strokes}
-use Rattle.sheet_core.specs.Writing.{Notes, NotesWhole, listed, page_text, summary_way, texts_for}
+use Rattle.sheet_core.specs.Writing.{listed, page_text, summary_way, texts_for}
 use Rattle.sheet_core.proofs.Putting.{all_of_writing}
 use Rattle.sheet_core.proofs.Asked.{written_of}
 use Rattle.sheet_list.specs.Lists.{list_text}

@@ -1,7 +1,7 @@
 use Rattle.std.proofs.Common.{subst, List, ℕ}
 use Rattle.desk.specs.Files.{AppendsFront}
-use Rattle.draw_core.proofs.Warnings.{added}
-use Rattle.draw_core.proofs.keep.warn.Goals as goal
+use Rattle.put_texts.proofs.Warnings.{added}
+use Rattle.put_texts.proofs.warning.warn.Goals as goal
 
 pub returns-clause-front : goal.returns-clause-front
 returns-clause-front g c told =

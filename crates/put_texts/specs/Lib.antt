@@ -1,0 +1,6 @@
+pub mod Desks
+pub mod Faults
+pub mod Noting
+pub mod Order
+pub mod Puts
+pub mod inner

@@ -1,0 +1,8 @@
+//! Texts put where they go, one after the other: kept under a name, said, or not at all; and the warning of a fault.
+#![tactic(auto)]
+
+mod put;
+mod warning;
+
+pub use put::{Way, note, put_text, unless_said};
+pub use warning::warn;

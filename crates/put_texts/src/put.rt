@@ -1,0 +1,136 @@
+// Puts a text where it goes, and warns where it can't.
+ghost use Rattle.std.specs.Prelude.{◌≡◌, ◌++◌, true, Some, IfSome, IfNone};
+ghost use Rattle.desk.specs.Files.{AppendsFront, OnlyKeeps, OnlySays, OnlyWarns};
+ghost use Rattle.put_texts.specs.Desks.{HearsAll, IsUnwarned, OnlyFilesAndWarned, OnlySaidAndWarned};
+ghost use Rattle.put_texts.specs.Faults.{CountsWrites, HasNoWriteFault};
+ghost use Rattle.put_texts.specs.Noting.{IsQuiet, Notes, NotesWhole, unless_said};
+ghost use Rattle.put_texts.specs.Order.{IsFaultAt, aloud, under};
+ghost use Rattle.put_texts.specs.Puts.{IsPut, one_text, told_by, way_seen};
+ghost use Rattle.put_texts.specs.inner.Parts.{KeepsBy, SaysBy};
+
+use crate::warning::warn;
+use dec_text::Name;
+use desk::{Desk, DeskFault};
+use part_input::{Fault, Target};
+
+/// Where a text goes: nowhere, to the standard output, or into the file of a name.
+#[derive(Clone, Copy)]
+pub enum Way<'a> {
+    Nowhere,
+    Aloud,
+    Under(&'a Name),
+}
+
+/// Keeps a text, and tells why it couldn't, of which it warns by its line or by that of want of memory.
+fn keep_text<D: Desk>(
+    name: &Name,
+    bytes: &[u8],
+    target: Target,
+    line: &str,
+    memory: &str,
+    desk: &mut D,
+) -> Option<Fault>
+    ensures fault { IfSome result (IsFaultAt target) }
+    ensures files { (D.state desk.old).tells ≡ true →
+        KeepsBy (under name.now) bytes.now result (D.state desk.old).files (D.state desk.new).files }
+    ensures writes { CountsWrites result (D.state desk.old).write_faults (D.state desk.new).write_faults }
+    ensures steady { (D.state desk.old).steady ≡ true → HasNoWriteFault result }
+    ensures firm { (D.state desk.old).firm ≡ true → result ≡ Some Fault.Memory → ⊥ }
+    ensures warned { (D.state desk.old).tells_warned ≡ true →
+        IfSome result (λ f. AppendsFront (D.state desk.old).warned (D.state desk.new).warned (told_by memory.now line.now f)) }
+    ensures whole { HearsAll (D.state desk.old) (D.state desk.new) →
+        IfSome result (λ f. (D.state desk.new).warned ≡ (D.state desk.old).warned ++ told_by memory.now line.now f) }
+    ensures kept { IfNone result (OnlyKeeps (D.state desk.old) (D.state desk.new)) }
+    ensures changes { OnlyFilesAndWarned (D.state desk.old) (D.state desk.new) }
+{
+    match desk.keep(name.as_str(), bytes) {
+        Ok(()) => None,
+        Err(DeskFault::Failed) => {
+            warn(line, desk);
+            Some(Fault::WriteFault(target))
+        }
+        Err(DeskFault::Memory(_)) => {
+            warn(memory, desk);
+            Some(Fault::Memory)
+        }
+    }
+}
+
+/// Says a text, and tells why it couldn't, of which it warns by its line or by that of want of memory.
+fn say_text<D: Desk>(
+    bytes: &[u8],
+    target: Target,
+    line: &str,
+    memory: &str,
+    desk: &mut D,
+) -> Option<Fault>
+    ensures fault { IfSome result (IsFaultAt target) }
+    ensures said { (D.state desk.old).tells_said ≡ true →
+        SaysBy aloud bytes.now result (D.state desk.old).said (D.state desk.new).said }
+    ensures writes { CountsWrites result (D.state desk.old).write_faults (D.state desk.new).write_faults }
+    ensures steady { (D.state desk.old).steady ≡ true → HasNoWriteFault result }
+    ensures firm { (D.state desk.old).firm ≡ true → result ≡ Some Fault.Memory → ⊥ }
+    ensures warned { (D.state desk.old).tells_warned ≡ true →
+        IfSome result (λ f. AppendsFront (D.state desk.old).warned (D.state desk.new).warned (told_by memory.now line.now f)) }
+    ensures whole { HearsAll (D.state desk.old) (D.state desk.new) →
+        IfSome result (λ f. (D.state desk.new).warned ≡ (D.state desk.old).warned ++ told_by memory.now line.now f) }
+    ensures spoken { IfNone result (OnlySays (D.state desk.old) (D.state desk.new)) }
+    ensures changes { OnlySaidAndWarned (D.state desk.old) (D.state desk.new) }
+{
+    match desk.say(bytes) {
+        Ok(()) => None,
+        Err(DeskFault::Failed) => {
+            warn(line, desk);
+            Some(Fault::WriteFault(target))
+        }
+        Err(DeskFault::Memory(_)) => {
+            warn(memory, desk);
+            Some(Fault::Memory)
+        }
+    }
+}
+
+/// Puts a text where it goes, and tells why it couldn't. Where it couldn't be written it warns by its line, and where memory was
+/// wanting by the line of that. Cost: one call of the desk, and with a fault one more.
+pub fn put_text<D: Desk>(
+    way: Way<'_>,
+    bytes: &[u8],
+    target: Target,
+    line: &str,
+    memory: &str,
+    desk: &mut D,
+) -> Option<Fault>
+    ensures put { IsPut (told_by memory.now line.now) (one_text (way_seen way.entry) target bytes.now) result (D.state desk.old) (D.state desk.new) }
+    ensures unwarned { IfNone result (IsUnwarned (D.state desk.old) (D.state desk.new)) }
+{
+    match way {
+        Way::Nowhere => None,
+        Way::Aloud => say_text(bytes, target, line, memory, desk),
+        Way::Under(name) => keep_text(name, bytes, target, line, memory, desk),
+    }
+}
+
+/// Another way, unless what goes the first one is said.
+pub fn unless_said<'a>(first: Way<'_>, other: Way<'a>) -> Way<'a>
+    ensures { way_seen result ≡ unless_said (way_seen first.entry) (way_seen other.entry) }
+{
+    match first {
+        Way::Aloud => Way::Nowhere,
+        Way::Nowhere | Way::Under(_) => other,
+    }
+}
+
+/// Warns by a summary that isn't said. That it isn't heard is no fault.
+pub fn note<D: Desk>(way: Way<'_>, summary: &str, desk: &mut D)
+    ensures noted { (D.state desk.old).tells_warned ≡ true →
+        Notes (way_seen way.entry) summary.now (D.state desk.old).warned (D.state desk.new).warned }
+    ensures noted_whole { HearsAll (D.state desk.old) (D.state desk.new) →
+        NotesWhole (way_seen way.entry) summary.now (D.state desk.old).warned (D.state desk.new).warned }
+    ensures quiet { IsQuiet (way_seen way.entry) (D.state desk.old).warn_faults (D.state desk.new).warn_faults }
+    ensures changes { OnlyWarns (D.state desk.old) (D.state desk.new) }
+{
+    match way {
+        Way::Nowhere => warn(summary, desk),
+        Way::Aloud | Way::Under(_) => {}
+    }
+}
