@@ -1,0 +1,63 @@
+-- What is warned and written from a later state of the desk on, seen from the beginning of a run.
+use Rattle.std.proofs.Common.{◌≡◌, ℕ, ◌++◌, List, Option, None, Some, ap, subst, ◌∙◌}
+use Rattle.std.specs.Prelude.{IfSome, IfNone}
+use Rattle.desk.specs.Files.{Files, DeskState, AppendsFront, OnlyReads, Rose}
+use Rattle.mend_core.specs.Lines.{mend_line, Warns, WarnsWhole}
+use Rattle.mend_core.specs.Mending.{Made}
+use Rattle.mend_core.specs.Seen.{made_seen}
+use Rattle.mend_core.specs.Telling.{told_text}
+use Rattle.mend_core.specs.Writing.{Writes, summary_way}
+use Rattle.mend_core.specs.declared.made.Mended.{Mended}
+use Rattle.mend_words.specs.Names.{Asks, Named}
+use Rattle.part_input.specs.declared.fault.Fault.{Fault}
+use Rattle.put_texts.specs.Desks.{HearsAll}
+use Rattle.put_texts.specs.Noting.{Notes, NotesWhole}
+use Rattle.put_texts.specs.Order.{InOrder, KeepsText, KeepsTextPart, SaysText, SaysTextPart, SparesFile, SparesWord}
+
+-- what is heard of the whole run is heard from there on
+pub heard_from : (old between new : DeskState) → between.tells_warned ≡ old.tells_warned → between.firm ≡ old.firm → between.warn_faults ≡ old.warn_faults → HearsAll old new → HearsAll between new
+heard_from old between new tells firm faults hears = record {
+  tells = tells ∙ hears.tells;
+  firm = firm ∙ hears.firm;
+  no_fault = λ rose. hears.no_fault (subst (λ (n : ℕ). Rose n new.warn_faults) faults rose);
+}
+
+module _ (old between new : DeskState) (same : OnlyReads old between) where
+  pub heard_later : HearsAll old new → HearsAll between new
+  heard_later hears = heard_from old between new (ap (λ (s : DeskState). s.tells_warned) same) (ap (λ (s : DeskState). s.firm) same) (ap (λ (s : DeskState). s.warn_faults) same) hears
+
+  warned_same : between.warned ≡ old.warned
+  warned_same = ap (λ (s : DeskState). s.warned) same
+
+  -- ---- warnings
+  pub warns_from : (asked : Option Asks) (fault : Option Fault) → IfSome fault (Warns asked between new) → IfSome fault (Warns asked old new)
+  warns_from asked None h = tt
+  warns_from asked (Some f) h = subst (λ (w : List ℕ). AppendsFront w new.warned (mend_line asked f)) warned_same h
+
+  pub warns_whole_from : (asked : Option Asks) (fault : Option Fault) → IfSome fault (WarnsWhole asked between new) → IfSome fault (WarnsWhole asked old new)
+  warns_whole_from asked None h = tt
+  warns_whole_from asked (Some f) h = subst (λ (w : List ℕ). new.warned ≡ w ++ mend_line asked f) warned_same h
+
+  -- ---- what is written
+  module _ (named : Named) (fault : Option Fault) where
+    writes_from : (made : Made) → Writes named fault between new made → Writes named fault old new made
+    writes_from made w =
+        let files = ap (λ (s : DeskState). s.files) same in
+        let said = ap (λ (s : DeskState). s.said) same in
+        record {
+          text = w.text;
+          is_text = w.is_text;
+          reads_back = w.reads_back;
+          texts = w.texts;
+          are_texts = w.are_texts;
+          files = λ told. subst (λ (f : Files). InOrder KeepsText KeepsTextPart fault w.texts f new.files) files (w.files (ap (λ (s : DeskState). s.tells) same ∙ told));
+          said = λ told. subst (λ (t : List ℕ). InOrder SaysText SaysTextPart fault w.texts t new.said) said (w.said (ap (λ (s : DeskState). s.tells_said) same ∙ told));
+          spared = subst (λ (f : Files). InOrder (λ way bytes. SparesFile way) (λ way fault bytes. SparesFile way) fault w.texts f new.files) files w.spared;
+          silent = subst (λ (t : List ℕ). InOrder (λ way bytes. SparesWord way) (λ way fault bytes. SparesWord way) fault w.texts t new.said) said w.silent;
+          noted = λ told. subst (λ (t : List ℕ). IfNone fault (Notes (summary_way named.out) (told_text made.told) t new.warned)) warned_same (w.noted (ap (λ (s : DeskState). s.tells_warned) same ∙ told));
+          noted_whole = λ hears. subst (λ (t : List ℕ). IfNone fault (NotesWhole (summary_way named.out) (told_text made.told) t new.warned)) warned_same (w.noted_whole (heard_later hears));
+        }
+
+    pub all_from : (m : Option Mended) → IfSome m (λ m. Writes named fault between new (made_seen m)) → IfSome m (λ m. Writes named fault old new (made_seen m))
+    all_from None h = tt
+    all_from (Some m) h = writes_from (made_seen m) h

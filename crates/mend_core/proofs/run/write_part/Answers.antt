@@ -1,0 +1,41 @@
+use Rattle.std.proofs.Common.{List, ℕ, ap, subst, string_bytes}
+use Rattle.std.specs.Prelude.{IfNone}
+use Rattle.mend_core.specs.Writing.{summary_way, texts_for}
+use Rattle.mend_core.proofs.Asked.{written_of}
+use Rattle.mend_core.proofs.Putting.{all_of_writing}
+use Rattle.mend_words.specs.Seen.{named_seen}
+use Rattle.put_texts.specs.Noting.{Notes, NotesWhole}
+use Rattle.mend_core.proofs.run.write_part.Goals as goal
+
+pub returns-clause-fault : goal.returns-clause-fault
+returns-clause-fault g c =
+    let texts = c.in-Ok.texts in
+    all_of_writing (named_seen c.args.request.now) texts.part.items (string_bytes texts.summary) c.put-fault.result c.put-fault.ensures.put.of_texts
+
+pub returns-clause-there : goal.returns-clause-there
+returns-clause-there g c =
+    let texts = c.in-Ok.texts in
+    let named = named_seen c.args.request.now in
+    written_of named c.put-fault.result (all_of_writing named texts.part.items (string_bytes texts.summary) c.put-fault.result c.put-fault.ensures.put.of_texts)
+
+pub returns-clause-written : goal.returns-clause-written
+returns-clause-written g c =
+    let named = named_seen c.args.request.now in
+    let texts = c.in-Ok.texts in
+    let made = c.in-Ok.ensures in
+    let state = g.D.Desk.state in
+    let put = c.put-fault.ensures.put in
+    let fault = c.put-fault.result in
+    record {
+      text = texts.part.items;
+      is_text = made.part;
+      reads_back = made.reads_back;
+      texts = texts_for named.out texts.part.items (string_bytes texts.summary);
+      are_texts = ap (λ (s : List ℕ). texts_for named.out texts.part.items s) made.summary;
+      files = put.files;
+      said = put.said;
+      spared = put.spared;
+      silent = put.silent;
+      noted = λ told. subst (λ (s : List ℕ). IfNone fault (Notes (summary_way named.out) s (state c.args.desk.now).warned (state c.put-fault.new.desk).warned)) made.summary (c.put-fault.ensures.noted told);
+      noted_whole = λ hears. subst (λ (s : List ℕ). IfNone fault (NotesWhole (summary_way named.out) s (state c.args.desk.now).warned (state c.put-fault.new.desk).warned)) made.summary (c.put-fault.ensures.noted_whole hears);
+    }

@@ -1,0 +1,39 @@
+use Rattle.std.proofs.Common.{inl}
+use Rattle.geometry.specs.Parts.{part_of}
+use Rattle.mend_core.specs.Mending.{Mends}
+use Rattle.mend_core.specs.Run.{MendsPart, TakesPart}
+use Rattle.mend_core.specs.Seen.{made_seen}
+use Rattle.mend_core.proofs.Asked.{mend_counts, mend_not_missing, mend_of_named}
+use Rattle.mend_words.specs.Seen.{named_seen}
+use Rattle.part_input.proofs.Chains.{gives_next, missing_first, refused_first}
+use Rattle.mend_core.proofs.take.take.Goals as goal
+
+-- the part is refused as it is read
+pub returns-in-Err-clause-answer : goal.returns-in-Err-clause-answer
+returns-in-Err-clause-answer g c = λ told.
+    let named = named_seen c.args.request.now in
+    refused_first (TakesPart (g.D.Desk.state c.args.desk.now).files named) (Mends named.limit) c.in-Err.fault (c.in-Err.ensures.answer told)
+
+pub returns-in-Err-clause-of_named : goal.returns-in-Err-clause-of_named
+returns-in-Err-clause-of_named g c = inl c.in-Err.ensures.of_soup
+
+pub returns-in-Err-clause-missing : goal.returns-in-Err-clause-missing
+returns-in-Err-clause-missing g c = λ steady.
+    let named = named_seen c.args.request.now in
+    missing_first (TakesPart (g.D.Desk.state c.args.desk.now).files named) (Mends named.limit) c.in-Err.fault (c.in-Err.ensures.missing steady)
+
+-- it was read, and is mended
+pub returns-in-Ok-clause-answer : goal.returns-in-Ok-clause-answer
+returns-in-Ok-clause-answer g c = λ told.
+    let named = named_seen c.args.request.now in
+    gives_next (TakesPart (g.D.Desk.state c.args.desk.now).files named) (Mends named.limit) (part_of c.in-Ok.soup) (c.in-Ok.ensures.answer told) made_seen c.mended.result c.mended.ensures.answer
+
+pub returns-in-Ok-clause-of_named : goal.returns-in-Ok-clause-of_named
+returns-in-Ok-clause-of_named g c = mend_of_named (named_seen c.args.request.now) c.mended.result c.mended.ensures.of_mending
+
+pub returns-in-Ok-clause-reads : goal.returns-in-Ok-clause-reads
+returns-in-Ok-clause-reads g c = mend_counts c.mended.result _ _ c.mended.ensures.of_mending c.in-Ok.ensures.reads
+
+pub returns-in-Ok-clause-missing : goal.returns-in-Ok-clause-missing
+returns-in-Ok-clause-missing g c = λ steady.
+    mend_not_missing (MendsPart (g.D.Desk.state c.args.desk.now).files (named_seen c.args.request.now)) c.mended.result c.mended.ensures.of_mending

@@ -1,0 +1,7 @@
+pub mod Lines
+pub mod Mending
+pub mod Run
+pub mod Seen
+pub mod Telling
+pub mod Writing
+pub mod inner

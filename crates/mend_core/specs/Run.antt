@@ -1,0 +1,123 @@
+-- What a run answers, from its words and the files at entry: steps in order, each with what it gives and what it refuses.
+use Rattle.std.specs.Prelude.{◌≡◌, ◌⊎◌, ℕ, List, Option, Some, None, IfSome, IsSome, Result, Ok, Err, Bool, false, IsTrue}
+use Rattle.dec_text.specs.declared.number.Length.TheVariants.{Millimetre}
+use Rattle.desk.specs.Files.{Files}
+use Rattle.geometry.specs.Parts.{Part}
+use Rattle.geometry.specs.Sound.{IsSound}
+use Rattle.mend_core.specs.Mending.{Made, Mends, IsOfMending}
+use Rattle.mend_core.specs.Writing.{AsksMendAnd, IsOfTarget}
+use Rattle.mend_words.specs.Names.{Asks, Named, help, version, mend, asked_by}
+use Rattle.part_input.specs.Parts.{sample_size, TakesSoup, IsOfSoup, HasSampleOr}
+use Rattle.part_input.specs.Steps.{◌and_then◌}
+use Rattle.part_input.specs.declared.fault.Input.{Input}
+use Rattle.part_input.specs.declared.fault.Input.TheVariants.{Job as TheJob, Part as ThePart}
+use Rattle.part_input.specs.declared.fault.Fault.{Fault}
+use Rattle.part_input.specs.declared.fault.Fault.TheVariants.{Usage, ReadFault, Nothing, Mesh, WriteFault, Memory}
+use Rattle.part_input.specs.declared.fault.Target.{Target}
+use Rattle.part_input.specs.declared.fault.Target.TheVariants.{Out}
+
+-- ---- the steps of a run
+-- the words ask for something
+abbrev pub AsksFor : List (List ℕ) → Result Asks Fault → Type 0
+AsksFor words (Ok asks) = asked_by words ≡ Some asks
+AsksFor words (Err e) = (e ≡ Usage) × (asked_by words ≡ None)
+
+-- the part that was named is read, before its surface is looked at
+abbrev pub TakesPart : Files → Named → Result Part Fault → Type 0
+TakesPart files named = TakesSoup files named.part named.decimals Millimetre
+
+-- and it is mended
+abbrev pub MendsPart : Files → Named → Result Made Fault → Type 0
+MendsPart files named = TakesPart files named and_then Mends named.limit
+
+-- what is taken, if anything is
+abbrev pub TakesAsked : Files → Asks → Result (Option Part) Fault → Type 0
+TakesAsked files help r = r ≡ Ok None
+TakesAsked files version r = r ≡ Ok None
+TakesAsked files (mend named) r = (TakesPart files named and_then λ part answer. answer ≡ Ok (Some part)) r
+
+-- what is made, if anything is
+abbrev pub MendsAsked : Files → Asks → Result (Option Made) Fault → Type 0
+MendsAsked files help r = r ≡ Ok None
+MendsAsked files version r = r ≡ Ok None
+MendsAsked files (mend named) r = (MendsPart files named and_then λ made answer. answer ≡ Ok (Some made)) r
+
+-- a run up to its part, which the words and the files determine, and a run, whose order of flips is free: what is made, or the refusal
+abbrev pub Takes : List (List ℕ) → Files → Result (Option Part) Fault → Type 0
+Takes words files = AsksFor words and_then TakesAsked files
+
+abbrev pub Runs : List (List ℕ) → Files → Result (Option Made) Fault → Type 0
+Runs words files = AsksFor words and_then MendsAsked files
+
+-- ---- answers
+-- a fault of the surface
+abbrev pub IsOfSurface : Fault → Type 0
+IsOfSurface Nothing = Unit {0}
+IsOfSurface (Mesh fault) = Unit {0}
+IsOfSurface fault = ⊥
+
+-- What may be answered to what was taken, beside want of memory: the refusal; with a part, none, or a fault of its surface only
+-- where that isn't sound; with help or the version, none.
+abbrev pub AnswersTaken : Result (Option Part) Fault → Option Fault → Type 0
+AnswersTaken (Err e) fault = (fault ≡ Some e) ⊎ (fault ≡ Some Memory)
+AnswersTaken (Ok None) fault = (fault ≡ None) ⊎ (fault ≡ Some Memory)
+AnswersTaken (Ok (Some part)) fault = (fault ≡ None) ⊎ (fault ≡ Some Memory) ⊎ ((IsSound part → ⊥) × IfSome fault IsOfSurface)
+
+-- so it is of each answer of the steps
+abbrev pub IsAnswerTo : (Result (Option Part) Fault → Type 0) → Option Fault → Type 0
+IsAnswerTo steps fault = (r : Result (Option Part) Fault) → steps r → AnswersTaken r fault
+
+-- the faults of a part with these names: of reading it, or of mending it
+abbrev pub IsOfNamed : Named → Fault → Type 0
+IsOfNamed named fault = IsOfSoup named.part fault ⊎ IsOfMending fault
+
+-- with a request of these names
+abbrev pub AnswersNamed : Named → Option Fault → Type 0
+AnswersNamed named None = Unit {0}
+AnswersNamed named (Some Usage) = ⊥
+AnswersNamed named (Some Memory) = Unit {0}
+AnswersNamed named (Some (WriteFault target)) = IsOfTarget named.out target
+AnswersNamed named (Some fault) = IsOfNamed named fault
+
+-- help and the version may be what couldn't be said
+abbrev pub IsOfAsked : Option Asks → Target → Type 0
+IsOfAsked None target = ⊥
+IsOfAsked (Some help) target = target ≡ Out
+IsOfAsked (Some version) target = target ≡ Out
+IsOfAsked (Some (mend named)) target = IsOfTarget named.out target
+
+-- on every desk the words are refused exactly so, unless memory ran out, and the part is at fault only as it may be
+abbrev pub AnswersWords : Option Asks → Option Fault → Type 0
+AnswersWords asked (Some Usage) = asked ≡ None
+AnswersWords asked (Some Memory) = Unit {0}
+AnswersWords asked (Some (WriteFault target)) = IsOfAsked asked target
+AnswersWords asked (Some fault) = AsksMendAnd asked (λ named. IsOfNamed named fault)
+AnswersWords asked None = IsSome asked
+
+-- the run comes to reading a part that isn't a sample, and no job
+abbrev pub ComesTo : List ℕ → Input → Type 0
+ComesTo part TheJob = ⊥
+ComesTo part ThePart = sample_size part ≡ None
+
+-- a fault of reading is answered only where the run comes to that
+abbrev pub RunsInOrder : Option Asks → Fault → Type 0
+RunsInOrder asked (ReadFault input) = AsksMendAnd asked (λ named. ComesTo named.part input)
+RunsInOrder asked fault = Unit {0}
+
+-- the file that was named to be read is there
+abbrev pub HasFilesAsked : Files → Asks → Type 0
+HasFilesAsked files help = Unit {0}
+HasFilesAsked files version = Unit {0}
+HasFilesAsked files (mend named) = HasSampleOr (sample_size named.part) files named.part
+
+-- a part is there with status 0 and 8, may be there with status 9, and else is not
+abbrev pub IsWritten : Option Fault → Bool → Type 0
+IsWritten None there = IsTrue there
+IsWritten (Some (WriteFault target)) there = IsTrue there
+IsWritten (Some Memory) there = Unit {0}
+IsWritten (Some fault) there = there ≡ false
+
+-- so it is where mending was asked for, and else there is none
+abbrev pub HasMended : Option Asks → Option Fault → Bool → Type 0
+HasMended (Some (mend named)) fault there = IsWritten fault there
+HasMended asked fault there = there ≡ false
