@@ -6,17 +6,12 @@ use Rattle.std.proofs.Common.{lt_of_le_of_lt, le_of_lt}
 use Rattle.std.proofs.lemmas.Nat.{mul-le, mul-lt}
 use Rattle.flip_bounds.specs.Heights.{IsRoundedUp}
 use Rattle.integers.proofs.Absolutes.{abs_of_not_negative, pos-product}
-use Rattle.integers.proofs.Comparisons.{sum_not_negative}
-use Rattle.integers.proofs.Signs.{square_nonneg}
+use Rattle.flip_bounds.proofs.Lengths.{square_not_negative}
 use Rattle.std.specs.Int.{w128}
 use Rattle.std.proofs.lemmas.Int.{ints, to_z-of_z, fits_signed_from_abs}
 use Rattle.std.proofs.Common.{to_z, of_z, lt_of_lt_of_le, lit≤}
 use Rattle.integers.proofs.Worth.{known, times, plus, below_of}
 use Rattle.lattice.specs.Triple.{Triple, dot}
-
-square_not_negative : (s : Triple) → pos 0 ≤ℤ dot s s
-square_not_negative s =
-    sum_not_negative ((s.x *ℤ s.x) +ℤ (s.y *ℤ s.y)) (s.z *ℤ s.z) (sum_not_negative (s.x *ℤ s.x) (s.y *ℤ s.y) (square_nonneg s.x) (square_nonneg s.y)) (square_nonneg s.z)
 
 -- a square as a natural number
 pub square_counted : (d : ℤ) (s t : Triple) → d ≡ dot s s → s ≡ t → pos (unsigned_abs d) ≡ dot t t

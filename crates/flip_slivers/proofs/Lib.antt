@@ -2,5 +2,8 @@ pub mod AroundLemmas
 pub mod ChoiceLemmas
 pub mod HeightLemmas
 pub mod MakingLemmas
+pub mod OneHeight
 pub mod PairLemmas
+pub mod Potential
+pub mod SettledLemmas
 pub mod SettlingLemmas

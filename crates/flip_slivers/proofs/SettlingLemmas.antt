@@ -15,7 +15,8 @@ use Rattle.flip_bounds.specs.Flips.{AreFlips, unmoved, IsGreatestBound}
 use Rattle.flip_bounds.proofs.FlipsNear.{flips_near, flips_within, flips_count, flips_in_range}
 use Rattle.flip_slivers.specs.Flipped.{IsFlipped}
 use Rattle.flip_slivers.specs.inner.Around.{IsAround, lists_of, triangles_of}
-use Rattle.flip_slivers.specs.inner.Choices.{IsLaid}
+use Rattle.flip_slivers.specs.inner.Choices.{IsLaid, AreSettled}
+use Rattle.flip_slivers.proofs.SettledLemmas.{flip_choice}
 
 pub unmoved_back : (triangles : List Tri) → triangles_of (map unmoved triangles) ≡ triangles
 unmoved_back [] = refl
@@ -39,14 +40,14 @@ pub record Settled (corners : List Corner) (most : ℕ) (given left : List Tri) 
   pub within : moved ≤ most
 
 abbrev pub settled : (corners : List Corner) (most : ℕ) (given left : List Tri) (first last : List Bounded) (flips moved : ℕ) → All (IsBelow (length corners)) given → first ≡ map unmoved given
-    → AreFlips corners most flips first last → left ≡ triangles_of last → IsGreatestBound last moved → Settled corners most given left flips moved
-settled corners most given left first last flips moved in_range start by_flips bare greatest =
+    → AreFlips corners most flips first last → left ≡ triangles_of last → IsGreatestBound last moved → AreSettled corners most last → Settled corners most given left flips moved
+settled corners most given left first last flips moved in_range start by_flips bare greatest none =
     let P : List Bounded → Type 0 = λ s. AreFlips corners most flips s last in
     let from : AreFlips corners most flips (map unmoved given) last = subst P start by_flips in
     let Q : List Tri → Type 0 = λ ts. All (IsBelow (length corners)) ts in
     let N : List Tri → Type 0 = λ ts. AreNearSurfaces moved (part_with corners given) (part_with corners ts) in
     record {
-      flipped = record { last = last; by_flips = from; is_triangles = bare; is_moved = greatest };
+      flipped = record { last = last; by_flips = from; is_triangles = bare; is_moved = greatest; settled = λ new. flip_choice corners most last new none };
       count = ap length bare ∙ length-map last (λ (x : Bounded). x.tri) ∙ flips_count corners most flips (map unmoved given) last from ∙ length-map given unmoved;
       in_range = subst Q (sym bare) (All-map (IsBelow (length corners)) (λ (x : Bounded). x.tri) last
           (flips_in_range corners most flips (map unmoved given) last from (All-map (λ (x : Bounded). IsBelow (length corners) x.tri) unmoved given in_range)));

@@ -1,10 +1,10 @@
 // Which flip is made next.
-ghost use Rattle.std.specs.Prelude.{◌≡◌, ℕ, ◌*◌, ◌<◌, ◌≤◌, length, slice_get, Some, IfSome};
+ghost use Rattle.std.specs.Prelude.{◌≡◌, ◌≢◌, ℕ, ◌*◌, ◌<◌, ◌≤◌, length, slice_get, Some, IfSome, IsNone};
 ghost use Rattle.std.specs.List.{All};
 ghost use Rattle.lattice.specs.Triangles.{IsBelow};
 ghost use Rattle.flip_bounds.specs.Flips.{IsRound};
 ghost use Rattle.flip_slivers.specs.inner.Around.{IsAround, lists_of, triangles_of};
-ghost use Rattle.flip_slivers.specs.inner.Choices.{IsLaid, IsSliverAt, IsChoice, IsAcross, IsNewBound};
+ghost use Rattle.flip_slivers.specs.inner.Choices.{IsLaid, IsSliverAt, IsChoice, IsAcross, IsNewBound, IsSettledAt, IsSettledOn, IsSettledBeside};
 
 use crate::around::{is_side, shorter, third_of};
 use crate::heights::{height_at, is_low, rise_of, rises, side_between};
@@ -42,7 +42,8 @@ pub(crate) fn flip_at(
     requires laid { IsLaid corners.now surface.now around.now }
     requires most { most ≤ 102400 }
     requires place { place < length surface.now }
-    ensures { IfSome result (IsChoice corners.now most surface.now) }
+    ensures some { IfSome result (IsChoice corners.now most surface.now) }
+    ensures none { IsNone result → IsSettledAt corners.now most surface.now place }
 {
     let Tri { a, b, c } = surface[place as usize].tri;
     if let Some(flip) = flip_on(corners, surface, around, most, place, &Tri { a, b, c }) {
@@ -82,12 +83,14 @@ fn flip_on(
     requires place { place < length surface.now }
     requires below { IsBelow (length corners.now) t.now }
     requires turned { (given : Bounded) → slice_get surface.now place ≡ Some given → IsRound given.tri t.now }
-    ensures { IfSome result (IsChoice corners.now most surface.now) }
+    ensures some { IfSome result (IsChoice corners.now most surface.now) }
+    ensures none { IsNone result → IsSettledOn corners.now most surface.now place t.now }
 {
     let Some(sliver) = sliver_at(corners, surface, place, t) else {
         return None;
     };
-    for other in shorter(around, t.a, t.b) {
+    let places = shorter(around, t.a, t.b);
+    for other in places {
         if let Some(flip) = flip_beside(corners, surface, around, most, &sliver, *other) {
             return Some(flip);
         }
@@ -104,10 +107,17 @@ fn sliver_at(corners: &[Corner], surface: &[Bounded], place: u32, t: &Tri) -> Op
     ensures place { IfSome result (λ s. s.place ≡ place) }
     ensures turned { IfSome result (λ s. s.tri ≡ t.now) }
     ensures small { IfSome result (λ s. s.rise ≤ 4096) }
+    ensures none { IsNone result → (s : Sliver) → s.place ≡ place → s.tri ≡ t.now → ¬ IsSliverAt corners.now surface.now s }
 {
     let height = height_at(corners, t);
     let first = side_between(&corners[t.a as usize], &corners[t.b as usize]);
-    if height.side == 0 || first != height.side || !is_low(&height) {
+    if height.side == 0 {
+        return None;
+    }
+    if first != height.side {
+        return None;
+    }
+    if !is_low(&height) {
         return None;
     }
     Some(Sliver {
@@ -131,7 +141,8 @@ fn flip_beside(
     requires sliver { IsSliverAt corners.now surface.now sliver.now }
     requires small { sliver.now.rise ≤ 4096 }
     requires other { other < length surface.now }
-    ensures { IfSome result (IsChoice corners.now most surface.now) }
+    ensures some { IfSome result (IsChoice corners.now most surface.now) }
+    ensures none { IsNone result → IsSettledBeside corners.now most surface.now sliver.now.place sliver.now.tri other }
 {
     let Tri { a, b, c } = sliver.tri;
     let Some(d) = corner_across(surface, around, sliver, other) else {
@@ -168,13 +179,21 @@ fn corner_across(
     requires in_range { All (λ x. IsBelow (length around.now) x.tri) surface.now }
     requires third { sliver.now.tri.c < length around.now }
     requires other { other < length surface.now }
-    ensures { IfSome result (IsAcross surface.now sliver.now other) }
+    requires differ { sliver.now.tri.b ≢ sliver.now.tri.a }
+    ensures some { IfSome result (IsAcross surface.now sliver.now other) }
+    ensures none { IsNone result → (d : ℕ) → ¬ IsAcross surface.now sliver.now other d }
 {
     let Tri { a, b, c } = sliver.tri;
     let Some(d) = third_of(&surface[other as usize].tri, b, a) else {
         return None;
     };
-    if other == sliver.place || is_side(surface, around, c, d) || is_side(surface, around, d, c) {
+    if other == sliver.place {
+        return None;
+    }
+    if is_side(surface, around, c, d) {
+        return None;
+    }
+    if is_side(surface, around, d, c) {
         return None;
     }
     Some(d)
@@ -184,12 +203,15 @@ fn corner_across(
 fn bound_of(most: u32, first: u32, second: u32, rise: u32) -> Option<u32>
     requires most { most ≤ 102400 }
     requires small { rise ≤ 4096 }
-    ensures { IfSome result (IsNewBound most first second rise) }
+    ensures some { IfSome result (IsNewBound most first second rise) }
+    ensures none { IsNone result → (bound : ℕ) → ¬ IsNewBound most first second rise bound }
 {
     let greater = first.max(second);
-    if greater > most || greater + rise > most {
-        None
-    } else {
-        Some(greater + rise)
+    if greater > most {
+        return None;
     }
+    if greater + rise > most {
+        return None;
+    }
+    Some(greater + rise)
 }

@@ -66,26 +66,39 @@ pub(crate) fn rises(corners: &[Corner], s: &Tri, t: &Tri, u: &Tri, v: &Tri) -> b
     requires second { IsBelow (length corners.now) t.now }
     requires third { IsBelow (length corners.now) u.now }
     requires fourth { IsBelow (length corners.now) v.now }
-    ensures { IsTrue result → IsRise corners.now s.now t.now u.now v.now }
+    ensures { IsTrue result ↔ IsRise corners.now s.now t.now u.now v.now }
 {
-    (is_lower(corners, s, u) && is_lower(corners, s, v))
-        || (is_lower(corners, t, u) && is_lower(corners, t, v))
+    is_below_both(corners, s, u, v) || is_below_both(corners, t, u, v)
+}
+
+/// The least height of the first triangle is less than those of the other two.
+fn is_below_both(corners: &[Corner], t: &Tri, u: &Tri, v: &Tri) -> bool
+    requires first { IsBelow (length corners.now) t.now }
+    requires second { IsBelow (length corners.now) u.now }
+    requires third { IsBelow (length corners.now) v.now }
+    ensures { IsTrue result ↔ (IsLower corners.now t.now u.now × IsLower corners.now t.now v.now) }
+{
+    is_lower(corners, t, u) && is_lower(corners, t, v)
 }
 
 /// The least height of the first triangle is less than that of the second.
 fn is_lower(corners: &[Corner], t: &Tri, u: &Tri) -> bool
     requires first { IsBelow (length corners.now) t.now }
     requires second { IsBelow (length corners.now) u.now }
-    ensures { IsTrue result → IsLower corners.now t.now u.now }
+    ensures { IsTrue result ↔ IsLower corners.now t.now u.now }
 {
     is_less(&height_at(corners, t), &height_at(corners, u))
 }
 
-/// The first height is less. One that has no side is none.
+/// The first height is less.
 fn is_less(h: &Height, k: &Height) -> bool
-    ensures { IsTrue result → (pos h.now.area *ℤ pos k.now.side) <ℤ (pos k.now.area *ℤ pos h.now.side) }
+    requires { k.now.side ≡ 0 → k.now.area ≡ 0 }
+    ensures { IsTrue result ↔ (pos h.now.area *ℤ pos k.now.side) <ℤ (pos k.now.area *ℤ pos h.now.side) }
 {
-    h.side > 0 && k.side > 0 && ratio_of(h).cmp(&ratio_of(k)) == Ordering::Less
+    if h.side == 0 || k.side == 0 {
+        return false;
+    }
+    ratio_of(h).cmp(&ratio_of(k)) == Ordering::Less
 }
 
 /// The square of the height as a fraction.

@@ -1,7 +1,7 @@
 // Flips that are made, one after the other.
 ghost use Rattle.std.specs.Prelude.{◌≡◌, ℕ, ◌+◌, ◌*◌, ◌<◌, ◌≤◌, length, OnOk, IfOk};
 ghost use Rattle.flip_bounds.specs.Flips.{AreFlips};
-ghost use Rattle.flip_slivers.specs.inner.Choices.{IsChoice, IsLaid, flipped};
+ghost use Rattle.flip_slivers.specs.inner.Choices.{IsChoice, IsLaid, AreSettled, flipped};
 
 use crate::around::add;
 use crate::choices::{Flip, flip_at};
@@ -56,6 +56,7 @@ fn pass(
     requires most { most ≤ 102400 }
     ensures flips { IfOk result (λ flips. AreFlips corners.now most flips surface.old.items surface.new.items) }
     ensures few { IfOk result (λ flips. flips ≤ 20000) }
+    ensures settled { IfOk result (λ flips. flips ≡ 0 → AreSettled corners.now most surface.new.items) }
     ensures laid { OnOk result (IsLaid corners.now surface.new.items around.new.items) }
 {
     let mut flips = 0;
@@ -68,11 +69,8 @@ fn pass(
     Ok(flips)
 }
 
-/// The most flips that there can be: each takes at least 1 of what the triangles have left of their bounds, or leaves a flat triangle
-/// less.
-const MOST_FLIPS: u64 = 20_000 * 102_401;
-
-/// Passes until one makes no flip, and tells how many flips were made.
+/// Passes until one makes no flip, and tells how many flips were made. There are at most 102401 flips for each triangle: each takes at
+/// least 1 of what the triangles have left of the limit, or leaves a flat triangle less.
 pub(crate) fn flip_all(
     corners: &[Corner],
     surface: &mut Vec<Bounded>,
@@ -83,14 +81,14 @@ pub(crate) fn flip_all(
     requires laid { IsLaid corners.now surface.old.items around.old.items }
     requires most { most ≤ 102400 }
     ensures flips { IfOk result (λ flips. AreFlips corners.now most flips surface.old.items surface.new.items) }
+    ensures settled { OnOk result (AreSettled corners.now most surface.new.items) }
 {
     let mut flips = 0;
-    for _ in 0..MOST_FLIPS {
+    loop {
         let made = pass(corners, surface, around, most)?;
         if made == 0 {
-            break;
+            return Ok(flips);
         }
         flips += made;
     }
-    Ok(flips)
 }

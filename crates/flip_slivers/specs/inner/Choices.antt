@@ -4,6 +4,7 @@ use Rattle.std.proofs.Common.{Vec, Global}
 use Rattle.std.specs.List.{All}
 use Rattle.lattice.specs.Triangles.{IsBelow}
 use Rattle.lattice.specs.declared.points.Corner.{Corner}
+use Rattle.lattice.specs.declared.soup.Tri.{Tri}
 use Rattle.flip_bounds.specs.declared.bounded.Bounded.{Bounded}
 use Rattle.flip_bounds.specs.Heights.{HasHeight, IsRoundedUp, side_square}
 use Rattle.flip_bounds.specs.Flips.{tri, IsRound, IsSliverBeside, IsSideOf, IsRise, first_of, second_of}
@@ -66,3 +67,19 @@ pub record IsChoice (corners : List Corner) (most : ℕ) (surface : List Bounded
   pub rise : ℕ
   pub is_rise : IsRoundedUp rise area side
   pub new_bound : IsNewBound most sliver.bound neighbour.bound rise f.bound
+
+-- no flip may be made
+abbrev pub AreSettled : List Corner → ℕ → List Bounded → Type 0
+AreSettled corners most surface = (f : Flip) → ¬ IsChoice corners most surface f
+
+-- none of the triangle at a place
+abbrev pub IsSettledAt : List Corner → ℕ → List Bounded → ℕ → Type 0
+IsSettledAt corners most surface place = (f : Flip) → f.sliver ≡ place → ¬ IsChoice corners most surface f
+
+-- none on the first side of that triangle as it is turned
+abbrev pub IsSettledOn : List Corner → ℕ → List Bounded → ℕ → Tri → Type 0
+IsSettledOn corners most surface place t = (f : Flip) → f.sliver ≡ place → tri f.a f.b f.c ≡ t → ¬ IsChoice corners most surface f
+
+-- none with the triangle at the other place
+abbrev pub IsSettledBeside : List Corner → ℕ → List Bounded → ℕ → Tri → ℕ → Type 0
+IsSettledBeside corners most surface place t other = (f : Flip) → f.sliver ≡ place → tri f.a f.b f.c ≡ t → f.neighbour ≡ other → ¬ IsChoice corners most surface f

@@ -1,6 +1,7 @@
 use Rattle.std.proofs.Common.{length, get_or, refl, inl, inr}
 use Rattle.flip_bounds.specs.declared.bounded.Bounded.{Bounded}
 use Rattle.flip_bounds.specs.Flips.{tri}
+use Rattle.flip_slivers.proofs.SettledLemmas.{all_turns}
 use Rattle.flip_slivers.proofs.ChoiceLemmas.{turned_at, turned_below}
 use Rattle.flip_slivers.proofs.choices.flip_at.Goals as goal
 
@@ -39,3 +40,9 @@ flip_on-requires-3 c =
       below = turned_below (length c.args.corners.now) c.args.surface.now c.args.place nothing (tri t.c t.a t.b) c.requires.place c.requires.laid.in_range (inr (inr refl));
       turned = turned_at c.args.surface.now c.args.place nothing (tri t.c t.a t.b) c.requires.place (inr (inr refl));
     }
+
+pub returns : goal.returns
+returns c = record {
+  some = c.flip_on-3.ensures.some;
+  none = λ e. all_turns c.args.corners.now c.args.most c.args.surface.now c.args.place nothing (c.in_default.ensures.none refl) (c.in_default-flip_on.ensures.none refl) (c.flip_on-3.ensures.none e);
+}

@@ -1,6 +1,8 @@
-use Rattle.std.proofs.Common.{refl, sym, ap, ◌∙◌}
+use Rattle.std.proofs.Common.{◌<◌, length, refl, sym, ap, ◌∙◌, arith}
 use Rattle.std.specs.Prelude.{pos}
-use Rattle.std.proofs.lemmas.Option.{slice_get-get_or}
+use Rattle.std.proofs.lemmas.Option.{slice_get-get_or, slice_get_read}
+use Rattle.std.proofs.lemmas.Bool.{false≢true}
+use Rattle.flip_slivers.proofs.SettledLemmas.{sliver_height, sliver_side}
 use Rattle.flip_bounds.specs.declared.bounded.Bounded.{Bounded}
 use Rattle.flip_slivers.proofs.ChoiceLemmas.{same_side, low_as, long_as}
 use Rattle.flip_slivers.proofs.choices.sliver_at.Goals as goal
@@ -29,4 +31,40 @@ returns c =
       place = refl;
       turned = refl;
       small = c.rise_of.ensures.small;
+      none = λ e. absurd (false≢true (sym e));
     }
+
+pub returns-then-height-eq0 : goal.returns-then-height-eq0
+returns-then-height-eq0 c = record {
+  sliver = tt;
+  place = tt;
+  turned = tt;
+  small = tt;
+  none = λ _ s place turned x.
+      let long : 0 < c.height_at-height.result.side = (sliver_height c.args.corners.now c.args.surface.now s c.args.t.now c.height_at-height.result.area c.height_at-height.result.side c.height_at-height.ensures turned x).0 in
+      omega (arith, c.if-height-eq0.true);
+}
+
+pub returns-then-first-height : goal.returns-then-first-height
+returns-then-first-height c = record {
+  sliver = tt;
+  place = tt;
+  turned = tt;
+  small = tt;
+  none = λ _ s place turned x.
+      c.if-first-height.true (sliver_side c.args.corners.now c.args.surface.now s c.args.t.now c.height_at-height.result.area c.height_at-height.result.side c.side_between-first.result
+      c.index-corners-t.result c.index-corners-t-2.result c.height_at-height.ensures turned x
+      (slice_get_read c.args.corners.now (length c.args.corners.now) c.args.t.now.a c.index-corners-t.result refl c.requires.below.a c.index-corners-t.is)
+      (slice_get_read c.args.corners.now (length c.args.corners.now) c.args.t.now.b c.index-corners-t-2.result refl c.requires.below.b c.index-corners-t-2.is) c.side_between-first.ensures.value);
+}
+
+pub returns-then-not-is_low : goal.returns-then-not-is_low
+returns-then-not-is_low c = record {
+  sliver = tt;
+  place = tt;
+  turned = tt;
+  small = tt;
+  none = λ _ s place turned x.
+      false≢true (c.if-not-is_low.ensures.1
+      (sliver_height c.args.corners.now c.args.surface.now s c.args.t.now c.height_at-height.result.area c.height_at-height.result.side c.height_at-height.ensures turned x).1);
+}

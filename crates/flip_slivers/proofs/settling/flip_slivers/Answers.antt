@@ -21,7 +21,7 @@ returns c =
     let last = c.flip_all.new.surface.items in
     let P : List Bounded → Type 0 = λ s. IsGreatestBound s c.greatest.result in
     let all = settled c.args.corners.now (1024 * c.args.limit) c.args.triangles.now c.in_ok-bare.field-0.items c.in_ok-surface.surface.items last c.in_ok-flips.flips c.greatest.result c.requires.in_range
-    c.in_ok-surface.ensures c.in_ok-flips.ensures.flips (c.in_ok-bare.ensures ∙ ap triangles_of c.deref.ensures.value) (subst P c.deref-2.ensures.value c.greatest.ensures) in
+    c.in_ok-surface.ensures c.in_ok-flips.ensures.flips (c.in_ok-bare.ensures ∙ ap triangles_of c.deref.ensures.value) (subst P c.deref-2.ensures.value c.greatest.ensures) c.in_ok-flips.ensures.settled in
     record {
       flips = all.flipped;
       count = all.count;

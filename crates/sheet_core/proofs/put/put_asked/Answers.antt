@@ -10,5 +10,5 @@ use Rattle.sheet_words.specs.Seen.{named_seen}
 pub returns-clause-put : goal.returns-clause-put
 returns-clause-put g c =
     let state = g.D.Desk.state in
-    put_by_lines (fault_line (Some (named_seen c.args.request.now)) None) c.args.target MEMORY_LINE.now c.args.line.now refl c.requires (way_seen c.args.way.now) c.args.bytes.now c.put_text.result (state c.args.desk.now)
+    put_by_lines (fault_line (Some (named_seen c.args.request.now)) None) c.args.target MEMORY_LINE.now c.args.line.now refl c.requires (way_seen c.args.way) c.args.bytes.now c.put_text.result (state c.args.desk.now)
     (state c.put_text.new.desk) c.put_text.ensures.put
