@@ -4,15 +4,16 @@ use Rattle.std.specs.Prelude.{IfErr, codes}
 use Rattle.std.specs.Result.{result_err}
 use Rattle.desk.specs.Files.{Files}
 use Rattle.fault_lines.specs.Lines.{fault_line}
+use Rattle.geometry.specs.Sound.{IsSound}
 use Rattle.mend_core.specs.Lines.{mend_line}
 use Rattle.mend_core.specs.Mending.{Made, IsOfMending}
-use Rattle.mend_core.specs.Run.{AnswersNamed, AnswersWords, ComesTo, IsOfNamed, IsWritten, MendsAsked, Runs, RunsInOrder}
+use Rattle.mend_core.specs.Run.{AnswersNamed, ComesTo, IsOfNamed, IsWritten, MendsAsked, Runs, RunsInOrder}
 use Rattle.mend_core.specs.Seen.{made_seen}
 use Rattle.mend_core.specs.declared.lines.TheConstants.{USAGE}
 use Rattle.mend_core.specs.declared.made.Mended.{Mended}
 use Rattle.mend_core.specs.inner.Faults.{IsOfWriting}
 use Rattle.mend_core.proofs.Answered.{ComesToSome}
-use Rattle.mend_words.specs.Names.{Asks, Named, help, version, mend, asked_by}
+use Rattle.mend_words.specs.Names.{Asks, Named, mend, asked_by}
 use Rattle.part_input.specs.Faults.{CountsReads}
 use Rattle.part_input.specs.Parts.{IsOfSoupOr, sample_size}
 use Rattle.part_input.specs.Steps.{Refuses, IsMissing}
@@ -22,6 +23,8 @@ use Rattle.part_input.specs.declared.fault.Fault.{Fault}
 use Rattle.part_input.specs.declared.fault.Fault.TheVariants.{Usage, ReadFault, WriteFault, Memory}
 use Rattle.part_input.specs.declared.fault.Target.{Target}
 use Rattle.part_input.proofs.Chains.{refuses_as, missing_as}
+use Rattle.solid_mesh.specs.Solids.{solid_part}
+use Rattle.solid_mesh.proofs.Facts.{sound}
 use Rattle.put_texts.specs.Faults.{CountsWrites, HasNoWriteFault}
 
 -- the fault is this one, or its line found no memory: what is said of both, or of none
@@ -34,11 +37,6 @@ either Q e fault (inr is) h m = subst Q (sym is) m
 pub line_alike : (asked : Option Asks) (e : Fault) → HasNoWriteFault (Some e) → fault_line (codes "mend") USAGE.now e ≡ mend_line asked e
 line_alike asked (WriteFault target) none = absurd none
 line_alike asked e none = refl
-
--- help and the version are told by the same lines
-pub telling_alike : (e : Fault) → mend_line (Some help) e ≡ mend_line (Some version) e
-telling_alike (WriteFault target) = refl
-telling_alike e = refl
 
 -- ---- faults of reading and mending a part are none of the words and none of writing
 soup_no_usage : (size : Option (List ℕ)) → IsOfSoupOr size Usage → ⊥
@@ -110,13 +108,6 @@ module _ (named : Named) where
   written_of None is = refl
   written_of (Some e) is = write_made e is
 
-  pub answers_words : (fault : Option Fault) → AnswersNamed named fault → AnswersWords (Some (mend named)) fault
-  answers_words None h = refl
-  answers_words (Some Usage) h = absurd h
-  answers_words (Some Memory) h = tt
-  answers_words (Some (WriteFault target)) h = h
-  answers_words (Some e) h = h
-
 -- ---- the check of a surface is no reading
 module _ {T : Type 0} where
   pub mend_of_named : (named : Named) (r : Result T Fault) → IfErr r IsOfMending → IfErr r (IsOfNamed named)
@@ -147,12 +138,13 @@ module _ (words : List (List ℕ)) (files : Files) (asks : Asks) (is : asked_by 
   comes_to None (x, h) = (x, (asks, is, h))
   comes_to (Some e) h = tt
 
-  pub made : (m : Option Mended) → IfSome m (λ m. MendsAsked files asks (Ok (Some (made_seen m)))) → IfSome m (λ m. Runs words files (Ok (Some (made_seen m))))
-  made None h = tt
-  made (Some m) h = (asks, is, h)
-
 -- without a fault there is a part, of which the steps tell
 pub some_made : (steps : Result (Option Made) Fault → Type 0) (fault : Option Fault) (m : Option Mended) → IsWritten fault (is_some m) → IfSome m (λ m. steps (Ok (Some (made_seen m)))) → ComesToSome steps fault
 some_made steps None None there h = absurd (true≢false (sym there))
 some_made steps None (Some m) there h = (Some (made_seen m), h)
 some_made steps (Some e) m there h = tt
+
+-- each solid is sound
+pub all_sound : (m : Option Mended) → IfSome m (λ m. IsSound (solid_part m.solid))
+all_sound None = tt
+all_sound (Some m) = sound m.solid

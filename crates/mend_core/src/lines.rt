@@ -10,7 +10,7 @@ pub const HELP: &str = "mend PART [--out OUT] [--decimals K] [--limit N]\n\n\
     --out      where it goes, as OFF: a name, or - for the standard output;\n\
     \x20          without it mended.off\n\
     --decimals with how many decimals of a millimetre corners are read and\n\
-    \x20          written, 0 to 6; a unit is one of the last; without it 3\n\
+    \x20          written, 0 to 6; a unit is one in the last; without it 3\n\
     --limit    how many units points may move at most, 0 to 100; without it 4\n\
     --help     this text\n\
     --version  the version\n";

@@ -2,6 +2,7 @@
 ghost use Rattle.std.specs.Prelude.{◌≡◌, ◌⊎◌, true, None, Some, Ok, IfSome, IfNone, is_some};
 ghost use Rattle.desk.specs.Files.{Rose};
 ghost use Rattle.draw_words.specs.Seen.{texts};
+ghost use Rattle.geometry.specs.Sound.{IsSound};
 ghost use Rattle.mend_core.specs.Lines.{Warns, WarnsWhole};
 ghost use Rattle.mend_core.specs.Run.{AnswersNamed, AnswersWords, HasFilesAsked, HasMended, IsAnswerTo, IsWritten, MendsAsked, Runs, RunsInOrder, Takes};
 ghost use Rattle.mend_core.specs.Seen.{made_seen};
@@ -14,6 +15,7 @@ ghost use Rattle.part_input.specs.Steps.{Refuses, IsMissing};
 ghost use Rattle.put_texts.specs.Desks.{HearsAll, OnlyRuns, OnlySaidAndWarned, OnlyWrites};
 ghost use Rattle.put_texts.specs.Faults.{CountsWrites, HasNoWriteFault};
 ghost use Rattle.put_texts.specs.Noting.{IsQuiet};
+ghost use Rattle.solid_mesh.specs.Solids.{solid_part};
 
 use crate::end::{MendOutcome, end_by, end_status, refuse};
 use crate::lines::{HELP, MEMORY_LINE, SAID_LINE, VERSION};
@@ -168,10 +170,11 @@ pub fn mend<D: Desk>(alloc: Global, words: &[String], desk: &mut D) -> MendOutco
         IfSome (asked_by (texts words.now)) (HasFilesAsked (D.state desk.old).files) →
         ((D.state desk.new).read_faults ≡ (D.state desk.old).read_faults) × ((D.state desk.new).write_faults ≡ (D.state desk.old).write_faults) }
 
-    // The part is that of the steps, from the texts at entry.
+    // The part is that of the steps, from the texts at entry, and sound on every desk.
     ensures made { HasMended (asked_by (texts words.now)) result.fault (is_some result.mended) }
     ensures part { (D.state desk.old).tells ≡ true →
         IfSome result.mended (λ m. Runs (texts words.now) (D.state desk.old).files (Ok (Some (made_seen m)))) }
+    ensures sound { IfSome result.mended (λ m. IsSound (solid_part m.solid)) }
 
     // Its text, which reads as the very part, is put where the words say, and then the line that tells of it.
     ensures written { IfSome result.mended (λ m. WritesAsked (asked_by (texts words.now)) result.fault (D.state desk.old) (D.state desk.new) (made_seen m)) }

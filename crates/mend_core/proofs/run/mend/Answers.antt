@@ -3,7 +3,7 @@ use Rattle.std.specs.Prelude.{IfSome}
 use Rattle.draw_words.specs.Seen.{texts}
 use Rattle.mend_core.specs.Run.{HasFilesAsked, MendsAsked, RunsInOrder}
 use Rattle.mend_core.proofs.Answered.{answered, no_write, steadily}
-use Rattle.mend_core.proofs.Asked.{comes_to, misses, named_in_order, refuses, some_made}
+use Rattle.mend_core.proofs.Asked.{all_sound, comes_to, misses, named_in_order, refuses, some_made}
 use Rattle.mend_words.specs.Names.{Asks, mend, asked_by}
 use Rattle.mend_words.specs.Seen.{asked_seen, named_seen}
 use Rattle.mend_words.specs.declared.request.Asked.{Asked}
@@ -47,3 +47,6 @@ returns-in-Ok-Mend-clause-held g c = λ steady there.
       c.mend_part.ensures.held steady held,
       no_write c.mend_part.result.fault _ _ (c.mend_part.ensures.steady steady) c.mend_part.ensures.writes,
     )
+
+pub returns-in-Ok-Mend-clause-sound : goal.returns-in-Ok-Mend-clause-sound
+returns-in-Ok-Mend-clause-sound g c = all_sound c.mend_part.result.mended
