@@ -1,6 +1,7 @@
 #!/usr/bin/env python3
 """Writes a part as OFF: parts.py KIND N.
 
+cubes: N by N by N cubes, as in sample:N.
 bars: N bars along x and, above them, N along y: seen from above each bar of one layer crosses each of the other.
 squares: a cube whose faces are divided in N by N squares.
 slivers: N thin tetrahedra side by side along the diagonal of space: the boxes of all of them overlap.
@@ -36,6 +37,13 @@ class Part:
             print(*("%s%d.%03d" % ("-" if c < 0 else "", abs(c) // 1000, abs(c) % 1000) for c in corner))
         for face in self.faces:
             print(len(face), *face)
+
+
+def cubes(part, n):
+    for i, j, k in ((i, j, k) for i in range(n) for j in range(n) for k in range(n)):
+        corners = box(20000 * i, 20000 * j, 20000 * k, 10000, 10000, 10000)
+        for face in FACES:
+            part.face(*(corners[k] for k in face))
 
 
 def bars(part, n):
@@ -143,6 +151,6 @@ def pins(part, n):
 
 
 part = Part()
-{"bars": bars, "squares": squares, "slivers": slivers, "comb": comb, "rough": rough,
+{"cubes": cubes, "bars": bars, "squares": squares, "slivers": slivers, "comb": comb, "rough": rough,
  "walls": walls, "pins": pins}[sys.argv[1]](part, int(sys.argv[2]))
 part.write()

@@ -11,8 +11,13 @@ function html(text) {
     gsub(/"/, "\\&quot;", text)
     return text
 }
+# the report writes a tab, a line feed and a backslash of a name with a backslash before t, n or itself
 function link(name) {
     gsub(/%/, "%25", name)
+    gsub(/\\\\/, "\001", name)
+    gsub(/\\t/, "%09", name)
+    gsub(/\\n/, "%0A", name)
+    gsub(/\001/, "%5C", name)
     gsub(/#/, "%23", name)
     gsub(/\?/, "%3F", name)
     return html("./" name)

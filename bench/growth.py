@@ -1,0 +1,98 @@
+#!/usr/bin/env python3
+"""Times one view of parts that grow, by `draw` and by other programs in the same run, and writes the table that growth.gnuplot
+draws: growth.py TABLE [RUNS] [NAME=COMMAND ...]; TABLE is written as text, a block for each curve: triangles, seconds, MB.
+A COMMAND has PART for the part's file and, if it takes one, TOWARD for the direction, as a,b,c; `draw` is crates/draw_cli's
+built program where it isn't given. bench/peers/setup.sh builds the others.
+Seconds are those of the processor, of the whole process, the least of RUNS runs; a curve ends before a run longer than 20 s."""
+import os
+import resource
+import subprocess
+import sys
+import tempfile
+import time
+
+HERE = os.path.dirname(os.path.realpath(__file__))
+LONGEST = 20
+CURVES = (
+    ("cubes, from the front", "cubes", range(2, 9), "0,-1,0"),
+    ("bars across bars, from the front", "bars", (5, 10, 20, 40, 80), "0,-1,0"),
+    ("a cube in squares, along (1, -1, 1)", "squares", (5, 10, 20, 40), "1,-1,1"),
+    ("the pillow block, refined, from the front", "pillow", (18, 36, 72, 144, 288, 576), "0,-1,0"),
+)
+
+
+def write_part(kind, size, file):
+    if kind == "pillow":
+        made = file[:-4] + ".scad.off"
+        scad = os.path.join(HERE, "..", "examples", "pillow.scad")
+        subprocess.run(["openscad", "-D", "$fn=%d" % size, "-o", made, scad], check=True, capture_output=True)
+        os.replace(made, file)
+        return
+    with open(file, "w") as it:
+        subprocess.run([sys.executable, os.path.join(HERE, "parts.py"), kind, str(size)], check=True, stdout=it)
+
+
+def triangles_of(file):
+    words = [word for line in open(file) for word in line.split("#")[0].split()]
+    vertices, faces, at, count = int(words[1]), int(words[2]), 4, 0
+    at += 3 * vertices
+    for _ in range(faces):
+        count += int(words[at]) - 2
+        at += int(words[at]) + 1
+    return count
+
+
+def timed(command):
+    """The processor's seconds and the MB of one run, or None where it fails or takes too long."""
+    start = time.monotonic()
+    process = subprocess.Popen(command, stdout=subprocess.DEVNULL, stderr=subprocess.DEVNULL)
+    while True:
+        pid, status, usage = os.wait4(process.pid, os.WNOHANG)
+        if pid:
+            process.returncode = status
+            return (usage.ru_utime + usage.ru_stime, usage.ru_maxrss / 1024) if status == 0 else None
+        if time.monotonic() - start > 3 * LONGEST:
+            process.kill()
+            process.wait()
+            return None
+        time.sleep(0.001)
+
+
+def main(table, runs, programs):
+    resource.setrlimit(resource.RLIMIT_CORE, (0, 0))
+    with tempfile.TemporaryDirectory() as room, open(table, "w") as out:
+        os.chdir(room)
+        for title, kind, sizes, toward in CURVES:
+            with open("job.toml", "w") as it:
+                it.write('sheet = "A0"\nscale = "fit"\n[[view]]\ntoward = [%s]\n' % toward)
+            parts = []
+            for size in sizes:
+                file = "%s%d.off" % (kind, size)
+                write_part(kind, size, file)
+                parts.append((triangles_of(file), file))
+            for name, command in programs:
+                out.write('"%s, %s"\n' % (name, title))
+                for count, file in parts:
+                    words = [file if w == "PART" else toward if w == "TOWARD" else w for w in command]
+                    found = [it for it in (timed(words) for _ in range(runs)) if it]
+                    if not found:
+                        break
+                    seconds, memory = min(it[0] for it in found), max(it[1] for it in found)
+                    out.write("%d %.3f %.0f\n" % (count, max(seconds, 0.001), memory))
+                    out.flush()
+                    print("%s, %s: %d triangles %.3f s %.0f MB" % (name, title, count, seconds, memory), flush=True)
+                    if seconds > LONGEST:
+                        break
+                out.write("\n\n")
+
+
+arguments = sys.argv[1:]
+if not arguments:
+    sys.exit(__doc__)
+table = os.path.realpath(arguments.pop(0))
+runs = int(arguments.pop(0)) if arguments and arguments[0].isdigit() else 3
+programs = [(it.split("=", 1)[0], it.split("=", 1)[1].split()) for it in arguments]
+if "draw" not in dict(programs):
+    built = os.path.realpath(os.path.join(HERE, "..", "crates", "draw_cli", "out", "draw_cli"))
+    programs.insert(0, ("draw", [built, "--job", "job.toml", "--out", "view.svg", "--", "PART"]))
+main(table, runs, programs)
