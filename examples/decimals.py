@@ -56,6 +56,8 @@ def main(part, draw, mend):
 
 if not 2 <= len(sys.argv) <= 4:
     sys.exit(__doc__)
+if not os.path.isfile(sys.argv[1]):
+    sys.exit("%s is no file" % sys.argv[1])
 built = os.path.join(os.path.dirname(os.path.realpath(__file__)), "..", "crates")
 programs = sys.argv[2:] + [os.path.join(built, name, "out", name) for name in ("draw_cli", "mend_cli")][len(sys.argv) - 2:]
 main(sys.argv[1], *programs)
