@@ -18,7 +18,7 @@ use Rattle.geometry.proofs.Shares.{edge_turned}
 use Rattle.solid_mesh.specs.Faults.{MeetsAt}
 use Rattle.solid_mesh.specs.Meetings.{Side, MeetApart}
 use Rattle.solid_mesh.specs.inner.Meetings.{HasNoMeeting}
-use Rattle.solid_mesh.specs.inner.Sweeps.{AtHalf}
+use Rattle.solid_mesh.specs.inner.Searches.{AtHalf}
 use Rattle.solid_mesh.proofs.DoubleLemmas.{HasSideBetween, side_between, half_of, starts_at_corner, ends_at_corner}
 use Rattle.solid_mesh.proofs.EdgeLemmas.{edge_along}
 use Rattle.solid_mesh.proofs.HalfLemmas.{start_of_half}

@@ -1,7 +1,8 @@
 -- What only this crate's own functions cite.
+pub mod Bounds
 pub mod Halves
 pub mod Meetings
-pub mod NumberedRanges
 pub mod Pairs
+pub mod Searches
 pub mod Stars
-pub mod Sweeps
+pub mod Trees

@@ -10,8 +10,8 @@ use crate::doubles::find_double;
 use crate::faults::{MeshError, MeshFault};
 use crate::flats::find_flat;
 use crate::pairs::PairMeter;
+use crate::search::find_meeting;
 use crate::sides::{find_lower, find_twins, index_sides};
-use crate::sweep::find_meeting;
 use lattice::Soup;
 use std::alloc::Global;
 

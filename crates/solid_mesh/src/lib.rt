@@ -2,19 +2,20 @@
 //! each directed side which one goes back, and for each corner the triangles around it.
 #![tactic(auto)]
 
+mod bounds;
 mod doubles;
 mod edges;
 mod faults;
 mod flats;
-mod numbered_range;
-mod numbered_ranges;
 mod pairs;
+mod placed;
+mod search;
 mod sides;
 mod signs;
 mod solid;
 mod spots;
 mod stars;
-mod sweep;
+mod subtrees;
 
 pub use faults::{MeshError, MeshFault};
 pub use pairs::{PairMeter, box_test, pair_test};

@@ -3,7 +3,7 @@ use Rattle.geometry.specs.Parts.{part_of, AreEdges}
 use Rattle.integers.proofs.Passing as passing
 use Rattle.solid_mesh.specs.inner.Halves.{is_lower}
 use Rattle.solid_mesh.specs.Meetings.{HaveCommonX, HaveCommonBox}
-use Rattle.solid_mesh.specs.inner.Sweeps.{IsFirst}
+use Rattle.solid_mesh.specs.inner.Searches.{IsFirst}
 use Rattle.solid_mesh.proofs.Counted.{at_most_as}
 use Rattle.solid_mesh.proofs.HalfLemmas.{table_edges}
 use Rattle.solid_mesh.proofs.edges.find_edges.Goals as goal

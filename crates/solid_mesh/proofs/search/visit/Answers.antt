@@ -1,0 +1,30 @@
+use Rattle.std.proofs.Common.{◌<◌, length, refl, sym, ◌∙◌, arith, true≢false}
+use Rattle.std.proofs.lemmas.Option.{slice_get_read}
+use Rattle.geometry.specs.Parts.{part_of}
+use Rattle.solid_mesh.proofs.Growing.{subtree_read}
+use Rattle.solid_mesh.proofs.Placing.{placed_at}
+use Rattle.solid_mesh.proofs.SearchedEdges.{places_one, places_missed}
+use Rattle.solid_mesh.proofs.search.visit.Goals as goal
+
+pub returns-then-not-bounds_meet-clause-searched : goal.returns-then-not-bounds_meet-clause-searched
+returns-then-not-bounds_meet-clause-searched c =
+    let s = part_of c.args.soup.now in
+    let placed = c.args.placed.now in
+    let subtree = c.index-subtrees-place.result in
+    places_missed s c.args.halves.now c.args.edge placed c.args.reach.now c.requires.reach (placed_at s placed c.requires.placed) c.args.place subtree
+    (subtree_read placed c.args.subtrees.now c.requires.subtrees c.args.place c.requires.place subtree c.index-subtrees-place.is)
+    (λ h. true≢false (sym (c.bounds_meet.ensures.1 h) ∙ c.if-not-bounds_meet.true)) c.args.found.now
+
+pub test-requires-clause-placed : goal.test-requires-clause-placed
+test-requires-clause-placed c =
+    let placed = c.args.placed.now in
+    let within : c.args.place < length placed = omega (arith, c.requires.place, c.requires.count) in
+    placed_at (part_of c.args.soup.now) placed c.requires.placed c.index-placed-place.result c.args.place
+    (slice_get_read placed (length placed) c.args.place c.index-placed-place.result refl within c.index-placed-place.is)
+
+pub returns-clause-searched : goal.returns-clause-searched
+returns-clause-searched c =
+    let placed = c.args.placed.now in
+    let within : c.args.place < length placed = omega (arith, c.requires.place, c.requires.count) in
+    places_one (part_of c.args.soup.now) c.args.halves.now c.args.edge placed c.args.place c.index-placed-place.result
+    (slice_get_read placed (length placed) c.args.place c.index-placed-place.result refl within c.index-placed-place.is) c.args.found.now c.test.new.found c.test.ensures.searched

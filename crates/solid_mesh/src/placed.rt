@@ -1,0 +1,81 @@
+// The triangles of a part in an order in which those that are near one another in space stand near one another.
+ghost use Rattle.std.specs.Prelude.{◌≡◌, ◌<◌, ◌≤◌, length, IfOk};
+ghost use Rattle.std.specs.List.Sorted.{IsPermutation};
+ghost use Rattle.geometry.specs.Parts.{part_of};
+ghost use Rattle.solid_mesh.specs.inner.Trees.{IsPlaced, AreAllPlaced};
+
+use crate::bounds::{Bounds, triangle_bounds};
+use lattice::{Soup, Tri};
+use meeting::Range;
+use std::alloc::{AllocError, Global};
+
+/// A triangle, by its number, with its bounds, and the Morton code of their middle.
+#[derive(Clone, Copy, Debug)]
+pub(crate) struct Placed {
+    pub code: u64,
+    pub tri: u32,
+    pub bounds: Bounds,
+}
+
+/// The triangles in the order of their Morton codes (Morton 1966). Takes the time of sorting.
+pub(crate) fn place_triangles(alloc: Global, soup: &Soup) -> Result<Vec<Placed>, AllocError>
+    requires few { length (part_of soup.now).triangles ≤ 20000 }
+    ensures { IfOk result (λ v. AreAllPlaced (part_of soup.now) v.items) }
+{
+    let mut placed = Vec::new(alloc);
+    for tri in 0..soup.triangles.len() as u32 {
+        placed.push(place(soup, tri))?;
+    }
+    in_order(placed)
+}
+
+/// The same in the order of their codes.
+fn in_order(placed: Vec<Placed>) -> Result<Vec<Placed>, AllocError>
+    ensures same { IfOk result (λ v. IsPermutation placed.items v.items) }
+{
+    let mut sorted = placed;
+    sorted.sort_by_key(|x| x.code)?;
+    Ok(sorted)
+}
+
+fn place(soup: &Soup, tri: u32) -> Placed
+    requires { tri < length (part_of soup.now).triangles }
+    ensures number { result.tri ≡ tri }
+    ensures placed { IsPlaced (part_of soup.now) result }
+{
+    let Tri { a, b, c } = soup.triangles[tri as usize];
+    let bounds = triangle_bounds(
+        &soup.corners[a as usize],
+        &soup.corners[b as usize],
+        &soup.corners[c as usize],
+    );
+    Placed {
+        code: code_of(&bounds),
+        tri,
+        bounds,
+    }
+}
+
+/// The Morton code of the middle: the bits of its three coordinates in turn, the highest first.
+fn code_of(bounds: &Bounds) -> u64 {
+    let x = spread(middle_of(&bounds.x));
+    let y = spread(middle_of(&bounds.y));
+    let z = spread(middle_of(&bounds.z));
+    x | y << 1 | z << 2
+}
+
+/// How far the middle of a range is above the least coordinate of a corner, rounded down, in 21 bits.
+fn middle_of(range: &Range) -> u64 {
+    let twice = (range.from as i64 + range.to as i64 + 2097152).clamp(0, 4194303);
+    twice as u64 / 2
+}
+
+/// The lowest 21 bits of a number, each with two zeros above it.
+fn spread(number: u64) -> u64 {
+    let x = number & 0x1f_ffff;
+    let x = (x | x << 32) & 0x001f_0000_0000_ffff;
+    let x = (x | x << 16) & 0x001f_0000_ff00_00ff;
+    let x = (x | x << 8) & 0x100f_00f0_0f00_f00f;
+    let x = (x | x << 4) & 0x10c3_0c30_c30c_30c3;
+    (x | x << 2) & 0x1249_2492_4924_9249
+}

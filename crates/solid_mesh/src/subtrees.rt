@@ -1,0 +1,61 @@
+// A tree of boxes over triangles.
+ghost use Rattle.std.specs.Prelude.{◌≡◌, ◌<◌, ◌≤◌, length, IfOk};
+ghost use Rattle.solid_mesh.specs.inner.Trees.{IsSubtree, AreSubtrees};
+
+use crate::bounds::{Bounds, united};
+use crate::placed::Placed;
+use std::alloc::{AllocError, Global};
+
+/// The triangles from the place `first` to the place of this subtree, and the bounds of them all.
+#[derive(Clone, Copy, Debug)]
+pub(crate) struct Subtree {
+    pub around: Bounds,
+    pub first: u32,
+}
+
+/// A hierarchy of bounding boxes (Goldsmith and Salmon 1987) in post-order: each triangle is the root of a subtree, whose two
+/// children end before it and before its second child's first. Subtrees are put together as the digits of a skew binary
+/// number are (Myers 1983), so each is complete: as many triangles are below the one child as below the other. Takes constant
+/// time for each triangle.
+pub(crate) fn grow_subtrees(alloc: Global, placed: &[Placed]) -> Result<Vec<Subtree>, AllocError>
+    requires few { length placed.now ≤ 20000 }
+    ensures count { IfOk result (λ v. length v.items ≡ length placed.now) }
+    ensures subtrees { IfOk result (λ v. AreSubtrees placed.now v.items) }
+{
+    let mut subtrees = Vec::new(alloc);
+    for k in 0..placed.len() {
+        subtrees.push(next_subtree(placed, &subtrees))?;
+    }
+    Ok(subtrees)
+}
+
+/// The subtree of the next triangle: over the last two if they are of one size, and else of it alone.
+fn next_subtree(placed: &[Placed], subtrees: &[Subtree]) -> Subtree
+    requires few { length placed.now ≤ 20000 }
+    requires next { length subtrees.now < length placed.now }
+    requires subtrees { AreSubtrees placed.now subtrees.now }
+    ensures { IsSubtree placed.now (length subtrees.now) result }
+{
+    let place = subtrees.len();
+    let own = placed[place].bounds;
+    let alone = Subtree {
+        around: own,
+        first: place as u32,
+    };
+    if place == 0 {
+        return alone;
+    }
+    let second = subtrees[place - 1];
+    let middle = second.first as usize;
+    if middle == 0 {
+        return alone;
+    }
+    let first = subtrees[middle - 1];
+    if place - middle != middle - first.first as usize {
+        return alone;
+    }
+    Subtree {
+        around: united(&own, &united(&first.around, &second.around)),
+        first: first.first,
+    }
+}
