@@ -1,10 +1,10 @@
 -- An edge and a triangle touch where the edge has a place in the plane that is to the right of no side.
-use Rattle.std.proofs.Common.{◌≡◌, ℕ, ◌+◌, ◌<◌, [], ◌∷◌, refl, sym, ap, ◌∙◌, arith}
+use Rattle.std.proofs.Common.{◌≡◌, ℕ, ◌+◌, ◌<◌, inl, inr, [], ◌∷◌, refl, sym, ap, ◌∙◌, arith}
 use Rattle.std.specs.Prelude.{ℤ, pos, ◌+ℤ◌, ◌-ℤ◌, ◌*ℤ◌, ◌<ℤ◌, unsigned_abs}
 use Rattle.std.proofs.lemmas.Int.{ints}
 use Rattle.geometry.proofs.FacePoints.{face-round}
 use Rattle.integers.proofs.Absolutes.{natural_not_negative, abs_of_not_negative, natural_positive}
-use Rattle.integers.proofs.Comparisons.{not_negative_of_positive, not_negative_at}
+use Rattle.integers.proofs.Comparisons.{not_negative_of_positive, not_negative_at, positive_not_zero}
 use Rattle.integers.proofs.Ring.{var, con, ◌⊕◌, ◌⊖◌, ◌⊗◌, ring, by_two, by_three}
 use Rattle.integers.proofs.Signs.{mul_nonneg, mul_pos}
 use Rattle.lattice.specs.declared.points.Corner.{Corner}
@@ -12,9 +12,10 @@ use Rattle.lattice.specs.Triple.{Triple}
 use Rattle.geometry.specs.Faces.{facing_of, edge_sum, face_sum}
 use Rattle.meeting.specs.declared.course.Course.{Course}
 use Rattle.meeting.specs.Touching.{Touch}
-use Rattle.meeting.specs.inner.Heights.{height_of}
+use Rattle.meeting.specs.inner.Heights.{height_of, AreOnOneSide}
 use Rattle.meeting.specs.inner.Courses.{IsCourseOf}
 use Rattle.meeting.specs.inner.Places.{Place}
+use Rattle.meeting.proofs.InPlane.{sum_pos, sum_neg}
 use Rattle.meeting.proofs.Weights.{facing-round, weights-sum, weigh_x, weigh_y, weigh_z, level-at, weight-at}
 
 module _ (d : Triple) (a b c p q : Corner) (i j k l m : ℕ) (same : edge_sum p q i j ≡ face_sum a b c k l m) where
@@ -50,6 +51,20 @@ total i j f bp cp ap bq cq aq hp hq =
     (ring (i ∷ j ∷ f ∷ bp ∷ cp ∷ ap ∷ bq ∷ cq ∷ aq ∷ [])
     (((var 2 ⊗ var 0) ⊕ (var 2 ⊗ var 1)) ⊖ ((((var 0 ⊗ var 3) ⊕ (var 1 ⊗ var 6)) ⊕ ((var 0 ⊗ var 4) ⊕ (var 1 ⊗ var 7))) ⊕ ((var 0 ⊗ var 5) ⊕ (var 1 ⊗ var 8))))
     (((((var 3 ⊕ var 4) ⊕ var 5) ⊖ var 2) ⊗ (con (pos 0) ⊖ var 0)) ⊕ ((((var 6 ⊕ var 7) ⊕ var 8) ⊖ var 2) ⊗ (con (pos 0) ⊖ var 1))) refl) hp hq
+
+-- an edge with both ends on one side of the plane
+pub off-plane : (a b c p q : Corner) → AreOnOneSide (height_of a b c p) (height_of a b c q) → Touch a b c p q → ⊥
+off-plane a b c p q side t =
+    let (i, j, some, e) = t.on_edge in
+    let (k, l, m, some_face, f) = t.on_face in
+    let level = level-at a b c p q i j k l m (sym e ∙ f) in
+    elim side [
+      | inl (h, r) ↦ less-not-zero _ (sum_neg (pos i) (pos j) _ _ (natural_not_negative i) (natural_not_negative j) (natural_positive (i + j) some) h r) level
+      | inr (h, r) ↦ positive_not_zero _ (sum_pos (pos i) (pos j) _ _ (natural_not_negative i) (natural_not_negative j) (natural_positive (i + j) some) h r) level
+    ]
+  where
+    less-not-zero : (z : ℤ) → z <ℤ pos 0 → z ≡ pos 0 → ⊥
+    less-not-zero z h e = omega (arith, ints)
 
 module _ (d : Triple) (a b c p q : Corner) (x : Course) (is : IsCourseOf d a b c p q x) (front : pos 0 <ℤ facing_of d a b c) where
   pub place-of-touch : Touch a b c p q → Place x

@@ -31,7 +31,7 @@ turned_nonneg z h = omega (arith, ints)
 clash : {C : Type 0} (z : ℤ) → z <ℤ pos 0 → pos 0 ≤ℤ z → C
 clash z p q = absurd (omega (arith, ints))
 
-sum_neg : (i j f g : ℤ) → pos 0 ≤ℤ i → pos 0 ≤ℤ j → pos 0 <ℤ (i +ℤ j) → f <ℤ pos 0 → g <ℤ pos 0 → ((i *ℤ f) +ℤ (j *ℤ g)) <ℤ pos 0
+pub sum_neg : (i j f g : ℤ) → pos 0 ≤ℤ i → pos 0 ≤ℤ j → pos 0 <ℤ (i +ℤ j) → f <ℤ pos 0 → g <ℤ pos 0 → ((i *ℤ f) +ℤ (j *ℤ g)) <ℤ pos 0
 sum_neg i j f g p q some r s = back _ _
     (ring (i ∷ j ∷ f ∷ g ∷ []) ((var 0 ⊗ (O ⊖ var 2)) ⊕ (var 1 ⊗ (O ⊖ var 3))) (O ⊖ ((var 0 ⊗ var 2) ⊕ (var 1 ⊗ var 3))) refl)
     (sum_pos i j _ _ p q some (negation_positive f r) (negation_positive g s))

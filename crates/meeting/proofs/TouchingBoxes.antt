@@ -101,5 +101,37 @@ boxes-of-touch a b c p q t =
       z = coordinates-of-sums i j k l m a.z b.z c.z p.z q.z some weights (ap (λ (s : Point). s.z) same);
     }
 
+-- ---- the differences of two coordinates
+difference : (i j k l m : ℕ) (a b c p q a' b' c' p' q' : ℤ) → (pos i *ℤ p) +ℤ (pos j *ℤ q) ≡ ((pos k *ℤ a) +ℤ (pos l *ℤ b)) +ℤ (pos m *ℤ c) → (pos i *ℤ p') +ℤ (pos j *ℤ q') ≡ ((pos k *ℤ a') +ℤ (pos l *ℤ b')) +ℤ (pos m *ℤ c')
+    → (pos i *ℤ (p -ℤ p')) +ℤ (pos j *ℤ (q -ℤ q')) ≡ ((pos k *ℤ (a -ℤ a')) +ℤ (pos l *ℤ (b -ℤ b'))) +ℤ (pos m *ℤ (c -ℤ c'))
+difference i j k l m a b c p q a' b' c' p' q' h h' =
+    by_two _ _ ((pos i *ℤ p) +ℤ (pos j *ℤ q)) (((pos k *ℤ a) +ℤ (pos l *ℤ b)) +ℤ (pos m *ℤ c)) (pos 1)
+    ((pos i *ℤ p') +ℤ (pos j *ℤ q')) (((pos k *ℤ a') +ℤ (pos l *ℤ b')) +ℤ (pos m *ℤ c')) (pos 0 -ℤ pos 1)
+    (ring (pos i ∷ pos j ∷ pos k ∷ pos l ∷ pos m ∷ p ∷ q ∷ a ∷ b ∷ c ∷ p' ∷ q' ∷ a' ∷ b' ∷ c' ∷ [])
+    (((var 0 ⊗ (var 5 ⊖ var 10)) ⊕ (var 1 ⊗ (var 6 ⊖ var 11))) ⊖ (((var 2 ⊗ (var 7 ⊖ var 12)) ⊕ (var 3 ⊗ (var 8 ⊖ var 13))) ⊕ (var 4 ⊗ (var 9 ⊖ var 14))))
+    (((((var 0 ⊗ var 5) ⊕ (var 1 ⊗ var 6)) ⊖ (((var 2 ⊗ var 7) ⊕ (var 3 ⊗ var 8)) ⊕ (var 4 ⊗ var 9))) ⊗ con (pos 1))
+    ⊕ ((((var 0 ⊗ var 10) ⊕ (var 1 ⊗ var 11)) ⊖ (((var 2 ⊗ var 12) ⊕ (var 3 ⊗ var 13)) ⊕ (var 4 ⊗ var 14))) ⊗ (con (pos 0) ⊖ con (pos 1)))) refl) h h'
+
+-- where an edge and a triangle touch, their differences of two coordinates meet too
+pub record DifferencesMeet (a b c p q : Corner) : Type 0 where
+  pub xy : CoordinatesMeet (a.x -ℤ a.y) (b.x -ℤ b.y) (c.x -ℤ c.y) (p.x -ℤ p.y) (q.x -ℤ q.y)
+  pub yz : CoordinatesMeet (a.y -ℤ a.z) (b.y -ℤ b.z) (c.y -ℤ c.z) (p.y -ℤ p.z) (q.y -ℤ q.z)
+  pub zx : CoordinatesMeet (a.z -ℤ a.x) (b.z -ℤ b.x) (c.z -ℤ c.x) (p.z -ℤ p.x) (q.z -ℤ q.x)
+
+pub differences-of-touch : (a b c p q : Corner) → Touch a b c p q → DifferencesMeet a b c p q
+differences-of-touch a b c p q t =
+    let (i, j, some, e) = t.on_edge in
+    let (k, l, m, some_face, f) = t.on_face in
+    let same : edge_sum p q i j ≡ face_sum a b c k l m = sym e ∙ f in
+    let weights = ap (λ (s : Point). s.w) same in
+    let x = ap (λ (s : Point). s.x) same in
+    let y = ap (λ (s : Point). s.y) same in
+    let z = ap (λ (s : Point). s.z) same in
+    record {
+      xy = coordinates-of-sums i j k l m (a.x -ℤ a.y) (b.x -ℤ b.y) (c.x -ℤ c.y) (p.x -ℤ p.y) (q.x -ℤ q.y) some weights (difference i j k l m a.x b.x c.x p.x q.x a.y b.y c.y p.y q.y x y);
+      yz = coordinates-of-sums i j k l m (a.y -ℤ a.z) (b.y -ℤ b.z) (c.y -ℤ c.z) (p.y -ℤ p.z) (q.y -ℤ q.z) some weights (difference i j k l m a.y b.y c.y p.y q.y a.z b.z c.z p.z q.z y z);
+      zx = coordinates-of-sums i j k l m (a.z -ℤ a.x) (b.z -ℤ b.x) (c.z -ℤ c.x) (p.z -ℤ p.x) (q.z -ℤ q.x) some weights (difference i j k l m a.z b.z c.z p.z q.z a.x b.x c.x p.x q.x z x);
+    }
+
 pub x-of-boxes : (a b c p q : Corner) (t e : Range) → IsTriangleRange a.x b.x c.x t → IsEdgeRange p.x q.x e → BoxesMeet a b c p q → RangesMeet t e
 x-of-boxes a b c p q t e triangle edge h = (coordinates-by-ranges a.x b.x c.x p.x q.x t e triangle edge).1 h.x

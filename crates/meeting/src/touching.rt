@@ -4,6 +4,7 @@ ghost use Rattle.lattice.specs.Triple.{dot, IsZero};
 ghost use Rattle.lattice.specs.Points.{of_dir, of_normal};
 ghost use Rattle.geometry.specs.Faces.{IsFlat};
 ghost use Rattle.meeting.specs.Touching.{Touch, TouchBeyond};
+ghost use Rattle.meeting.specs.inner.Heights.{AreOnOneSide};
 
 use crate::course::{Course, above, left_of};
 use crate::edges::{edges_touch, is_one_way};
@@ -15,11 +16,29 @@ use lattice::{Corner, Dir, Normal, Vector, cross};
 pub fn touches(a: &Corner, b: &Corner, c: &Corner, p: &Corner, q: &Corner) -> bool
     ensures { IsTrue result ↔ Touch a.now b.now c.now p.now q.now }
 {
+    if are_on_one_side(above(a, b, c, p), above(a, b, c, q)) {
+        return false;
+    }
     let normal = cross(&Vector::between(a, b), &Vector::between(a, c));
     if normal.is_zero() {
         return touches_flat(a, b, c, p, q);
     }
     crosses(&Course::new(&front(&normal), a, b, c, p, q))
+}
+
+/// Whether both ends of an edge, by how far they are above a plane, are off it on the same side.
+fn are_on_one_side(start: i128, end: i128) -> bool
+    requires start { unsigned_abs start < 2 ^ 66 }
+    requires end { unsigned_abs end < 2 ^ 66 }
+    ensures { IsTrue result ↔ AreOnOneSide start end }
+{
+    if start < 0 {
+        return end < 0;
+    }
+    if start > 0 {
+        return end > 0;
+    }
+    false
 }
 
 /// The same, of a flat triangle: each of its points is on one of its two sides from `a`.

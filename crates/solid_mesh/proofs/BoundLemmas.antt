@@ -1,6 +1,6 @@
 -- Bounds as they are read, and where those of an edge and of a triangle meet.
-use Rattle.std.proofs.Common.{◌≡◌, ℕ, ◌≤◌, ◌^◌, List, refl, subst, arith, to_z, of_z}
-use Rattle.std.specs.Prelude.{ℤ, ◌≤ℤ◌, unsigned_abs}
+use Rattle.std.proofs.Common.{◌≡◌, ℕ, ◌≤◌, ◌^◌, List, refl, subst, ◌∙◌, arith, to_z, of_z}
+use Rattle.std.specs.Prelude.{ℤ, ◌-ℤ◌, ◌≤ℤ◌, unsigned_abs}
 use Rattle.std.specs.Int.{w32}
 use Rattle.std.proofs.lemmas.Int.{ints}
 use Rattle.integers.proofs.Comparisons.{at_most_itself}
@@ -16,39 +16,45 @@ use Rattle.solid_mesh.specs.inner.Trees.{IsPlaced}
 use Rattle.solid_mesh.specs.Meetings.{HaveCommonX, HaveCommonBox, MeetApart}
 use Rattle.solid_mesh.specs.declared.bounds.Bounds.{Bounds}
 use Rattle.solid_mesh.specs.declared.placed.Placed.{Placed}
-use Rattle.solid_mesh.proofs.Meets.{box_of_apart, box_here, x_here}
+use Rattle.meeting.proofs.TouchingBoxes.{boxes-of-touch, differences-of-touch}
+use Rattle.solid_mesh.proofs.Meets.{touch_of_apart, box_here, x_here}
 
 -- ---- ranges as the machine reads them
-pub edge_range_read : (p q : ℤ) → unsigned_abs p ≤ 2 ^ 20 → unsigned_abs q ≤ 2 ^ 20 → (r : Range) → IsEdgeRange (to_z w32 (of_z w32 p)) (to_z w32 (of_z w32 q)) r → IsEdgeRange p q r
-edge_range_read p q small_p small_q r h =
-    subst (λ (z : ℤ). IsEdgeRange z q r) (read p small_p) (subst (λ (z : ℤ). IsEdgeRange (to_z w32 (of_z w32 p)) z r) (read q small_q) h)
+abbrev machine : ℤ → ℤ
+machine z = to_z w32 (of_z w32 z)
 
-pub triangle_range_read : (a b c : ℤ) → unsigned_abs a ≤ 2 ^ 20 → unsigned_abs b ≤ 2 ^ 20 → unsigned_abs c ≤ 2 ^ 20 → (r : Range)
-    → IsTriangleRange (to_z w32 (of_z w32 a)) (to_z w32 (of_z w32 b)) (to_z w32 (of_z w32 c)) r → IsTriangleRange a b c r
-triangle_range_read a b c small_a small_b small_c r h =
-    subst (λ (z : ℤ). IsTriangleRange z b c r) (read a small_a)
-    (subst (λ (z : ℤ). IsTriangleRange (to_z w32 (of_z w32 a)) z c r) (read b small_b)
-    (subst (λ (z : ℤ). IsTriangleRange (to_z w32 (of_z w32 a)) (to_z w32 (of_z w32 b)) z r) (read c small_c) h))
+pub difference_read : (x y : ℤ) → unsigned_abs x ≤ 2 ^ 20 → unsigned_abs y ≤ 2 ^ 20 → machine (machine x -ℤ machine y) ≡ x -ℤ y
+difference_read x y h k = (λ i. machine (read x h i -ℤ read y k i)) ∙ whole x y h k
+  where
+    whole : (x y : ℤ) → unsigned_abs x ≤ 2 ^ 20 → unsigned_abs y ≤ 2 ^ 20 → machine (x -ℤ y) ≡ x -ℤ y
+    whole x y h k = omega (arith, ints)
+
+pub edge_range_as : (p q : ℤ) {p' q' : ℤ} → p' ≡ p → q' ≡ q → (r : Range) → IsEdgeRange p' q' r → IsEdgeRange p q r
+edge_range_as p q {p'} {q'} is_p is_q r h = subst (λ (z : ℤ). IsEdgeRange z q r) is_p (subst (λ (z : ℤ). IsEdgeRange p' z r) is_q h)
+
+pub triangle_range_as : (a b c : ℤ) {a' b' c' : ℤ} → a' ≡ a → b' ≡ b → c' ≡ c → (r : Range) → IsTriangleRange a' b' c' r → IsTriangleRange a b c r
+triangle_range_as a b c {a'} {b'} {c'} is_a is_b is_c r h =
+    subst (λ (z : ℤ). IsTriangleRange z b c r) is_a (subst (λ (z : ℤ). IsTriangleRange a' z c r) is_b (subst (λ (z : ℤ). IsTriangleRange a' b' z r) is_c h))
 
 -- ---- bounds within bounds
 through : {x y z : ℤ} → x ≤ℤ y → y ≤ℤ z → x ≤ℤ z
 through {x} {y} {z} h k = omega (arith, ints)
 
 pub within_itself : (r : Bounds) → AreWithin r r
-within_itself r = record { x = along r.x; y = along r.y; z = along r.z }
+within_itself r = record { x = along r.x; y = along r.y; z = along r.z; xy = along r.xy; yz = along r.yz; zx = along r.zx }
   where
     along : (r : Range) → IsWithin r r
     along r = record { from = at_most_itself r.from; to = at_most_itself r.to }
 
 pub within_both : (r s t : Bounds) → AreWithin r s → AreWithin s t → AreWithin r t
-within_both r s t h k = record { x = along h.x k.x; y = along h.y k.y; z = along h.z k.z }
+within_both r s t h k = record { x = along h.x k.x; y = along h.y k.y; z = along h.z k.z; xy = along h.xy k.xy; yz = along h.yz k.yz; zx = along h.zx k.zx }
   where
     along : {r s t : Range} → IsWithin r s → IsWithin s t → IsWithin r t
     along h k = record { from = through k.from h.from; to = through h.to k.to }
 
 -- what meets bounds meets those that these are within
 pub meet_around : (r s t : Bounds) → AreWithin r s → BoundsMeet r t → BoundsMeet s t
-meet_around r s t h m = record { x = along h.x m.x; y = along h.y m.y; z = along h.z m.z }
+meet_around r s t h m = record { x = along h.x m.x; y = along h.y m.y; z = along h.z m.z; xy = along h.xy m.xy; yz = along h.yz m.yz; zx = along h.zx m.zx }
   where
     along : {r s t : Range} → IsWithin r s → RangesMeet r t → RangesMeet s t
     along h m = record { number = m.number; first = record { from = through h.from m.first.from; to = through m.first.to h.to }; second = m.second }
@@ -78,9 +84,16 @@ module _ (s : Part) (halves : List ℕ) (edge : ℕ) (reach : Bounds) (of_edge :
   pub bounds_of_apart : AtHalf (MeetApart s) halves (edge, x.tri) → BoundsMeet x.bounds reach
   bounds_of_apart (half, at, meets) =
       let same : half ≡ of_edge.half = same_element halves edge edge half of_edge.half refl at of_edge.listed in
-      let box = (box_here s of_edge.half x.tri of_edge.side of_triangle.face of_triangle.numbered).1 (box_of_apart s of_edge.half x.tri (subst (λ (k : ℕ). MeetApart s k x.tri) same meets)) in
+      let f = of_triangle.face in
+      let e = of_edge.side in
+      let touch = touch_of_apart s of_edge.half x.tri e f of_triangle.numbered (subst (λ (k : ℕ). MeetApart s k x.tri) same meets) in
+      let box = boxes-of-touch f.a f.b f.c e.p e.q touch in
+      let differences = differences-of-touch f.a f.b f.c e.p e.q touch in
       record {
         x = (coordinates-by-ranges _ _ _ _ _ x.bounds.x reach.x of_triangle.of_face.x of_edge.of_side.x).1 box.x;
         y = (coordinates-by-ranges _ _ _ _ _ x.bounds.y reach.y of_triangle.of_face.y of_edge.of_side.y).1 box.y;
         z = (coordinates-by-ranges _ _ _ _ _ x.bounds.z reach.z of_triangle.of_face.z of_edge.of_side.z).1 box.z;
+        xy = (coordinates-by-ranges _ _ _ _ _ x.bounds.xy reach.xy of_triangle.of_face.xy of_edge.of_side.xy).1 differences.xy;
+        yz = (coordinates-by-ranges _ _ _ _ _ x.bounds.yz reach.yz of_triangle.of_face.yz of_edge.of_side.yz).1 differences.yz;
+        zx = (coordinates-by-ranges _ _ _ _ _ x.bounds.zx reach.zx of_triangle.of_face.zx of_edge.of_side.zx).1 differences.zx;
       }

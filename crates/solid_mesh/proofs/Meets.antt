@@ -58,6 +58,9 @@ module _ (s : Part) (half tri : ℕ) (e : Side s half) (f : Face s) (number : f.
   apart_here h = subst (ApartAs s) (same_as h.side h.face h.numbered)
       (record { point = h.point; not_side = h.not_side; on_side = h.on_side; on_face = h.on_face; apart = h.apart })
 
+  pub touch_of_apart : MeetApart s half tri → Touch f.a f.b f.c e.p e.q
+  touch_of_apart h = let g = apart_here h in record { point = g.point; on_edge = g.on_side; on_face = g.on_face }
+
   -- the triangle has neither end
   pub apart-none : (IsCornerOf f.tri e.m → ⊥) → (IsCornerOf f.tri e.n → ⊥) → Touch f.a f.b f.c e.p e.q ↔ MeetApart s half tri
   apart-none no_m no_n = (

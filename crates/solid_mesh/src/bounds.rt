@@ -1,16 +1,21 @@
-// From where to where edges and triangles go along each axis.
+// From where to where edges and triangles go along six directions.
 ghost use Rattle.std.specs.Prelude.{◌↔◌, IsTrue};
 ghost use Rattle.solid_mesh.specs.inner.Bounds.{AreEdgeBounds, AreTriangleBounds, BoundsMeet, IsWithin, AreWithin};
 
 use lattice::Corner;
 use meeting::{Range, edge_range, ranges_meet, triangle_range};
 
-/// From where to where an edge, a triangle or some triangles go along each axis.
+/// From where to where an edge, a triangle or some triangles go along the axes, and so their differences: they are within the
+/// discrete oriented polytope of these twelve planes (Klosowski and others 1998). The differences tell apart what lies side by
+/// side along a diagonal, where boxes overlap.
 #[derive(Clone, Copy, Debug)]
 pub(crate) struct Bounds {
     pub x: Range,
     pub y: Range,
     pub z: Range,
+    pub xy: Range,
+    pub yz: Range,
+    pub zx: Range,
 }
 
 /// Those of the edge from `p` to `q`.
@@ -21,6 +26,9 @@ pub(crate) fn edge_bounds(p: &Corner, q: &Corner) -> Bounds
         x: edge_range(p.x, q.x),
         y: edge_range(p.y, q.y),
         z: edge_range(p.z, q.z),
+        xy: edge_range(p.x - p.y, q.x - q.y),
+        yz: edge_range(p.y - p.z, q.y - q.z),
+        zx: edge_range(p.z - p.x, q.z - q.x),
     }
 }
 
@@ -32,10 +40,13 @@ pub(crate) fn triangle_bounds(a: &Corner, b: &Corner, c: &Corner) -> Bounds
         x: triangle_range(a.x, b.x, c.x),
         y: triangle_range(a.y, b.y, c.y),
         z: triangle_range(a.z, b.z, c.z),
+        xy: triangle_range(a.x - a.y, b.x - b.y, c.x - c.y),
+        yz: triangle_range(a.y - a.z, b.y - b.z, c.y - c.z),
+        zx: triangle_range(a.z - a.x, b.z - b.x, c.z - c.x),
     }
 }
 
-/// Whether along each axis some number is within both.
+/// Whether along each of the six some number is within both.
 pub(crate) fn bounds_meet(r: &Bounds, s: &Bounds) -> bool
     ensures { IsTrue result ↔ BoundsMeet r.now s.now }
 {
@@ -45,7 +56,16 @@ pub(crate) fn bounds_meet(r: &Bounds, s: &Bounds) -> bool
     if !ranges_meet(&r.y, &s.y) {
         return false;
     }
-    ranges_meet(&r.z, &s.z)
+    if !ranges_meet(&r.z, &s.z) {
+        return false;
+    }
+    if !ranges_meet(&r.xy, &s.xy) {
+        return false;
+    }
+    if !ranges_meet(&r.yz, &s.yz) {
+        return false;
+    }
+    ranges_meet(&r.zx, &s.zx)
 }
 
 /// The bounds of both together.
@@ -57,10 +77,13 @@ pub(crate) fn united(r: &Bounds, s: &Bounds) -> Bounds
         x: range_of_both(&r.x, &s.x),
         y: range_of_both(&r.y, &s.y),
         z: range_of_both(&r.z, &s.z),
+        xy: range_of_both(&r.xy, &s.xy),
+        yz: range_of_both(&r.yz, &s.yz),
+        zx: range_of_both(&r.zx, &s.zx),
     }
 }
 
-/// The same along one axis.
+/// The same along one of the six.
 fn range_of_both(r: &Range, s: &Range) -> Range
     ensures first { IsWithin r.now result }
     ensures second { IsWithin s.now result }

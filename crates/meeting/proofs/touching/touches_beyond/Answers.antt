@@ -1,4 +1,4 @@
-use Rattle.std.proofs.Common.{◌<◌, sym, subst, ap, ◌∙◌, ℤ, ◌<ℤ◌, pos, to_z, of_z, true≢false}
+use Rattle.std.proofs.Common.{sym, subst, ap, ◌∙◌, ◌<ℤ◌, pos, to_z, of_z, true≢false}
 use Rattle.std.specs.Int.{w128}
 use Rattle.integers.proofs.Logic.{↔-trans}
 use Rattle.lattice.specs.Triple.{Triple, dot, cross, IsZero}
