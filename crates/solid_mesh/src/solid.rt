@@ -62,9 +62,10 @@ impl Solid {
     /// The solid with these corners and triangles, at most 60,000 and 20,000, or the first fault: a flat triangle, a directed
     /// side that occurs twice, one whose reverse is missing, two triangles on the same three corners, or an edge that meets a
     /// triangle in another point than a shared corner, looked for in this order and told with the least numbers. Takes the time
-    /// of a hash for each directed side, of sorting, and of a short test for each pair of an edge and a triangle whose ranges of
-    /// x meet: slow, up to every pair, where many span the same x, as in a part that is drawn out along x. Each reader takes
-    /// constant time and no memory.
+    /// of a hash for each directed side, of sorting the triangles, of a walk over a tree of boxes for each edge, and of a short
+    /// test for each triangle whose box meets that of the edge: about as long as sorting where these are few, and up to every pair
+    /// where all boxes overlap. The walks end with the first edge that meets a triangle so. Each reader takes constant time and no
+    /// memory.
     pub fn check(alloc: Global, soup: Soup) -> Result<Solid, MeshError>
         requires some_triangle { 0 < length (part_of soup).triangles }
         requires few_corners { length (part_of soup).corners ≤ 60000 }
@@ -78,7 +79,8 @@ impl Solid {
     }
 
     /// The same, with a meter of its tests: boxes rises by at most the number of pairs of an edge and a triangle whose ranges of
-    /// x meet, and pairs by at most the number of those whose boxes meet.
+    /// x meet, and pairs by at most the number of those whose boxes meet. Comparisons with the boxes of more than one triangle
+    /// are not counted.
     pub fn check_metered(
         alloc: Global,
         soup: Soup,
