@@ -35,19 +35,19 @@ module _ (solid : Solid) (c : Plane) (tests : ℕ) where
     directed = cut-somewhere c;
   }
 
-  module _ (picked : Picked) (is_picked : IsPickedIn seen_in_cut picked) (along over : ℕ → List ℕ) (finder : IsFinder seen_in_cut picked along over) (edge : ℕ) (drawn : Contains picked.drawn.items edge) where
+  module _ (picked : Picked) (is_picked : IsPickedIn seen_in_cut picked) (along over : ℕ → List ℕ) (near : ℕ → ℕ → Type 0) (finder : IsFinder seen_in_cut picked along over near) (edge : ℕ) (drawn : Contains picked.drawn.items edge) where
     pub not_end_on : (e : Edge (solid_part solid)) → IsNumbered (edge_halves solid) edge e → ¬ IsEndOn (toward_of c) e
-    not_end_on = (listings.seen_edge seen_in_cut seen picked is_picked along over finder edge drawn).seen
+    not_end_on = (listings.seen_edge seen_in_cut seen picked is_picked along over near finder edge drawn).seen
 
     pub edge_within : edge < length (edge_halves solid)
-    edge_within = (listings.seen_edge seen_in_cut seen picked is_picked along over finder edge drawn).in_range
+    edge_within = (listings.seen_edge seen_in_cut seen picked is_picked along over near finder edge drawn).in_range
 
     pub few_along : length (along edge) ≤ length picked.outlines.items
-    few_along = listings.few_along seen_in_cut seen picked is_picked along over finder edge drawn
+    few_along = listings.few_along seen_in_cut seen picked is_picked along over near finder edge drawn
 
     pub listed_in_cut : AreListedInCut c (solid_part solid) (edge_halves solid) edge (along edge)
     listed_in_cut =
-        let listed = listings.listed seen_in_cut seen picked is_picked along over finder edge drawn in
+        let listed = listings.listed seen_in_cut seen picked is_picked along over near finder edge drawn in
         record {
           few = listed.few;
           within = λ k d h. (listed.outline k d h).0;

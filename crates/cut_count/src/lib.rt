@@ -88,7 +88,7 @@ pub fn spans_cut<F: Finder>(
     requires borders { AreBorders (plane_of section.now.cut) (solid_part solid.now) section.now.segments.items section.now.loops.items }
     requires picked { IsPickedIn (record { part = solid_part solid.now; halves = edge_halves solid.now; direction = toward_of (plane_of section.now.cut); tests = meter.old.tests }) picked.now }
     requires finder { IsFinder (record { part = solid_part solid.now; halves = edge_halves solid.now; direction = toward_of (plane_of section.now.cut); tests = meter.old.tests })
-        picked.now (F.list_along finder.now) (F.list_over finder.now) }
+        picked.now (F.list_along finder.now) (F.list_over finder.now) (F.is_near finder.now) }
     requires room { (bound : ℕ) → IsCutBound (solid_part solid.now) section.now picked.now bound → meter.old.tests + bound < 2 ^ 64 }
     ensures entries { IfOk result (λ entries. AllZip (IsCutEntry (plane_of section.now.cut) (solid_part solid.now) (edge_halves solid.now)) picked.now.drawn.items entries.items) }
     ensures tested { (bound : ℕ) → IsCutBound (solid_part solid.now) section.now picked.now bound → (meter.old.tests ≤ meter.new.tests) × (meter.new.tests ≤ meter.old.tests + bound) }

@@ -16,7 +16,8 @@ use Rattle.counting.specs.Turns.{IsNearerOver}
 use Rattle.edge_pick.specs.declared.Picked.{Picked}
 use Rattle.span_count.specs.Finders.{IsFinder}
 use Rattle.out_grid.specs.declared.grid.GridOutlines.{GridOutlines}
-use Rattle.out_grid.specs.Grids.{along_list, over_list, IsGridOf}
+use Rattle.out_grid.specs.Grids.{along_list, over_list, is_listed_near, IsGridOf}
+use Rattle.out_grid.specs.Near.{AreNear}
 use Rattle.out_grid.proofs.Bridges.{same_cell}
 use Rattle.out_grid.proofs.Crossings.{seen_over}
 use Rattle.out_grid.proofs.PointCells.{is_point, edge_cell, corner_has_cell}
@@ -86,17 +87,19 @@ module _ (d : Triple) (s : Part) (halves : List ℕ) (p : Picked) (columns : ℕ
       one : IsPoint (point_of c)
       one = natural_positive 1 (omega arith)
 
-  pub law : (tests : ℕ) → IsFinder (record { part = s; halves = halves; direction = d; tests = tests }) p (along_list g) (over_list g)
-  law tests = record {
+  pub law : AreNear d s g.triangles → (tests : ℕ) → IsFinder (record { part = s; halves = halves; direction = d; tests = tests }) p (along_list g) (over_list g) (is_listed_near g)
+  law near tests = record {
     outlines = λ i l. (along_some i l).within;
     once = λ i l. (along_some i l).once;
     outlines_over = λ number l. (over_some number l).within;
     once_over = λ number l. (over_some number l).once;
     changing = changing;
     passing = passing;
+    covering = near;
   }
 
 -- of a solid
 pub law_of_solid : (d : Triple) (solid : Solid) (p : Picked) (columns : ℕ) (g : GridOutlines) → IsGridOf d (solid_part solid) (edge_halves solid) p columns g
-    → (tests : ℕ) → IsFinder (record { part = solid_part solid; halves = edge_halves solid; direction = d; tests = tests }) p (along_list g) (over_list g)
-law_of_solid d solid p columns g grid tests = law d (solid_part solid) (edge_halves solid) p columns g (edge_there solid) grid tests
+    → AreNear d (solid_part solid) g.triangles → (tests : ℕ)
+    → IsFinder (record { part = solid_part solid; halves = edge_halves solid; direction = d; tests = tests }) p (along_list g) (over_list g) (is_listed_near g)
+law_of_solid d solid p columns g grid near tests = law d (solid_part solid) (edge_halves solid) p columns g (edge_there solid) grid near tests

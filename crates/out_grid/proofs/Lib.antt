@@ -12,11 +12,13 @@ pub mod CourseSums
 pub mod Crossings
 pub mod DrawnLists
 pub mod EdgeCourses
+pub mod Filled
 pub mod Gathering
 pub mod Held
 pub mod Laws
 pub mod Making
 pub mod Marks
+pub mod NearCells
 pub mod Passing
 pub mod PointCells
 pub mod Puts

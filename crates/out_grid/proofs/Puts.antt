@@ -29,15 +29,16 @@ more_has old new o k (inl e) h = subst (λ (xs : List ℕ). Contains xs k) (sym 
 more_has old new o k (inr (e, _)) h = subst (λ (xs : List ℕ). Contains xs k) (sym e) (Contains-append_left old (o ∷ []) k h)
 
 -- the law of a finder stays where outlines are listed more, each once
-pub put_law : (x : SightState) (p : Picked) (along over along' over' : ℕ → List ℕ) (o : ℕ) → ((i : ℕ) → along' i ≡ along i) → ((k : ℕ) → MayHave o (over k) (over' k))
-    → IsFinder x p along over → Contains p.outlines.items o → IsFinder x p along' over'
-put_law x p along over along' over' o same may f c = record {
+pub put_law : (x : SightState) (p : Picked) (along over along' over' : ℕ → List ℕ) (near : ℕ → ℕ → Type 0) (o : ℕ) → ((i : ℕ) → along' i ≡ along i) → ((k : ℕ) → MayHave o (over k) (over' k))
+    → IsFinder x p along over near → Contains p.outlines.items o → IsFinder x p along' over' near
+put_law x p along over along' over' near o same may f c = record {
   outlines = λ i l. subst (All (Contains p.outlines.items)) (sym (same i)) (f.outlines i l);
   once = λ i l. subst (AllPairs ◌≢◌) (sym (same i)) (f.once i l);
   outlines_over = λ k l. more_within p.outlines.items (over k) (over' k) o (may k) c (f.outlines_over k l);
   once_over = λ k l. more_once (over k) (over' k) o (may k) (f.once_over k l);
   changing = λ i k e q drawn listed at_i at_k changes. subst (λ (xs : List ℕ). Contains xs k) (sym (same i)) (f.changing i k e q drawn listed at_i at_k changes);
   passing = λ number k corner q at listed at_k passes. more_has (over number) (over' number) o k (may number) (f.passing number k corner q at listed at_k passes);
+  covering = f.covering;
 }
 
 -- ---- into one list of several

@@ -8,6 +8,7 @@ use Rattle.edge_pick.specs.declared.Picked.{Picked}
 use Rattle.solid_mesh.specs.inner.Stars.{lists_of}
 use Rattle.out_grid.specs.declared.grid.GridOutlines.{GridOutlines}
 use Rattle.out_grid.specs.Cells.{Raster, IsRaster, IsInColumn, IsInRow, HasPointIn, ShareCell}
+use Rattle.out_grid.specs.Near.{near_list}
 
 -- ---- its lists
 abbrev pub list_at : List (List ℕ) → ℕ → List ℕ
@@ -27,6 +28,10 @@ along_list g edge = list_at (lists_of g.lists.items) edge
 -- that of a corner: its cell's, and none for another number
 abbrev pub over_list : GridOutlines → ℕ → List ℕ
 over_list g corner = list_at (lists_of g.cells.items) (slice_index_or g.corner_cells.items corner (length g.cells.items))
+
+-- the triangle is listed as near the corner
+abbrev pub is_listed_near : GridOutlines → ℕ → ℕ → Type 0
+is_listed_near g corner = Contains (near_list g.triangles corner)
 
 -- the corner's cell is that in this column and this row
 abbrev pub IsCornerIn : GridOutlines → ℕ → ℕ → ℕ → Type 0

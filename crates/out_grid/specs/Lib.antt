@@ -1,4 +1,5 @@
 pub mod Bounds
 pub mod Cells
 pub mod Grids
+pub mod Near
 pub mod inner

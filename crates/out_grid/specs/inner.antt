@@ -2,3 +2,4 @@
 pub mod Courses
 pub mod Lists
 pub mod Places
+pub mod Triangles

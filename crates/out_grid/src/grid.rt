@@ -11,6 +11,7 @@ use crate::corners::corner_cells;
 use crate::listing::lists_along;
 use crate::lists::{empty_lists, number_at, put_in};
 use crate::meter::CellMeter;
+use crate::near::TriangleCells;
 use crate::places::raster_over;
 use crate::putting::put_outlines;
 use edge_pick::Picked;
@@ -20,20 +21,21 @@ use solid_mesh::Solid;
 use span_count::Finder;
 use std::alloc::Global;
 
-/// The outlines of a view in a grid of cells, from 1 to 256 columns and rows as many.
+/// The outlines of a view in a grid of cells, from 1 to 256 columns and rows as many, and its triangles in another.
 #[derive(Debug, Drop)]
 pub struct GridOutlines {
     columns: u32,
     cells: Vec<Vec<u32>>,
     corner_cells: Vec<u32>,
     lists: Vec<Vec<u32>>,
+    triangles: TriangleCells,
     ghost few: { columns ≤ 256 },
     ghost full: { vec_len cells ≡ columns * columns },
 }
 
 impl GridOutlines {
     ghost use Rattle.out_grid.specs.Bounds.{IsCellBound};
-    ghost use Rattle.out_grid.specs.Grids.{cell_list, along_list, over_list, IsCornerIn, IsGridOf};
+    ghost use Rattle.out_grid.specs.Grids.{cell_list, along_list, over_list, is_listed_near, IsCornerIn, IsGridOf};
 
     /// The grid of what is picked of a solid for this direction. Each cell has the outlines with a point in it; along a drawn edge
     /// those are listed that have a point in a cell in which the edge has one, each once, and along others none; over a corner
@@ -54,12 +56,13 @@ impl GridOutlines {
         requires room { meter.old.cells < 2 ^ 62 }
         ensures grid { IfOk result (IsGridOf (of_dir d.now) (solid_part solid.now) (edge_halves solid.now) picked.now columns) }
         ensures law { IfOk result (λ g. (tests : ℕ) → IsFinder (record { part = solid_part solid.now; halves = edge_halves solid.now; direction = of_dir d.now; tests = tests })
-            picked.now (along_list g) (over_list g)) }
+            picked.now (along_list g) (over_list g) (is_listed_near g)) }
         ensures counted_each { OnOk result (meter.old.cells + (length picked.now.outlines.items + length picked.now.drawn.items) ≤ meter.new.cells) }
         ensures counted_on { meter.old.cells ≤ meter.new.cells }
         ensures counted { (bound : ℕ) → IsCellBound (of_dir d.now) (solid_part solid.now) (edge_halves solid.now) picked.now columns bound →
             meter.new.cells ≤ meter.old.cells + bound }
     {
+        let triangles = TriangleCells::new(alloc, solid, d)?;
         let raster = raster_over(solid, d, columns);
         let corner_cells = corner_cells(alloc, solid, d, &raster, columns)?;
         let mut cells = empty_lists(alloc, columns * columns)?;
@@ -78,6 +81,7 @@ impl GridOutlines {
             cells,
             corner_cells,
             lists,
+            triangles,
         })
     }
 
@@ -101,8 +105,8 @@ impl GridOutlines {
         ensures corners { (corner c r : ℕ) → IsCornerIn self.new corner c r ↔ IsCornerIn self.old corner c r }
         ensures over { OnOk result ((corner : ℕ) → IsCornerIn self.old corner column row → over_list self.new corner ≡ over_list self.old corner ++ outline ∷ []) }
         ensures over_others { OnOk result ((corner : ℕ) → (¬ IsCornerIn self.old corner column row) → over_list self.new corner ≡ over_list self.old corner) }
-        ensures law { (x : SightState) (p : Picked) → IsFinder x p (along_list self.old) (over_list self.old) → Contains p.outlines.items outline →
-            IsFinder x p (along_list self.new) (over_list self.new) }
+        ensures law { (x : SightState) (p : Picked) → IsFinder x p (along_list self.old) (over_list self.old) (is_listed_near self.old) → Contains p.outlines.items outline →
+            IsFinder x p (along_list self.new) (over_list self.new) (is_listed_near self.new) }
         ensures unchanged { OnErr result ((c r : ℕ) → cell_list self.new c r ≡ cell_list self.old c r) }
         ensures unchanged_over { OnErr result ((corner : ℕ) → over_list self.new corner ≡ over_list self.old corner) }
         ensures counted { meter.new.cells ≡ meter.old.cells + 1 }
@@ -124,11 +128,13 @@ impl GridOutlines {
 }
 
 impl Finder for GridOutlines {
-    ghost use Rattle.out_grid.specs.Grids.{along_list, over_list};
+    ghost use Rattle.out_grid.specs.Grids.{along_list, over_list, is_listed_near};
 
     ghost list_along = { along_list };
 
     ghost list_over = { over_list };
+
+    ghost is_near = { is_listed_near };
 
     fn along(&self, edge: u32, i: u32) -> Option<u32> {
         number_at(&self.lists, edge, i)
@@ -139,5 +145,9 @@ impl Finder for GridOutlines {
             return None;
         };
         number_at(&self.cells, *cell, i)
+    }
+
+    fn next_near(&self, corner: u32, from: u32) -> Option<u32> {
+        self.triangles.next_near(corner, from)
     }
 }

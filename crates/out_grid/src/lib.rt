@@ -12,12 +12,15 @@
 #![tactic(auto)]
 
 mod bounds;
+mod boxes;
 mod corners;
 mod course;
 mod grid;
+mod halving;
 mod listing;
 mod lists;
 mod meter;
+mod near;
 mod places;
 mod putting;
 mod raster;

@@ -79,8 +79,8 @@ fn put_course(
     Ok(())
 }
 
-/// Puts an outline last into the cells of a column that are in these rows.
-fn put_column(
+/// Puts an outline or a triangle last into the cells of a column that are in these rows.
+pub(crate) fn put_column(
     cells: &mut Vec<Vec<u32>>,
     columns: u32,
     column: u32,

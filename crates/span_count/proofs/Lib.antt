@@ -6,6 +6,7 @@ pub mod Counted
 pub mod Stars
 pub mod Moved
 pub mod Own
+pub mod NearTriangles
 pub mod Around
 pub mod OrderSteps
 pub mod Listings

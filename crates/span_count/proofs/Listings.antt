@@ -41,7 +41,7 @@ module _ (x : SightState) (seen : IsSeen x) (p : Picked) (picked : IsPickedIn x 
   few_enough : (list : List ℕ) → length list ≤ length p.outlines.items → length list < 2 ^ 32
   few_enough list few = omega (arith, few, few_outlines)
 
-  module _ (along over : ℕ → List ℕ) (finder : IsFinder x p along over) (edge : ℕ) (drawn : Contains p.drawn.items edge) where
+  module _ (along over : ℕ → List ℕ) (near : ℕ → ℕ → Type 0) (finder : IsFinder x p along over near) (edge : ℕ) (drawn : Contains p.drawn.items edge) where
     in_range : edge < length x.halves
     in_range = All-contains (λ i. i < length x.halves) p.drawn.items edge picked.1.drawn.within drawn
 

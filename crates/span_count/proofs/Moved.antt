@@ -45,6 +45,9 @@ module _ (x now : SightState) (n : ℕ) (e : now ≡ with_tests n x) where
           record { on_left = g.on_left; on_right = g.on_right }
 
 -- ---- how many tests were made
+pub tested_just : (x now : SightState) (n : ℕ) → now ≡ with_tests n x → IsTested n x now
+tested_just x now n e = (n, omega arith, e)
+
 pub tested_most : (x now : SightState) (m most : ℕ) → m ≤ most → IsTested m x now → IsTested most x now
 tested_most x now m most h (n, within, e) = (n, omega arith, e)
 
@@ -83,26 +86,32 @@ module _ (x : SightState) (seen : IsSeen x) (edge : ℕ) (within : edge < length
         fits : (t b l m n : ℕ) → t + (b + (l + (m + n))) < 2 ^ 64 → t + (b + m) < 2 ^ 64
         fits t b l m n h = omega arith
 
-    pub room_far : (now : SightState) → ((m : ℕ) → IsCornerCount x edge at_b m → now ≡ with_tests (before + m) x) → (n : ℕ) → IsCornerCount now edge (not at_b) n → now.tests + (list + n) < 2 ^ 64
+    pub room_far : (now : SightState) → ((m : ℕ) → IsCornerCount x edge at_b m → IsTested (before + m) x now) → (n : ℕ) → IsCornerCount now edge (not at_b) n → now.tests + (list + n) < 2 ^ 64
     room_far now moved n g =
         let (m, h) = corner_count x edge seen within at_b in
-        room_after x now (before + m) (moved m h) (list + n)
-        (fits x.tests before list m n (room (m + n) (end_count x edge at_b m n h (corner_before x now (before + m) (moved m h) edge (not at_b) n g))))
+        let (made, few, e) = moved m h in
+        room_after x now made e (list + n)
+        (fits x.tests made before list m n few (room (m + n) (end_count x edge at_b m n h (corner_before x now made e edge (not at_b) n g))))
       where
-        fits : (t b l m n : ℕ) → t + (b + (l + (m + n))) < 2 ^ 64 → t + ((b + m) + (l + n)) < 2 ^ 64
-        fits t b l m n h = omega arith
+        fits : (t k b l m n : ℕ) → k ≤ b + m → t + (b + (l + (m + n))) < 2 ^ 64 → t + (k + (l + n)) < 2 ^ 64
+        fits t k b l m n few h = omega arith
 
-  pub tested_far : (now new : SightState) → ((m : ℕ) → IsCornerCount x edge at_b m → now ≡ with_tests (before + m) x)
+  pub tested_far : (now new : SightState) → ((m : ℕ) → IsCornerCount x edge at_b m → IsTested (before + m) x now)
       → ((n : ℕ) → IsCornerCount now edge (not at_b) n → IsTested (list + n) now new) → (ends : ℕ) → IsEndCount x.part x.halves edge ends → IsTested (before + (list + ends)) x new
   tested_far now new moved walk ends h =
       let (m, n, near, far, is) = corner_counts x edge ends h at_b in
-      tested_most x new ((before + m) + (list + n)) (before + (list + ends)) (fits before list m n ends is)
-      (tested_both x now new (before + m) (list + n) (moved m near) (walk n (corner_after x now (before + m) (moved m near) edge (not at_b) n far)))
+      let (made, few, e) = moved m near in
+      tested_most x new (made + (list + n)) (before + (list + ends)) (fits made before list m n ends few is)
+      (tested_both x now new made (list + n) e (walk n (corner_after x now made e edge (not at_b) n far)))
     where
-      fits : (b l m n ends : ℕ) → ends ≡ m + n → (b + m) + (l + n) ≤ b + (l + ends)
-      fits b l m n ends e = omega arith
+      fits : (k b l m n ends : ℕ) → k ≤ b + m → ends ≡ m + n → k + (l + n) ≤ b + (l + ends)
+      fits k b l m n ends few e = omega arith
 
 -- tests at a corner, after others
 pub near_last : (x : SightState) (edge : ℕ) (at_b : Bool) (before : ℕ) (mid now : SightState) → mid ≡ with_tests before x → ((m : ℕ) → IsCornerCount mid edge at_b m → now ≡ with_tests m mid)
     → (m : ℕ) → IsCornerCount x edge at_b m → now ≡ with_tests (before + m) x
 near_last x edge at_b before mid now e near m h = tests_after_tests x mid now before m e (near m (corner_after x mid before e edge at_b m h))
+
+pub near_most : (x : SightState) (edge : ℕ) (at_b : Bool) (before : ℕ) (mid now : SightState) → IsTested before x mid → ((m : ℕ) → IsCornerCount mid edge at_b m → now ≡ with_tests m mid)
+    → (m : ℕ) → IsCornerCount x edge at_b m → IsTested (before + m) x now
+near_most x edge at_b before mid now (made, few, e) near m h = (made + m, omega arith, near_last x edge at_b made mid now e near m h)

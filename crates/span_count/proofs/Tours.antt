@@ -34,9 +34,9 @@ module _ (x now : SightState) (n : ℕ) (e : now ≡ with_tests n x) where
   pub picked_after : (p : Picked) → IsPickedIn x p → IsPickedIn now p
   picked_after p h = subst (λ y. IsPickedIn y p) (sym e) h
 
-  pub finder_after : (p : Picked) (along over : ℕ → List ℕ) → IsFinder x p along over → IsFinder now p along over
-  finder_after p along over h = subst (λ y. IsFinder y p along over) (sym e)
-      (record { outlines = h.outlines; once = h.once; outlines_over = h.outlines_over; once_over = h.once_over; changing = h.changing; passing = h.passing })
+  pub finder_after : (p : Picked) (along over : ℕ → List ℕ) (near : ℕ → ℕ → Type 0) → IsFinder x p along over near → IsFinder now p along over near
+  finder_after p along over near h = subst (λ y. IsFinder y p along over near) (sym e)
+      (record { outlines = h.outlines; once = h.once; outlines_over = h.outlines_over; once_over = h.once_over; changing = h.changing; passing = h.passing; covering = h.covering })
 
   pub rests_after : (edge : ℕ) (at_b : Bool) (r : Sides) → AreRests x edge at_b r → AreRests now edge at_b r
   rests_after edge at_b r h = subst (λ y. AreRests y edge at_b r) (sym e) (record { on_left = h.on_left; on_right = h.on_right })

@@ -1,5 +1,5 @@
 -- Tests that are made one after another: what they found so far, and how many they are.
-use Rattle.std.proofs.Common.{◌≡◌, ℕ, ◌+◌, ◌*◌, ◌<◌, ◌≤◌, ◌^◌, ◌⊎◌, inl, inr, List, [], ◌∷◌, ◌++◌, length, take, Option, Some, slice_get, refl, sym, subst, ap, ◌∙◌, arith, length-append, add-zero, add_assoc}
+use Rattle.std.proofs.Common.{◌≡◌, ℕ, zero, suc, ◌+◌, ◌-◌, ◌*◌, ◌<◌, ◌≤◌, ◌^◌, ◌⊎◌, inl, inr, List, [], ◌∷◌, ◌++◌, length, take, Option, Some, slice_get, refl, sym, subst, ap, ◌∙◌, arith, length-append, add-zero, add_assoc}
 use Rattle.std.specs.List.{filter_map}
 use Rattle.std.proofs.lemmas.List.Sums.{sum_by_push}
 use Rattle.std.proofs.lemmas.Option.{slice_get_within}
@@ -65,7 +65,7 @@ abbrev pub AreFirst : Side → SightState → ℕ → ℕ → ℕ → Type 0
 AreFirst k x edge n total = (e : Edge x.part) → IsNumbered x.halves edge e → AreCountedFirst k x.direction e n total
 
 pub record AreFirstSoFar (x : SightState) (edge n : ℕ) (now : SightState) (left right : ℕ) : Type 0 where
-  pub tested : now ≡ with_tests n x
+  pub tested : IsTested n x now
   pub on_left : AreFirst to_left x edge n left
   pub on_right : AreFirst to_right x edge n right
   pub left_small : left ≤ 255 * n
@@ -90,20 +90,53 @@ counted_more k x edge n total c known says e at = record {
     one i d (inr h) f is = subst (IsOneWhere (IsCountedNext k x.direction e false f)) h.1 (says e f at (is ∙ h.0 ∙ old.long))
 
 pub first_none : (x : SightState) (edge : ℕ) → AreFirstSoFar x edge 0 x 0 0
-first_none x edge = record { tested = no_tests x; on_left = counted_none to_left x edge; on_right = counted_none to_right x edge; left_small = omega arith; right_small = omega arith }
+first_none x edge = record { tested = (0, omega arith, no_tests x); on_left = counted_none to_left x edge; on_right = counted_none to_right x edge; left_small = omega arith; right_small = omega arith }
 
 pub first_more : (x : SightState) (edge n : ℕ) (now : SightState) (left right : ℕ) → AreFirstSoFar x edge n now left right → (new : SightState) → new ≡ with_test now → (c d : ℕ) → c < 256 → d < 256
     → CoverSays to_left now edge n c → CoverSays to_right now edge n d → AreFirstSoFar x edge (n + 1) new (left + c) (right + d)
 first_more x edge n now left right h new e c d c_small d_small says_left says_right = record {
-  tested = e ∙ more_tests x now n h.tested;
-  on_left = counted_more to_left x edge n left c h.on_left (subst (λ y. CoverSays to_left y edge n c) h.tested says_left);
-  on_right = counted_more to_right x edge n right d h.on_right (subst (λ y. CoverSays to_right y edge n d) h.tested says_right);
+  tested = (h.tested.0 + 1, (let few = h.tested.1 in omega arith), e ∙ more_tests x now h.tested.0 h.tested.2);
+  on_left = counted_more to_left x edge n left c h.on_left (subst (λ y. CoverSays to_left y edge n c) h.tested.2 says_left);
+  on_right = counted_more to_right x edge n right d h.on_right (subst (λ y. CoverSays to_right y edge n d) h.tested.2 says_right);
   left_small = small left c n h.left_small c_small;
   right_small = small right d n h.right_small d_small;
 }
   where
     small : (t c n : ℕ) → t ≤ 255 * n → c < 256 → t + c ≤ 255 * (n + 1)
     small t c n h l = omega arith
+
+-- those that are passed over are not counted
+counted_past : (k : Side) (x : SightState) (edge n total gap : ℕ) → AreFirst k x edge n total
+    → ((i : ℕ) → n ≤ i → i < n + gap → (e : Edge x.part) (f : Face x.part) → IsNumbered x.halves edge e → f.number ≡ i → ¬ IsCountedNext k x.direction e false f) → AreFirst k x edge (n + gap) total
+counted_past k x edge n total zero known none = subst (λ m. AreFirst k x edge m total) (sym (add-zero n)) known
+counted_past k x edge n total (suc gap) known none =
+    subst (λ m. AreFirst k x edge m total) (add_assoc n gap 1 ∙ ap (λ m. n + m) (one_more gap))
+    (subst (λ t. AreFirst k x edge ((n + gap) + 1) t) (add-zero total)
+    (counted_more k x edge (n + gap) total 0 (counted_past k x edge n total gap known (λ i l m. none i l (omega arith))) (λ e f at is. inr (refl, none (n + gap) (omega arith) (omega arith) e f at is))))
+  where
+    one_more : (g : ℕ) → g + 1 ≡ suc g
+    one_more g = omega arith
+
+pub first_past : (x : SightState) (edge n m : ℕ) (now : SightState) (left right : ℕ) → AreFirstSoFar x edge n now left right → n ≤ m
+    → ((i : ℕ) → n ≤ i → i < m → (k : Side) (e : Edge x.part) (f : Face x.part) → IsNumbered x.halves edge e → f.number ≡ i → ¬ IsCountedNext k x.direction e false f) → AreFirstSoFar x edge m now left right
+first_past x edge n m now left right h up none =
+    subst (λ l. AreFirstSoFar x edge l now left right) (up_to n m up)
+    (record {
+      tested = (h.tested.0, (let few = h.tested.1 in omega arith), h.tested.2);
+      on_left = counted_past to_left x edge n left (m - n) h.on_left (λ i l b. none i l (below n m i up b) to_left);
+      on_right = counted_past to_right x edge n right (m - n) h.on_right (λ i l b. none i l (below n m i up b) to_right);
+      left_small = small left n (m - n) h.left_small;
+      right_small = small right n (m - n) h.right_small;
+    })
+  where
+    up_to : (n m : ℕ) → n ≤ m → n + (m - n) ≡ m
+    up_to n m h = omega arith
+
+    below : (n m i : ℕ) → n ≤ m → i < n + (m - n) → i < m
+    below n m i h l = omega arith
+
+    small : (t n gap : ℕ) → t ≤ 255 * n → t ≤ 255 * (n + gap)
+    small t n gap h = omega arith
 
 -- all of them
 pub first_all : (x : SightState) (edge n : ℕ) (now : SightState) (left right : ℕ) → AreFirstSoFar x edge n now left right → n ≡ length x.part.triangles → (c : Sides) → c.left ≡ pos left → c.right ≡ pos right → AreCountsNext x edge false c

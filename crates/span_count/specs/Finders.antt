@@ -1,9 +1,10 @@
 -- What is picked of a part that is seen in a direction, and what the lists of a finder hold for it.
-use Rattle.std.specs.Prelude.{◌≡◌, ◌≢◌, ℕ, ◌<◌, List, All, AllPairs, Contains, Some, length, slice_get}
+use Rattle.std.specs.Prelude.{◌≡◌, ◌≢◌, ℕ, ◌<◌, ◌≤◌, List, All, AllPairs, Contains, Option, Some, None, length, slice_get}
 use Rattle.lattice.specs.declared.points.Corner.{Corner}
-use Rattle.geometry.specs.Parts.{Edge, IsNumbered}
+use Rattle.geometry.specs.Parts.{Face, Edge, IsNumbered}
 use Rattle.counting.specs.Shares.{Changes}
 use Rattle.counting.specs.Turns.{IsNearerOver}
+use Rattle.cross_find.specs.Ends.{IsApart}
 use Rattle.cross_find.specs.Sights.{SightState}
 use Rattle.edge_pick.specs.declared.Picked.{Picked}
 use Rattle.edge_pick.specs.Picked.{IsPicked}
@@ -12,8 +13,13 @@ use Rattle.edge_pick.specs.Picked.{IsPicked}
 abbrev pub IsPickedIn : SightState → Picked → Type 0
 IsPickedIn x p = (fraction : ℕ) × IsPicked x.direction fraction x.part x.halves p
 
--- The law of a finder's lists, along edges and over corners.
-pub record IsFinder (x : SightState) (p : Picked) (along over : ℕ → List ℕ) : Type 0 where
+-- P holds of no number from that one on and before the next; none is next where it holds of none from there on
+abbrev pub IsNext : (ℕ → Type 0) → ℕ → Option ℕ → Type 0
+IsNext P from None = (k : ℕ) → from ≤ k → ¬ P k
+IsNext P from (Some next) = (from ≤ next) × ((k : ℕ) → from ≤ k → k < next → ¬ P k)
+
+-- The law of a finder's lists, along edges and over corners, and of the triangles that are near a corner.
+pub record IsFinder (x : SightState) (p : Picked) (along over : ℕ → List ℕ) (near : ℕ → ℕ → Type 0) : Type 0 where
   -- each holds outlines, none twice
   pub outlines : (edge : ℕ) → edge < length x.halves → All (Contains p.outlines.items) (along edge)
   pub once : (edge : ℕ) → edge < length x.halves → AllPairs ◌≢◌ (along edge)
@@ -25,3 +31,5 @@ pub record IsFinder (x : SightState) (p : Picked) (along over : ℕ → List ℕ
   -- that of a corner has every outline that is strictly nearer over it and does not have it
   pub passing : (number k : ℕ) (c : Corner) (o : Edge x.part) → slice_get x.part.corners number ≡ Some c → Contains p.outlines.items k → IsNumbered x.halves k o →
       IsNearerOver x.direction number c o → Contains (over number) k
+  -- each triangle is near a corner that is not seen strictly to one side of it
+  pub covering : (number : ℕ) (c : Corner) (f : Face x.part) → slice_get x.part.corners number ≡ Some c → ¬ IsApart x.direction f.a f.b f.c c → near number f.number

@@ -1,31 +1,43 @@
 // The tests that are made for an edge.
 ghost use Rattle.std.specs.Prelude.{◌≡◌, false, ◌+◌, ◌<◌, ◌≤◌, ◌*◌, ◌^◌, length, vec_len, IfOk};
 ghost use Rattle.geometry.specs.Parts.{Edge, IsNumbered};
+ghost use Rattle.counting.specs.Turns.{number_at};
 ghost use Rattle.span_count.specs.inner.Rests.{AreCountsNext};
-ghost use Rattle.span_count.specs.inner.Steps.{IsSeenEdge, AreListed, AreCrossings};
-ghost use Rattle.span_count.specs.Tests.{with_tests, IsTested};
+ghost use Rattle.span_count.specs.inner.Steps.{IsSeenEdge, AreListed, AreAllNear, AreCrossings};
+ghost use Rattle.span_count.specs.Tests.{IsTested};
 
-use crate::finder::Finder;
+use crate::finder::{Finder, next_triangle};
 use crate::step::Sides;
 use cross_find::{Crossing, End, Sight};
 use exact_frac::OutOfMemory;
 use std::alloc::Global;
 
-/// How many faces are counted to the left, and to the right, next to the edge's first end: a test of each triangle.
-pub(crate) fn first_counts<S: Sight>(sight: &mut S, edge: u32, triangles: u32) -> Sides
+/// How many faces are counted to the left, and to the right, next to the edge's first end, which is at this corner: a test of each
+/// triangle that the finder doesn't pass over there.
+pub(crate) fn first_counts<S: Sight, F: Finder>(
+    sight: &mut S,
+    finder: &F,
+    edge: u32,
+    corner: u32,
+    triangles: u32,
+) -> Sides
     requires edge { IsSeenEdge (S.sight sight.old) edge }
+    requires corner { (e : Edge (S.sight sight.old).part) → IsNumbered (S.sight sight.old).halves edge e → corner ≡ number_at e false }
+    requires near { AreAllNear (S.sight sight.old) corner (F.is_near finder.now corner) }
     requires triangles { triangles ≡ length (S.sight sight.old).part.triangles }
     requires room { (S.sight sight.old).tests + triangles < 2 ^ 64 }
     ensures counts { AreCountsNext (S.sight sight.old) edge false result }
-    ensures tested { S.sight sight.new ≡ with_tests triangles (S.sight sight.old) }
+    ensures tested { IsTested triangles (S.sight sight.old) (S.sight sight.new) }
 {
+    let end = End { edge, at_b: false };
     let mut left = 0;
     let mut right = 0;
-    for tri in 0..triangles {
-        let end = End { edge, at_b: false };
+    let mut tri = next_triangle(finder, corner, 0, triangles);
+    while tri < triangles {
         let (on_left, on_right) = sight.cover(end, tri);
         left += u64::from(on_left);
         right += u64::from(on_right);
+        tri = next_triangle(finder, corner, tri + 1, triangles);
     }
     Sides::counts(left, right)
 }

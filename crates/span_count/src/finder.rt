@@ -1,17 +1,21 @@
-// Which outlines are tested along an edge, and at a corner.
-ghost use Rattle.std.specs.Prelude.{◌≡◌, ℕ, List, slice_get};
+// Which outlines are tested along an edge and at a corner, and which triangles where a run begins.
+ghost use Rattle.std.specs.Prelude.{◌≡◌, ℕ, ◌≤◌, ◌<◌, List, slice_get};
 ghost use Rattle.cross_find.specs.Sights.{SightState};
-ghost use Rattle.span_count.specs.Finders.{IsFinder, IsPickedIn};
+ghost use Rattle.span_count.specs.Finders.{IsFinder, IsNext, IsPickedIn};
 
 use edge_pick::Picked;
 
-/// Lists of numbers, one for each edge and one for each corner. `IsFinder` says when they serve for what is picked of a solid:
-/// they hold outlines, none twice; that of a drawn edge has every outline that changes one of the counts along it, and that of a
-/// corner every outline that does not have the corner and is strictly nearer over it. No call takes memory.
+/// Lists of numbers, one for each edge and one for each corner, and the triangles that are near a corner. `IsFinder` says when they
+/// serve for what is picked of a solid: the lists hold outlines, none twice; that of a drawn edge has every outline that changes one
+/// of the counts along it, and that of a corner every outline that does not have the corner and is strictly nearer over it. Near a
+/// corner is every triangle that is not seen strictly to one side of it, and maybe others; where a finder does not say it, all are.
+/// No call takes memory.
 pub trait Finder {
     ghost list_along: { Self → ℕ → List ℕ };
 
     ghost list_over: { Self → ℕ → List ℕ };
+
+    ghost is_near: { Self → ℕ → ℕ → Type 0 } = { λ finder corner triangle. Unit {0} };
 
     /// The number at a place of an edge's list; none from its end on.
     fn along(&self, edge: u32, i: u32) -> Option<u32>
@@ -20,9 +24,30 @@ pub trait Finder {
     /// The number at a place of a corner's list; none from its end on.
     fn over(&self, corner: u32, i: u32) -> Option<u32>
         ensures { result ≡ slice_get (list_over self.now corner) i };
+
+    /// A triangle from this number on, or none: those that are passed over are not near the corner. By default none is passed over.
+    fn next_near(&self, _corner: u32, from: u32) -> Option<u32>
+        ensures { IsNext (is_near self.now _corner) from result }
+    {
+        Some(from)
+    }
 }
 
-/// The finder that lists all outlines for each edge and for each corner.
+/// The next triangle, of so many, that may be near a corner, from this number on; their number where there is none. Each that is
+/// passed over is not near the corner.
+pub fn next_triangle<F: Finder>(finder: &F, corner: u32, from: u32, triangles: u32) -> u32
+    requires { from ≤ triangles }
+    ensures from { from ≤ result }
+    ensures most { result ≤ triangles }
+    ensures passed_over { (tri : ℕ) → from ≤ tri → tri < result → ¬ F.is_near finder.now corner tri }
+{
+    match finder.next_near(corner, from) {
+        Some(tri) => tri.min(triangles),
+        None => triangles,
+    }
+}
+
+/// The finder that lists all outlines for each edge and for each corner, and all triangles as near each corner.
 #[derive(Clone, Copy)]
 pub struct AllOutlines<'p> {
     picked: &'p Picked,
@@ -34,7 +59,7 @@ impl<'p> AllOutlines<'p> {
         ensures along { (edge : ℕ) → ⟦<AllOutlines<'p> as Finder>⟧.list_along result edge ≡ picked.now.outlines.items }
         ensures over { (corner : ℕ) → ⟦<AllOutlines<'p> as Finder>⟧.list_over result corner ≡ picked.now.outlines.items }
         ensures law { (x : SightState) → IsPickedIn x picked.now →
-            IsFinder x picked.now (⟦<AllOutlines<'p> as Finder>⟧.list_along result) (⟦<AllOutlines<'p> as Finder>⟧.list_over result) }
+            IsFinder x picked.now (⟦<AllOutlines<'p> as Finder>⟧.list_along result) (⟦<AllOutlines<'p> as Finder>⟧.list_over result) (⟦<AllOutlines<'p> as Finder>⟧.is_near result) }
     {
         AllOutlines { picked }
     }

@@ -46,7 +46,7 @@ pub use carry::{ascending, carried};
 use cross_find::Sight;
 use edge_pick::Picked;
 use exact_frac::OutOfMemory;
-pub use finder::{AllOutlines, Finder};
+pub use finder::{AllOutlines, Finder, next_triangle};
 pub use span::{CountSpan, EdgeSpans};
 use std::alloc::Global;
 pub use step::Sides;
@@ -65,7 +65,7 @@ pub fn spans_counted<S: Sight, F: Finder>(
     finder: &F,
 ) -> Result<Vec<EdgeSpans>, OutOfMemory>
     requires picked { IsPickedIn (S.sight sight.old) picked.now }
-    requires finder { IsFinder (S.sight sight.old) picked.now (F.list_along finder.now) (F.list_over finder.now) }
+    requires finder { IsFinder (S.sight sight.old) picked.now (F.list_along finder.now) (F.list_over finder.now) (F.is_near finder.now) }
     requires room { (bound : ℕ) × IsBound (S.sight sight.old).part (S.sight sight.old).halves picked.now bound × ((S.sight sight.old).tests + bound < 2 ^ 64) }
     ensures entries { IfOk result (λ entries. AllZip (IsEntry (S.sight sight.old)) picked.now.drawn.items entries.items) }
     ensures tested { (bound : ℕ) → IsBound (S.sight sight.old).part (S.sight sight.old).halves picked.now bound → IsTested bound (S.sight sight.old) (S.sight sight.new) }

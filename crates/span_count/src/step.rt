@@ -6,7 +6,7 @@ ghost use Rattle.cross_find.specs.Sights.{IsSeen};
 ghost use Rattle.span_count.specs.Bounds.{IsEndCount};
 ghost use Rattle.span_count.specs.CountSpans.{AreCountSpans};
 ghost use Rattle.span_count.specs.inner.Rests.{IsCornerCount, AreCountsNext, AreRests};
-ghost use Rattle.span_count.specs.inner.Steps.{IsSeenEdge, AreListed, AreListedOver};
+ghost use Rattle.span_count.specs.inner.Steps.{IsSeenEdge, AreAllNear, AreListed, AreListedOver};
 ghost use Rattle.span_count.specs.Tests.{with_tests, IsTested};
 
 use crate::along::walk_edge;
@@ -87,8 +87,8 @@ pub(crate) struct Walked {
     pub(crate) second: Sides,
 }
 
-/// The first edge of a run, from its first end: one test of each triangle, and of each at the edge's two corners once more, then
-/// along the edge.
+/// The first edge of a run, from its first end: one test of each triangle that the finder doesn't pass over at the corner there, and
+/// of each at the edge's two corners once more, then along the edge.
 pub(crate) fn first_edge<S: Sight, F: Finder>(
     alloc: Global,
     sight: &mut S,
@@ -99,6 +99,7 @@ pub(crate) fn first_edge<S: Sight, F: Finder>(
     requires seen { IsSeen (S.sight sight.old) }
     requires edge { IsSeenEdge (S.sight sight.old) edge }
     requires triangles { triangles ≡ length (S.sight sight.old).part.triangles }
+    requires near { (corner : ℕ) → AreAllNear (S.sight sight.old) corner (F.is_near finder.now corner) }
     requires listed { AreListed (S.sight sight.old) edge (F.list_along finder.now edge) }
     requires room { (ends : ℕ) → IsEndCount (S.sight sight.old).part (S.sight sight.old).halves edge ends →
         (S.sight sight.old).tests + (triangles + (length (F.list_along finder.now edge) + ends)) < 2 ^ 64 }
@@ -110,7 +111,7 @@ pub(crate) fn first_edge<S: Sight, F: Finder>(
         IsTested (triangles + (length (F.list_along finder.now edge) + ends)) (S.sight sight.old) (S.sight sight.new) }
 {
     let end = End { edge, at_b: false };
-    let start = begin(sight, edge, triangles);
+    let start = begin(sight, finder, edge, triangles);
     walk_edge(alloc, sight, finder, end, start)
 }
 
@@ -149,18 +150,22 @@ pub(crate) fn next_edge<S: Sight, F: Finder>(
     walk_edge(alloc, sight, finder, to, start)
 }
 
-/// The counts next to the first end of an edge, by one test of each triangle, and of each at the corner there once more.
-fn begin<S: Sight>(sight: &mut S, edge: u32, triangles: u32) -> Start
+/// The counts next to the first end of an edge, by one test of each triangle that the finder doesn't pass over at the corner there,
+/// and of each at the corner once more.
+fn begin<S: Sight, F: Finder>(sight: &mut S, finder: &F, edge: u32, triangles: u32) -> Start
     requires seen { IsSeen (S.sight sight.old) }
     requires edge { IsSeenEdge (S.sight sight.old) edge }
     requires triangles { triangles ≡ length (S.sight sight.old).part.triangles }
+    requires near { (corner : ℕ) → AreAllNear (S.sight sight.old) corner (F.is_near finder.now corner) }
     requires room { (n : ℕ) → IsCornerCount (S.sight sight.old) edge false n → (S.sight sight.old).tests + (triangles + n) < 2 ^ 64 }
     ensures counts { AreCountsNext (S.sight sight.old) edge false result.counts }
     ensures rest { AreRests (S.sight sight.old) edge false result.rest }
-    ensures tested { (n : ℕ) → IsCornerCount (S.sight sight.old) edge false n → S.sight sight.new ≡ with_tests (triangles + n) (S.sight sight.old) }
+    ensures tested { (n : ℕ) → IsCornerCount (S.sight sight.old) edge false n → IsTested (triangles + n) (S.sight sight.old) (S.sight sight.new) }
 {
-    let counts = first_counts(sight, edge, triangles);
-    let own = own_counts(sight, End { edge, at_b: false });
+    let end = End { edge, at_b: false };
+    let corner = corner_of(sight, end);
+    let counts = first_counts(sight, finder, edge, corner, triangles);
+    let own = own_counts(sight, end);
     Start {
         counts,
         rest: counts.minus(own),

@@ -85,7 +85,7 @@ pub(crate) fn walk_step<S: Sight, F: Finder>(
 ) -> Result<Walked, OutOfMemory>
     requires seen { IsSeen (S.sight sight.old) }
     requires picked { IsPickedIn (S.sight sight.old) picked.now }
-    requires finder { IsFinder (S.sight sight.old) picked.now (F.list_along finder.now) (F.list_over finder.now) }
+    requires finder { IsFinder (S.sight sight.old) picked.now (F.list_along finder.now) (F.list_over finder.now) (F.is_near finder.now) }
     requires triangles { triangles ≡ length (S.sight sight.old).part.triangles }
     requires place { step.to.place < length picked.now.drawn.items }
     requires ready { IsReady (S.sight sight.old) picked.now ends.now step.to step.from }

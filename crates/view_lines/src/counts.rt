@@ -5,7 +5,7 @@ ghost use Rattle.lattice.specs.Cuts.{plane_of, toward_of};
 ghost use Rattle.lattice.specs.Points.{of_dir};
 ghost use Rattle.cut_plane.specs.Loops.{AreBorders};
 ghost use Rattle.edge_pick.specs.Picked.{IsPicked};
-ghost use Rattle.out_grid.specs.Grids.{along_list, over_list};
+ghost use Rattle.out_grid.specs.Grids.{along_list, over_list, is_listed_near};
 ghost use Rattle.solid_mesh.specs.Solids.{solid_part, edge_halves};
 ghost use Rattle.span_count.specs.Finders.{IsFinder};
 ghost use Rattle.view_lines.specs.Counts.{AreCountsAlong, AreCountsBeyond};
@@ -58,7 +58,7 @@ fn view_grid(
 ) -> Result<ViewGrid, OutOfMemory>
     requires { (fraction : ℕ) × IsPicked (of_dir d.now) fraction (solid_part solid.now) (edge_halves solid.now) picked.now }
     ensures law { IfOk result (λ g. (tests : ℕ) → IsFinder (record { part = solid_part solid.now; halves = edge_halves solid.now; direction = of_dir d.now; tests = tests })
-        picked.now (along_list g.outlines) (over_list g.outlines)) }
+        picked.now (along_list g.outlines) (over_list g.outlines) (is_listed_near g.outlines)) }
     ensures bound { IfOk result (λ g. IsGridBound (of_dir d.now) solid.now picked.now g.bound) }
     ensures celled { IfOk result (λ g. g.cells ≤ g.bound) }
     ensures small { IfOk result (λ g. g.bound < 2 ^ 48) }

@@ -27,17 +27,17 @@ loop-edge-init g c = entries_none _ _ _ _ _ _ c.new-entries.result.items c.new-e
 
 pub edge_spans-requires-clause-in_range : goal.edge_spans-requires-clause-in_range
 edge_spans-requires-clause-in_range g c =
-    edge_within c.args.solid.now (plane_of c.args.section.now.cut) c.args.meter.now.tests c.args.picked.now c.requires.picked (g.F.Finder.list_along c.args.finder.now) (g.F.Finder.list_over c.args.finder.now) c.requires.finder _
+    edge_within c.args.solid.now (plane_of c.args.section.now.cut) c.args.meter.now.tests c.args.picked.now c.requires.picked (g.F.Finder.list_along c.args.finder.now) (g.F.Finder.list_over c.args.finder.now) _ c.requires.finder _
     (there c.deref-edge-items.result.now c.args.picked.now.drawn.items c.loop-edge.edge-index c.deref-edge-items.ensures.value c.loop-edge-test.true)
 
 pub edge_spans-requires-clause-seen : goal.edge_spans-requires-clause-seen
 edge_spans-requires-clause-seen g c =
-    not_end_on c.args.solid.now (plane_of c.args.section.now.cut) c.args.meter.now.tests c.args.picked.now c.requires.picked (g.F.Finder.list_along c.args.finder.now) (g.F.Finder.list_over c.args.finder.now) c.requires.finder _
+    not_end_on c.args.solid.now (plane_of c.args.section.now.cut) c.args.meter.now.tests c.args.picked.now c.requires.picked (g.F.Finder.list_along c.args.finder.now) (g.F.Finder.list_over c.args.finder.now) _ c.requires.finder _
     (there c.deref-edge-items.result.now c.args.picked.now.drawn.items c.loop-edge.edge-index c.deref-edge-items.ensures.value c.loop-edge-test.true)
 
 pub edge_spans-requires-clause-listed : goal.edge_spans-requires-clause-listed
 edge_spans-requires-clause-listed g c =
-    listed_in_cut c.args.solid.now (plane_of c.args.section.now.cut) c.args.meter.now.tests c.args.picked.now c.requires.picked (g.F.Finder.list_along c.args.finder.now) (g.F.Finder.list_over c.args.finder.now) c.requires.finder _
+    listed_in_cut c.args.solid.now (plane_of c.args.section.now.cut) c.args.meter.now.tests c.args.picked.now c.requires.picked (g.F.Finder.list_along c.args.finder.now) (g.F.Finder.list_over c.args.finder.now) _ c.requires.finder _
     (there c.deref-edge-items.result.now c.args.picked.now.drawn.items c.loop-edge.edge-index c.deref-edge-items.ensures.value c.loop-edge-test.true)
 
 pub edge_spans-requires-clause-room : goal.edge_spans-requires-clause-room
@@ -52,7 +52,7 @@ edge_spans-requires-clause-room g c =
     let items = c.deref-edge-items.result.now in
     let i = c.loop-edge.edge-index in
     let edge = get_or items i 0 in
-    let few = few_along c.args.solid.now plane c.args.meter.now.tests picked c.requires.picked along (g.F.Finder.list_over c.args.finder.now) c.requires.finder edge (there items drawn i c.deref-edge-items.ensures.value c.loop-edge-test.true) in
+    let few = few_along c.args.solid.now plane c.args.meter.now.tests picked c.requires.picked along (g.F.Finder.list_over c.args.finder.now) _ c.requires.finder edge (there items drawn i c.deref-edge-items.ensures.value c.loop-edge-test.true) in
     let one = length s.triangles + length (along edge) + segments in
     let small = at_most (length s.triangles) (length (along edge)) (length picked.outlines.items) segments few in
     let more = one_more plane s (edge_halves c.args.solid.now) drawn cost c.args.meter.now.tests i c.loop-edge.meter.tests c.loop-edge.entries.items c.loop-edge.invariant
@@ -71,7 +71,7 @@ returns-in_err-spans-clause-tested g c bound is =
     let items = c.deref-edge-items.result.now in
     let i = c.loop-edge.edge-index in
     let edge = get_or items i 0 in
-    let few = few_along c.args.solid.now plane c.args.meter.now.tests picked c.requires.picked along (g.F.Finder.list_over c.args.finder.now) c.requires.finder edge (there items drawn i c.deref-edge-items.ensures.value c.loop-edge-test.true) in
+    let few = few_along c.args.solid.now plane c.args.meter.now.tests picked c.requires.picked along (g.F.Finder.list_over c.args.finder.now) _ c.requires.finder edge (there items drawn i c.deref-edge-items.ensures.value c.loop-edge-test.true) in
     let one = length s.triangles + length (along edge) + segments in
     let small = at_most (length s.triangles) (length (along edge)) (length picked.outlines.items) segments few in
     let more = one_more plane s (edge_halves c.args.solid.now) drawn cost c.args.meter.now.tests i c.loop-edge.meter.tests c.loop-edge.entries.items c.loop-edge.invariant
@@ -90,7 +90,7 @@ returns-in_err-push-clause-tested g c bound is =
     let items = c.deref-edge-items.result.now in
     let i = c.loop-edge.edge-index in
     let edge = get_or items i 0 in
-    let few = few_along c.args.solid.now plane c.args.meter.now.tests picked c.requires.picked along (g.F.Finder.list_over c.args.finder.now) c.requires.finder edge (there items drawn i c.deref-edge-items.ensures.value c.loop-edge-test.true) in
+    let few = few_along c.args.solid.now plane c.args.meter.now.tests picked c.requires.picked along (g.F.Finder.list_over c.args.finder.now) _ c.requires.finder edge (there items drawn i c.deref-edge-items.ensures.value c.loop-edge-test.true) in
     let one = length s.triangles + length (along edge) + segments in
     let small = at_most (length s.triangles) (length (along edge)) (length picked.outlines.items) segments few in
     let more = one_more plane s (edge_halves c.args.solid.now) drawn cost c.args.meter.now.tests i c.loop-edge.meter.tests c.loop-edge.entries.items c.loop-edge.invariant
@@ -109,7 +109,7 @@ loop-edge-preserved g c =
     let items = c.deref-edge-items.result.now in
     let i = c.loop-edge.edge-index in
     let edge = get_or items i 0 in
-    let few = few_along c.args.solid.now plane c.args.meter.now.tests picked c.requires.picked along (g.F.Finder.list_over c.args.finder.now) c.requires.finder edge (there items drawn i c.deref-edge-items.ensures.value c.loop-edge-test.true) in
+    let few = few_along c.args.solid.now plane c.args.meter.now.tests picked c.requires.picked along (g.F.Finder.list_over c.args.finder.now) _ c.requires.finder edge (there items drawn i c.deref-edge-items.ensures.value c.loop-edge-test.true) in
     let one = length s.triangles + length (along edge) + segments in
     let small = at_most (length s.triangles) (length (along edge)) (length picked.outlines.items) segments few in
     entries_more plane s (edge_halves c.args.solid.now) drawn cost c.args.meter.now.tests i c.loop-edge.meter.tests c.loop-edge.entries.items c.loop-edge.invariant

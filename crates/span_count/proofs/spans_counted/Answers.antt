@@ -26,7 +26,7 @@ pub walk_step-requires-clause-finder : goal.walk_step-requires-clause-finder
 walk_step-requires-clause-finder g c =
     let tested = c.loop-step.invariant.tested c.requires.room.1.ends c.requires.room.1.are_ends in
     finder_after (g.S.Sight.sight c.args.sight.now) (g.S.Sight.sight c.loop-step.sight) tested.0 tested.2 c.args.picked.now (g.F.Finder.list_along c.args.finder.now)
-    (g.F.Finder.list_over c.args.finder.now) c.requires.finder
+    (g.F.Finder.list_over c.args.finder.now) (g.F.Finder.is_near c.args.finder.now) c.requires.finder
 
 pub walk_step-requires-clause-triangles : goal.walk_step-requires-clause-triangles
 walk_step-requires-clause-triangles g c =

@@ -1,6 +1,6 @@
 use Rattle.std.proofs.Common.{ap, sym, subst, arith}
 use Rattle.cross_find.specs.Sights.{SightState}
-use Rattle.out_grid.specs.Grids.{along_list, over_list}
+use Rattle.out_grid.specs.Grids.{along_list, over_list, is_listed_near}
 use Rattle.span_count.specs.Bounds.{IsBound}
 use Rattle.span_count.specs.Finders.{IsFinder}
 use Rattle.part_tests.proofs.grids.through_grid.Goals as goal
@@ -14,4 +14,4 @@ spans_counted-requires-clause-room c = (
 
 pub spans_counted-requires-clause-finder : goal.spans_counted-requires-clause-finder
 spans_counted-requires-clause-finder c =
-    subst (λ (x : SightState). IsFinder x c.in_ok-picked.picked (along_list c.in_ok-grid.grid) (over_list c.in_ok-grid.grid)) (sym c.new-sight.ensures) (c.in_ok-grid.ensures.law 0)
+    subst (λ (x : SightState). IsFinder x c.in_ok-picked.picked (along_list c.in_ok-grid.grid) (over_list c.in_ok-grid.grid) (is_listed_near c.in_ok-grid.grid)) (sym c.new-sight.ensures) (c.in_ok-grid.ensures.law 0)

@@ -1,6 +1,13 @@
+use Rattle.std.proofs.Common.{◌-◌, ◌≤◌}
 use Rattle.span_count.proofs.Walks.{AreFirstSoFar}
 use Rattle.span_count.proofs.edge_tests.first_counts.Given as goal
 
 -- the sums of the tests so far
 abbrev pub invariant-loop-tri : goal.invariant-loop-tri
-invariant-loop-tri g l = AreFirstSoFar (g.S.Sight.sight l.fn.sight) l.edge l.tri (g.S.Sight.sight l.sight) l.left l.right
+invariant-loop-tri g l = record {
+  within : l.tri ≤ l.triangles;
+  sums : AreFirstSoFar (g.S.Sight.sight l.fn.sight) l.edge l.tri (g.S.Sight.sight l.sight) l.left l.right;
+}
+
+abbrev pub decreases-loop-tri : goal.decreases-loop-tri
+decreases-loop-tri g l = l.triangles - l.tri

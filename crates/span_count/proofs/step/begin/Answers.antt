@@ -1,7 +1,7 @@
-use Rattle.std.proofs.Common.{ℕ, ◌+◌, ◌<◌, ◌^◌, false, [], arith}
+use Rattle.std.proofs.Common.{ℕ, ◌+◌, ◌<◌, ◌≤◌, ◌^◌, false, [], arith}
 use Rattle.span_count.proofs.Walks.{edge_after}
 use Rattle.span_count.proofs.Stars.{corner_count}
-use Rattle.span_count.proofs.Moved.{seen_after, room_after, corner_before, own_before, near_last}
+use Rattle.span_count.proofs.Moved.{seen_after, room_after, corner_before, own_before, near_most}
 use Rattle.span_count.proofs.Around.{counts_small, rests_of}
 use Rattle.span_count.proofs.step.begin.Goals as goal
 
@@ -16,17 +16,23 @@ first_counts-counts-requires-clause-room g c =
 
 pub own_counts-own-requires-clause-seen : goal.own_counts-own-requires-clause-seen
 own_counts-own-requires-clause-seen g c =
-    seen_after (g.S.Sight.sight c.args.sight.now) (g.S.Sight.sight c.first_counts-counts.new.sight) c.args.triangles c.first_counts-counts.ensures.tested c.requires.seen
+    let (made, few, e) = c.first_counts-counts.ensures.tested in
+    seen_after (g.S.Sight.sight c.args.sight.now) (g.S.Sight.sight c.first_counts-counts.new.sight) made e c.requires.seen
 
 pub own_counts-own-requires-clause-edge : goal.own_counts-own-requires-clause-edge
 own_counts-own-requires-clause-edge g c =
-    edge_after (g.S.Sight.sight c.args.sight.now) (g.S.Sight.sight c.first_counts-counts.new.sight) c.args.triangles c.first_counts-counts.ensures.tested c.args.edge [] c.requires.edge
+    let (made, few, e) = c.first_counts-counts.ensures.tested in
+    edge_after (g.S.Sight.sight c.args.sight.now) (g.S.Sight.sight c.first_counts-counts.new.sight) made e c.args.edge [] c.requires.edge
 
 pub own_counts-own-requires-clause-room : goal.own_counts-own-requires-clause-room
 own_counts-own-requires-clause-room g c n h =
     let x = g.S.Sight.sight c.args.sight.now in
     let mid = g.S.Sight.sight c.first_counts-counts.new.sight in
-    room_after x mid c.args.triangles c.first_counts-counts.ensures.tested n (c.requires.room n (corner_before x mid c.args.triangles c.first_counts-counts.ensures.tested c.args.edge false n h))
+    let (made, few, e) = c.first_counts-counts.ensures.tested in
+    room_after x mid made e n (fits x.tests made c.args.triangles n few (c.requires.room n (corner_before x mid made e c.args.edge false n h)))
+  where
+    fits : (t k b n : ℕ) → k ≤ b → t + (b + n) < 2 ^ 64 → t + (k + n) < 2 ^ 64
+    fits t k b n few h = omega arith
 
 pub minus-requires-clause-small : goal.minus-requires-clause-small
 minus-requires-clause-small g c =
@@ -36,10 +42,11 @@ pub returns-clause-rest : goal.returns-clause-rest
 returns-clause-rest g c =
     let x = g.S.Sight.sight c.args.sight.now in
     let mid = g.S.Sight.sight c.first_counts-counts.new.sight in
+    let (made, few, e) = c.first_counts-counts.ensures.tested in
     rests_of x c.args.edge false c.first_counts-counts.result c.own_counts-own.result c.minus.result c.first_counts-counts.ensures.counts
-    (own_before x mid c.args.triangles c.first_counts-counts.ensures.tested c.args.edge false c.own_counts-own.result c.own_counts-own.ensures.own) c.minus.ensures.left c.minus.ensures.right
+    (own_before x mid made e c.args.edge false c.own_counts-own.result c.own_counts-own.ensures.own) c.minus.ensures.left c.minus.ensures.right
 
 pub returns-clause-tested : goal.returns-clause-tested
 returns-clause-tested g c =
-    near_last (g.S.Sight.sight c.args.sight.now) c.args.edge false c.args.triangles (g.S.Sight.sight c.first_counts-counts.new.sight) (g.S.Sight.sight c.own_counts-own.new.sight)
+    near_most (g.S.Sight.sight c.args.sight.now) c.args.edge false c.args.triangles (g.S.Sight.sight c.first_counts-counts.new.sight) (g.S.Sight.sight c.own_counts-own.new.sight)
     c.first_counts-counts.ensures.tested c.own_counts-own.ensures.tested

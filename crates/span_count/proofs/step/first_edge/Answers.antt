@@ -18,35 +18,40 @@ walk_edge-requires-clause-seen g c =
     let x = g.S.Sight.sight c.args.sight.now in
     let now = g.S.Sight.sight c.begin-start.new.sight in
     let (m, h) = corner_count x c.args.edge c.requires.seen c.requires.edge.in_range false in
-    seen_after x now (c.args.triangles + m) (c.begin-start.ensures.tested m h) c.requires.seen
+    let (made, few, e) = c.begin-start.ensures.tested m h in
+    seen_after x now made e c.requires.seen
 
 pub walk_edge-requires-clause-edge : goal.walk_edge-requires-clause-edge
 walk_edge-requires-clause-edge g c =
     let x = g.S.Sight.sight c.args.sight.now in
     let now = g.S.Sight.sight c.begin-start.new.sight in
     let (m, h) = corner_count x c.args.edge c.requires.seen c.requires.edge.in_range false in
-    edge_after x now (c.args.triangles + m) (c.begin-start.ensures.tested m h) c.args.edge [] c.requires.edge
+    let (made, few, e) = c.begin-start.ensures.tested m h in
+    edge_after x now made e c.args.edge [] c.requires.edge
 
 pub walk_edge-requires-clause-counts : goal.walk_edge-requires-clause-counts
 walk_edge-requires-clause-counts g c =
     let x = g.S.Sight.sight c.args.sight.now in
     let now = g.S.Sight.sight c.begin-start.new.sight in
     let (m, h) = corner_count x c.args.edge c.requires.seen c.requires.edge.in_range false in
-    counts_after x now (c.args.triangles + m) (c.begin-start.ensures.tested m h) c.args.edge false c.begin-start.result.counts c.begin-start.ensures.counts
+    let (made, few, e) = c.begin-start.ensures.tested m h in
+    counts_after x now made e c.args.edge false c.begin-start.result.counts c.begin-start.ensures.counts
 
 pub walk_edge-requires-clause-rest : goal.walk_edge-requires-clause-rest
 walk_edge-requires-clause-rest g c =
     let x = g.S.Sight.sight c.args.sight.now in
     let now = g.S.Sight.sight c.begin-start.new.sight in
     let (m, h) = corner_count x c.args.edge c.requires.seen c.requires.edge.in_range false in
-    rests_after x now (c.args.triangles + m) (c.begin-start.ensures.tested m h) c.args.edge false c.begin-start.result.rest c.begin-start.ensures.rest
+    let (made, few, e) = c.begin-start.ensures.tested m h in
+    rests_after x now made e c.args.edge false c.begin-start.result.rest c.begin-start.ensures.rest
 
 pub walk_edge-requires-clause-listed : goal.walk_edge-requires-clause-listed
 walk_edge-requires-clause-listed g c =
     let x = g.S.Sight.sight c.args.sight.now in
     let now = g.S.Sight.sight c.begin-start.new.sight in
     let (m, h) = corner_count x c.args.edge c.requires.seen c.requires.edge.in_range false in
-    listed_after x now (c.args.triangles + m) (c.begin-start.ensures.tested m h) c.args.edge (g.F.Finder.list_along c.args.finder.now c.args.edge) c.requires.listed
+    let (made, few, e) = c.begin-start.ensures.tested m h in
+    listed_after x now made e c.args.edge (g.F.Finder.list_along c.args.finder.now c.args.edge) c.requires.listed
 
 pub walk_edge-requires-clause-room : goal.walk_edge-requires-clause-room
 walk_edge-requires-clause-room g c =
@@ -58,21 +63,24 @@ returns-clause-spans g c =
     let x = g.S.Sight.sight c.args.sight.now in
     let now = g.S.Sight.sight c.begin-start.new.sight in
     let (m, h) = corner_count x c.args.edge c.requires.seen c.requires.edge.in_range false in
-    subst (λ y. (e : Edge y.part) → IsNumbered y.halves c.args.edge e → IfOk c.walk_edge.result (λ walked. AreCountSpans y.direction {s = y.part} e walked.spans.items)) (c.begin-start.ensures.tested m h) c.walk_edge.ensures.spans
+    let (made, few, e) = c.begin-start.ensures.tested m h in
+    subst (λ y. (e : Edge y.part) → IsNumbered y.halves c.args.edge e → IfOk c.walk_edge.result (λ walked. AreCountSpans y.direction {s = y.part} e walked.spans.items)) e c.walk_edge.ensures.spans
 
 pub returns-clause-first : goal.returns-clause-first
 returns-clause-first g c =
     let x = g.S.Sight.sight c.args.sight.now in
     let now = g.S.Sight.sight c.begin-start.new.sight in
     let (m, h) = corner_count x c.args.edge c.requires.seen c.requires.edge.in_range false in
-    IfOk-weaker c.walk_edge.result _ (λ walked. AreRests x c.args.edge false walked.first) (λ walked r. rests_before x now (c.args.triangles + m) (c.begin-start.ensures.tested m h) c.args.edge false walked.first r) c.walk_edge.ensures.first
+    let (made, few, e) = c.begin-start.ensures.tested m h in
+    IfOk-weaker c.walk_edge.result _ (λ walked. AreRests x c.args.edge false walked.first) (λ walked r. rests_before x now made e c.args.edge false walked.first r) c.walk_edge.ensures.first
 
 pub returns-clause-second : goal.returns-clause-second
 returns-clause-second g c =
     let x = g.S.Sight.sight c.args.sight.now in
     let now = g.S.Sight.sight c.begin-start.new.sight in
     let (m, h) = corner_count x c.args.edge c.requires.seen c.requires.edge.in_range false in
-    IfOk-weaker c.walk_edge.result _ (λ walked. AreRests x c.args.edge true walked.second) (λ walked r. rests_before x now (c.args.triangles + m) (c.begin-start.ensures.tested m h) c.args.edge true walked.second r) c.walk_edge.ensures.second
+    let (made, few, e) = c.begin-start.ensures.tested m h in
+    IfOk-weaker c.walk_edge.result _ (λ walked. AreRests x c.args.edge true walked.second) (λ walked r. rests_before x now made e c.args.edge true walked.second r) c.walk_edge.ensures.second
 
 pub returns-clause-tested : goal.returns-clause-tested
 returns-clause-tested g c =

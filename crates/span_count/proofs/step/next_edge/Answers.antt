@@ -9,7 +9,7 @@ use Rattle.span_count.specs.Bounds.{IsEndCount}
 use Rattle.span_count.specs.inner.Steps.{AreListedOver}
 use Rattle.span_count.specs.Tests.{IsTested}
 use Rattle.span_count.proofs.Stars.{edge_at, corner_count}
-use Rattle.span_count.proofs.Moved.{seen_after, counts_after, rests_after, rests_before, room_near, room_far, tested_far}
+use Rattle.span_count.proofs.Moved.{seen_after, counts_after, rests_after, rests_before, room_near, room_far, tested_just, tested_far}
 use Rattle.span_count.proofs.step.next_edge.Goals as goal
 
 pub turn_to-start-requires-clause-listed : goal.turn_to-start-requires-clause-listed
@@ -68,7 +68,7 @@ walk_edge-requires-clause-room g c =
     let list = length (g.F.Finder.list_along c.args.finder.now c.args.to.edge) in
     room_far x c.requires.seen c.args.to.edge c.requires.to.in_range c.args.to.at_b (length (g.F.Finder.list_over c.args.finder.now c.corner_of-corner.result)) list
     (subst (λ (n : ℕ). (ends : ℕ) → IsEndCount x.part x.halves c.args.to.edge ends → x.tests + (length (g.F.Finder.list_over c.args.finder.now n) + (list + ends)) < 2 ^ 64) (sym (c.corner_of-corner.ensures.number f at)) (λ ends. c.requires.room f ends at))
-    (g.S.Sight.sight c.turn_to-start.new.sight) c.turn_to-start.ensures.tested
+    (g.S.Sight.sight c.turn_to-start.new.sight) (λ m h. tested_just x (g.S.Sight.sight c.turn_to-start.new.sight) _ (c.turn_to-start.ensures.tested m h))
 
 pub returns-clause-spans : goal.returns-clause-spans
 returns-clause-spans g c =
@@ -97,4 +97,5 @@ returns-clause-tested g c f ends at h =
     let new = g.S.Sight.sight c.walk_edge.new.sight in
     let list = length (g.F.Finder.list_along c.args.finder.now c.args.to.edge) in
     subst (λ (n : ℕ). IsTested (length (g.F.Finder.list_over c.args.finder.now n) + (list + ends)) x new) (c.corner_of-corner.ensures.number f at)
-    (tested_far x c.requires.seen c.args.to.edge c.requires.to.in_range c.args.to.at_b (length (g.F.Finder.list_over c.args.finder.now c.corner_of-corner.result)) list (g.S.Sight.sight c.turn_to-start.new.sight) new c.turn_to-start.ensures.tested c.walk_edge.ensures.tested ends h)
+    (tested_far x c.requires.seen c.args.to.edge c.requires.to.in_range c.args.to.at_b (length (g.F.Finder.list_over c.args.finder.now c.corner_of-corner.result)) list (g.S.Sight.sight c.turn_to-start.new.sight) new
+    (λ m h. tested_just x (g.S.Sight.sight c.turn_to-start.new.sight) _ (c.turn_to-start.ensures.tested m h)) c.walk_edge.ensures.tested ends h)

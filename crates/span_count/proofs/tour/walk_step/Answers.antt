@@ -17,19 +17,22 @@ drawn_at drawn place edge within is = slice_get_read drawn (length drawn) place 
 pub first_edge-requires-clause-edge : goal.first_edge-requires-clause-edge
 first_edge-requires-clause-edge g c =
     let at = drawn_at c.args.picked.now.drawn.items c.args.step.to.place c.index-edge.result.now c.requires.place c.index-edge.ensures in
-    seen_edge (g.S.Sight.sight c.args.sight.now) c.requires.seen c.args.picked.now c.requires.picked _ _ c.requires.finder c.index-edge.result.now (there_at _ _ _ at)
+    seen_edge (g.S.Sight.sight c.args.sight.now) c.requires.seen c.args.picked.now c.requires.picked _ _ _ c.requires.finder c.index-edge.result.now (there_at _ _ _ at)
 
 pub first_edge-requires-clause-listed : goal.first_edge-requires-clause-listed
 first_edge-requires-clause-listed g c =
     let at = drawn_at c.args.picked.now.drawn.items c.args.step.to.place c.index-edge.result.now c.requires.place c.index-edge.ensures in
-    listed (g.S.Sight.sight c.args.sight.now) c.requires.seen c.args.picked.now c.requires.picked _ _ c.requires.finder c.index-edge.result.now (there_at _ _ _ at)
+    listed (g.S.Sight.sight c.args.sight.now) c.requires.seen c.args.picked.now c.requires.picked _ _ _ c.requires.finder c.index-edge.result.now (there_at _ _ _ at)
+
+pub first_edge-requires-clause-near : goal.first_edge-requires-clause-near
+first_edge-requires-clause-near g c number corner f = c.requires.finder.covering number corner f
 
 pub first_edge-requires-clause-room : goal.first_edge-requires-clause-room
 first_edge-requires-clause-room g c ends count =
     let x = g.S.Sight.sight c.args.sight.now in
     let p = c.args.picked.now in
     let at = drawn_at p.drawn.items c.args.step.to.place c.index-edge.result.now c.requires.place c.index-edge.ensures in
-    let few = few_along x c.requires.seen p c.requires.picked (g.F.Finder.list_along c.args.finder.now) (g.F.Finder.list_over c.args.finder.now) c.requires.finder c.index-edge.result.now (there_at p.drawn.items c.args.step.to.place c.index-edge.result.now at) in
+    let few = few_along x c.requires.seen p c.requires.picked (g.F.Finder.list_along c.args.finder.now) (g.F.Finder.list_over c.args.finder.now) _ c.requires.finder c.index-edge.result.now (there_at p.drawn.items c.args.step.to.place c.index-edge.result.now at) in
     first_fits x.tests (length x.part.triangles) c.args.triangles (length (g.F.Finder.list_along c.args.finder.now c.index-edge.result.now)) (length p.outlines.items) ends
     (subst (λ (from : Option DrawnEnd). x.tests + cost_of (length x.part.triangles) (length p.outlines.items) ends from < 2 ^ 64) c.in-None.is (c.requires.room c.index-edge.result.now ends at count)) c.requires.triangles few
 
@@ -51,12 +54,12 @@ next_edge-requires-clause-from g c =
     subst (IsReady (g.S.Sight.sight c.args.sight.now) c.args.picked.now c.args.ends.now c.args.step.to) c.in-Some.is c.requires.ready in
     let within = slice_get_within c.args.picked.now.drawn.items c.in-Some.from.place ready.1.edge ready.1.drawn in
     let at = drawn_at c.args.picked.now.drawn.items c.in-Some.from.place c.index.result.now within c.index.ensures in
-    seen_edge (g.S.Sight.sight c.args.sight.now) c.requires.seen c.args.picked.now c.requires.picked _ _ c.requires.finder c.index.result.now (there_at _ _ _ at)
+    seen_edge (g.S.Sight.sight c.args.sight.now) c.requires.seen c.args.picked.now c.requires.picked _ _ _ c.requires.finder c.index.result.now (there_at _ _ _ at)
 
 pub next_edge-requires-clause-to : goal.next_edge-requires-clause-to
 next_edge-requires-clause-to g c =
     let at = drawn_at c.args.picked.now.drawn.items c.args.step.to.place c.index-edge.result.now c.requires.place c.index-edge.ensures in
-    seen_edge (g.S.Sight.sight c.args.sight.now) c.requires.seen c.args.picked.now c.requires.picked _ _ c.requires.finder c.index-edge.result.now (there_at _ _ _ at)
+    seen_edge (g.S.Sight.sight c.args.sight.now) c.requires.seen c.args.picked.now c.requires.picked _ _ _ c.requires.finder c.index-edge.result.now (there_at _ _ _ at)
 
 pub next_edge-requires-clause-one_corner : goal.next_edge-requires-clause-one_corner
 next_edge-requires-clause-one_corner g c e f e_at f_at =
@@ -77,12 +80,12 @@ next_edge-requires-clause-rests g c =
 pub next_edge-requires-clause-listed : goal.next_edge-requires-clause-listed
 next_edge-requires-clause-listed g c =
     let at = drawn_at c.args.picked.now.drawn.items c.args.step.to.place c.index-edge.result.now c.requires.place c.index-edge.ensures in
-    listed (g.S.Sight.sight c.args.sight.now) c.requires.seen c.args.picked.now c.requires.picked _ _ c.requires.finder c.index-edge.result.now (there_at _ _ _ at)
+    listed (g.S.Sight.sight c.args.sight.now) c.requires.seen c.args.picked.now c.requires.picked _ _ _ c.requires.finder c.index-edge.result.now (there_at _ _ _ at)
 
 pub next_edge-requires-clause-listed_over : goal.next_edge-requires-clause-listed_over
 next_edge-requires-clause-listed_over g c f f_at =
     let at = drawn_at c.args.picked.now.drawn.items c.args.step.to.place c.index-edge.result.now c.requires.place c.index-edge.ensures in
-    listed_over (g.S.Sight.sight c.args.sight.now) c.requires.seen c.args.picked.now c.requires.picked _ _ c.requires.finder c.index-edge.result.now (there_at _ _ _ at) f c.args.step.to.at_b
+    listed_over (g.S.Sight.sight c.args.sight.now) c.requires.seen c.args.picked.now c.requires.picked _ _ _ c.requires.finder c.index-edge.result.now (there_at _ _ _ at) f c.args.step.to.at_b
 
 pub next_edge-requires-clause-room : goal.next_edge-requires-clause-room
 next_edge-requires-clause-room g c f ends f_at count =
@@ -94,8 +97,8 @@ next_edge-requires-clause-room g c f ends f_at count =
     let there = there_at p.drawn.items c.args.step.to.place c.index-edge.result.now at in
     next_fits x.tests (length (over (number_at f c.args.step.to.at_b))) (length (along c.index-edge.result.now)) (length p.outlines.items) ends
     (subst (λ (from : Option DrawnEnd). x.tests + cost_of (length x.part.triangles) (length p.outlines.items) ends from < 2 ^ 64) c.in-Some.is (c.requires.room c.index-edge.result.now ends at count))
-    (few_over x c.requires.seen p c.requires.picked along over c.requires.finder c.index-edge.result.now there f c.args.step.to.at_b)
-    (few_along x c.requires.seen p c.requires.picked along over c.requires.finder c.index-edge.result.now there)
+    (few_over x c.requires.seen p c.requires.picked along over _ c.requires.finder c.index-edge.result.now there f c.args.step.to.at_b)
+    (few_along x c.requires.seen p c.requires.picked along over _ c.requires.finder c.index-edge.result.now there)
 
 pub returns-in-None-clause-walked : goal.returns-in-None-clause-walked
 returns-in-None-clause-walked g c number here =
@@ -112,7 +115,7 @@ returns-in-None-clause-tested g c number ends here count =
     let over = g.F.Finder.list_over c.args.finder.now in
     let at = drawn_at p.drawn.items c.args.step.to.place edge c.requires.place c.index-edge.ensures in
     let there = there_at p.drawn.items c.args.step.to.place edge at in
-    let few = few_along x c.requires.seen p c.requires.picked along over c.requires.finder edge there in
+    let few = few_along x c.requires.seen p c.requires.picked along over _ c.requires.finder edge there in
     let counted : IsEndCount x.part x.halves edge ends = subst (λ (n : ℕ). IsEndCount x.part x.halves n ends) (same_Some number edge (sym here ∙ at)) count in
     subst (λ (from : Option DrawnEnd). IsTested (cost_of (length x.part.triangles) (length p.outlines.items) ends from) x (g.S.Sight.sight c.first_edge.new.sight)) (sym c.in-None.is)
     (tested_within x (g.S.Sight.sight c.first_edge.new.sight) (c.args.triangles + (length (along edge) + ends)) (length x.part.triangles + (length p.outlines.items + ends))
@@ -133,10 +136,10 @@ returns-in-Some-clause-tested g c number ends here count =
     let over = g.F.Finder.list_over c.args.finder.now in
     let at = drawn_at p.drawn.items c.args.step.to.place edge c.requires.place c.index-edge.ensures in
     let there = there_at p.drawn.items c.args.step.to.place edge at in
-    let few = few_along x c.requires.seen p c.requires.picked along over c.requires.finder edge there in
+    let few = few_along x c.requires.seen p c.requires.picked along over _ c.requires.finder edge there in
     let counted : IsEndCount x.part x.halves edge ends = subst (λ (n : ℕ). IsEndCount x.part x.halves n ends) (same_Some number edge (sym here ∙ at)) count in
     let v = over (number_at counted.edge c.args.step.to.at_b) in
     subst (λ (from : Option DrawnEnd). IsTested (cost_of (length x.part.triangles) (length p.outlines.items) ends from) x (g.S.Sight.sight c.next_edge.new.sight)) (sym c.in-Some.is)
     (tested_within x (g.S.Sight.sight c.next_edge.new.sight) (length v + (length (along edge) + ends)) (length p.outlines.items + (length p.outlines.items + ends))
     (next_most (length v) (length (along edge)) (length p.outlines.items) ends
-    (few_over x c.requires.seen p c.requires.picked along over c.requires.finder edge there counted.edge c.args.step.to.at_b) few) (c.next_edge.ensures.tested counted.edge ends counted.numbered counted))
+    (few_over x c.requires.seen p c.requires.picked along over _ c.requires.finder edge there counted.edge c.args.step.to.at_b) few) (c.next_edge.ensures.tested counted.edge ends counted.numbered counted))

@@ -3,7 +3,7 @@ use Rattle.lattice.specs.Creases.{fraction_of}
 use Rattle.lattice.specs.Points.{of_dir}
 use Rattle.cross_find.specs.Sights.{SightState}
 use Rattle.cross_find.specs.SolidSights.{state_of}
-use Rattle.out_grid.specs.Grids.{along_list, over_list}
+use Rattle.out_grid.specs.Grids.{along_list, over_list, is_listed_near}
 use Rattle.span_count.specs.Bounds.{IsRunCount}
 use Rattle.span_count.specs.Finders.{IsFinder}
 use Rattle.view_lines.proofs.CountedEdges.{has_room, few_tests, counts_of_entries}
@@ -18,7 +18,7 @@ bound-bound-requires c = (of_dir c.args.d.now, fraction_of c.args.crease, c.requ
 
 pub spans_counted-requires-clause-finder : goal.spans_counted-requires-clause-finder
 spans_counted-requires-clause-finder c =
-    subst (λ (x : SightState). IsFinder x c.args.picked.now (along_list c.in_ok-grid.grid.outlines) (over_list c.in_ok-grid.grid.outlines)) (sym c.new-sight.ensures) (c.in_ok-grid.ensures.law 0)
+    subst (λ (x : SightState). IsFinder x c.args.picked.now (along_list c.in_ok-grid.grid.outlines) (over_list c.in_ok-grid.grid.outlines) (is_listed_near c.in_ok-grid.grid.outlines)) (sym c.new-sight.ensures) (c.in_ok-grid.ensures.law 0)
 
 pub spans_counted-requires-clause-room : goal.spans_counted-requires-clause-room
 spans_counted-requires-clause-room c =

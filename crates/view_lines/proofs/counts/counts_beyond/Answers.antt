@@ -3,7 +3,7 @@ use Rattle.lattice.specs.Creases.{fraction_of}
 use Rattle.lattice.specs.Cuts.{plane_of}
 use Rattle.lattice.specs.Triple.{Triple}
 use Rattle.edge_pick.specs.Picked.{IsPicked}
-use Rattle.out_grid.specs.Grids.{along_list, over_list}
+use Rattle.out_grid.specs.Grids.{along_list, over_list, is_listed_near}
 use Rattle.solid_mesh.specs.Solids.{solid_part, edge_halves}
 use Rattle.span_count.specs.Finders.{IsFinder}
 use Rattle.view_lines.specs.Numbers.{IsGridBound}
@@ -28,7 +28,7 @@ pub spans_cut-requires-clause-finder : goal.spans_cut-requires-clause-finder
 spans_cut-requires-clause-finder c =
     let solid = c.args.solid.now in
     let grid = c.in_ok-grid.grid in
-    subst (λ (v : Triple). IsFinder (record { part = solid_part solid; halves = edge_halves solid; direction = v; tests = 0 }) c.args.picked.now (along_list grid.outlines) (over_list grid.outlines))
+    subst (λ (v : Triple). IsFinder (record { part = solid_part solid; halves = edge_halves solid; direction = v; tests = 0 }) c.args.picked.now (along_list grid.outlines) (over_list grid.outlines) (is_listed_near grid.outlines))
     c.dir-d.ensures (c.in_ok-grid.ensures.law 0)
 
 pub spans_cut-requires-clause-room : goal.spans_cut-requires-clause-room

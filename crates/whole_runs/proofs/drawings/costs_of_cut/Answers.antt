@@ -4,7 +4,7 @@ use Rattle.lattice.specs.Cuts.{Plane}
 use Rattle.lattice.specs.Triple.{Triple}
 use Rattle.cut_plane.specs.Loops.{AreBorders}
 use Rattle.edge_pick.specs.Picked.{IsPicked}
-use Rattle.out_grid.specs.Grids.{along_list, over_list}
+use Rattle.out_grid.specs.Grids.{along_list, over_list, is_listed_near}
 use Rattle.solid_mesh.specs.Solids.{solid_part, edge_halves}
 use Rattle.span_count.specs.Finders.{IsFinder}
 use Rattle.whole_runs.proofs.drawings.costs_of_cut.Goals as goal
@@ -36,7 +36,7 @@ pub spans_cut-requires-clause-finder : goal.spans_cut-requires-clause-finder
 spans_cut-requires-clause-finder c =
     let solid = c.args.solid.now in
     let grid = c.in_ok-grid.grid in
-    subst (λ (v : Triple). IsFinder (record { part = solid_part solid; halves = edge_halves solid; direction = v; tests = 0 }) c.in_ok-picked.picked (along_list grid) (over_list grid))
+    subst (λ (v : Triple). IsFinder (record { part = solid_part solid; halves = edge_halves solid; direction = v; tests = 0 }) c.in_ok-picked.picked (along_list grid) (over_list grid) (is_listed_near grid))
     c.dir-d.ensures (c.in_ok-grid.ensures.law 0)
 
 pub spans_cut-requires-clause-room : goal.spans_cut-requires-clause-room

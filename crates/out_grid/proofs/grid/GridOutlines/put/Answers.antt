@@ -1,7 +1,7 @@
 use Rattle.std.proofs.Common.{◌≡◌, ℕ, ◌+◌, ◌*◌, ◌<◌, Result, Ok, Err, OnOk, OnErr, inl, [], get_or, Vec, Global, length, refl, sym, ◌∙◌, arith}
 use Rattle.std.proofs.lemmas.List.{length-map}
 use Rattle.solid_mesh.specs.inner.Stars.{lists_of}
-use Rattle.out_grid.specs.Grids.{along_list, over_list}
+use Rattle.out_grid.specs.Grids.{along_list, over_list, is_listed_near}
 use Rattle.out_grid.proofs.CellPuts.{cell_below}
 use Rattle.out_grid.proofs.Puts.{put_other_cell, over_here, over_elsewhere, over_maybe, put_law}
 use Rattle.out_grid.proofs.grid.GridOutlines.put.Goals as goal
@@ -54,9 +54,9 @@ pub returns-clause-law : goal.returns-clause-law
 returns-clause-law c x p f listed =
     let before = c.args.self.now in
     let long = still_none before.cells c.put_in.new.cells c.put_in.ensures.long in
-    either c.put_in.result (λ is. put_law x p (along_list before) (over_list before) _ _ c.args.outline (λ i. refl)
+    either c.put_in.result (λ is. put_law x p (along_list before) (over_list before) _ _ (is_listed_near before) c.args.outline (λ i. refl)
     (over_maybe (lists_of before.cells.items) (lists_of c.put_in.new.cells.items) ((c.args.column * before.columns) + c.args.row) c.args.outline
     (inside before.cells before.columns c.args.column c.args.row before.full c.requires.column c.requires.row) is
     before.corner_cells.items (length before.cells.items) (none_is before.cells) (length c.put_in.new.cells.items) (still_none before.cells c.put_in.new.cells c.put_in.ensures.long) c.requires.not_there) f listed)
-    (λ kept. put_law x p (along_list before) (over_list before) _ _ c.args.outline (λ i. refl) (λ k. inl (λ i. get_or (kept i) (get_or before.corner_cells.items k (long i)) [])) f listed)
+    (λ kept. put_law x p (along_list before) (over_list before) _ _ (is_listed_near before) c.args.outline (λ i. refl) (λ k. inl (λ i. get_or (kept i) (get_or before.corner_cells.items k (long i)) [])) f listed)
     c.put_in.ensures.put c.put_in.ensures.kept

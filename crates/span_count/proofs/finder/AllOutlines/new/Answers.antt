@@ -16,4 +16,5 @@ returns-clause-law c x picked =
       once_over = λ corner within i j d h l. differ _ _ (AllPairs-from_increasing outlines picked.1.outlines.ascending i j d h l);
       changing = λ i k e o drawn listed at there changes. listed;
       passing = λ number k c o corner listed there passes. listed;
+      covering = λ number c f corner beside. tt;
     }
