@@ -1,5 +1,5 @@
 -- Sums of what the tests of triangles next to an end of an edge say, one triangle after another.
-use Rattle.std.proofs.Common.{◌≡◌, ◌⊎◌, ℕ, ◌+◌, ◌*◌, ◌<◌, ◌^◌, inl, inr, to_z, of_z, List, [], ◌∷◌, ◌++◌, length, Some, Bool, slice_get, refl, sym, subst, ap, ◌∙◌, arith, length-append, add-zero}
+use Rattle.std.proofs.Common.{◌≡◌, ◌⊎◌, ℕ, zero, suc, ◌+◌, ◌-◌, ◌*◌, ◌<◌, ◌≤◌, ◌^◌, inl, inr, to_z, of_z, List, [], ◌∷◌, ◌++◌, length, Some, Bool, slice_get, refl, sym, subst, ap, ◌∙◌, arith, length-append, add-zero}
 use Rattle.std.specs.Prelude.{ℤ, pos, ◌+ℤ◌, ◌≤ℤ◌, ◌<ℤ◌, sum}
 use Rattle.std.specs.Int.{w64}
 use Rattle.std.proofs.lemmas.Int.{ints}
@@ -29,7 +29,7 @@ module _ (c : Plane) (s : Part) (halves : List ℕ) (edge : ℕ) (at_b : Bool) w
 
   -- after n triangles, where so many tests were made before and now
   pub record AreCoversSoFar (n before now : ℕ) (left right : ℤ) : Type 0 where
-    pub tested : now ≡ before + n
+    pub tested : (before ≤ now) × (now ≤ before + n)
     pub on_left : AreFirst to_left n left
     pub on_right : AreFirst to_right n right
     pub left_least : pos 0 ≤ℤ left
@@ -60,7 +60,7 @@ module _ (c : Plane) (s : Part) (halves : List ℕ) (edge : ℕ) (at_b : Bool) w
 
   pub covers_none : (before : ℕ) → AreCoversSoFar 0 before before (pos 0) (pos 0)
   covers_none before = record {
-    tested = sym (add-zero before);
+    tested = (omega arith, omega arith);
     on_left = none_yet to_left;
     on_right = none_yet to_right;
     left_least = omega (arith, ints);
@@ -72,7 +72,7 @@ module _ (c : Plane) (s : Part) (halves : List ℕ) (edge : ℕ) (at_b : Bool) w
   pub covers_more : (n before now : ℕ) (left right : ℤ) → AreCoversSoFar n before now left right → (new : ℕ) → new ≡ now + 1 → (x y : ℕ) → x < 256 → y < 256
       → CoverSays to_left n x → CoverSays to_right n y → AreCoversSoFar (n + 1) before new (left +ℤ pos x) (right +ℤ pos y)
   covers_more n before now left right h new e x y x_small y_small says_left says_right = record {
-    tested = next before now new n h.tested e;
+    tested = (omega (arith, h.tested.0, e), next before now new n h.tested.1 e);
     on_left = one_more to_left n left x h.on_left says_left;
     on_right = one_more to_right n right y h.on_right says_right;
     left_least = least left x h.left_least;
@@ -81,7 +81,7 @@ module _ (c : Plane) (s : Part) (halves : List ℕ) (edge : ℕ) (at_b : Bool) w
     right_most = most right y n h.right_most y_small;
   }
     where
-      next : (before now new n : ℕ) → now ≡ before + n → new ≡ now + 1 → new ≡ before + (n + 1)
+      next : (before now new n : ℕ) → now ≤ before + n → new ≡ now + 1 → new ≤ before + (n + 1)
       next before now new n h e = omega (arith, h, e)
 
       least : (z : ℤ) (x : ℕ) → pos 0 ≤ℤ z → pos 0 ≤ℤ (z +ℤ pos x)
@@ -89,6 +89,47 @@ module _ (c : Plane) (s : Part) (halves : List ℕ) (edge : ℕ) (at_b : Bool) w
 
       most : (z : ℤ) (x n : ℕ) → z ≤ℤ pos (255 * n) → x < 256 → (z +ℤ pos x) ≤ℤ pos (255 * (n + 1))
       most z x n h l = omega (arith, ints)
+
+  -- those that are passed over are not counted
+  past : (k : Side) (n gap : ℕ) (total : ℤ) → AreFirst k n total
+      → ((i : ℕ) → n ≤ i → i < n + gap → (e : Edge s) (f : Face s) → IsNumbered halves edge e → f.number ≡ i → ¬ IsCutCoveredNext k c e at_b f) → AreFirst k (n + gap) total
+  past k n zero total known none = subst (λ m. AreFirst k m total) (sym (add-zero n)) known
+  past k n (suc gap) total known none =
+      subst (λ m. AreFirst k m total) (one_further n gap)
+      (subst (λ t. AreFirst k ((n + gap) + 1) t) (no_more total)
+      (one_more k (n + gap) total 0 (past k n gap total known (λ i l m. none i l (omega arith))) (λ e f at is. inr (refl, none (n + gap) (omega arith) (omega arith) e f at is))))
+    where
+      one_further : (n gap : ℕ) → (n + gap) + 1 ≡ n + suc gap
+      one_further n gap = omega arith
+
+      no_more : (z : ℤ) → z +ℤ pos 0 ≡ z
+      no_more z = omega (arith, ints)
+
+  pub covers_past : (n m before now : ℕ) (left right : ℤ) → AreCoversSoFar n before now left right → n ≤ m
+      → ((i : ℕ) → n ≤ i → i < m → (k : Side) (e : Edge s) (f : Face s) → IsNumbered halves edge e → f.number ≡ i → ¬ IsCutCoveredNext k c e at_b f) → AreCoversSoFar m before now left right
+  covers_past n m before now left right h up none =
+      subst (λ l. AreCoversSoFar l before now left right) (up_to n m up)
+      (record {
+        tested = (h.tested.0, further before now n (m - n) h.tested.1);
+        on_left = past to_left n (m - n) left h.on_left (λ i l b. none i l (below n m i up b) to_left);
+        on_right = past to_right n (m - n) right h.on_right (λ i l b. none i l (below n m i up b) to_right);
+        left_least = h.left_least;
+        left_most = most left n (m - n) h.left_most;
+        right_least = h.right_least;
+        right_most = most right n (m - n) h.right_most;
+      })
+    where
+      up_to : (n m : ℕ) → n ≤ m → n + (m - n) ≡ m
+      up_to n m h = omega arith
+
+      below : (n m i : ℕ) → n ≤ m → i < n + (m - n) → i < m
+      below n m i h l = omega arith
+
+      further : (before now n gap : ℕ) → now ≤ before + n → now ≤ before + (n + gap)
+      further before now n gap h = omega arith
+
+      most : (z : ℤ) (n gap : ℕ) → z ≤ℤ pos (255 * n) → z ≤ℤ pos (255 * (n + gap))
+      most z n gap h = omega (arith, ints)
 
   module _ (n before now : ℕ) (left right : ℤ) (h : AreCoversSoFar n before now left right) (all : n ≡ length s.triangles) where
     pub covers_left : (e : Edge s) → IsNumbered halves edge e → AreCoverCounts to_left c e at_b left

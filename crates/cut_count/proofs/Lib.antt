@@ -10,6 +10,7 @@ pub mod CutCounted
 pub mod CutCrossings
 pub mod CutEdges
 pub mod CutEndTurns
+pub mod CutNear
 pub mod CutSpansRight
 pub mod EdgeHeights
 pub mod FewCrossings

@@ -1,6 +1,6 @@
 // What an edge is asked at the end from which its counts start: which borders are ahead of it and which cross the edge, and which faces are
 // nearer next to it.
-ghost use Rattle.std.specs.Prelude.{◌≡◌, ◌≢◌, ◌⊎◌, ◌≤◌, ◌+◌, ◌<◌, ◌^◌, ◌↔◌, ◌-ℤ◌, ◌*ℤ◌, ◌<ℤ◌, pos, length, sum, unsigned_abs, IsTrue, IfOk};
+ghost use Rattle.std.specs.Prelude.{◌≡◌, ◌≢◌, ◌⊎◌, ℕ, ◌≤◌, ◌+◌, ◌<◌, ◌^◌, ◌↔◌, ◌-ℤ◌, ◌*ℤ◌, ◌<ℤ◌, pos, length, sum, unsigned_abs, IsTrue, IfOk};
 ghost use Rattle.lattice.specs.Cuts.{plane_of, toward_of, IsBeyond};
 ghost use Rattle.lattice.specs.Points.{of_spot, point_of};
 ghost use Rattle.geometry.specs.Parts.{Part, Face, Edge, IsNumbered};
@@ -9,12 +9,12 @@ ghost use Rattle.hiding.specs.inner.Values.{side_of};
 ghost use Rattle.solid_mesh.specs.Solids.{solid_part, edge_halves};
 ghost use Rattle.counting.specs.Counts.{to_left, to_right};
 ghost use Rattle.counting.specs.Shares.{mark};
-ghost use Rattle.counting.specs.Turns.{corner_at};
+ghost use Rattle.counting.specs.Turns.{corner_at, number_at};
 ghost use Rattle.cut_plane.specs.Loops.{IsSegmentOf, AreBorders};
 ghost use Rattle.cut_count.specs.inner.Borders.{IsAhead, IsFoundOr, ahead_turn};
 ghost use Rattle.section_parity.proofs.Xors.{xor};
 ghost use Rattle.span_slow.specs.Beyond.{IsStretch};
-ghost use Rattle.cut_count.specs.inner.Walks.{AreFound, IsOddAhead, AreCoverCounts};
+ghost use Rattle.cut_count.specs.inner.Walks.{AreAllNear, AreFound, IsOddAhead, AreCoverCounts};
 
 use crate::cover::cut_cover;
 use crate::found::{Found, Odds, Share};
@@ -25,7 +25,7 @@ use exact_frac::{Frac, OutOfMemory};
 use intervals::Interval;
 use section_parity::crossing;
 use solid_mesh::Solid;
-use span_count::Sides;
+use span_count::{Finder, Sides, next_triangle};
 use std::alloc::Global;
 
 /// What a walk along an edge asks of a border: whether it is ahead of the end that is come from, for either count, and where and how
@@ -206,21 +206,43 @@ fn share_of(sign: i8, from: i8, to: i8) -> Share
     }
 }
 
-/// How many faces are counted to the left, and to the right, next to an end of the edge that is beyond the plane: a test of each triangle.
-pub(crate) fn cover_counts(solid: &Solid, section: &Section, end: End, meter: &mut Meter) -> Sides
+/// The number of the corner at an end.
+fn corner_of(solid: &Solid, end: End) -> u32
+    requires { end.edge < length (edge_halves solid.now) }
+    ensures { (e : Edge (solid_part solid.now)) → IsNumbered (edge_halves solid.now) end.edge e → result ≡ number_at e end.at_b }
+{
+    let edge = solid.edge(end.edge);
+    if end.at_b { edge.b } else { edge.a }
+}
+
+/// How many faces are counted to the left, and to the right, next to an end of the edge that is beyond the plane: a test of each triangle
+/// that the finder doesn't pass over at the corner there.
+pub(crate) fn cover_counts<F: Finder>(
+    solid: &Solid,
+    section: &Section,
+    finder: &F,
+    end: End,
+    meter: &mut Meter,
+) -> Sides
     requires in_range { end.edge < length (edge_halves solid.now) }
     requires beyond { (e : Edge (solid_part solid.now)) → IsNumbered (edge_halves solid.now) end.edge e → IsBeyond (plane_of section.now.cut) (point_of (corner_at e end.at_b)) }
+    requires near { AreAllNear (toward_of (plane_of section.now.cut)) (solid_part solid.now) (F.is_near finder.now) }
     requires room { meter.old.tests + length (solid_part solid.now).triangles < 2 ^ 64 }
     ensures left { (e : Edge (solid_part solid.now)) → IsNumbered (edge_halves solid.now) end.edge e → AreCoverCounts to_left (plane_of section.now.cut) e end.at_b result.left }
     ensures right { (e : Edge (solid_part solid.now)) → IsNumbered (edge_halves solid.now) end.edge e → AreCoverCounts to_right (plane_of section.now.cut) e end.at_b result.right }
-    ensures counted { meter.new.tests ≡ meter.old.tests + length (solid_part solid.now).triangles }
+    ensures least { meter.old.tests ≤ meter.new.tests }
+    ensures most { meter.new.tests ≤ meter.old.tests + length (solid_part solid.now).triangles }
 {
+    let corner = corner_of(solid, end);
+    let triangles = solid.triangles();
     let mut left = 0;
     let mut right = 0;
-    for tri in 0..solid.triangles() {
+    let mut tri = next_triangle(finder, corner, 0, triangles);
+    while tri < triangles {
         let (on_left, on_right) = cut_cover(solid, section, end, tri, meter);
         left += i64::from(on_left);
         right += i64::from(on_right);
+        tri = next_triangle(finder, corner, tri + 1, triangles);
     }
     Sides { left, right }
 }

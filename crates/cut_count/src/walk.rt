@@ -9,7 +9,7 @@ ghost use Rattle.solid_mesh.specs.Solids.{solid_part, edge_halves};
 ghost use Rattle.cut_plane.specs.Loops.{AreBorders};
 ghost use Rattle.cut_count.specs.CutSpans.{AreCutCountSpans};
 ghost use Rattle.section_parity.proofs.Xors.{xor};
-ghost use Rattle.cut_count.specs.inner.Walks.{AreListedInCut, AreSectionCrossings, odd_turns, turn_left, turn_right, section_change};
+ghost use Rattle.cut_count.specs.inner.Walks.{AreAllNear, AreListedInCut, AreSectionCrossings, odd_turns, turn_left, turn_right, section_change};
 
 use crate::found::{Found, Odds, Share};
 use crate::outlines::add_outlines;
@@ -23,8 +23,8 @@ use span_count::{CountSpan, Finder, Sides, ascending, carried, change_over, firs
 use span_slow::beyond_plane;
 use std::alloc::Global;
 
-/// The spans of an edge over its part beyond the plane: a test of each segment and of each triangle, and of each outline that the finder
-/// lists along it. The borders are found once and sorted, so that the section's changes take one pass over those that are there.
+/// The spans of an edge over its part beyond the plane: a test of each segment, of each triangle that the finder doesn't pass over at the
+/// corner that is come from, and of each outline that it lists along the edge. The borders are found once and sorted, so that the section's changes take one pass over those that are there.
 pub(crate) fn edge_spans<F: Finder>(
     alloc: Global,
     solid: &Solid,
@@ -36,6 +36,7 @@ pub(crate) fn edge_spans<F: Finder>(
     requires in_range { edge < length (edge_halves solid.now) }
     requires seen { (e : Edge (solid_part solid.now)) → IsNumbered (edge_halves solid.now) edge e → ¬ IsEndOn (toward_of (plane_of section.now.cut)) e }
     requires borders { AreBorders (plane_of section.now.cut) (solid_part solid.now) section.now.segments.items section.now.loops.items }
+    requires near { AreAllNear (toward_of (plane_of section.now.cut)) (solid_part solid.now) (F.is_near finder.now) }
     requires listed { AreListedInCut (plane_of section.now.cut) (solid_part solid.now) (edge_halves solid.now) edge (F.list_along finder.now edge) }
     requires room { meter.old.tests + (length (solid_part solid.now).triangles + length (F.list_along finder.now edge) + length section.now.segments.items) < 2 ^ 64 }
     ensures spans { (e : Edge (solid_part solid.now)) → IsNumbered (edge_halves solid.now) edge e →
@@ -53,7 +54,7 @@ pub(crate) fn edge_spans<F: Finder>(
     let mut crossings = with_section(alloc, &found, first_odds(at_b, odd, &found))?;
     add_outlines(&mut crossings, solid, section, finder, edge, meter)?;
     let crossings = ascending(crossings)?;
-    let near = cover_counts(solid, section, End { edge, at_b }, meter).plus(ones(odd));
+    let near = cover_counts(solid, section, finder, End { edge, at_b }, meter).plus(ones(odd));
     let first = first_counts_by(at_b, near, change_over(&crossings));
     carried(alloc, &crossings, part.from, part.to, first)
 }

@@ -35,6 +35,9 @@ edge_spans-requires-clause-seen g c =
     not_end_on c.args.solid.now (plane_of c.args.section.now.cut) c.args.meter.now.tests c.args.picked.now c.requires.picked (g.F.Finder.list_along c.args.finder.now) (g.F.Finder.list_over c.args.finder.now) _ c.requires.finder _
     (there c.deref-edge-items.result.now c.args.picked.now.drawn.items c.loop-edge.edge-index c.deref-edge-items.ensures.value c.loop-edge-test.true)
 
+pub edge_spans-requires-clause-near : goal.edge_spans-requires-clause-near
+edge_spans-requires-clause-near g c = c.requires.finder.covering
+
 pub edge_spans-requires-clause-listed : goal.edge_spans-requires-clause-listed
 edge_spans-requires-clause-listed g c =
     listed_in_cut c.args.solid.now (plane_of c.args.section.now.cut) c.args.meter.now.tests c.args.picked.now c.requires.picked (g.F.Finder.list_along c.args.finder.now) (g.F.Finder.list_over c.args.finder.now) _ c.requires.finder _
