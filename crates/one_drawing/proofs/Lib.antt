@@ -3,6 +3,7 @@ pub mod Alikes
 pub mod OneList
 pub mod OneView
 pub mod CutLines
+pub mod HalfPlanes
 pub mod PlainLines
 pub mod Shrinking
 pub mod ViewLines

@@ -18,13 +18,13 @@ use Rattle.one_drawing.proofs.ViewLines.{IsProper, axis, rest_at, rest_of_sum, o
 use Rattle.one_drawing.proofs.ViewOrder.{IsUpTo, three_ways, before_up_to, not_back, up_to_of_lies}
 
 -- ---- from some number on
-abbrev FromSome : (ℕ → Type 0) → Type 0
+abbrev pub FromSome : (ℕ → Type 0) → Type 0
 FromSome Q = (n : ℕ) × ((k : ℕ) → n < k → Q k)
 
 both : (P Q : ℕ → Type 0) → FromSome P → FromSome Q → FromSome (λ k. P k × Q k)
 both P Q (m, p) (n, q) = (m + n, λ k h. (p k (omega arith), q k (omega arith)))
 
-each : {A : Type 0} (Q : A → ℕ → Type 0) → ((x : A) → FromSome (Q x)) → (xs : List A) → FromSome (λ k. (x : A) → Contains xs x → Q x k)
+pub each : {A : Type 0} (Q : A → ℕ → Type 0) → ((x : A) → FromSome (Q x)) → (xs : List A) → FromSome (λ k. (x : A) → Contains xs x → Q x k)
 each Q f [] = (0, λ k h x (i, within, e). absurd (omega arith))
 each {A} Q f (y ∷ xs) = let (n, h) = both (Q y) (λ k. (x : A) → Contains xs x → Q x k) (f y) (each Q f xs) in (n, λ k less x there. by k (h k less) x there)
   where
@@ -63,13 +63,13 @@ one_positive : pos 0 <ℤ pos 1
 one_positive = omega (arith, ints)
 
 -- ---- k times a and once b
-abbrev step : Spot → Spot → ℕ → Point
+abbrev pub step : Spot → Spot → ℕ → Point
 step a b k = spot_sum a b k 1
 
-step_is_point : (a b : Spot) (k : ℕ) → IsPoint (step a b k)
+pub step_is_point : (a b : Spot) (k : ℕ) → IsPoint (step a b k)
 step_is_point a b k = sum_is_point a b k 1 (omega arith)
 
-line_near : (d : Triple) (a b : Spot) (l : ViewLine) → FromSome (λ k. IsOnViewLine d l (step a b k) → IsOnViewLine d l (of_spot a) × IsOnViewLine d l (of_spot b))
+pub line_near : (d : Triple) (a b : Spot) (l : ViewLine) → FromSome (λ k. IsOnViewLine d l (step a b k) → IsOnViewLine d l (of_spot a) × IsOnViewLine d l (of_spot b))
 line_near d a b l = (
   unsigned_abs (rest_at d l (of_spot b)),
   λ k far on.
