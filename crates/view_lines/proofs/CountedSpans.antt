@@ -26,7 +26,8 @@ use Rattle.span_slow.specs.CutSpans as cut
 use Rattle.span_slow.specs.Spans as plain
 use Rattle.span_slow.specs.Spans.{IsAnswer}
 use Rattle.span_slow.specs.declared.span.Span.{Span}
-use Rattle.view_lines.specs.inner.Told.{IsToldBy, AreRuns, AreToldBy, AreChained}
+use Rattle.view_lines.specs.Told.{IsToldBy, AreRuns, AreToldBy}
+use Rattle.view_lines.specs.inner.Chained.{AreChained}
 use Rattle.drawn_strips.specs.Strips.{TellHidden, IsOffBorders, IsFreeAnswer, TellHiddenInCut}
 use Rattle.view_lines.proofs.Runs.{HasRun, run_of, run_no_end, runs_follow, runs_of_none, single_within}
 use Rattle.drawn_strips.proofs.SpanPlaces.{earlier_in}

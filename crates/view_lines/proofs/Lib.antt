@@ -1,3 +1,4 @@
 pub mod CountedEdges
 pub mod CountedSpans
+pub mod MergedStrips
 pub mod Runs

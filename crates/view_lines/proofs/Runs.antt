@@ -14,7 +14,7 @@ use Rattle.lattice.specs.Triple.{Triple}
 use Rattle.line_merge.proofs.Lists.{contains_first}
 use Rattle.span_slow.specs.Spans.{Follow}
 use Rattle.span_slow.specs.declared.span.Span.{Span}
-use Rattle.view_lines.specs.inner.Told.{IsRun, AreRuns}
+use Rattle.view_lines.specs.Told.{IsRun, AreRuns}
 use Rattle.drawn_strips.proofs.SpanPlaces.{StaysAlong, find, weak}
 
 -- ---- how they are made

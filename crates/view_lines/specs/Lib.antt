@@ -1,4 +1,6 @@
 pub mod Counts
+pub mod Merged
 pub mod Numbers
+pub mod Told
 pub mod Views
 pub mod inner

@@ -1,5 +1,5 @@
 // The view of the whole solid: the spans of its drawn edges by their counts, as strips that are put together to pieces.
-ghost use Rattle.std.specs.Prelude.{◌≡◌, ℕ, ◌≤◌, ◌^◌, [], map, IfOk};
+ghost use Rattle.std.specs.Prelude.{◌≡◌, ℕ, ◌≤◌, ◌^◌, List, [], map, IfOk};
 ghost use Rattle.lattice.specs.Creases.{fraction_of};
 ghost use Rattle.lattice.specs.Cuts.{plane_of};
 ghost use Rattle.lattice.specs.Points.{of_dir};
@@ -8,7 +8,10 @@ ghost use Rattle.geometry.specs.Scenes.{AreRight};
 ghost use Rattle.solid_mesh.specs.Solids.{solid_part, edge_halves};
 ghost use Rattle.view_lines.specs.Counts.{AreCountsAlong};
 ghost use Rattle.view_lines.specs.Numbers.{CountsView, AreBelow};
-ghost use Rattle.drawn_strips.specs.Traces.{ArePlainStrips};
+ghost use Rattle.drawn_strips.specs.Traces.{ArePlainStrips, AreTraceStrips};
+ghost use Rattle.lattice.specs.declared.pieces.Strip.{Strip};
+ghost use Rattle.view_lines.specs.Merged.{IsMergedView};
+ghost use Rattle.view_lines.specs.inner.Merging.{AreToldWith};
 
 use crate::counts::{Counts, counts_along};
 use crate::strips::counted_strips;
@@ -31,7 +34,9 @@ fn view_strips(
     cuts: &[Cut],
 ) -> Result<Vec<Strip>, OutOfMemory>
     requires { (fraction : ℕ) × AreCountsAlong (of_dir d.now) fraction solid.now entries.now }
-    ensures { IfOk result (λ strips. ArePlainStrips (of_dir d.now) (solid_part solid.now) (edge_halves solid.now) (map (λ x. x.edge) entries.now) (map plane_of cuts.now) strips.items) }
+    ensures are { IfOk result (λ strips. ArePlainStrips (of_dir d.now) (solid_part solid.now) (edge_halves solid.now) (map (λ x. x.edge) entries.now) (map plane_of cuts.now) strips.items) }
+    ensures told { IfOk result (λ strips. (traces : List Strip) × AreTraceStrips (of_dir d.now) (solid_part solid.now) (map plane_of cuts.now) traces ×
+        AreToldWith (of_dir d.now) solid.now entries.now traces strips.items) }
 {
     let mut strips = counted_strips(alloc, solid, d, entries)?;
     add_traces(&mut strips, solid, d, cuts)?;
@@ -53,6 +58,7 @@ pub(crate) fn plain_lines(
     ensures spec { IfOk result (λ x. x.view.spec ≡ ViewSpec.Plain d.now) }
     ensures right { IfOk result (λ x. AreRight (of_dir d.now) (fraction_of crease) (solid_part solid.now) (map plane_of cuts.now) x.view.pieces.items) }
     ensures order { IfOk result (λ x. AreInOrder (of_dir d.now) x.view.pieces.items) }
+    ensures merged { IfOk result (λ x. IsMergedView (ViewSpec.Plain d.now) solid.now (map plane_of cuts.now) x.view.counts.items x.view.pieces.items) }
     ensures hatched { IfOk result (λ x. x.view.hatches.items ≡ []) }
     ensures counts { IfOk result (λ x. AreCountsAlong (of_dir d.now) (fraction_of crease) solid.now x.view.counts.items) }
     ensures tested { IfOk result (λ x. x.numbers.tests ≤ x.numbers.bound) }

@@ -6,7 +6,8 @@ ghost use Rattle.geometry.specs.Views.{AreDrawnEdges};
 ghost use Rattle.solid_mesh.specs.Solids.{solid_part, edge_halves};
 ghost use Rattle.geometry.specs.Places.{IsSame};
 ghost use Rattle.drawn_strips.specs.Strips.{AreEdgeStrips};
-ghost use Rattle.view_lines.specs.inner.Told.{IsToldBy, AreRuns, AreToldBy, AreChained, AreTold};
+ghost use Rattle.view_lines.specs.Told.{IsToldBy, AreRuns, AreToldBy, AreTold};
+ghost use Rattle.view_lines.specs.inner.Chained.{AreChained};
 
 use drawn_strips::add_strips;
 use exact_frac::OutOfMemory;

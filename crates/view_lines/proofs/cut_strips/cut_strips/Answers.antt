@@ -5,7 +5,7 @@ use Rattle.geometry.specs.Views.{AreDrawnEdges}
 use Rattle.solid_mesh.specs.Solids.{solid_part, edge_halves}
 use Rattle.solid_mesh.proofs.Facts.{closed}
 use Rattle.drawn_strips.specs.Strips.{AreEdgeStrips}
-use Rattle.view_lines.specs.inner.Told.{AreTold}
+use Rattle.view_lines.specs.Told.{AreTold}
 use Rattle.view_lines.proofs.CountedEdges.{beyond_cut_chained, told_beyond}
 use Rattle.view_lines.proofs.cut_strips.cut_strips.Goals as goal
 
@@ -22,8 +22,8 @@ counted_strips-requires-clause-chained c =
 pub add_borders-requires : goal.add_borders-requires
 add_borders-requires c = (solid_part c.args.solid.now, closed c.args.solid.now, c.requires.borders)
 
-pub returns : goal.returns
-returns c =
+pub returns-clause-are : goal.returns-clause-are
+returns-clause-are c =
     let solid = c.args.solid.now in
     let entries = c.args.entries.now in
     let strips = c.in_ok-strips.strips.items in
@@ -37,3 +37,16 @@ returns c =
           (subst (λ (v : Triple). AreEdgeStrips v {s = solid_part solid} (AreTold entries (edge_halves solid)) (edge_halves solid) (map (λ x. x.edge) entries) strips) c.dir.ensures c.in_ok-strips.ensures);
       borders = each;
     }
+
+pub returns-clause-told : goal.returns-clause-told
+returns-clause-told c =
+    let solid = c.args.solid.now in
+    let entries = c.args.entries.now in
+    let strips = c.in_ok-strips.strips.items in
+    let (borders, together, each) = c.in_ok-add_borders.ensures in (
+      borders,
+      each,
+      (strips,
+      subst (λ (v : Triple). AreEdgeStrips v {s = solid_part solid} (AreTold entries (edge_halves solid)) (edge_halves solid) (map (λ x. x.edge) entries) strips) c.dir.ensures c.in_ok-strips.ensures,
+      together),
+    )

@@ -9,6 +9,7 @@ use Rattle.solid_mesh.proofs.Facts.{closed, edge_there}
 use Rattle.span_count.specs.declared.span.EdgeSpans.{EdgeSpans}
 use Rattle.view_lines.specs.Counts.{AreCountsAlong}
 use Rattle.drawn_strips.proofs.ViewRight.{are_strips, right_view}
+use Rattle.view_lines.proofs.MergedStrips.{merged_with}
 use Rattle.view_lines.proofs.plain_strips.plain_lines.Goals as goal
 
 pub view_strips-requires : goal.view_strips-requires
@@ -24,7 +25,7 @@ merge-requires c =
     let Along : List EdgeSpans → Type 0 = AreCountsAlong d fraction solid in
     let along = subst Along (sym c.deref.ensures.value) c.in_ok-entries.ensures.right in
     subst (AreStrips d) (sym c.deref-2.ensures.value)
-    (are_strips d fraction (solid_part solid) (edge_halves solid) (map (λ x. x.edge) c.deref.result.now) (map plane_of c.args.cuts.now) c.in_ok-strips.strips.items (closed solid) (edge_there solid) along.edges c.in_ok-strips.ensures)
+    (are_strips d fraction (solid_part solid) (edge_halves solid) (map (λ x. x.edge) c.deref.result.now) (map plane_of c.args.cuts.now) c.in_ok-strips.strips.items (closed solid) (edge_there solid) along.edges c.in_ok-strips.ensures.are)
 
 pub returns-clause-right : goal.returns-clause-right
 returns-clause-right c =
@@ -35,8 +36,17 @@ returns-clause-right c =
     let pieces = c.in_ok-pieces.pieces.items in
     let Along : List EdgeSpans → Type 0 = AreCountsAlong d fraction solid in
     let along = subst Along (sym c.deref.ensures.value) c.in_ok-entries.ensures.right in
-    right_view d fraction (solid_part solid) (edge_halves solid) (map (λ x. x.edge) c.deref.result.now) (map plane_of c.args.cuts.now) strips (closed solid) (edge_there solid) along.edges c.in_ok-strips.ensures pieces
+    right_view d fraction (solid_part solid) (edge_halves solid) (map (λ x. x.edge) c.deref.result.now) (map plane_of c.args.cuts.now) strips (closed solid) (edge_there solid) along.edges c.in_ok-strips.ensures.are pieces
     (subst (λ (ys : List Strip). AreMerged d ys pieces) c.deref-2.ensures.value c.in_ok-pieces.ensures)
+
+pub returns-clause-merged : goal.returns-clause-merged
+returns-clause-merged c =
+    let d = of_dir c.args.d.now in
+    let strips = c.in_ok-strips.strips.items in
+    let pieces = c.in_ok-pieces.pieces.items in
+    let (traces, are, told) = c.in_ok-strips.ensures.told in
+    (traces, are, merged_with d c.args.solid.now c.deref.result.now c.in_ok-entries.field-0.entries.items traces strips pieces c.deref.ensures.value told
+    (subst (λ (ys : List Strip). AreMerged d ys pieces) c.deref-2.ensures.value c.in_ok-pieces.ensures))
 
 pub returns-clause-counted : goal.returns-clause-counted
 returns-clause-counted c = (c.in_ok-picked.picked, c.in_ok-picked.ensures, c.in_ok-entries.ensures.counted)

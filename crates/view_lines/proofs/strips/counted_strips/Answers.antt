@@ -6,7 +6,8 @@ use Rattle.solid_mesh.specs.Solids.{solid_part, edge_halves}
 use Rattle.span_count.specs.declared.span.CountSpan.{CountSpan}
 use Rattle.span_count.specs.declared.span.EdgeSpans.{EdgeSpans}
 use Rattle.span_slow.specs.declared.span.Span.{Span}
-use Rattle.view_lines.specs.inner.Told.{AreToldBy, AreChained, AreTold}
+use Rattle.view_lines.specs.Told.{AreToldBy, AreTold}
+use Rattle.view_lines.specs.inner.Chained.{AreChained}
 use Rattle.drawn_strips.specs.Strips.{AreEdgeStrips}
 use Rattle.view_lines.proofs.CountedEdges.{edges_more, edge_within, edge_seen}
 use Rattle.view_lines.proofs.CountedSpans.{told_earlier}

@@ -2,7 +2,7 @@ use Rattle.std.proofs.Common.{map, take}
 use Rattle.lattice.specs.Points.{of_dir}
 use Rattle.solid_mesh.specs.Solids.{solid_part, edge_halves}
 use Rattle.drawn_strips.specs.Strips.{AreEdgeStrips}
-use Rattle.view_lines.specs.inner.Told.{AreTold}
+use Rattle.view_lines.specs.Told.{AreTold}
 use Rattle.view_lines.proofs.strips.counted_strips.Given as goal
 
 -- the strips of the entries so far

@@ -1,10 +1,8 @@
 -- The spans that counts tell, each over neighbours that are all hidden or all visible.
-use Rattle.std.specs.Prelude.{◌≡◌, ◌≢◌, ◌↔◌, ℕ, ◌+◌, ◌<◌, IsTrue, length, List, [], ◌∷◌, ◌++◌, All, Contains}
+use Rattle.std.specs.Prelude.{◌≡◌, ◌≢◌, ◌↔◌, ℕ, ◌+◌, IsTrue, List, [], ◌∷◌, ◌++◌, All, Contains}
 use Rattle.std.specs.List.{AllZip}
 use Rattle.geometry.specs.Parts.{Part, Edge, IsNumbered}
-use Rattle.exact_frac.specs.declared.Frac.{Frac}
 use Rattle.geometry.specs.Places.{IsSame}
-use Rattle.span_count.specs.CountSpans.{Follow}
 use Rattle.span_count.specs.declared.span.CountSpan.{CountSpan}
 use Rattle.span_count.specs.declared.span.EdgeSpans.{EdgeSpans}
 use Rattle.span_slow.specs.declared.span.Span.{Span}
@@ -36,10 +34,6 @@ AreRuns singles (y ∷ ys) = (here : List Span) × (rest : List Span) × (single
 -- the spans are those that the counts tell, each over neighbours that are all hidden or all visible
 abbrev pub AreToldBy : List CountSpan → List Span → Type 0
 AreToldBy counts spans = (singles : List Span) × AllZip IsToldBy counts singles × AreRuns singles spans
-
--- where there are any, they follow one another
-abbrev pub AreChained : List CountSpan → Type 0
-AreChained counts = 0 < length counts → (from : Frac) × (to : Frac) × Follow from counts to
 
 -- the spans are those that the counts of an entry of the edge tell
 pub record AreTold (entries : List EdgeSpans) (halves : List ℕ) {s : Part} (e : Edge s) (spans : List Span) : Type 0 where
