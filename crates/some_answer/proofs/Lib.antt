@@ -1,0 +1,6 @@
+pub mod Decided
+pub mod SomeWeld
+mod SomeNumber
+pub mod SomeReading
+pub mod SomeOff
+pub mod SomeStl
