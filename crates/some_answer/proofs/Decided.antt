@@ -1,5 +1,5 @@
 -- What is decided: either it holds or it doesn't. And the first number of which something decided holds.
-use Rattle.std.proofs.Common.{◌≡◌, ◌⊎◌, inl, inr, ◌↔◌, ℕ, zero, suc, ◌<◌, ◌==◌, ltb, ℤ, pos, negsuc, ◌<ℤ◌, Bool, true, false, List, [], ◌∷◌, All, length, get_or, refl, sym, subst, arith, true≢false}
+use Rattle.std.proofs.Common.{◌≡◌, ◌⊎◌, inl, inr, ◌↔◌, ℕ, zero, suc, ◌<◌, ◌==◌, ltb, ℤ, pos, negsuc, ◌-ℤ◌, ◌≤ℤ◌, ◌<ℤ◌, Bool, true, false, List, [], ◌∷◌, All, length, get_or, Option, Some, None, refl, sym, subst, arith, true≢false}
 use Rattle.std.specs.Bool.{Decides}
 use Rattle.std.specs.List.{Any}
 use Rattle.std.specs.Ordering.{int_eq}
@@ -24,6 +24,21 @@ decided_both (inl p) (inl q) = inl (p, q)
 decided_both (inl p) (inr apart) = inr (λ both. apart both.1)
 decided_both (inr apart) q = inr (λ both. apart both.0)
 
+pub decided_by : {P Q : Type 0} → P ↔ Q → Decided Q → Decided P
+decided_by same (inl q) = inl (same.1 q)
+decided_by same (inr never) = inr (λ p. never (same.0 p))
+
+pub decided_three : {P Q R : Type 0} → Decided P → Decided Q → Decided R → Decided (P × Q × R)
+decided_three (inl p) (inl q) (inl r) = inl (p, q, r)
+decided_three (inl p) (inl q) (inr apart) = inr (λ all. apart all.2)
+decided_three (inl p) (inr apart) r = inr (λ all. apart all.1)
+decided_three (inr apart) q r = inr (λ all. apart all.0)
+
+pub decided_implied : {P Q : Type 0} → Decided P → Decided Q → Decided (P → Q)
+decided_implied (inl p) (inl q) = inl (λ _. q)
+decided_implied (inl p) (inr never) = inr (λ f. never (f p))
+decided_implied (inr apart) q = inl (λ p. absurd (apart p))
+
 neither : {P Q : Type 0} → ¬ P → ¬ Q → P ⊎ Q → ⊥
 neither apart never (inl p) = apart p
 neither apart never (inr q) = never q
@@ -36,6 +51,15 @@ decided_either (inr apart) (inr never) = inr (neither apart never)
 pub decided_if : {P : Type 0} → (b : Bool) → Decides b P → Decided P
 decided_if true h = inl (h.0 refl)
 decided_if false h = inr (λ p. true≢false (sym (h.1 p)))
+
+-- ---- cases
+pub by_option : {S Claim : Type 0} (o : Option S) → (o ≡ None → Claim) → ((s : S) → o ≡ Some s → Claim) → Claim
+by_option None none some = none refl
+by_option (Some s) none some = some s refl
+
+pub by_test : {Claim : Type 0} (b : Bool) → (b ≡ true → Claim) → (b ≡ false → Claim) → Claim
+by_test true passes other = passes refl
+by_test false passes other = other refl
 
 -- ---- numbers
 pub decided_equal : (m n : ℕ) → Decided (m ≡ n)
@@ -51,6 +75,37 @@ pub decided_positive : (z : ℤ) → Decided (pos 0 <ℤ z)
 decided_positive (pos zero) = inr (λ less. absurd (omega (arith, ints, less)))
 decided_positive (pos (suc n)) = inl (omega (arith, ints))
 decided_positive (negsuc n) = inr (λ less. absurd (omega (arith, ints, less)))
+
+pub decided_not_negative : (z : ℤ) → Decided (pos 0 ≤ℤ z)
+decided_not_negative (pos n) = inl (omega (arith, ints))
+decided_not_negative (negsuc n) = inr (λ least. absurd (omega (arith, ints, least)))
+
+gap_at_most : (m n : ℤ) → pos 0 ≤ℤ (n -ℤ m) → m ≤ℤ n
+gap_at_most m n h = omega (arith, ints, h)
+
+at_most_gap : (m n : ℤ) → m ≤ℤ n → pos 0 ≤ℤ (n -ℤ m)
+at_most_gap m n h = omega (arith, ints, h)
+
+pub decided_at_most : (m n : ℤ) → Decided (m ≤ℤ n)
+decided_at_most m n = decided_as (gap_at_most m n, at_most_gap m n) (decided_not_negative (n -ℤ m))
+
+gap_less : (m n : ℤ) → pos 0 <ℤ (n -ℤ m) → m <ℤ n
+gap_less m n h = omega (arith, ints, h)
+
+less_gap : (m n : ℤ) → m <ℤ n → pos 0 <ℤ (n -ℤ m)
+less_gap m n h = omega (arith, ints, h)
+
+pub decided_less : (m n : ℤ) → Decided (m <ℤ n)
+decided_less m n = decided_as (gap_less m n, less_gap m n) (decided_positive (n -ℤ m))
+
+-- negative, zero or positive
+abbrev pub Sign : ℤ → Type 0
+Sign z = (z <ℤ pos 0) ⊎ ((z ≡ pos 0) ⊎ (pos 0 <ℤ z))
+
+pub sign_of : (z : ℤ) → Sign z
+sign_of (pos zero) = inr (inl refl)
+sign_of (pos (suc n)) = inr (inr (omega (arith, ints)))
+sign_of (negsuc n) = inl (omega (arith, ints))
 
 -- ---- the first number
 -- i is the first number of which it holds, and below n

@@ -4,3 +4,6 @@ mod SomeNumber
 pub mod SomeReading
 pub mod SomeOff
 pub mod SomeStl
+mod SomeTouch
+mod Sides
+pub mod SomeFault

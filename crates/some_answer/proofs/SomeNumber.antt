@@ -1,20 +1,11 @@
 -- It is decided whether bytes are a number: they are read byte after byte.
-use Rattle.std.proofs.Common.{◌≡◌, ◌⊎◌, inl, inr, ℕ, zero, suc, ◌+◌, ◌<◌, ◌≤◌, Bool, true, false, List, length, take, get_or, Option, Some, None, refl, ap, ◌∙◌, arith}
+use Rattle.std.proofs.Common.{◌≡◌, ◌⊎◌, inl, inr, ℕ, zero, suc, ◌+◌, ◌<◌, ◌≤◌, List, length, take, get_or, Some, refl, ap, ◌∙◌, arith}
 use Rattle.std.proofs.lemmas.Bool.{cases_order}
 use Rattle.std.proofs.lemmas.List.Sums.{fold_more}
 use Rattle.dec_text.specs.Numbers.{Number}
 use Rattle.dec_text.specs.inner.Reading.{kind_of, step, may_end}
 use Rattle.dec_text.proofs.States.{reads, state_after, stops, ends_early, ends_well}
-use Rattle.some_answer.proofs.Decided.{Decided}
-
--- ---- cases
-by_option : {S Claim : Type 0} (o : Option S) → (o ≡ None → Claim) → ((s : S) → o ≡ Some s → Claim) → Claim
-by_option None none some = none refl
-by_option (Some s) none some = some s refl
-
-by_test : {Claim : Type 0} (b : Bool) → (b ≡ true → Claim) → (b ≡ false → Claim) → Claim
-by_test true passes other = passes refl
-by_test false passes other = other refl
+use Rattle.some_answer.proofs.Decided.{Decided, by_option, by_test}
 
 -- ---- one pass
 -- a pass over n elements comes to a claim, at an element or at the end, since each state that it reaches leads on to one
