@@ -7,3 +7,6 @@ pub mod SomeStl
 mod SomeTouch
 mod Sides
 pub mod SomeFault
+pub mod SomeExtents
+mod LayoutSizes
+pub mod SomeSheet
