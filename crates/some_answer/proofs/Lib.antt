@@ -9,4 +9,6 @@ mod Sides
 pub mod SomeFault
 pub mod SomeExtents
 mod LayoutSizes
+mod Vectors
+pub mod SomeJob
 pub mod SomeSheet

@@ -1,8 +1,6 @@
 -- A job has a sheet for a part, or its views don't fit.
 use Rattle.std.proofs.Common.{◌≡◌, ◌⊎◌, inl, inr, ℕ, zero, suc, ◌%◌, ◌<◌, ◌≤◌, ◌^◌, Bool, true, false, IsTrue, List, [], ◌∷◌, All, length, take, get_or, slice_get, Option, Some, None, refl, sym, ap, subst, ◌∙◌, arith}
 use Rattle.std.specs.Prelude.{ℤ, pos, ◌+ℤ◌, ◌-ℤ◌, ◌≤ℤ◌, unsigned_abs}
-use denote.RawPtr.{null_ptr}
-use Rattle.std.specs.Global.{Vec, Global}
 use Rattle.std.proofs.lemmas.Int.{ints}
 use Rattle.std.proofs.lemmas.List.{length-take-le}
 use Rattle.std.proofs.lemmas.List.Elements.{All-take}
@@ -29,6 +27,7 @@ use Rattle.sheet_plan.specs.inner.Sizes.{IsSmall}
 use Rattle.sheet_plan.proofs.Rooms.{length_shapes_of}
 use Rattle.sheet_plan.proofs.Scales.{scale_bounds}
 use Rattle.some_answer.proofs.Decided.{Decided, decided_as, decided_both, decided_at_most, IsFirstBelow, first_below}
+use Rattle.some_answer.proofs.Vectors.{vec_of}
 use Rattle.some_answer.proofs.LayoutSizes.{shapes_small, shape_small, x_small, y_small}
 
 -- ---- lists
@@ -43,10 +42,6 @@ listed {X} P (suc n) each = by (each 0 (omega arith)) (listed (λ i. P (suc i)) 
         at : (i : ℕ) (y : X) → slice_get (x ∷ xs) i ≡ Some y → P i y
         at zero y e = subst (P 0) (same_Some x y e) p
         at (suc i) y e = others i y e
-
--- a vector with these items
-some_vec : {X : Type 0} (alloc : Global) (xs : List X) → length xs < 2 ^ 63 → (v : Vec X) × (v.items ≡ xs)
-some_vec alloc xs h = (record { items = xs; ptr = null_ptr; len = length xs; cap = length xs; alloc = alloc; ok = (refl, omega arith); small = h }, refl)
 
 -- ---- shapes of views
 -- what is so of the thing at this place
@@ -161,7 +156,7 @@ module _ (job : Job) (extents : List Extent) (as_many : length extents ≡ lengt
   sheet_at fits =
       let (places, long, in_place) = some_places in
       let few = job.few_views in
-      let (v, is) = some_vec job.views.alloc places (omega (arith, long, few)) in
+      let v = vec_of job.views.alloc places (omega (arith, long, few)) in
       let w = width_format job.paper job.portrait in
       let h = height_format job.paper job.portrait in (
         record {
@@ -185,7 +180,7 @@ module _ (job : Job) (extents : List Extent) (as_many : length extents ≡ lengt
           num_is = refl;
           den_is = refl;
           fits = fits;
-          in_place = subst (λ (ps : List Spread). AreInPlace (job_shapes job extents scale.num scale.den) extents ps) (sym is) in_place;
+          in_place = in_place;
         },
       )
 
