@@ -3,7 +3,7 @@ set terminal svg size 900, 640 font "sans-serif, 13" background rgb "white"
 set logscale xy
 set xlabel "triangles"
 set ylabel "seconds of the processor, one view, whole process"
-set key outside bottom center columns 2 samplen 2
+set key below maxcols 2 samplen 2
 set grid
 set format x "10^{%T}"
 stats table nooutput

@@ -1,11 +1,14 @@
 #!/usr/bin/env python3
 """Times one view of parts that grow, by `draw` and by other programs in the same run, and writes the table that growth.gnuplot
 draws: growth.py TABLE [RUNS] [NAME=COMMAND ...]; TABLE is written as text, a block for each curve: triangles, seconds, MB.
-A COMMAND has PART for the part's file and, if it takes one, TOWARD for the direction, as a,b,c; `draw` is crates/draw_cli's
-built program where it isn't given. bench/peers/setup.sh builds the others.
+A COMMAND has PART for the part's file and TOWARD for the direction, as a,b,c; or MODEL for a model of SolveSpace and VIEW for
+the view's name there; `draw` is crates/draw_cli's built program where it isn't given. bench/peers/setup.sh FOLDER builds the others:
+"OpenCASCADE=FOLDER/occ_hlr PART TOWARD exact"
+"SolveSpace=FOLDER/solvespace-cli export-view --output view.svg --view VIEW --chord-tol 0.001 MODEL"
 Seconds are those of the processor, of the whole process, the least of RUNS runs; a curve ends before a run longer than 20 s."""
 import os
 import resource
+import signal
 import subprocess
 import sys
 import tempfile
@@ -13,9 +16,10 @@ import time
 
 HERE = os.path.dirname(os.path.realpath(__file__))
 LONGEST = 20
+VIEWS = {"0,-1,0": "front", "0,0,1": "top", "1,-1,1": "isometric"}
 CURVES = (
     ("cubes, from the front", "cubes", range(2, 9), "0,-1,0"),
-    ("bars across bars, from the front", "bars", (5, 10, 20, 40, 80), "0,-1,0"),
+    ("bars across bars, from above", "bars", (5, 10, 20, 40, 80), "0,0,1"),
     ("a cube in squares, along (1, -1, 1)", "squares", (5, 10, 20, 40), "1,-1,1"),
     ("the pillow block, refined, from the front", "pillow", (18, 36, 72, 144, 288, 576), "0,-1,0"),
 )
@@ -42,17 +46,25 @@ def triangles_of(file):
     return count
 
 
+def link(program, file):
+    maker = os.path.join(HERE, "peers", "solvespace.py")
+    subprocess.run([sys.executable, maker, os.path.dirname(program), file, file + ".slvs"], check=True)
+
+
 def timed(command):
     """The processor's seconds and the MB of one run, or None where it fails or takes too long."""
     start = time.monotonic()
-    process = subprocess.Popen(command, stdout=subprocess.DEVNULL, stderr=subprocess.DEVNULL)
+    # (a small parent, since a process begins with the memory of the one that starts it)
+    measure = ["/usr/bin/time", "--quiet", "--format", "%M", "--output", "memory.txt"]
+    process = subprocess.Popen(measure + command, stdout=subprocess.DEVNULL, stderr=subprocess.DEVNULL, start_new_session=True)
     while True:
         pid, status, usage = os.wait4(process.pid, os.WNOHANG)
         if pid:
             process.returncode = status
-            return (usage.ru_utime + usage.ru_stime, usage.ru_maxrss / 1024) if status == 0 else None
+            memory = int(open("memory.txt").read().split()[-1]) / 1024
+            return (usage.ru_utime + usage.ru_stime, memory) if status == 0 else None
         if time.monotonic() - start > 3 * LONGEST:
-            process.kill()
+            os.killpg(process.pid, signal.SIGKILL)
             process.wait()
             return None
         time.sleep(0.001)
@@ -73,7 +85,10 @@ def main(table, runs, programs):
             for name, command in programs:
                 out.write('"%s, %s"\n' % (name, title))
                 for count, file in parts:
-                    words = [file if w == "PART" else toward if w == "TOWARD" else w for w in command]
+                    if "MODEL" in command:
+                        link(command[0], file)
+                    given = {"PART": file, "TOWARD": toward, "MODEL": file + ".slvs", "VIEW": VIEWS[toward]}
+                    words = [given.get(word, word) for word in command]
                     found = [it for it in (timed(words) for _ in range(runs)) if it]
                     if not found:
                         break

@@ -1,12 +1,11 @@
 #!/usr/bin/env python3
-"""solvespace.py FOLDER PART.off a,b,c OUT.svg: exports one view of a part with hidden lines by SolveSpace, which setup.sh built in
-FOLDER. The part is linked as an STL, turned so that its front is SolveSpace's front."""
+"""solvespace.py FOLDER PART.off MODEL.slvs: writes a model of SolveSpace, which setup.sh built in FOLDER, that links the part as an
+STL beside it, turned so that its front is SolveSpace's front, and its view along (1, -1, 1) the isometric one. A view is exported by
+FOLDER/solvespace-cli export-view --output OUT.svg --view front|isometric --chord-tol 0.001 MODEL.slvs"""
 import os
 import re
 import struct
 import sys
-
-VIEWS = {"0,-1,0": "front", "1,-1,1": "isometric", "0,0,1": "top", "-1,0,0": "left"}
 
 
 def triangles(file):
@@ -29,8 +28,8 @@ def normal(a, b, c):
     return [x / length for x in n]
 
 
-def main(folder, part, toward, out):
-    stl, model = out + ".stl", out + ".slvs"
+def main(folder, part, model):
+    stl = model + ".stl"
     faces = list(triangles(part))
     with open(stl, "wb") as it:
         it.write(b"x" * 80 + struct.pack("<I", len(faces)))
@@ -47,10 +46,8 @@ def main(folder, part, toward, out):
     text = re.sub(rb"(Triangle|Surface|SCtrl|TrimBy|Curve|CCtrl|CurvePt)[ \n].*?\n", b"", text)
     with open(model, "wb") as it:
         it.write(text)
-    words = ["export-view", "--output", out, "--view", VIEWS[toward], "--chord-tol", "0.001", model]
-    os.execv(os.path.join(folder, "solvespace-cli"), ["solvespace-cli"] + words)
 
 
-if len(sys.argv) != 5:
+if len(sys.argv) != 4:
     sys.exit(__doc__)
 main(*sys.argv[1:])
