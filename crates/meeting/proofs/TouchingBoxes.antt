@@ -16,29 +16,29 @@ use Rattle.meeting.specs.Boxes.{CoordinatesMeet, BoxesMeet}
 use Rattle.meeting.proofs.Ranges.{coordinates-by-ends, coordinates-by-ranges}
 
 -- ---- the ends of ranges
-edge_low : (x y : ℤ) → (int_min x y ≤ℤ x) × (int_min x y ≤ℤ y)
+pub edge_low : (x y : ℤ) → (int_min x y ≤ℤ x) × (int_min x y ≤ℤ y)
 edge_low x y = (omega (arith, ints, clamps), omega (arith, ints, clamps))
 
-edge_high : (x y : ℤ) → (x ≤ℤ int_max x y) × (y ≤ℤ int_max x y)
+pub edge_high : (x y : ℤ) → (x ≤ℤ int_max x y) × (y ≤ℤ int_max x y)
 edge_high x y = (omega (arith, ints, clamps), omega (arith, ints, clamps))
 
-face_low : (x y z : ℤ) → (int_min (int_min x y) z ≤ℤ x) × (int_min (int_min x y) z ≤ℤ y) × (int_min (int_min x y) z ≤ℤ z)
+pub face_low : (x y z : ℤ) → (int_min (int_min x y) z ≤ℤ x) × (int_min (int_min x y) z ≤ℤ y) × (int_min (int_min x y) z ≤ℤ z)
 face_low x y z = (omega (arith, ints, clamps), omega (arith, ints, clamps), omega (arith, ints, clamps))
 
-face_high : (x y z : ℤ) → (x ≤ℤ int_max (int_max x y) z) × (y ≤ℤ int_max (int_max x y) z) × (z ≤ℤ int_max (int_max x y) z)
+pub face_high : (x y z : ℤ) → (x ≤ℤ int_max (int_max x y) z) × (y ≤ℤ int_max (int_max x y) z) × (z ≤ℤ int_max (int_max x y) z)
 face_high x y z = (omega (arith, ints, clamps), omega (arith, ints, clamps), omega (arith, ints, clamps))
 
 -- a gap times 1 and times -1
-above : (x y : ℤ) → y <ℤ x → pos 0 <ℤ (pos 1 *ℤ (x -ℤ y))
+pub above : (x y : ℤ) → y <ℤ x → pos 0 <ℤ (pos 1 *ℤ (x -ℤ y))
 above x y h = omega (arith, ints)
 
-least : (x y : ℤ) → y ≤ℤ x → pos 0 ≤ℤ (pos 1 *ℤ (x -ℤ y))
+pub least : (x y : ℤ) → y ≤ℤ x → pos 0 ≤ℤ (pos 1 *ℤ (x -ℤ y))
 least x y h = omega (arith, ints)
 
-below : (x y : ℤ) → x <ℤ y → pos 0 <ℤ (negsuc 0 *ℤ (x -ℤ y))
+pub below : (x y : ℤ) → x <ℤ y → pos 0 <ℤ (negsuc 0 *ℤ (x -ℤ y))
 below x y h = omega (arith, ints)
 
-most : (x y : ℤ) → x ≤ℤ y → pos 0 ≤ℤ (negsuc 0 *ℤ (x -ℤ y))
+pub most : (x y : ℤ) → x ≤ℤ y → pos 0 ≤ℤ (negsuc 0 *ℤ (x -ℤ y))
 most x y h = omega (arith, ints)
 
 -- ---- equal sums with weights, along one axis
@@ -102,7 +102,7 @@ boxes-of-touch a b c p q t =
     }
 
 -- ---- the differences of two coordinates
-difference : (i j k l m : ℕ) (a b c p q a' b' c' p' q' : ℤ) → (pos i *ℤ p) +ℤ (pos j *ℤ q) ≡ ((pos k *ℤ a) +ℤ (pos l *ℤ b)) +ℤ (pos m *ℤ c) → (pos i *ℤ p') +ℤ (pos j *ℤ q') ≡ ((pos k *ℤ a') +ℤ (pos l *ℤ b')) +ℤ (pos m *ℤ c')
+pub difference : (i j k l m : ℕ) (a b c p q a' b' c' p' q' : ℤ) → (pos i *ℤ p) +ℤ (pos j *ℤ q) ≡ ((pos k *ℤ a) +ℤ (pos l *ℤ b)) +ℤ (pos m *ℤ c) → (pos i *ℤ p') +ℤ (pos j *ℤ q') ≡ ((pos k *ℤ a') +ℤ (pos l *ℤ b')) +ℤ (pos m *ℤ c')
     → (pos i *ℤ (p -ℤ p')) +ℤ (pos j *ℤ (q -ℤ q')) ≡ ((pos k *ℤ (a -ℤ a')) +ℤ (pos l *ℤ (b -ℤ b'))) +ℤ (pos m *ℤ (c -ℤ c'))
 difference i j k l m a b c p q a' b' c' p' q' h h' =
     by_two _ _ ((pos i *ℤ p) +ℤ (pos j *ℤ q)) (((pos k *ℤ a) +ℤ (pos l *ℤ b)) +ℤ (pos m *ℤ c)) (pos 1)

@@ -11,11 +11,12 @@ use Rattle.meeting.specs.Ranges.{RangesMeet, IsEdgeRange, IsTriangleRange}
 use Rattle.meeting.proofs.BoxAxes.{read}
 use Rattle.meeting.proofs.Ranges.{coordinates-by-ranges}
 use Rattle.solid_mesh.specs.inner.Bounds.{BoundsMeet, IsWithin, AreWithin}
-use Rattle.solid_mesh.specs.inner.Searches.{AtHalf, AreBoundsOf}
+use Rattle.solid_mesh.specs.inner.Searches.{AtHalf, IsReachOf}
 use Rattle.solid_mesh.specs.inner.Trees.{IsPlaced}
 use Rattle.solid_mesh.specs.Meetings.{HaveCommonX, HaveCommonBox, MeetApart}
 use Rattle.solid_mesh.specs.declared.bounds.Bounds.{Bounds}
 use Rattle.solid_mesh.specs.declared.placed.Placed.{Placed}
+use Rattle.solid_mesh.specs.declared.search.Reach.{Reach}
 use Rattle.meeting.proofs.TouchingBoxes.{boxes-of-touch, differences-of-touch}
 use Rattle.solid_mesh.proofs.Meets.{touch_of_apart, box_here, x_here}
 
@@ -60,28 +61,28 @@ meet_around r s t h m = record { x = along h.x m.x; y = along h.y m.y; z = along
     along h m = record { number = m.number; first = record { from = through h.from m.first.from; to = through m.first.to h.to }; second = m.second }
 
 -- ---- an edge and a triangle
-module _ (s : Part) (halves : List ℕ) (edge : ℕ) (reach : Bounds) (of_edge : AreBoundsOf s halves edge reach) (x : Placed) (of_triangle : IsPlaced s x) where
-  pub common_x : RangesMeet x.bounds.x reach.x → AtHalf (HaveCommonX s) halves (edge, x.tri)
+module _ (s : Part) (halves : List ℕ) (edge : ℕ) (reach : Reach) (of_edge : IsReachOf s halves edge reach) (x : Placed) (of_triangle : IsPlaced s x) where
+  pub common_x : RangesMeet x.bounds.x reach.bounds.x → AtHalf (HaveCommonX s) halves (edge, x.tri)
   common_x h = (
     of_edge.half,
     of_edge.listed,
     (x_here s of_edge.half x.tri of_edge.side of_triangle.face of_triangle.numbered).0
-        ((coordinates-by-ranges _ _ _ _ _ x.bounds.x reach.x of_triangle.of_face.x of_edge.of_side.x).0 h),
+        ((coordinates-by-ranges _ _ _ _ _ x.bounds.x reach.bounds.x of_triangle.of_face.x of_edge.of_side.x).0 h),
   )
 
-  pub common_box : BoundsMeet x.bounds reach → AtHalf (HaveCommonBox s) halves (edge, x.tri)
+  pub common_box : BoundsMeet x.bounds reach.bounds → AtHalf (HaveCommonBox s) halves (edge, x.tri)
   common_box h = (
     of_edge.half,
     of_edge.listed,
     (box_here s of_edge.half x.tri of_edge.side of_triangle.face of_triangle.numbered).0 (record {
-      x = (coordinates-by-ranges _ _ _ _ _ x.bounds.x reach.x of_triangle.of_face.x of_edge.of_side.x).0 h.x;
-      y = (coordinates-by-ranges _ _ _ _ _ x.bounds.y reach.y of_triangle.of_face.y of_edge.of_side.y).0 h.y;
-      z = (coordinates-by-ranges _ _ _ _ _ x.bounds.z reach.z of_triangle.of_face.z of_edge.of_side.z).0 h.z;
+      x = (coordinates-by-ranges _ _ _ _ _ x.bounds.x reach.bounds.x of_triangle.of_face.x of_edge.of_side.x).0 h.x;
+      y = (coordinates-by-ranges _ _ _ _ _ x.bounds.y reach.bounds.y of_triangle.of_face.y of_edge.of_side.y).0 h.y;
+      z = (coordinates-by-ranges _ _ _ _ _ x.bounds.z reach.bounds.z of_triangle.of_face.z of_edge.of_side.z).0 h.z;
     }),
   )
 
   -- where they meet apart, their bounds meet
-  pub bounds_of_apart : AtHalf (MeetApart s) halves (edge, x.tri) → BoundsMeet x.bounds reach
+  pub bounds_of_apart : AtHalf (MeetApart s) halves (edge, x.tri) → BoundsMeet x.bounds reach.bounds
   bounds_of_apart (half, at, meets) =
       let same : half ≡ of_edge.half = same_element halves edge edge half of_edge.half refl at of_edge.listed in
       let f = of_triangle.face in
@@ -90,10 +91,10 @@ module _ (s : Part) (halves : List ℕ) (edge : ℕ) (reach : Bounds) (of_edge :
       let box = boxes-of-touch f.a f.b f.c e.p e.q touch in
       let differences = differences-of-touch f.a f.b f.c e.p e.q touch in
       record {
-        x = (coordinates-by-ranges _ _ _ _ _ x.bounds.x reach.x of_triangle.of_face.x of_edge.of_side.x).1 box.x;
-        y = (coordinates-by-ranges _ _ _ _ _ x.bounds.y reach.y of_triangle.of_face.y of_edge.of_side.y).1 box.y;
-        z = (coordinates-by-ranges _ _ _ _ _ x.bounds.z reach.z of_triangle.of_face.z of_edge.of_side.z).1 box.z;
-        xy = (coordinates-by-ranges _ _ _ _ _ x.bounds.xy reach.xy of_triangle.of_face.xy of_edge.of_side.xy).1 differences.xy;
-        yz = (coordinates-by-ranges _ _ _ _ _ x.bounds.yz reach.yz of_triangle.of_face.yz of_edge.of_side.yz).1 differences.yz;
-        zx = (coordinates-by-ranges _ _ _ _ _ x.bounds.zx reach.zx of_triangle.of_face.zx of_edge.of_side.zx).1 differences.zx;
+        x = (coordinates-by-ranges _ _ _ _ _ x.bounds.x reach.bounds.x of_triangle.of_face.x of_edge.of_side.x).1 box.x;
+        y = (coordinates-by-ranges _ _ _ _ _ x.bounds.y reach.bounds.y of_triangle.of_face.y of_edge.of_side.y).1 box.y;
+        z = (coordinates-by-ranges _ _ _ _ _ x.bounds.z reach.bounds.z of_triangle.of_face.z of_edge.of_side.z).1 box.z;
+        xy = (coordinates-by-ranges _ _ _ _ _ x.bounds.xy reach.bounds.xy of_triangle.of_face.xy of_edge.of_side.xy).1 differences.xy;
+        yz = (coordinates-by-ranges _ _ _ _ _ x.bounds.yz reach.bounds.yz of_triangle.of_face.yz of_edge.of_side.yz).1 differences.yz;
+        zx = (coordinates-by-ranges _ _ _ _ _ x.bounds.zx reach.bounds.zx of_triangle.of_face.zx of_edge.of_side.zx).1 differences.zx;
       }

@@ -1,5 +1,6 @@
 pub mod Apart
 pub mod BoundLemmas
+pub mod CornerLemmas
 pub mod Counted
 pub mod DoubleLemmas
 pub mod EdgeLemmas

@@ -8,14 +8,15 @@ use Rattle.geometry.specs.Parts.{Part}
 use Rattle.geometry.proofs.Listed.{same_element}
 use Rattle.solid_mesh.specs.inner.Bounds.{BoundsMeet}
 use Rattle.solid_mesh.specs.inner.Trees.{IsPlaced, AreAllPlaced, IsSubtree}
-use Rattle.solid_mesh.specs.inner.Searches.{AtHalf, AreBoundsOf, ComesBefore, IsPair, IsOfPlaces, IsOfEdge, Searched}
+use Rattle.solid_mesh.specs.inner.Searches.{AtHalf, IsReachOf, IsEnd, MeetsInCorner, ComesBefore, IsPair, IsOfPlaces, IsOfEdge, Searched}
 use Rattle.solid_mesh.specs.Meetings.{HaveCommonX, HaveCommonBox, MeetApart}
-use Rattle.solid_mesh.specs.declared.bounds.Bounds.{Bounds}
 use Rattle.solid_mesh.specs.declared.placed.Placed.{Placed}
 use Rattle.solid_mesh.specs.declared.subtrees.Subtree.{Subtree}
 use Rattle.solid_mesh.specs.declared.search.Meeting.{Meeting}
+use Rattle.solid_mesh.specs.declared.search.Reach.{Reach}
 use Rattle.solid_mesh.specs.declared.search.Found.{Found}
 use Rattle.solid_mesh.proofs.BoundLemmas.{bounds_of_apart, meet_around}
+use Rattle.solid_mesh.proofs.CornerLemmas.{apart_in_corner}
 use Rattle.solid_mesh.proofs.Placing.{places_differ, place_there}
 use Rattle.solid_mesh.proofs.Searching.{searched-apart, searched-as, searched-then, rises-as}
 
@@ -35,12 +36,24 @@ module _ (s : Part) (halves : List ℕ) where
         (λ p (j, y, low, high, there, pair). subst (λ (z : Placed). IsPair s halves edge z.tri p) (same_element placed j k y x (omega (arith, low, high)) there at) pair)
         old new h
 
-    -- a subtree that the edge's bounds miss
-    pub places_missed : (reach : Bounds) → AreBoundsOf s halves edge reach → ((x : Placed) (k : ℕ) → slice_get placed k ≡ Some x → IsPlaced s x)
-        → (k : ℕ) (t : Subtree) → IsSubtree placed k t → (BoundsMeet t.around reach → ⊥) → (x : Found) → Searched s halves (At t.first (k + 1)) x x
-    places_missed reach of_edge each k t subtree miss x = searched-apart s halves (At t.first (k + 1))
-        (λ p (j, y, low, high, at, pair) meets. miss (meet_around y.bounds t.around reach (subtree.around j y low (omega (arith, high)) at)
-        (bounds_of_apart s halves edge reach of_edge y (each y j at) (subst (λ (q : ℕ × ℕ). AtHalf (MeetApart s) halves q) pair.0 meets)))) x
+    -- a subtree of which no triangle meets the edge
+    pub places_apart : (k : ℕ) (t : Subtree) → ((j : ℕ) (x : Placed) → t.first ≤ j → j ≤ k → slice_get placed j ≡ Some x → AtHalf (MeetApart s) halves (edge, x.tri) → ⊥)
+        → (x : Found) → Searched s halves (At t.first (k + 1)) x x
+    places_apart k t apart x =
+        searched-apart s halves (At t.first (k + 1))
+        (λ p (j, y, low, high, at, pair) meets. apart j y low (omega (arith, high)) at (subst (λ (q : ℕ × ℕ). AtHalf (MeetApart s) halves q) pair.0 meets)) x
+
+    module _ (reach : Reach) (of_edge : IsReachOf s halves edge reach) (each : (x : Placed) (k : ℕ) → slice_get placed k ≡ Some x → IsPlaced s x) (k : ℕ) (t : Subtree) (subtree : IsSubtree placed k t) where
+      -- one that the edge's bounds miss
+      pub places_missed : (BoundsMeet t.around reach.bounds → ⊥) → (x : Found) → Searched s halves (At t.first (k + 1)) x x
+      places_missed miss = places_apart k t
+          (λ j y low high at meets. miss (meet_around y.bounds t.around reach.bounds (subtree.around j y low high at) (bounds_of_apart s halves edge reach of_edge y (each y j at) meets)))
+
+      -- one that they meet in a common corner alone
+      pub places_cornered : MeetsInCorner reach t → (x : Found) → Searched s halves (At t.first (k + 1)) x x
+      places_cornered h = places_apart k t
+          (λ j y low high at meets. apart_in_corner s halves edge reach of_edge y (each y j at) t.around (subtree.around j y low high at)
+          (subst (IsEnd reach) (sym (subtree.corner h.corner h.common j y low high at)) h.of_edge) h.ends meets)
 
     pub places_more : AreAllPlaced s placed → (low middle high : ℕ) → low ≤ middle → middle ≤ high
         → (x y z : Found) → Searched s halves (At middle high) x y → Searched s halves (At low middle) y z → Searched s halves (At low high) x z

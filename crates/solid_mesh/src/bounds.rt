@@ -1,6 +1,6 @@
 // From where to where edges and triangles go along six directions.
 ghost use Rattle.std.specs.Prelude.{◌↔◌, IsTrue};
-ghost use Rattle.solid_mesh.specs.inner.Bounds.{AreEdgeBounds, AreTriangleBounds, BoundsMeet, IsWithin, AreWithin};
+ghost use Rattle.solid_mesh.specs.inner.Bounds.{AreEdgeBounds, AreTriangleBounds, BoundsMeet, RangesEnd, BoundsEnd, IsWithin, AreWithin};
 
 use lattice::Corner;
 use meeting::{Range, edge_range, ranges_meet, triangle_range};
@@ -66,6 +66,41 @@ pub(crate) fn bounds_meet(r: &Bounds, s: &Bounds) -> bool
         return false;
     }
     ranges_meet(&r.zx, &s.zx)
+}
+
+/// Whether along one of the six the first bounds reach no farther into the second than to an end, and are more than that end.
+pub(crate) fn bounds_end(r: &Bounds, s: &Bounds) -> bool
+    ensures { IsTrue result ↔ BoundsEnd r.now s.now }
+{
+    if ranges_end(&r.x, &s.x) {
+        return true;
+    }
+    if ranges_end(&r.y, &s.y) {
+        return true;
+    }
+    if ranges_end(&r.z, &s.z) {
+        return true;
+    }
+    if ranges_end(&r.xy, &s.xy) {
+        return true;
+    }
+    if ranges_end(&r.yz, &s.yz) {
+        return true;
+    }
+    ranges_end(&r.zx, &s.zx)
+}
+
+/// The same along one of the six.
+fn ranges_end(r: &Range, s: &Range) -> bool
+    ensures { IsTrue result ↔ RangesEnd r.now s.now }
+{
+    if r.to <= r.from {
+        return false;
+    }
+    if r.to <= s.from {
+        return true;
+    }
+    s.to <= r.from
 }
 
 /// The bounds of both together.

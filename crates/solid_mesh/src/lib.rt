@@ -5,6 +5,7 @@
 mod bounds;
 mod doubles;
 mod edges;
+mod fans;
 mod faults;
 mod flats;
 mod pairs;

@@ -5,15 +5,17 @@ ghost use Rattle.geometry.specs.Parts.{part_of};
 ghost use Rattle.solid_mesh.specs.inner.Trees.{IsPlaced, AreAllPlaced};
 
 use crate::bounds::{Bounds, triangle_bounds};
+use crate::fans::{count_triangles, greatest_corner};
 use lattice::{Soup, Tri};
 use meeting::Range;
 use std::alloc::{AllocError, Global};
 
-/// A triangle, by its number, with its bounds, and the Morton code of their middle.
+/// A triangle, by its number, with its bounds, the Morton code of their middle, and that of its corners with the most triangles.
 #[derive(Clone, Copy, Debug)]
 pub(crate) struct Placed {
     pub code: u64,
     pub tri: u32,
+    pub corner: u32,
     pub bounds: Bounds,
 }
 
@@ -22,9 +24,10 @@ pub(crate) fn place_triangles(alloc: Global, soup: &Soup) -> Result<Vec<Placed>,
     requires few { length (part_of soup.now).triangles ≤ 20000 }
     ensures { IfOk result (λ v. AreAllPlaced (part_of soup.now) v.items) }
 {
+    let counts = count_triangles(alloc, soup)?;
     let mut placed = Vec::new(alloc);
     for tri in 0..soup.triangles.len() as u32 {
-        placed.push(place(soup, tri))?;
+        placed.push(place(soup, &counts, tri))?;
     }
     in_order(placed)
 }
@@ -38,12 +41,15 @@ fn in_order(placed: Vec<Placed>) -> Result<Vec<Placed>, AllocError>
     Ok(sorted)
 }
 
-fn place(soup: &Soup, tri: u32) -> Placed
-    requires { tri < length (part_of soup.now).triangles }
+/// A triangle, by the counts of triangles at each corner.
+fn place(soup: &Soup, counts: &[u32], tri: u32) -> Placed
+    requires tri { tri < length (part_of soup.now).triangles }
+    requires counts { length counts.now ≡ length (part_of soup.now).corners }
     ensures number { result.tri ≡ tri }
     ensures placed { IsPlaced (part_of soup.now) result }
 {
-    let Tri { a, b, c } = soup.triangles[tri as usize];
+    let triangle = soup.triangles[tri as usize];
+    let Tri { a, b, c } = triangle;
     let bounds = triangle_bounds(
         &soup.corners[a as usize],
         &soup.corners[b as usize],
@@ -52,6 +58,7 @@ fn place(soup: &Soup, tri: u32) -> Placed
     Placed {
         code: code_of(&bounds),
         tri,
+        corner: greatest_corner(counts, &triangle),
         bounds,
     }
 }

@@ -4,9 +4,9 @@ ghost use Rattle.std.specs.List.{All};
 ghost use Rattle.geometry.specs.Parts.{part_of, IsClosed, AreEdges};
 ghost use Rattle.solid_mesh.specs.Meetings.{HaveCommonX, HaveCommonBox, IsAtMostPairs};
 ghost use Rattle.solid_mesh.specs.inner.Trees.{IsPlaced, AreAllPlaced, AreSubtrees};
-ghost use Rattle.solid_mesh.specs.inner.Searches.{ComesBefore, Searched, AtHalf, AreBoundsOf, IsPair, IsOfPlaces, IsOfEdge, IsFirst};
+ghost use Rattle.solid_mesh.specs.inner.Searches.{ComesBefore, Searched, AtHalf, IsReachOf, IsEnd, MeetsInCorner, IsPair, IsOfPlaces, IsOfEdge, IsFirst};
 
-use crate::bounds::{Bounds, bounds_meet, edge_bounds};
+use crate::bounds::{Bounds, bounds_end, bounds_meet, edge_bounds};
 use crate::pairs::{PairMeter, pair_test};
 use crate::placed::{Placed, place_triangles};
 use crate::sides::ends;
@@ -20,6 +20,14 @@ use std::alloc::{AllocError, Global};
 pub(crate) struct Meeting {
     pub edge: u32,
     pub tri: u32,
+}
+
+/// The bounds of an edge, and the numbers of its corners.
+#[derive(Clone, Copy, Debug)]
+pub(crate) struct Reach {
+    pub bounds: Bounds,
+    pub m: u32,
+    pub n: u32,
 }
 
 /// What was tested, and the first edge and triangle that were found to meet.
@@ -79,7 +87,7 @@ fn search(soup: &Soup, halves: &[u32], placed: &[Placed], subtrees: &[Subtree], 
 }
 
 /// Searches one edge: over the places of the triangles from the last to the first, of which each subtree is left out whose
-/// bounds the edge's don't meet.
+/// bounds the edge's don't meet, or meet in a corner of it alone that all triangles of the subtree have.
 fn search_edge(
     soup: &Soup,
     halves: &[u32],
@@ -102,37 +110,38 @@ fn search_edge(
     ensures boxes { found.new.meter.boxes ≤ found.old.meter.boxes + 20000 }
     ensures pairs { found.new.meter.pairs ≤ found.old.meter.pairs + 20000 }
 {
-    let reach = bounds_of_edge(soup, halves, edge);
+    let reach = reach_of(soup, halves, edge);
     let mut end = subtrees.len();
     while end > 0 {
         end = visit(soup, halves, edge, &reach, placed, subtrees, end - 1, found);
     }
 }
 
-fn bounds_of_edge(soup: &Soup, halves: &[u32], edge: u32) -> Bounds
+fn reach_of(soup: &Soup, halves: &[u32], edge: u32) -> Reach
     requires halves { All (λ half. half < 3 * length (part_of soup.now).triangles) halves.now }
     requires edge { edge < length halves.now }
-    ensures { AreBoundsOf (part_of soup.now) halves.now edge result }
+    ensures { IsReachOf (part_of soup.now) halves.now edge result }
 {
     let half = halves[edge as usize];
     let (m, n) = ends(&soup.triangles[(half / 3) as usize], half % 3);
-    edge_bounds(&soup.corners[m as usize], &soup.corners[n as usize])
+    let bounds = edge_bounds(&soup.corners[m as usize], &soup.corners[n as usize]);
+    Reach { bounds, m, n }
 }
 
-/// Tests an edge and the triangle at a place, if the edge's bounds meet those of its subtree. From the result on nothing is left to
+/// Tests an edge and the triangle at a place, if the edge's bounds meet those of its subtree, and not in a common corner alone. From the result on nothing is left to
 /// be tested.
 fn visit(
     soup: &Soup,
     halves: &[u32],
     edge: u32,
-    reach: &Bounds,
+    reach: &Reach,
     placed: &[Placed],
     subtrees: &[Subtree],
     place: usize,
     found: &mut Found,
 ) -> usize
     requires halves { All (λ half. half < 3 * length (part_of soup.now).triangles) halves.now }
-    requires reach { AreBoundsOf (part_of soup.now) halves.now edge reach.now }
+    requires reach { IsReachOf (part_of soup.now) halves.now edge reach.now }
     requires placed { All (IsPlaced (part_of soup.now)) placed.now }
     requires subtrees { AreSubtrees placed.now subtrees.now }
     requires place { place < length subtrees.now }
@@ -146,18 +155,38 @@ fn visit(
     ensures pairs { found.new.meter.pairs ≤ found.old.meter.pairs + 1 }
 {
     let subtree = &subtrees[place];
-    if !bounds_meet(&subtree.around, reach) {
+    if !bounds_meet(&subtree.around, &reach.bounds) {
+        return subtree.first as usize;
+    }
+    if meets_in_corner(reach, subtree) {
         return subtree.first as usize;
     }
     test(soup, halves, edge, reach, &placed[place], found);
     place
 }
 
+/// Whether the bounds tell that an edge meets the triangles of a subtree in a corner of them all, in an end of it, and nowhere else.
+fn meets_in_corner(reach: &Reach, subtree: &Subtree) -> bool
+    ensures { IsTrue result ↔ MeetsInCorner reach.now subtree.now }
+{
+    match subtree.corner {
+        None => false,
+        Some(corner) => is_end(reach, corner) && bounds_end(&reach.bounds, &subtree.around),
+    }
+}
+
+/// Whether this is a corner of the edge.
+fn is_end(reach: &Reach, corner: u32) -> bool
+    ensures { IsTrue result ↔ IsEnd reach.now corner }
+{
+    reach.m == corner || reach.n == corner
+}
+
 /// Tests an edge and a triangle: their boxes if their ranges of x meet, and if the boxes meet, and the pair is before the one that
 /// was found, the pair.
-fn test(soup: &Soup, halves: &[u32], edge: u32, reach: &Bounds, placed: &Placed, found: &mut Found)
+fn test(soup: &Soup, halves: &[u32], edge: u32, reach: &Reach, placed: &Placed, found: &mut Found)
     requires halves { All (λ half. half < 3 * length (part_of soup.now).triangles) halves.now }
-    requires reach { AreBoundsOf (part_of soup.now) halves.now edge reach.now }
+    requires reach { IsReachOf (part_of soup.now) halves.now edge reach.now }
     requires placed { IsPlaced (part_of soup.now) placed.now }
     requires boxes { found.old.meter.boxes + 1 < 2 ^ 63 }
     requires pairs { found.old.meter.pairs + 1 < 2 ^ 63 }
@@ -166,11 +195,11 @@ fn test(soup: &Soup, halves: &[u32], edge: u32, reach: &Bounds, placed: &Placed,
     ensures boxes { found.new.meter.boxes ≤ found.old.meter.boxes + 1 }
     ensures pairs { found.new.meter.pairs ≤ found.old.meter.pairs + 1 }
 {
-    if !ranges_meet(&placed.bounds.x, &reach.x) {
+    if !ranges_meet(&placed.bounds.x, &reach.bounds.x) {
         return;
     }
     found.meter.boxes += 1;
-    if !bounds_meet(&placed.bounds, reach) {
+    if !bounds_meet(&placed.bounds, &reach.bounds) {
         return;
     }
     if !comes_before(edge, placed.tri, &found.first) {

@@ -1,16 +1,18 @@
 // A tree of boxes over triangles.
-ghost use Rattle.std.specs.Prelude.{◌≡◌, ◌<◌, ◌≤◌, length, IfOk};
+ghost use Rattle.std.specs.Prelude.{◌≡◌, ◌<◌, ◌≤◌, length, Some, IfOk, IfSome};
 ghost use Rattle.solid_mesh.specs.inner.Trees.{IsSubtree, AreSubtrees};
 
 use crate::bounds::{Bounds, united};
 use crate::placed::Placed;
 use std::alloc::{AllocError, Global};
 
-/// The triangles from the place `first` to the place of this subtree, and the bounds of them all.
+/// The triangles from the place `first` to the place of this subtree: the bounds of them all, and a corner that all have, if one was
+/// found.
 #[derive(Clone, Copy, Debug)]
 pub(crate) struct Subtree {
     pub around: Bounds,
     pub first: u32,
+    pub corner: Option<u32>,
 }
 
 /// A hierarchy of bounding boxes (Goldsmith and Salmon 1987) in post-order: each triangle is the root of a subtree, whose two
@@ -37,10 +39,11 @@ fn next_subtree(placed: &[Placed], subtrees: &[Subtree]) -> Subtree
     ensures { IsSubtree placed.now (length subtrees.now) result }
 {
     let place = subtrees.len();
-    let own = placed[place].bounds;
+    let own = placed[place];
     let alone = Subtree {
-        around: own,
+        around: own.bounds,
         first: place as u32,
+        corner: Some(own.corner),
     };
     if place == 0 {
         return alone;
@@ -55,7 +58,21 @@ fn next_subtree(placed: &[Placed], subtrees: &[Subtree]) -> Subtree
         return alone;
     }
     Subtree {
-        around: united(&own, &united(&first.around, &second.around)),
+        around: united(&own.bounds, &united(&first.around, &second.around)),
         first: first.first,
+        corner: common_corner(own.corner, &first.corner, &second.corner),
     }
+}
+
+/// A corner, if the two others are the same.
+fn common_corner(corner: u32, first: &Option<u32>, second: &Option<u32>) -> Option<u32>
+    ensures { IfSome result (λ common. (corner ≡ common) × (first.now ≡ Some common) × (second.now ≡ Some common)) }
+{
+    if *first != Some(corner) {
+        return None;
+    }
+    if *second != Some(corner) {
+        return None;
+    }
+    Some(corner)
 }

@@ -1,5 +1,5 @@
 -- From where to where edges and triangles go along the axes, and so their differences.
-use Rattle.std.specs.Prelude.{◌-ℤ◌, ◌≤ℤ◌}
+use Rattle.std.specs.Prelude.{◌⊎◌, ◌-ℤ◌, ◌≤ℤ◌, ◌<ℤ◌}
 use Rattle.lattice.specs.declared.points.Corner.{Corner}
 use Rattle.meeting.specs.declared.range.Range.{Range}
 use Rattle.meeting.specs.Ranges.{RangesMeet, IsEdgeRange, IsTriangleRange}
@@ -31,6 +31,15 @@ pub record BoundsMeet (r s : Bounds) : Type 0 where
   pub xy : RangesMeet r.xy s.xy
   pub yz : RangesMeet r.yz s.yz
   pub zx : RangesMeet r.zx s.zx
+
+-- the first range is more than one number, and no number of it but one of its ends is in the second
+pub record RangesEnd (r s : Range) : Type 0 where
+  pub more : r.from <ℤ r.to
+  pub end : (r.to ≤ℤ s.from) ⊎ (s.to ≤ℤ r.from)
+
+-- the same along one of the six
+abbrev pub BoundsEnd : Bounds → Bounds → Type 0
+BoundsEnd r s = RangesEnd r.x s.x ⊎ RangesEnd r.y s.y ⊎ RangesEnd r.z s.z ⊎ RangesEnd r.xy s.xy ⊎ RangesEnd r.yz s.yz ⊎ RangesEnd r.zx s.zx
 
 -- the first range is within the second
 pub record IsWithin (r s : Range) : Type 0 where

@@ -4,22 +4,36 @@ use Rattle.geometry.specs.Parts.{Part}
 use Rattle.solid_mesh.specs.Faults.{IsLeast, MeetsAt}
 use Rattle.solid_mesh.specs.Meetings.{Side, HaveCommonX, HaveCommonBox, MeetApart}
 use Rattle.solid_mesh.specs.inner.Meetings.{HasNoMeeting}
-use Rattle.solid_mesh.specs.inner.Bounds.{AreEdgeBounds}
-use Rattle.solid_mesh.specs.declared.bounds.Bounds.{Bounds}
+use Rattle.solid_mesh.specs.inner.Bounds.{AreEdgeBounds, BoundsEnd}
 use Rattle.solid_mesh.specs.declared.placed.Placed.{Placed}
 use Rattle.solid_mesh.specs.declared.search.Meeting.{Meeting}
+use Rattle.solid_mesh.specs.declared.search.Reach.{Reach}
+use Rattle.solid_mesh.specs.declared.subtrees.Subtree.{Subtree}
 use Rattle.solid_mesh.specs.declared.search.Found.{Found}
 
 -- ---- pairs of the number of an edge, by its half in a list, and the number of a triangle
 abbrev pub AtHalf : (ℕ → ℕ → Type 0) → List ℕ → (ℕ × ℕ) → Type 0
 AtHalf P halves p = (half : ℕ) × (slice_get halves p.0 ≡ Some half) × P half p.1
 
--- the bounds are those of the edge with this number
-pub record AreBoundsOf (s : Part) (halves : List ℕ) (edge : ℕ) (r : Bounds) : Type 0 where
+-- the bounds are those of the edge with this number, and m and n are its corners
+pub record IsReachOf (s : Part) (halves : List ℕ) (edge : ℕ) (r : Reach) : Type 0 where
   pub half : ℕ
   pub listed : slice_get halves edge ≡ Some half
   pub side : Side s half
-  pub of_side : AreEdgeBounds side.p side.q r
+  pub of_side : AreEdgeBounds side.p side.q r.bounds
+  pub start : r.m ≡ side.m
+  pub end : r.n ≡ side.n
+
+abbrev pub IsEnd : Reach → ℕ → Type 0
+IsEnd r corner = (r.m ≡ corner) ⊎ (r.n ≡ corner)
+
+-- all triangles of the subtree have a corner of the edge, and the bounds of the edge reach no farther into those of the subtree
+-- than to an end
+pub record MeetsInCorner (r : Reach) (t : Subtree) : Type 0 where
+  pub corner : ℕ
+  pub common : t.corner ≡ Some corner
+  pub of_edge : IsEnd r corner
+  pub ends : BoundsEnd r.bounds t.around
 
 -- ---- the pairs that are tested: their ranges of x meet
 -- this one

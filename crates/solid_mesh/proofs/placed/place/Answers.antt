@@ -9,9 +9,10 @@ returns-clause-placed c =
     let soup = c.args.soup.now in
     let s = part_of soup in
     let t = c.index.result.now in
-    let at : slice_get s.triangles c.args.tri ≡ Some t = slice_get_read s.triangles (length s.triangles) c.args.tri t refl c.requires c.index.ensures in
+    let at : slice_get s.triangles c.args.tri ≡ Some t = slice_get_read s.triangles (length s.triangles) c.args.tri t refl c.requires.tri c.index.ensures in
     record {
       face = face_read s soup.in_range t c.args.tri at c.index-2.result.now c.index-3.result.now c.index-4.result.now c.index-2.ensures c.index-3.ensures c.index-4.ensures;
       numbered = refl;
       of_face = c.triangle_bounds-bounds.ensures;
+      has = c.greatest_corner.ensures;
     }

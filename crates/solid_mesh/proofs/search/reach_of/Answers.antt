@@ -2,7 +2,7 @@ use Rattle.std.proofs.Common.{◌≡◌, ◌*◌, ◌/◌, ◌<◌, length, get_
 use Rattle.std.proofs.lemmas.Option.{slice_get-get_or, slice_get_read}
 use Rattle.geometry.specs.Parts.{part_of}
 use Rattle.solid_mesh.proofs.Readings.{side_read}
-use Rattle.solid_mesh.proofs.search.bounds_of_edge.Goals as goal
+use Rattle.solid_mesh.proofs.search.reach_of.Goals as goal
 
 pub returns : goal.returns
 returns c =
@@ -18,5 +18,7 @@ returns c =
       half = half;
       listed = slice_get-get_or halves c.args.edge 0 c.requires.edge;
       side = side_read s soup.in_range half t at c.ends-m.result.0 c.ends-m.result.1 c.ends-m.ensures.start c.ends-m.ensures.end c.index-2.result.now c.index-3.result.now c.index-2.ensures c.index-3.ensures;
-      of_side = c.edge_bounds.ensures;
+      of_side = c.edge_bounds-bounds.ensures;
+      start = refl;
+      end = refl;
     }
