@@ -1,23 +1,24 @@
 -- Bounds as they are read, and where those of an edge and of a triangle meet.
-use Rattle.std.proofs.Common.{◌≡◌, ℕ, ◌≤◌, ◌^◌, List, refl, subst, ◌∙◌, arith, to_z, of_z}
+use Rattle.std.proofs.Common.{◌≡◌, ℕ, ◌≤◌, ◌^◌, List, refl, sym, subst, ◌∙◌, arith, to_z, of_z}
 use Rattle.std.specs.Prelude.{ℤ, ◌-ℤ◌, ◌≤ℤ◌, unsigned_abs}
 use Rattle.std.specs.Int.{w32}
 use Rattle.std.proofs.lemmas.Int.{ints}
 use Rattle.integers.proofs.Comparisons.{at_most_itself}
+use Rattle.lattice.specs.declared.points.Corner.{Corner}
 use Rattle.geometry.specs.Parts.{Part}
 use Rattle.geometry.proofs.Listed.{same_element}
 use Rattle.meeting.specs.declared.range.Range.{Range}
-use Rattle.meeting.specs.Ranges.{RangesMeet, IsEdgeRange, IsTriangleRange}
+use Rattle.meeting.specs.Ranges.{IsInRange, RangesMeet, IsEdgeRange, IsTriangleRange}
 use Rattle.meeting.proofs.BoxAxes.{read}
 use Rattle.meeting.proofs.Ranges.{coordinates-by-ranges}
-use Rattle.solid_mesh.specs.inner.Bounds.{BoundsMeet, IsWithin, AreWithin}
+use Rattle.solid_mesh.specs.inner.Bounds.{AreEdgeBounds, BoundsMeet, IsInBounds, IsWithin, AreWithin}
 use Rattle.solid_mesh.specs.inner.Searches.{AtHalf, IsReachOf}
 use Rattle.solid_mesh.specs.inner.Trees.{IsPlaced}
 use Rattle.solid_mesh.specs.Meetings.{HaveCommonX, HaveCommonBox, MeetApart}
 use Rattle.solid_mesh.specs.declared.bounds.Bounds.{Bounds}
 use Rattle.solid_mesh.specs.declared.placed.Placed.{Placed}
 use Rattle.solid_mesh.specs.declared.search.Reach.{Reach}
-use Rattle.meeting.proofs.TouchingBoxes.{boxes-of-touch, differences-of-touch}
+use Rattle.meeting.proofs.TouchingBoxes.{edge_low, edge_high, boxes-of-touch, differences-of-touch}
 use Rattle.solid_mesh.proofs.Meets.{touch_of_apart, box_here, x_here}
 
 -- ---- ranges as the machine reads them
@@ -52,6 +53,22 @@ within_both r s t h k = record { x = along h.x k.x; y = along h.y k.y; z = along
   where
     along : {r s t : Range} → IsWithin r s → IsWithin s t → IsWithin r t
     along h k = record { from = through k.from h.from; to = through h.to k.to }
+
+-- a corner within bounds
+pub in_wider : (k : Corner) (r s : Bounds) → AreWithin r s → IsInBounds k r → IsInBounds k s
+in_wider k r s h g = record { x = along h.x g.x; y = along h.y g.y; z = along h.z g.z }
+  where
+    along : {r s : Range} {n : ℤ} → IsWithin r s → IsInRange r n → IsInRange s n
+    along h g = record { from = through h.from g.from; to = through g.to h.to }
+
+pub ends_in : (p q : Corner) (r : Bounds) → AreEdgeBounds p q r → IsInBounds p r × IsInBounds q r
+ends_in p q r h = (record { x = first h.x; y = first h.y; z = first h.z }, record { x = last h.x; y = last h.y; z = last h.z })
+  where
+    first : {p q : ℤ} {r : Range} → IsEdgeRange p q r → IsInRange r p
+    first {p} {q} h = record { from = subst (λ (z : ℤ). z ≤ℤ p) (sym h.from) ((edge_low p q).0); to = subst (λ (z : ℤ). p ≤ℤ z) (sym h.to) ((edge_high p q).0) }
+
+    last : {p q : ℤ} {r : Range} → IsEdgeRange p q r → IsInRange r q
+    last {p} {q} h = record { from = subst (λ (z : ℤ). z ≤ℤ q) (sym h.from) ((edge_low p q).1); to = subst (λ (z : ℤ). q ≤ℤ z) (sym h.to) ((edge_high p q).1) }
 
 -- what meets bounds meets those that these are within
 pub meet_around : (r s t : Bounds) → AreWithin r s → BoundsMeet r t → BoundsMeet s t

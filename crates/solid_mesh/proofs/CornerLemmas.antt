@@ -16,14 +16,16 @@ use Rattle.meeting.specs.Ranges.{IsEdgeRange, IsTriangleRange}
 use Rattle.meeting.proofs.Beyond.{off-start}
 use Rattle.meeting.proofs.TouchingBoxes.{above, least, below, most, edge_low, edge_high, face_low, face_high, difference}
 use Rattle.solid_mesh.specs.Meetings.{Side, MeetApart}
-use Rattle.solid_mesh.specs.inner.Bounds.{AreEdgeBounds, AreTriangleBounds, RangesEnd, BoundsEnd, IsWithin, AreWithin}
+use Rattle.solid_mesh.specs.inner.Bounds.{AreEdgeBounds, AreTriangleBounds, RangesEnd, BoundsEnd, PassesBy, IsInBounds, IsWithin, AreWithin}
 use Rattle.solid_mesh.specs.inner.Pairs.{MeetBeyond}
 use Rattle.solid_mesh.specs.inner.Searches.{AtHalf, IsReachOf, IsEnd}
 use Rattle.solid_mesh.specs.inner.Trees.{IsPlaced}
 use Rattle.solid_mesh.specs.declared.bounds.Bounds.{Bounds}
 use Rattle.solid_mesh.specs.declared.placed.Placed.{Placed}
 use Rattle.solid_mesh.specs.declared.search.Reach.{Reach}
-use Rattle.solid_mesh.proofs.Meets.{apart-first, apart-second, apart-both}
+use Rattle.solid_mesh.proofs.BoundLemmas.{in_wider}
+use Rattle.solid_mesh.proofs.PassingLemmas.{passed}
+use Rattle.solid_mesh.proofs.Meets.{touch_of_apart, apart_from, apart-first, apart-second, apart-both}
 
 -- ---- equal sums with weights, along one of the six
 module _ (i j k l m : ℕ) (a b c p q : ℤ) (some : 0 < j) (weights : pos i +ℤ pos j ≡ (pos k +ℤ pos l) +ℤ pos m) (same : (pos i *ℤ p) +ℤ (pos j *ℤ q) ≡ ((pos k *ℤ a) +ℤ (pos l *ℤ b)) +ℤ (pos m *ℤ c)) where
@@ -185,3 +187,29 @@ module _ (s : Part) (halves : List ℕ) (edge : ℕ) (reach : Reach) (of_edge : 
           let has : IsCornerOf f.tri e.n = subst (IsCornerOf f.tri) (sym is ∙ of_edge.end) of_triangle.has in
           not_beyond f.a f.b f.c e.q e.p x.bounds reach.bounds around of_triangle.of_face (bounds_turned e.p e.q reach.bounds of_edge.of_side) within (place_of e.n e.q e.at_n has) ends
           ((apart-second s of_edge.half x.tri e f of_triangle.numbered (λ other. apart-both s of_edge.half x.tri e f of_triangle.numbered other has h) has).1 h)
+
+  -- the same where the edge passes by bounds of the other corners
+  pub apart_beside : IsEnd reach x.corner → (rim : Bounds) → AreWithin x.rim rim → PassesBy reach.p reach.q rim → AtHalf (MeetApart s) halves (edge, x.tri) → ⊥
+  apart_beside end rim in_rim passes (half, at, meets) = by end
+    where
+      h : MeetApart s of_edge.half x.tri
+      h = subst (λ (k : ℕ). MeetApart s k x.tri) (same_element halves edge edge half of_edge.half refl at of_edge.listed) meets
+
+      line : PassesBy e.p e.q rim
+      line = subst (λ (k : Corner). PassesBy e.p k rim) of_edge.at_end (subst (λ (k : Corner). PassesBy k reach.q rim) of_edge.at_start passes)
+
+      -- a corner is at the common one, or within the rim
+      in_either : (n i : ℕ) (p k : Corner) → slice_get s.corners n ≡ Some p → slice_get s.corners i ≡ Some k → x.corner ≡ n → (i ≡ x.corner) ⊎ IsInBounds k x.rim → (k ≡ p) ⊎ IsInBounds k rim
+      in_either n i p k at there is (inl same) = inl (same_element s.corners i n k p (same ∙ is) there at)
+      in_either n i p k at there is (inr within) = inr (in_wider k x.rim rim in_rim within)
+
+      by_corner : (n : ℕ) (p : Corner) → slice_get s.corners n ≡ Some p → x.corner ≡ n → (p ≡ e.p) ⊎ (p ≡ e.q) → (e.m ≡ n) ⊎ (e.n ≡ n) → ⊥
+      by_corner n p at is end here =
+          apart_from s of_edge.half x.tri e f of_triangle.numbered h n p at here (subst (IsCornerOf f.tri) is of_triangle.has)
+          (passed f.a f.b f.c e.p e.q p rim end
+          (in_either n f.tri.a p f.a at f.at_a is of_triangle.rim.first) (in_either n f.tri.b p f.b at f.at_b is of_triangle.rim.second) (in_either n f.tri.c p f.c at f.at_c is of_triangle.rim.third)
+          (touch_of_apart s of_edge.half x.tri e f of_triangle.numbered h) line)
+
+      by : IsEnd reach x.corner → ⊥
+      by (inl is) = by_corner e.m e.p e.at_m (sym is ∙ of_edge.start) (inl refl) (inl refl)
+      by (inr is) = by_corner e.n e.q e.at_n (sym is ∙ of_edge.end) (inr refl) (inr refl)

@@ -42,42 +42,45 @@ module _ (placed : List Placed) where
           subst (λ (i : ℕ). IsSubtree placed i u) (sym last) (subst (IsSubtree placed (length xs)) (sym same) here)
 
   module _ (k : ℕ) (own : Placed) (at : slice_get placed k ≡ Some own) (t : Subtree) (around_own : AreWithin own.bounds t.around) where
-    itself : (j : ℕ) (x : Placed) → j ≡ k → slice_get placed j ≡ Some x → AreWithin x.bounds t.around
-    itself j x e there = subst (λ (z : Placed). AreWithin z.bounds t.around) (same_element placed k j own x (sym e) at there) around_own
-
-    own_corner : (corner : ℕ) → own.corner ≡ corner → (j : ℕ) (x : Placed) → j ≡ k → slice_get placed j ≡ Some x → x.corner ≡ corner
-    own_corner corner is j x e there = ap (λ (z : Placed). z.corner) (sym (same_element placed k j own x (sym e) at there)) ∙ is
+    own_has : (P : Placed → Type 0) → P own → (j : ℕ) (x : Placed) → j ≡ k → slice_get placed j ≡ Some x → P x
+    own_has P h j x e there = subst P (same_element placed k j own x (sym e) at there) h
 
     -- one triangle
-    pub alone : t.first ≡ k → t.corner ≡ Some own.corner → IsSubtree placed k t
-    alone e is = record {
+    pub alone : AreWithin own.rim t.rim → t.first ≡ k → t.corner ≡ Some own.corner → IsSubtree placed k t
+    alone rim e is = record {
       first = omega (arith, e);
-      around = λ j x low high there. itself j x (omega (arith, e, low, high)) there;
-      corner = λ corner common j x low high there. own_corner corner (some_same _ _ (sym is ∙ common)) j x (omega (arith, e, low, high)) there;
+      around = λ j x low high there. own_has (λ y. AreWithin y.bounds t.around) around_own j x (omega (arith, e, low, high)) there;
+      corner = λ corner common j x low high there. own_has (λ y. y.corner ≡ corner) (some_same _ _ (sym is ∙ common)) j x (omega (arith, e, low, high)) there;
+      rim = λ j x low high there. own_has (λ y. AreWithin y.rim t.rim) rim j x (omega (arith, e, low, high)) there;
     }
 
     -- a triangle with the last two subtrees before it
-    pub joined : (first second : Subtree) → 0 < k → IsSubtree placed (k - 1) second → 0 < second.first → IsSubtree placed (second.first - 1) first
-        → AreWithin first.around t.around → AreWithin second.around t.around → t.first ≡ first.first
-        → IfSome t.corner (λ common. (own.corner ≡ common) × (first.corner ≡ Some common) × (second.corner ≡ Some common)) → IsSubtree placed k t
-    joined first second some of_second before of_first around_first around_second e same = record {
-      first = omega (arith, e, some, before, of_second.first, of_first.first);
-      around = λ j x low high there. by j x (omega (arith, e, low)) there (cases_lt j second.first) (cases_lt j k) high;
-      corner = λ corner common j x low high there.
-          let each = subst (λ (o : Option ℕ). IfSome o (λ n. (own.corner ≡ n) × (first.corner ≡ Some n) × (second.corner ≡ Some n))) common same in
-          corner_by corner each j x (omega (arith, e, low)) there (cases_lt j second.first) (cases_lt j k) high;
-    }
-      where
-        by : (j : ℕ) (x : Placed) → first.first ≤ j → slice_get placed j ≡ Some x → ((j < second.first) ⊎ (second.first ≤ j)) → ((j < k) ⊎ (k ≤ j)) → j ≤ k → AreWithin x.bounds t.around
-        by j x low there (inl early) later high = within_both _ _ _ (of_first.around j x low (omega (arith, early)) there) around_first
-        by j x low there (inr late) (inl less) high = within_both _ _ _ (of_second.around j x late (omega (arith, less)) there) around_second
-        by j x low there (inr late) (inr more) high = itself j x (omega (arith, more, high)) there
+    module _ (first second : Subtree) (some : 0 < k) (of_second : IsSubtree placed (k - 1) second) (before : 0 < second.first) (of_first : IsSubtree placed (second.first - 1) first) (e : t.first ≡ first.first) where
+      -- what holds of the triangles of both and of this one holds of all three together
+      of_all : (P : Placed → Type 0) → ((j : ℕ) (x : Placed) → first.first ≤ j → j ≤ second.first - 1 → slice_get placed j ≡ Some x → P x)
+          → ((j : ℕ) (x : Placed) → second.first ≤ j → j ≤ k - 1 → slice_get placed j ≡ Some x → P x) → P own → (j : ℕ) (x : Placed) → t.first ≤ j → j ≤ k → slice_get placed j ≡ Some x → P x
+      of_all P early late last j x low high there = by (cases_lt j second.first) (cases_lt j k)
+        where
+          from : first.first ≤ j
+          from = omega (arith, e, low)
 
-        corner_by : (corner : ℕ) → (own.corner ≡ corner) × (first.corner ≡ Some corner) × (second.corner ≡ Some corner) → (j : ℕ) (x : Placed) → first.first ≤ j → slice_get placed j ≡ Some x
-            → ((j < second.first) ⊎ (second.first ≤ j)) → ((j < k) ⊎ (k ≤ j)) → j ≤ k → x.corner ≡ corner
-        corner_by corner (own_is, first_is, second_is) j x low there (inl early) later high = of_first.corner corner first_is j x low (omega (arith, early)) there
-        corner_by corner (own_is, first_is, second_is) j x low there (inr late) (inl less) high = of_second.corner corner second_is j x late (omega (arith, less)) there
-        corner_by corner (own_is, first_is, second_is) j x low there (inr late) (inr more) high = own_corner corner own_is j x (omega (arith, more, high)) there
+          by : ((j < second.first) ⊎ (second.first ≤ j)) → ((j < k) ⊎ (k ≤ j)) → P x
+          by (inl h) other = early j x from (omega (arith, h)) there
+          by (inr h) (inl less) = late j x h (omega (arith, less)) there
+          by (inr h) (inr more) = own_has P last j x (omega (arith, more, high)) there
+
+      pub joined : AreWithin first.around t.around → AreWithin second.around t.around → AreWithin own.rim t.rim → AreWithin first.rim t.rim → AreWithin second.rim t.rim
+          → IfSome t.corner (λ common. (own.corner ≡ common) × (first.corner ≡ Some common) × (second.corner ≡ Some common)) → IsSubtree placed k t
+      joined around_first around_second rim_own rim_first rim_second same = record {
+        first = omega (arith, e, some, before, of_second.first, of_first.first);
+        around = of_all (λ y. AreWithin y.bounds t.around)
+            (λ j x low high there. within_both _ _ _ (of_first.around j x low high there) around_first) (λ j x low high there. within_both _ _ _ (of_second.around j x low high there) around_second) around_own;
+        corner = λ corner common.
+            let each = subst (λ (o : Option ℕ). IfSome o (λ n. (own.corner ≡ n) × (first.corner ≡ Some n) × (second.corner ≡ Some n))) common same in
+            of_all (λ y. y.corner ≡ corner) (of_first.corner corner (each.1)) (of_second.corner corner (each.2)) (each.0);
+        rim = of_all (λ y. AreWithin y.rim t.rim)
+            (λ j x low high there. within_both _ _ _ (of_first.rim j x low high there) rim_first) (λ j x low high there. within_both _ _ _ (of_second.rim j x low high there) rim_second) rim_own;
+      }
 
   -- a subtree that was read
   pub subtree_read : (xs : List Subtree) → AreSubtrees placed xs → (k : ℕ) → k < length xs → (t : Subtree) → t ≡ get_or xs k t → IsSubtree placed k t

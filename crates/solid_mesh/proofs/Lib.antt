@@ -11,6 +11,7 @@ pub mod FlatLemmas
 pub mod Growing
 pub mod HalfLemmas
 pub mod Meets
+pub mod PassingLemmas
 pub mod Placing
 pub mod Readings
 pub mod SearchedEdges

@@ -31,12 +31,12 @@ pub x_of_box : (s : Part) (half tri : ℕ) → HaveCommonBox s half tri → Have
 x_of_box s half tri h = record { side = h.side; face = h.face; numbered = h.numbered; meet = h.meet.x }
 
 -- what a side and a triangle that meet apart are known for, by their corners
-record ApartAs (s : Part) (r : Reading) : Type 0 where
-  point : Point
-  not_side : IsCornerOf r.tri r.m × IsCornerOf r.tri r.n → ⊥
-  on_side : IsPointOfEdge r.p r.q point
-  on_face : IsPointOfFace r.a r.b r.c point
-  apart : (k : ℕ) (c : Corner) → slice_get s.corners k ≡ Some c → (r.m ≡ k) ⊎ (r.n ≡ k) → IsCornerOf r.tri k → AreOnePoint (point_of c) point → ⊥
+pub record ApartAs (s : Part) (r : Reading) : Type 0 where
+  pub point : Point
+  pub not_side : IsCornerOf r.tri r.m × IsCornerOf r.tri r.n → ⊥
+  pub on_side : IsPointOfEdge r.p r.q point
+  pub on_face : IsPointOfFace r.a r.b r.c point
+  pub apart : (k : ℕ) (c : Corner) → slice_get s.corners k ≡ Some c → (r.m ≡ k) ⊎ (r.n ≡ k) → IsCornerOf r.tri k → AreOnePoint (point_of c) point → ⊥
 
 module _ (s : Part) (half tri : ℕ) (e : Side s half) (f : Face s) (number : f.number ≡ tri) where
   same_as : (other : Side s half) (g : Face s) → g.number ≡ tri → reading other g ≡ reading e f
@@ -54,12 +54,15 @@ module _ (s : Part) (half tri : ℕ) (e : Side s half) (f : Face s) (number : f.
     λ h. subst (λ (r : Reading). CoordinatesMeet r.a.x r.b.x r.c.x r.p.x r.q.x) (same_as h.side h.face h.numbered) h.meet,
   )
 
-  apart_here : MeetApart s half tri → ApartAs s (reading e f)
+  pub apart_here : MeetApart s half tri → ApartAs s (reading e f)
   apart_here h = subst (ApartAs s) (same_as h.side h.face h.numbered)
       (record { point = h.point; not_side = h.not_side; on_side = h.on_side; on_face = h.on_face; apart = h.apart })
 
-  pub touch_of_apart : MeetApart s half tri → Touch f.a f.b f.c e.p e.q
+  abbrev pub touch_of_apart : MeetApart s half tri → Touch f.a f.b f.c e.p e.q
   touch_of_apart h = let g = apart_here h in record { point = g.point; on_edge = g.on_side; on_face = g.on_face }
+
+  pub apart_from : (h : MeetApart s half tri) (k : ℕ) (c : Corner) → slice_get s.corners k ≡ Some c → (e.m ≡ k) ⊎ (e.n ≡ k) → IsCornerOf f.tri k → AreOnePoint (point_of c) (touch_of_apart h).point → ⊥
+  apart_from h = (apart_here h).apart
 
   -- the triangle has neither end
   pub apart-none : (IsCornerOf f.tri e.m → ⊥) → (IsCornerOf f.tri e.n → ⊥) → Touch f.a f.b f.c e.p e.q ↔ MeetApart s half tri

@@ -16,7 +16,7 @@ use Rattle.solid_mesh.specs.declared.search.Meeting.{Meeting}
 use Rattle.solid_mesh.specs.declared.search.Reach.{Reach}
 use Rattle.solid_mesh.specs.declared.search.Found.{Found}
 use Rattle.solid_mesh.proofs.BoundLemmas.{bounds_of_apart, meet_around}
-use Rattle.solid_mesh.proofs.CornerLemmas.{apart_in_corner}
+use Rattle.solid_mesh.proofs.CornerLemmas.{apart_in_corner, apart_beside}
 use Rattle.solid_mesh.proofs.Placing.{places_differ, place_there}
 use Rattle.solid_mesh.proofs.Searching.{searched-apart, searched-as, searched-then, rises-as}
 
@@ -52,8 +52,12 @@ module _ (s : Part) (halves : List ℕ) where
       -- one that they meet in a common corner alone
       pub places_cornered : MeetsInCorner reach t → (x : Found) → Searched s halves (At t.first (k + 1)) x x
       places_cornered h = places_apart k t
-          (λ j y low high at meets. apart_in_corner s halves edge reach of_edge y (each y j at) t.around (subtree.around j y low high at)
-          (subst (IsEnd reach) (sym (subtree.corner h.corner h.common j y low high at)) h.of_edge) h.ends meets)
+          (λ j y low high at meets.
+          let end = subst (IsEnd reach) (sym (subtree.corner h.corner h.common j y low high at)) h.of_edge in
+          elim h.leaves [
+            | inl ends ↦ apart_in_corner s halves edge reach of_edge y (each y j at) t.around (subtree.around j y low high at) end ends meets
+            | inr passes ↦ apart_beside s halves edge reach of_edge y (each y j at) t.around (subtree.around j y low high at) end t.rim (subtree.rim j y low high at) passes meets
+          ])
 
     pub places_more : AreAllPlaced s placed → (low middle high : ℕ) → low ≤ middle → middle ≤ high
         → (x y z : Found) → Searched s halves (At middle high) x y → Searched s halves (At low middle) y z → Searched s halves (At low high) x z

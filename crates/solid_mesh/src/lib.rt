@@ -9,6 +9,7 @@ mod fans;
 mod faults;
 mod flats;
 mod pairs;
+mod passing;
 mod placed;
 mod search;
 mod sides;

@@ -1,22 +1,24 @@
 // The triangles of a part in an order in which those that are near one another in space stand near one another.
 ghost use Rattle.std.specs.Prelude.{◌≡◌, ◌<◌, ◌≤◌, length, IfOk};
 ghost use Rattle.std.specs.List.Sorted.{IsPermutation};
-ghost use Rattle.geometry.specs.Parts.{part_of};
-ghost use Rattle.solid_mesh.specs.inner.Trees.{IsPlaced, AreAllPlaced};
+ghost use Rattle.geometry.specs.Parts.{part_of, IsCornerOf};
+ghost use Rattle.solid_mesh.specs.inner.Trees.{IsRim, IsPlaced, AreAllPlaced};
 
-use crate::bounds::{Bounds, triangle_bounds};
+use crate::bounds::{Bounds, edge_bounds, triangle_bounds};
 use crate::fans::{count_triangles, greatest_corner};
-use lattice::{Soup, Tri};
+use lattice::{Corner, Soup, Tri};
 use meeting::Range;
 use std::alloc::{AllocError, Global};
 
-/// A triangle, by its number, with its bounds, the Morton code of their middle, and that of its corners with the most triangles.
+/// A triangle, by its number, with its bounds, the Morton code of their middle, that of its corners with the most triangles, and
+/// the bounds of the other two.
 #[derive(Clone, Copy, Debug)]
 pub(crate) struct Placed {
     pub code: u64,
     pub tri: u32,
     pub corner: u32,
     pub bounds: Bounds,
+    pub rim: Bounds,
 }
 
 /// The triangles in the order of their Morton codes (Morton 1966). Takes the time of sorting.
@@ -49,18 +51,33 @@ fn place(soup: &Soup, counts: &[u32], tri: u32) -> Placed
     ensures placed { IsPlaced (part_of soup.now) result }
 {
     let triangle = soup.triangles[tri as usize];
-    let Tri { a, b, c } = triangle;
-    let bounds = triangle_bounds(
-        &soup.corners[a as usize],
-        &soup.corners[b as usize],
-        &soup.corners[c as usize],
-    );
+    let a = &soup.corners[triangle.a as usize];
+    let b = &soup.corners[triangle.b as usize];
+    let c = &soup.corners[triangle.c as usize];
+    let bounds = triangle_bounds(a, b, c);
+    let corner = greatest_corner(counts, &triangle);
+    let rim = rim_of(&triangle, corner, a, b, c);
     Placed {
         code: code_of(&bounds),
         tri,
-        corner: greatest_corner(counts, &triangle),
+        corner,
         bounds,
+        rim,
     }
+}
+
+/// The bounds of a triangle's corners `a`, `b` and `c` but that with this number.
+fn rim_of(triangle: &Tri, corner: u32, a: &Corner, b: &Corner, c: &Corner) -> Bounds
+    requires { IsCornerOf triangle.now corner }
+    ensures { IsRim triangle.now corner a.now b.now c.now result }
+{
+    if triangle.a == corner {
+        return edge_bounds(b, c);
+    }
+    if triangle.b == corner {
+        return edge_bounds(c, a);
+    }
+    edge_bounds(a, b)
 }
 
 /// The Morton code of the middle: the bits of its three coordinates in turn, the highest first.

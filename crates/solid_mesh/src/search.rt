@@ -4,14 +4,15 @@ ghost use Rattle.std.specs.List.{All};
 ghost use Rattle.geometry.specs.Parts.{part_of, IsClosed, AreEdges};
 ghost use Rattle.solid_mesh.specs.Meetings.{HaveCommonX, HaveCommonBox, IsAtMostPairs};
 ghost use Rattle.solid_mesh.specs.inner.Trees.{IsPlaced, AreAllPlaced, AreSubtrees};
-ghost use Rattle.solid_mesh.specs.inner.Searches.{ComesBefore, Searched, AtHalf, IsReachOf, IsEnd, MeetsInCorner, IsPair, IsOfPlaces, IsOfEdge, IsFirst};
+ghost use Rattle.solid_mesh.specs.inner.Searches.{ComesBefore, Searched, AtHalf, IsReachOf, IsEnd, Leaves, MeetsInCorner, IsPair, IsOfPlaces, IsOfEdge, IsFirst};
 
 use crate::bounds::{Bounds, bounds_end, bounds_meet, edge_bounds};
 use crate::pairs::{PairMeter, pair_test};
+use crate::passing::passes_by;
 use crate::placed::{Placed, place_triangles};
 use crate::sides::ends;
 use crate::subtrees::{Subtree, grow_subtrees};
-use lattice::Soup;
+use lattice::{Corner, Soup};
 use meeting::ranges_meet;
 use std::alloc::{AllocError, Global};
 
@@ -22,12 +23,14 @@ pub(crate) struct Meeting {
     pub tri: u32,
 }
 
-/// The bounds of an edge, and the numbers of its corners.
+/// The bounds of an edge, and its corners with their numbers.
 #[derive(Clone, Copy, Debug)]
 pub(crate) struct Reach {
     pub bounds: Bounds,
     pub m: u32,
     pub n: u32,
+    pub p: Corner,
+    pub q: Corner,
 }
 
 /// What was tested, and the first edge and triangle that were found to meet.
@@ -124,8 +127,15 @@ fn reach_of(soup: &Soup, halves: &[u32], edge: u32) -> Reach
 {
     let half = halves[edge as usize];
     let (m, n) = ends(&soup.triangles[(half / 3) as usize], half % 3);
-    let bounds = edge_bounds(&soup.corners[m as usize], &soup.corners[n as usize]);
-    Reach { bounds, m, n }
+    let p = &soup.corners[m as usize];
+    let q = &soup.corners[n as usize];
+    Reach {
+        bounds: edge_bounds(p, q),
+        m,
+        n,
+        p: *p,
+        q: *q,
+    }
 }
 
 /// Tests an edge and the triangle at a place, if the edge's bounds meet those of its subtree, and not in a common corner alone. From the result on nothing is left to
@@ -167,12 +177,22 @@ fn visit(
 
 /// Whether the bounds tell that an edge meets the triangles of a subtree in a corner of them all, in an end of it, and nowhere else.
 fn meets_in_corner(reach: &Reach, subtree: &Subtree) -> bool
-    ensures { IsTrue result ↔ MeetsInCorner reach.now subtree.now }
+    ensures { IsTrue result → MeetsInCorner reach.now subtree.now }
 {
     match subtree.corner {
         None => false,
-        Some(corner) => is_end(reach, corner) && bounds_end(&reach.bounds, &subtree.around),
+        Some(corner) => is_end(reach, corner) && leaves(reach, subtree),
     }
+}
+
+/// Whether the bounds tell that an edge from a common corner of a subtree's triangles goes to another side than these.
+fn leaves(reach: &Reach, subtree: &Subtree) -> bool
+    ensures { IsTrue result → Leaves reach.now subtree.now }
+{
+    if bounds_end(&reach.bounds, &subtree.around) {
+        return true;
+    }
+    passes_by(&reach.p, &reach.q, &subtree.rim)
 }
 
 /// Whether this is a corner of the edge.

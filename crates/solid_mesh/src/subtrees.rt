@@ -6,13 +6,14 @@ use crate::bounds::{Bounds, united};
 use crate::placed::Placed;
 use std::alloc::{AllocError, Global};
 
-/// The triangles from the place `first` to the place of this subtree: the bounds of them all, and a corner that all have, if one was
-/// found.
+/// The triangles from the place `first` to the place of this subtree: the bounds of them all, a corner that all have, if one was
+/// found, and bounds of their other corners.
 #[derive(Clone, Copy, Debug)]
 pub(crate) struct Subtree {
     pub around: Bounds,
     pub first: u32,
     pub corner: Option<u32>,
+    pub rim: Bounds,
 }
 
 /// A hierarchy of bounding boxes (Goldsmith and Salmon 1987) in post-order: each triangle is the root of a subtree, whose two
@@ -44,6 +45,7 @@ fn next_subtree(placed: &[Placed], subtrees: &[Subtree]) -> Subtree
         around: own.bounds,
         first: place as u32,
         corner: Some(own.corner),
+        rim: own.rim,
     };
     if place == 0 {
         return alone;
@@ -61,6 +63,7 @@ fn next_subtree(placed: &[Placed], subtrees: &[Subtree]) -> Subtree
         around: united(&own.bounds, &united(&first.around, &second.around)),
         first: first.first,
         corner: common_corner(own.corner, &first.corner, &second.corner),
+        rim: united(&own.rim, &united(&first.rim, &second.rim)),
     }
 }
 

@@ -1,8 +1,8 @@
 -- From where to where edges and triangles go along the axes, and so their differences.
-use Rattle.std.specs.Prelude.{◌⊎◌, ◌-ℤ◌, ◌≤ℤ◌, ◌<ℤ◌}
+use Rattle.std.specs.Prelude.{◌⊎◌, ℤ, pos, ◌-ℤ◌, ◌*ℤ◌, ◌≤ℤ◌, ◌<ℤ◌}
 use Rattle.lattice.specs.declared.points.Corner.{Corner}
 use Rattle.meeting.specs.declared.range.Range.{Range}
-use Rattle.meeting.specs.Ranges.{RangesMeet, IsEdgeRange, IsTriangleRange}
+use Rattle.meeting.specs.Ranges.{IsInRange, RangesMeet, IsEdgeRange, IsTriangleRange}
 use Rattle.solid_mesh.specs.declared.bounds.Bounds.{Bounds}
 
 -- those of the edge from p to q
@@ -54,3 +54,23 @@ pub record AreWithin (r s : Bounds) : Type 0 where
   pub xy : IsWithin r.xy s.xy
   pub yz : IsWithin r.yz s.yz
   pub zx : IsWithin r.zx s.zx
+
+-- the corner is within the bounds, along the axes
+pub record IsInBounds (k : Corner) (r : Bounds) : Type 0 where
+  pub x : IsInRange r.x k.x
+  pub y : IsInRange r.y k.y
+  pub z : IsInRange r.z k.z
+
+-- how far the place (u, v) is to the left of the line from one place to another, times the length from the one to the other
+abbrev pub left_of_line : ℤ → ℤ → ℤ → ℤ → ℤ → ℤ → ℤ
+left_of_line from_u to_u from_v to_v u v = ((to_u -ℤ from_u) *ℤ (v -ℤ from_v)) -ℤ ((to_v -ℤ from_v) *ℤ (u -ℤ from_u))
+
+-- all places with both coordinates in these ranges are strictly to the left of it
+abbrev pub AreLeft : ℤ → ℤ → ℤ → ℤ → Range → Range → Type 0
+AreLeft from_u to_u from_v to_v over_u over_v = (u v : ℤ) → IsInRange over_u u → IsInRange over_v v → pos 0 <ℤ left_of_line from_u to_u from_v to_v u v
+
+-- along one of the axes all places within the bounds are seen strictly to the left of the line from p to q, or strictly to the right
+abbrev pub PassesBy : Corner → Corner → Bounds → Type 0
+PassesBy p q r =
+    AreLeft p.x q.x p.y q.y r.x r.y ⊎ AreLeft p.y q.y p.x q.x r.y r.x ⊎ AreLeft p.y q.y p.z q.z r.y r.z
+    ⊎ AreLeft p.z q.z p.y q.y r.z r.y ⊎ AreLeft p.z q.z p.x q.x r.z r.x ⊎ AreLeft p.x q.x p.z q.z r.x r.z

@@ -4,7 +4,7 @@ use Rattle.geometry.specs.Parts.{Part}
 use Rattle.solid_mesh.specs.Faults.{IsLeast, MeetsAt}
 use Rattle.solid_mesh.specs.Meetings.{Side, HaveCommonX, HaveCommonBox, MeetApart}
 use Rattle.solid_mesh.specs.inner.Meetings.{HasNoMeeting}
-use Rattle.solid_mesh.specs.inner.Bounds.{AreEdgeBounds, BoundsEnd}
+use Rattle.solid_mesh.specs.inner.Bounds.{AreEdgeBounds, BoundsEnd, PassesBy}
 use Rattle.solid_mesh.specs.declared.placed.Placed.{Placed}
 use Rattle.solid_mesh.specs.declared.search.Meeting.{Meeting}
 use Rattle.solid_mesh.specs.declared.search.Reach.{Reach}
@@ -15,7 +15,7 @@ use Rattle.solid_mesh.specs.declared.search.Found.{Found}
 abbrev pub AtHalf : (ℕ → ℕ → Type 0) → List ℕ → (ℕ × ℕ) → Type 0
 AtHalf P halves p = (half : ℕ) × (slice_get halves p.0 ≡ Some half) × P half p.1
 
--- the bounds are those of the edge with this number, and m and n are its corners
+-- the bounds are those of the edge with this number, and p and q its corners, by their numbers m and n
 pub record IsReachOf (s : Part) (halves : List ℕ) (edge : ℕ) (r : Reach) : Type 0 where
   pub half : ℕ
   pub listed : slice_get halves edge ≡ Some half
@@ -23,17 +23,22 @@ pub record IsReachOf (s : Part) (halves : List ℕ) (edge : ℕ) (r : Reach) : T
   pub of_side : AreEdgeBounds side.p side.q r.bounds
   pub start : r.m ≡ side.m
   pub end : r.n ≡ side.n
+  pub at_start : r.p ≡ side.p
+  pub at_end : r.q ≡ side.q
 
 abbrev pub IsEnd : Reach → ℕ → Type 0
 IsEnd r corner = (r.m ≡ corner) ⊎ (r.n ≡ corner)
 
--- all triangles of the subtree have a corner of the edge, and the bounds of the edge reach no farther into those of the subtree
--- than to an end
+-- the bounds of the edge reach no farther into those of the subtree than to an end, or the edge passes by the rim
+abbrev pub Leaves : Reach → Subtree → Type 0
+Leaves r t = BoundsEnd r.bounds t.around ⊎ PassesBy r.p r.q t.rim
+
+-- all triangles of the subtree have a corner of the edge, which leaves them there
 pub record MeetsInCorner (r : Reach) (t : Subtree) : Type 0 where
   pub corner : ℕ
   pub common : t.corner ≡ Some corner
   pub of_edge : IsEnd r corner
-  pub ends : BoundsEnd r.bounds t.around
+  pub leaves : Leaves r t
 
 -- ---- the pairs that are tested: their ranges of x meet
 -- this one

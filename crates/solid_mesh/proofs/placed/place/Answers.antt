@@ -11,8 +11,9 @@ returns-clause-placed c =
     let t = c.index.result.now in
     let at : slice_get s.triangles c.args.tri ≡ Some t = slice_get_read s.triangles (length s.triangles) c.args.tri t refl c.requires.tri c.index.ensures in
     record {
-      face = face_read s soup.in_range t c.args.tri at c.index-2.result.now c.index-3.result.now c.index-4.result.now c.index-2.ensures c.index-3.ensures c.index-4.ensures;
+      face = face_read s soup.in_range t c.args.tri at c.index-a.result.now c.index-b.result.now c.index-c.result.now c.index-a.ensures c.index-b.ensures c.index-c.ensures;
       numbered = refl;
       of_face = c.triangle_bounds-bounds.ensures;
-      has = c.greatest_corner.ensures;
+      has = c.greatest_corner-corner.ensures;
+      rim = c.rim_of-rim.ensures;
     }

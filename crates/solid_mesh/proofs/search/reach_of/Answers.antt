@@ -17,8 +17,10 @@ returns c =
     record {
       half = half;
       listed = slice_get-get_or halves c.args.edge 0 c.requires.edge;
-      side = side_read s soup.in_range half t at c.ends-m.result.0 c.ends-m.result.1 c.ends-m.ensures.start c.ends-m.ensures.end c.index-2.result.now c.index-3.result.now c.index-2.ensures c.index-3.ensures;
-      of_side = c.edge_bounds-bounds.ensures;
+      side = side_read s soup.in_range half t at c.ends-m.result.0 c.ends-m.result.1 c.ends-m.ensures.start c.ends-m.ensures.end c.index-p.result.now c.index-q.result.now c.index-p.ensures c.index-q.ensures;
+      of_side = c.edge_bounds.ensures;
       start = refl;
       end = refl;
+      at_start = refl;
+      at_end = refl;
     }

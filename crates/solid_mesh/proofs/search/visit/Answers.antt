@@ -22,7 +22,7 @@ returns-then-meets_in_corner-clause-searched c =
     let subtree = c.index-subtrees-place.result in
     places_cornered s c.args.halves.now c.args.edge placed c.args.reach.now c.requires.reach (placed_at s placed c.requires.placed) c.args.place subtree
     (subtree_read placed c.args.subtrees.now c.requires.subtrees c.args.place c.requires.place subtree c.index-subtrees-place.is)
-    (c.meets_in_corner.ensures.0 c.if-meets_in_corner.true) c.args.found.now
+    (c.meets_in_corner.ensures c.if-meets_in_corner.true) c.args.found.now
 
 pub test-requires-clause-placed : goal.test-requires-clause-placed
 test-requires-clause-placed c =
@@ -40,4 +40,8 @@ returns-clause-searched c =
 
 pub returns-then-meets_in_corner-clause-low : goal.returns-then-meets_in_corner-clause-low
 returns-then-meets_in_corner-clause-low c =
+    (subtree_read c.args.placed.now c.args.subtrees.now c.requires.subtrees c.args.place c.requires.place c.index-subtrees-place.result c.index-subtrees-place.is).first
+
+pub returns-then-not-bounds_meet-clause-low : goal.returns-then-not-bounds_meet-clause-low
+returns-then-not-bounds_meet-clause-low c =
     (subtree_read c.args.placed.now c.args.subtrees.now c.requires.subtrees c.args.place c.requires.place c.index-subtrees-place.result c.index-subtrees-place.is).first

@@ -11,7 +11,7 @@ returns-then-place-eq0 c =
     let k = length c.args.subtrees.now in
     let own = c.index-placed-place.result in
     let at : slice_get placed k ≡ Some own = slice_get_read placed (length placed) k own refl c.requires.next c.index-placed-place.is in
-    alone placed k own at _ (within_itself own.bounds) refl refl
+    alone placed k own at _ (within_itself own.bounds) (within_itself own.rim) refl refl
 
 pub overflow_cast-middle : goal.overflow_cast-middle
 overflow_cast-middle c =
@@ -25,7 +25,7 @@ returns-then-middle-eq0 c =
     let k = length c.args.subtrees.now in
     let own = c.index-placed-place.result in
     let at : slice_get placed k ≡ Some own = slice_get_read placed (length placed) k own refl c.requires.next c.index-placed-place.is in
-    alone placed k own at _ (within_itself own.bounds) refl refl
+    alone placed k own at _ (within_itself own.bounds) (within_itself own.rim) refl refl
 
 pub offset_bounds-subtrees-middle : goal.offset_bounds-subtrees-middle
 offset_bounds-subtrees-middle c =
@@ -67,7 +67,7 @@ returns-then-place-middle c =
     let k = length c.args.subtrees.now in
     let own = c.index-placed-place.result in
     let at : slice_get placed k ≡ Some own = slice_get_read placed (length placed) k own refl c.requires.next c.index-placed-place.is in
-    alone placed k own at _ (within_itself own.bounds) refl refl
+    alone placed k own at _ (within_itself own.bounds) (within_itself own.rim) refl refl
 
 pub returns : goal.returns
 returns c =
@@ -79,6 +79,7 @@ returns c =
     let middle = c.index-subtrees-place.result.first in
     let second : IsSubtree placed (k - 1) c.index-subtrees-place.result = subtree_read placed subtrees c.requires.subtrees (k - 1) (omega arith) c.index-subtrees-place.result c.index-subtrees-place.is in
     let first : IsSubtree placed (middle - 1) c.index-subtrees-middle.result = subtree_read placed subtrees c.requires.subtrees (middle - 1) (omega (arith, second.first)) c.index-subtrees-middle.result c.index-subtrees-middle.is in
-    joined placed k own at (record { around = c.united-2.result; first = c.index-subtrees-middle.result.first; corner = c.common_corner.result })
-    c.united-2.ensures.first c.index-subtrees-middle.result c.index-subtrees-place.result (omega arith) second (omega arith) first
-    (within_both _ _ _ c.united.ensures.first c.united-2.ensures.second) (within_both _ _ _ c.united.ensures.second c.united-2.ensures.second) refl c.common_corner.ensures
+    joined placed k own at (record { around = c.united-2.result; first = c.index-subtrees-middle.result.first; corner = c.common_corner.result; rim = c.united-4.result }) c.united-2.ensures.first
+    c.index-subtrees-middle.result c.index-subtrees-place.result (omega arith) second (omega arith) first refl
+    (within_both _ _ _ c.united.ensures.first c.united-2.ensures.second) (within_both _ _ _ c.united.ensures.second c.united-2.ensures.second)
+    c.united-4.ensures.first (within_both _ _ _ c.united-3.ensures.first c.united-4.ensures.second) (within_both _ _ _ c.united-3.ensures.second c.united-4.ensures.second) c.common_corner.ensures

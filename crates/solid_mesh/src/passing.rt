@@ -1,0 +1,77 @@
+// Edges that pass by what is within some bounds, as they are seen along an axis.
+ghost use Rattle.std.specs.Prelude.{◌≡◌, ℤ, ◌≤◌, ◌^◌, ◌*ℤ◌, ◌-ℤ◌, ◌≤ℤ◌, unsigned_abs, IsTrue};
+ghost use Rattle.meeting.specs.Ranges.{IsInRange};
+ghost use Rattle.solid_mesh.specs.inner.Bounds.{AreLeft, PassesBy};
+
+use crate::bounds::Bounds;
+use lattice::Corner;
+use meeting::Range;
+
+/// Whether along one of the axes all places within the bounds are seen strictly on one side of the line from `p` to `q`.
+pub(crate) fn passes_by(p: &Corner, q: &Corner, bounds: &Bounds) -> bool
+    ensures { IsTrue result → PassesBy p.now q.now bounds.now }
+{
+    if is_left(p.x, q.x, p.y, q.y, &bounds.x, &bounds.y) {
+        return true;
+    }
+    if is_left(p.y, q.y, p.x, q.x, &bounds.y, &bounds.x) {
+        return true;
+    }
+    if is_left(p.y, q.y, p.z, q.z, &bounds.y, &bounds.z) {
+        return true;
+    }
+    if is_left(p.z, q.z, p.y, q.y, &bounds.z, &bounds.y) {
+        return true;
+    }
+    if is_left(p.z, q.z, p.x, q.x, &bounds.z, &bounds.x) {
+        return true;
+    }
+    is_left(p.x, q.x, p.z, q.z, &bounds.x, &bounds.z)
+}
+
+/// Whether all places with both coordinates in these ranges are strictly to the left of the line from one place to another.
+fn is_left(from_u: i32, to_u: i32, from_v: i32, to_v: i32, u: &Range, v: &Range) -> bool
+    requires from_u { unsigned_abs from_u ≤ 2 ^ 20 }
+    requires to_u { unsigned_abs to_u ≤ 2 ^ 20 }
+    requires from_v { unsigned_abs from_v ≤ 2 ^ 20 }
+    requires to_v { unsigned_abs to_v ≤ 2 ^ 20 }
+    ensures { IsTrue result → AreLeft from_u to_u from_v to_v u.now v.now }
+{
+    let most = greatest_product(to_v - from_v, u, from_u);
+    let least = least_product(to_u - from_u, v, from_v);
+    most < least
+}
+
+/// A number that `factor * (n - origin)` is at least, for each number `n` of a range.
+fn least_product(factor: i32, range: &Range, origin: i32) -> i64
+    requires factor { unsigned_abs factor ≤ 2 ^ 21 }
+    requires origin { unsigned_abs origin ≤ 2 ^ 20 }
+    ensures { (n : ℤ) → IsInRange range.now n → result ≤ℤ (factor *ℤ (n -ℤ origin)) }
+{
+    if factor < 0 {
+        return product(factor, range.to, origin);
+    }
+    product(factor, range.from, origin)
+}
+
+/// A number that it is at most.
+fn greatest_product(factor: i32, range: &Range, origin: i32) -> i64
+    requires factor { unsigned_abs factor ≤ 2 ^ 21 }
+    requires origin { unsigned_abs origin ≤ 2 ^ 20 }
+    ensures { (n : ℤ) → IsInRange range.now n → (factor *ℤ (n -ℤ origin)) ≤ℤ result }
+{
+    if factor < 0 {
+        return product(factor, range.from, origin);
+    }
+    product(factor, range.to, origin)
+}
+
+/// `factor * (n - origin)`.
+fn product(factor: i32, n: i32, origin: i32) -> i64
+    requires factor { unsigned_abs factor ≤ 2 ^ 21 }
+    requires origin { unsigned_abs origin ≤ 2 ^ 20 }
+    ensures value { result ≡ factor *ℤ (n -ℤ origin) }
+    ensures size { unsigned_abs result ≤ 2 ^ 54 }
+{
+    i64::from(factor) * (i64::from(n) - i64::from(origin))
+}
