@@ -3,11 +3,11 @@ use Rattle.std.proofs.Common.{◌≡◌, ℕ, ◌<◌, ◌≤◌, Bool, List, So
 use Rattle.lattice.specs.Cuts.{Plane, toward_of}
 use Rattle.geometry.specs.Parts.{Part, Face, Edge, IsNumbered}
 use Rattle.counting.specs.Counts.{Side}
-use Rattle.counting.specs.Covers.{HidesNext, share_from}
+use Rattle.counting.specs.Covers.{HidesNext}
 use Rattle.counting.specs.Turns.{corner_at, number_at}
 use Rattle.rest_counts.specs.CutCovers.{RestHidesNext, IsCutCoveredNext}
+use Rattle.span_count.specs.Finders.{AreAllNear}
 use Rattle.span_count.proofs.NearTriangles.{never_next, corner_there}
-use Rattle.cut_count.specs.inner.Walks.{AreAllNear}
 
 -- what is left of a face is of the face
 whole_hides : (c : Plane) {s : Part} (e : Edge s) (at_b : Bool) (f : Face s) → RestHidesNext c e at_b f → HidesNext (toward_of c) e at_b f

@@ -10,17 +10,18 @@
 //! - where the border of a face passes over the edge: the face ends there, and the section begins or ends (`border_cross`). On which side
 //!   of a border the face is, is read from its corners, so it plays no part which way the triangles' normals point.
 //!
-//! Counts aren't carried around corners. Those of an edge start at an end of it that is beyond the plane: each triangle is tested there
-//! (`cut_cover`), and on each side of the edge's line the section is there where an odd number of borders cross the line ahead. For the left
-//! count an end of a border that is seen on the line counts as to its right, for the right count as to its left, so over a border that is
-//! seen along the edge the two differ. At ordinary points over which no border passes, a point of the edge is hidden exactly where the two
-//! counts are not both 0. `border_cover` tells of one segment whether it counts for a spot, by the rule of even and odd.
+//! Counts aren't carried around corners. Those of an edge start at an end of it that is beyond the plane: each triangle near it is
+//! tested there (`cut_cover`), and on each side of the edge's line the section is there where an odd number of borders cross the line
+//! ahead. For the left count an end of a border that is seen on the line counts as to its right, for the right count as to its left, so
+//! over a border that is seen along the edge the two differ. At ordinary points over which no border passes, a point of the edge is
+//! hidden exactly where the two counts are not both 0. `border_cover` tells of one segment whether it counts for a spot, by the rule of
+//! even and odd.
 //!
-//! Cost: for each drawn edge with a part beyond the plane one test of each triangle, of each segment of the section and of each outline
-//! that the finder lists along it, and sorts of the borders and of the crossings that are there; so at most `cut_bound` tests. No test takes
-//! memory. Each takes constant time, but for `border_cross`, which goes once over the segments where the border passes over an inner place
-//! of the edge that is beyond the plane; `spans_cut` doesn't call it. Besides the spans, memory is taken for the borders and the crossings
-//! of one edge at a time.
+//! Cost: for each drawn edge with a part beyond the plane one test of each triangle that the finder doesn't pass over at that end, of
+//! each segment of the section and of each outline that the finder lists along it, and sorts of the borders and of the crossings that
+//! are there; so at most `cut_bound` tests. No test takes memory. Each takes constant time, but for `border_cross`, which goes once over
+//! the segments where the border passes over an inner place of the edge that is beyond the plane; `spans_cut` doesn't call it. Besides
+//! the spans, memory is taken for the borders and the crossings of one edge at a time.
 #![tactic(auto)]
 
 ghost use Rattle.std.specs.Prelude.{◌≡◌, ◌≤◌, ◌+◌, ◌<◌, ◌^◌, ℕ, IfOk, length};
@@ -75,8 +76,8 @@ pub fn cut_bound(solid: &Solid, section: &Section, picked: &Picked) -> u64
 /// none of their ends is at a point that is ordinary in the cut. At each such point within a span over which no border passes, `left`
 /// and `right` are the two counts, and the point is hidden exactly where they are not both 0. Neighbours may have equal counts.
 ///
-/// Cost: for each drawn edge with a part beyond the plane one test of each triangle, of each segment and of each outline that the
-/// finder lists along it, and a sort of the crossings that are there. Also where memory runs out, at most `cut_bound` tests are made.
+/// Cost: for each drawn edge with a part beyond the plane one test of each triangle that the finder doesn't pass over, of each segment
+/// and of each outline that the finder lists along it, and a sort of the crossings that are there. Also where memory runs out, at most `cut_bound` tests are made.
 pub fn spans_cut<F: Finder>(
     alloc: Global,
     solid: &Solid,

@@ -13,8 +13,9 @@ ghost use Rattle.counting.specs.Turns.{corner_at, number_at};
 ghost use Rattle.cut_plane.specs.Loops.{IsSegmentOf, AreBorders};
 ghost use Rattle.cut_count.specs.inner.Borders.{IsAhead, IsFoundOr, ahead_turn};
 ghost use Rattle.section_parity.proofs.Xors.{xor};
+ghost use Rattle.span_count.specs.Finders.{AreAllNear};
 ghost use Rattle.span_slow.specs.Beyond.{IsStretch};
-ghost use Rattle.cut_count.specs.inner.Walks.{AreAllNear, AreFound, IsOddAhead, AreCoverCounts};
+ghost use Rattle.cut_count.specs.inner.Walks.{AreFound, IsOddAhead, AreCoverCounts};
 
 use crate::cover::cut_cover;
 use crate::found::{Found, Odds, Share};

@@ -9,7 +9,8 @@ ghost use Rattle.solid_mesh.specs.Solids.{solid_part, edge_halves};
 ghost use Rattle.cut_plane.specs.Loops.{AreBorders};
 ghost use Rattle.cut_count.specs.CutSpans.{AreCutCountSpans};
 ghost use Rattle.section_parity.proofs.Xors.{xor};
-ghost use Rattle.cut_count.specs.inner.Walks.{AreAllNear, AreListedInCut, AreSectionCrossings, odd_turns, turn_left, turn_right, section_change};
+ghost use Rattle.span_count.specs.Finders.{AreAllNear};
+ghost use Rattle.cut_count.specs.inner.Walks.{AreListedInCut, AreSectionCrossings, odd_turns, turn_left, turn_right, section_change};
 
 use crate::found::{Found, Odds, Share};
 use crate::outlines::add_outlines;

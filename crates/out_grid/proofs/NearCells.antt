@@ -1,7 +1,6 @@
 -- The cells of corners: which are those of a raster, how two columns and two rows are made one, and whose boxes a corner's cell is in.
-use Rattle.std.proofs.Common.{◌≡◌, ◌⊎◌, inl, inr, ℕ, ◌+◌, ◌*◌, ◌/◌, ◌%◌, ◌<◌, ◌≤◌, List, [], All, Some, length, get_or, slice_get, sym, ap, subst, ◌∙◌, arith, div-add-mod'}
+use Rattle.std.proofs.Common.{◌≡◌, ◌⊎◌, inl, inr, ℕ, ◌+◌, ◌*◌, ◌/◌, ◌%◌, ◌<◌, ◌≤◌, List, All, Some, length, get_or, slice_get, sym, ap, subst, ◌∙◌, arith, div-add-mod'}
 use Rattle.std.specs.Prelude.{ℤ, pos, ◌-ℤ◌, ◌<ℤ◌, ◌≤ℤ◌}
-use Rattle.std.specs.List.{AllZip}
 use Rattle.std.proofs.lemmas.Int.{ints, by_lt_z}
 use Rattle.std.proofs.lemmas.List.Elements.{AllZip-get_or, length_all_zip}
 use Rattle.std.proofs.lemmas.Nat.{div-mul-add, mod-mul-add, mod_below}
@@ -17,8 +16,8 @@ use Rattle.geometry.specs.Parts.{Part, Face}
 use Rattle.cross_find.specs.Ends.{IsApart}
 use Rattle.cross_find.proofs.Apart.{apart_along}
 use Rattle.out_grid.specs.Cells.{Raster, IsRaster}
-use Rattle.out_grid.specs.inner.Places.{IsAt, IsCellOf}
-use Rattle.out_grid.specs.inner.Triangles.{AreCellsOf, IsHalfOf, AreHalved, IsAmong, IsInBox}
+use Rattle.out_grid.specs.inner.Places.{IsCellOf}
+use Rattle.out_grid.specs.inner.Triangles.{AreCellsOf, IsHalfOf, AreHalved, IsInBox}
 use Rattle.out_grid.proofs.CellPuts.{cell_below}
 use Rattle.out_grid.proofs.CourseNumbers.{quotient_least, under_quotient}
 use Rattle.out_grid.proofs.Rasters.{wide, high}

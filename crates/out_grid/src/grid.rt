@@ -39,9 +39,10 @@ impl GridOutlines {
 
     /// The grid of what is picked of a solid for this direction. Each cell has the outlines with a point in it; along a drawn edge
     /// those are listed that have a point in a cell in which the edge has one, each once, and along others none; over a corner
-    /// those of its cell.
+    /// those of its cell. Near a corner are the triangles whose boxes of U and V meet its cell in another grid, which isn't counted.
     ///
-    /// Cost: it counts at most `cell_bound` cells, also where memory runs out; time and memory grow with those and with the lists.
+    /// Cost: it counts at most `cell_bound` cells, also where memory runs out; time and memory grow with those and with the lists,
+    /// and linearly with the corners and the triangles.
     pub fn new(
         alloc: Global,
         solid: &Solid,

@@ -21,11 +21,7 @@ pub(crate) struct CornerCells {
 
 /// The cells of corners, so large that a triangle's box meets few: about as many as there are triangles, or a quarter of these, and so
 /// on, until they hold at most eight times as many triangles as there are.
-pub(crate) fn cells_for(
-    alloc: Global,
-    solid: &Solid,
-    d: &Dir,
-) -> Result<CornerCells, OutOfMemory>
+pub(crate) fn cells_for(alloc: Global, solid: &Solid, d: &Dir) -> Result<CornerCells, OutOfMemory>
     ensures some { IfOk result (λ x. 1 ≤ x.columns) }
     ensures few { IfOk result (λ x. x.columns ≤ 256) }
     ensures cells { IfOk result (λ x. AreCellsOf (of_dir d.now) (solid_part solid.now) x.columns x.cells.items) }

@@ -1,4 +1,5 @@
-//! Outlines in a grid of cells over a view, so that along an edge and over a corner only those are tested that are near it.
+//! Outlines, and triangles, in grids of cells over a view, so that along an edge and over a corner only those are tested that are
+//! near it.
 //!
 //! The view's range of U and V is cut into columns and rows, as many of the one as of the other; a cell has its left and its lower
 //! border and not the others. Each outline is put into the cells that hold a point of its projection, and each drawn edge gets
@@ -9,6 +10,9 @@
 //! that in which it comes in and that in which it leaves, by whole numbers. So no cell is looked at that holds no point of it, and
 //! there are at most as many as its columns and rows less one. An edge's list is made without a search in it: each outline has a
 //! mark, the last edge that took it.
+//!
+//! A second grid has the triangles, each in the cells that the box of its U and V meets; near a corner are those of its cell. Its
+//! columns are so few that the boxes meet at most eight cells for each triangle, on an average, where there is more than one.
 #![tactic(auto)]
 
 mod bounds;

@@ -28,8 +28,8 @@ impl TriangleCells {
 
     /// Those of a solid for this direction.
     ///
-    /// Cost: goes three times over the corners and a few times over the triangles; at most eight cells are taken for a triangle, on an
-    /// average, where there is more than one.
+    /// Cost: goes three times over the corners, and once more over them and the triangles each time that the cells are made larger, at
+    /// most eight times. Memory is taken for the corners, and for at most eight cells of each triangle, on an average.
     pub(crate) fn new(alloc: Global, solid: &Solid, d: &Dir) -> Result<TriangleCells, OutOfMemory>
         ensures { IfOk result (AreNear (of_dir d.now) (solid_part solid.now)) }
     {
@@ -43,7 +43,7 @@ impl TriangleCells {
         })
     }
 
-    /// The least triangle near a corner from this number on, or none.
+    /// The least triangle near a corner from this number on, or none. Searches the corner's list by halves.
     pub(crate) fn next_near(&self, corner: u32, from: u32) -> Option<u32>
         ensures { IsNext (Contains (near_list self.now corner)) from result }
     {

@@ -1,7 +1,8 @@
 -- What is picked of a part that is seen in a direction, and what the lists of a finder hold for it.
 use Rattle.std.specs.Prelude.{◌≡◌, ◌≢◌, ℕ, ◌<◌, ◌≤◌, List, All, AllPairs, Contains, Option, Some, None, length, slice_get}
 use Rattle.lattice.specs.declared.points.Corner.{Corner}
-use Rattle.geometry.specs.Parts.{Face, Edge, IsNumbered}
+use Rattle.lattice.specs.Triple.{Triple}
+use Rattle.geometry.specs.Parts.{Part, Face, Edge, IsNumbered}
 use Rattle.counting.specs.Shares.{Changes}
 use Rattle.counting.specs.Turns.{IsNearerOver}
 use Rattle.cross_find.specs.Ends.{IsApart}
@@ -18,6 +19,10 @@ abbrev pub IsNext : (ℕ → Type 0) → ℕ → Option ℕ → Type 0
 IsNext P from None = (k : ℕ) → from ≤ k → ¬ P k
 IsNext P from (Some next) = (from ≤ next) × ((k : ℕ) → from ≤ k → k < next → ¬ P k)
 
+-- each triangle is near a corner that is not seen strictly to one side of it
+abbrev pub AreAllNear : Triple → Part → (ℕ → ℕ → Type 0) → Type 0
+AreAllNear d s near = (number : ℕ) (c : Corner) (f : Face s) → slice_get s.corners number ≡ Some c → ¬ IsApart d f.a f.b f.c c → near number f.number
+
 -- The law of a finder's lists, along edges and over corners, and of the triangles that are near a corner.
 pub record IsFinder (x : SightState) (p : Picked) (along over : ℕ → List ℕ) (near : ℕ → ℕ → Type 0) : Type 0 where
   -- each holds outlines, none twice
@@ -31,5 +36,5 @@ pub record IsFinder (x : SightState) (p : Picked) (along over : ℕ → List ℕ
   -- that of a corner has every outline that is strictly nearer over it and does not have it
   pub passing : (number k : ℕ) (c : Corner) (o : Edge x.part) → slice_get x.part.corners number ≡ Some c → Contains p.outlines.items k → IsNumbered x.halves k o →
       IsNearerOver x.direction number c o → Contains (over number) k
-  -- each triangle is near a corner that is not seen strictly to one side of it
-  pub covering : (number : ℕ) (c : Corner) (f : Face x.part) → slice_get x.part.corners number ≡ Some c → ¬ IsApart x.direction f.a f.b f.c c → near number f.number
+  -- near a corner is each triangle that may cover it
+  pub covering : AreAllNear x.direction x.part near

@@ -2,8 +2,9 @@
 ghost use Rattle.std.specs.Prelude.{◌≡◌, false, ◌+◌, ◌<◌, ◌≤◌, ◌*◌, ◌^◌, length, vec_len, IfOk};
 ghost use Rattle.geometry.specs.Parts.{Edge, IsNumbered};
 ghost use Rattle.counting.specs.Turns.{number_at};
+ghost use Rattle.span_count.specs.Finders.{AreAllNear};
 ghost use Rattle.span_count.specs.inner.Rests.{AreCountsNext};
-ghost use Rattle.span_count.specs.inner.Steps.{IsSeenEdge, AreListed, AreAllNear, AreCrossings};
+ghost use Rattle.span_count.specs.inner.Steps.{IsSeenEdge, AreListed, AreCrossings};
 ghost use Rattle.span_count.specs.Tests.{IsTested};
 
 use crate::finder::{Finder, next_triangle};
@@ -23,7 +24,7 @@ pub(crate) fn first_counts<S: Sight, F: Finder>(
 ) -> Sides
     requires edge { IsSeenEdge (S.sight sight.old) edge }
     requires corner { (e : Edge (S.sight sight.old).part) → IsNumbered (S.sight sight.old).halves edge e → corner ≡ number_at e false }
-    requires near { AreAllNear (S.sight sight.old) corner (F.is_near finder.now corner) }
+    requires near { AreAllNear (S.sight sight.old).direction (S.sight sight.old).part (F.is_near finder.now) }
     requires triangles { triangles ≡ length (S.sight sight.old).part.triangles }
     requires room { (S.sight sight.old).tests + triangles < 2 ^ 64 }
     ensures counts { AreCountsNext (S.sight sight.old) edge false result }

@@ -1,12 +1,13 @@
 //! How many faces are nearer along each drawn edge, on its left and on its right, by counts that are carried along edges and
 //! around corners (Appel 1967).
 //!
-//! The two counts are found once for each run of drawn edges, at an end of its first edge, by one test of each triangle. Along an
-//! edge they change only where an outline passes nearer over it. Around a corner, from the end of an edge there to that of the
-//! next, what is counted of the triangles at the corner is taken off and found anew, and the rest changes only where an outline
-//! passes nearer over the corner. So one test of each outline that may do so is enough, for each edge and for each corner that is
-//! gone around, with one of each triangle at the edge's two ends. A `Finder` lists those outlines; `AllOutlines` lists all there
-//! are. At ordinary points, a point of the edge is hidden exactly where the two counts are not both 0.
+//! The two counts are found once for each run of drawn edges, at an end of its first edge, by one test of each triangle near the
+//! corner there. Along an edge they change only where an outline passes nearer over it. Around a corner, from the end of an edge
+//! there to that of the next, what is counted of the triangles at the corner is taken off and found anew, and the rest changes
+//! only where an outline passes nearer over the corner. So one test of each outline that may do so is enough, for each edge and
+//! for each corner that is gone around, with one of each triangle at the edge's two ends. A `Finder` lists those outlines, and may
+//! say which triangles are near a corner; `AllOutlines` lists all there are. At ordinary points, a point of the edge is hidden
+//! exactly where the two counts are not both 0.
 //!
 //! It departs from Appel in two ways. 1) All nearer faces that are not edge-on are counted, those turned away from the viewer
 //! too, so it does not matter which side of a face is the outer one. 2) There are two counts, by the side of the edge's line to
@@ -55,7 +56,7 @@ pub use step::Sides;
 /// an ordinary point. At each ordinary point within a span, `left` and `right` are the two counts, and the point is hidden
 /// exactly where they are not both 0. Neighbours may have equal counts.
 ///
-/// Cost: one test of each triangle for each run; for each drawn edge one test of each outline that the finder lists along it and
+/// Cost: for each run one test of each triangle that the finder doesn't pass over; for each drawn edge one test of each outline that the finder lists along it and
 /// over the corner that it is come to, and of each triangle at its two ends; and a sort of the crossings that are there. Also
 /// where memory runs out, at most `bound` tests are made, and the sight has the same solid and the same direction as before.
 pub fn spans_counted<S: Sight, F: Finder>(

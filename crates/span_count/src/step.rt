@@ -5,8 +5,9 @@ ghost use Rattle.counting.specs.Turns.{number_at};
 ghost use Rattle.cross_find.specs.Sights.{IsSeen};
 ghost use Rattle.span_count.specs.Bounds.{IsEndCount};
 ghost use Rattle.span_count.specs.CountSpans.{AreCountSpans};
+ghost use Rattle.span_count.specs.Finders.{AreAllNear};
 ghost use Rattle.span_count.specs.inner.Rests.{IsCornerCount, AreCountsNext, AreRests};
-ghost use Rattle.span_count.specs.inner.Steps.{IsSeenEdge, AreAllNear, AreListed, AreListedOver};
+ghost use Rattle.span_count.specs.inner.Steps.{IsSeenEdge, AreListed, AreListedOver};
 ghost use Rattle.span_count.specs.Tests.{with_tests, IsTested};
 
 use crate::along::walk_edge;
@@ -99,7 +100,7 @@ pub(crate) fn first_edge<S: Sight, F: Finder>(
     requires seen { IsSeen (S.sight sight.old) }
     requires edge { IsSeenEdge (S.sight sight.old) edge }
     requires triangles { triangles ≡ length (S.sight sight.old).part.triangles }
-    requires near { (corner : ℕ) → AreAllNear (S.sight sight.old) corner (F.is_near finder.now corner) }
+    requires near { AreAllNear (S.sight sight.old).direction (S.sight sight.old).part (F.is_near finder.now) }
     requires listed { AreListed (S.sight sight.old) edge (F.list_along finder.now edge) }
     requires room { (ends : ℕ) → IsEndCount (S.sight sight.old).part (S.sight sight.old).halves edge ends →
         (S.sight sight.old).tests + (triangles + (length (F.list_along finder.now edge) + ends)) < 2 ^ 64 }
@@ -156,7 +157,7 @@ fn begin<S: Sight, F: Finder>(sight: &mut S, finder: &F, edge: u32, triangles: u
     requires seen { IsSeen (S.sight sight.old) }
     requires edge { IsSeenEdge (S.sight sight.old) edge }
     requires triangles { triangles ≡ length (S.sight sight.old).part.triangles }
-    requires near { (corner : ℕ) → AreAllNear (S.sight sight.old) corner (F.is_near finder.now corner) }
+    requires near { AreAllNear (S.sight sight.old).direction (S.sight sight.old).part (F.is_near finder.now) }
     requires room { (n : ℕ) → IsCornerCount (S.sight sight.old) edge false n → (S.sight sight.old).tests + (triangles + n) < 2 ^ 64 }
     ensures counts { AreCountsNext (S.sight sight.old) edge false result.counts }
     ensures rest { AreRests (S.sight sight.old) edge false result.rest }

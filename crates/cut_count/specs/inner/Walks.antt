@@ -1,5 +1,5 @@
 -- What each step does on the way along an edge of a cut view.
-use Rattle.std.specs.Prelude.{◌≡◌, ◌≢◌, ℕ, ◌<◌, ◌%◌, ◌^◌, ◌↔◌, ℤ, pos, negsuc, ◌+ℤ◌, Bool, true, false, List, [], ◌∷◌, All, AllPairs, Contains, Option, Some, IsTrue, length, slice_get, sum}
+use Rattle.std.specs.Prelude.{◌≡◌, ◌≢◌, ℕ, ◌<◌, ◌%◌, ◌^◌, ◌↔◌, ℤ, pos, negsuc, ◌+ℤ◌, Bool, true, false, List, [], ◌∷◌, All, AllPairs, Contains, Option, IsTrue, length, sum}
 use Rattle.std.specs.List.{AllZip, filter_map}
 use Rattle.exact_frac.specs.declared.Frac.{Frac}
 use Rattle.intervals.specs.declared.interval.Interval.{Interval}
@@ -11,7 +11,6 @@ use Rattle.geometry.specs.Cuts.{IsCount}
 use Rattle.geometry.specs.Parts.{Part, Face, Edge, IsNumbered}
 use Rattle.counting.specs.Counts.{Side}
 use Rattle.cross_find.specs.declared.meter.Crossing.{Crossing}
-use Rattle.cross_find.specs.Ends.{IsApart}
 use Rattle.cut_plane.specs.declared.segments.Segment.{Segment}
 use Rattle.section_parity.proofs.Xors.{xor}
 use Rattle.rest_counts.specs.CutShares.{CutChanges}
@@ -19,11 +18,6 @@ use Rattle.rest_counts.proofs.CutLaws.{AreCutCovers}
 use Rattle.cut_count.specs.declared.found.Found.{Found}
 use Rattle.cut_count.specs.Crossings.{IsCutAcross}
 use Rattle.cut_count.specs.inner.Borders.{IsAhead, IsFoundOr}
-
--- ---- triangles
--- each triangle is near a corner that is not seen strictly to one side of it
-abbrev pub AreAllNear : Triple → Part → (ℕ → ℕ → Type 0) → Type 0
-AreAllNear d s near = (number : ℕ) (c : Corner) (f : Face s) → slice_get s.corners number ≡ Some c → ¬ IsApart d f.a f.b f.c c → near number f.number
 
 -- ---- outlines
 -- edges, none twice, and among them every one that changes one of the counts along this edge

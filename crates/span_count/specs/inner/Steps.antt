@@ -3,13 +3,12 @@ use Rattle.std.specs.Prelude.{◌≡◌, ◌≢◌, ◌⊎◌, ℕ, ◌<◌, ◌
 use Rattle.std.specs.List.{AllZip, filter_map}
 use Rattle.exact_frac.specs.declared.Frac.{Frac}
 use Rattle.lattice.specs.declared.points.Corner.{Corner}
-use Rattle.geometry.specs.Parts.{Face, Edge, IsNumbered}
+use Rattle.geometry.specs.Parts.{Edge, IsNumbered}
 use Rattle.geometry.specs.Places.{IsEarlier, IsSame}
 use Rattle.geometry.specs.Views.{IsEndOn, IsOutline}
 use Rattle.counting.specs.Shares.{Changes}
 use Rattle.counting.specs.Turns.{IsNearerOver}
 use Rattle.cross_find.specs.declared.meter.Crossing.{Crossing}
-use Rattle.cross_find.specs.Ends.{IsApart}
 use Rattle.cross_find.specs.Sights.{SightState}
 use Rattle.cross_find.specs.Crossings.{IsAcross}
 use Rattle.span_count.specs.declared.span.CountSpan.{CountSpan}
@@ -38,10 +37,6 @@ pub record AreListedOver (x : SightState) (number : ℕ) (outlines : List ℕ) :
   pub once : AllPairs ◌≢◌ outlines
   pub passing : (c : Corner) (o : Edge x.part) (i : ℕ) → slice_get x.part.corners number ≡ Some c → IsNumbered x.halves i o → IsOutline x.direction o →
       IsNearerOver x.direction number c o → Contains outlines i
-
--- the triangles of which P holds are all those that are not seen strictly to one side of the corner with this number, and maybe others
-abbrev pub AreAllNear : SightState → ℕ → (ℕ → Type 0) → Type 0
-AreAllNear x number P = (c : Corner) (f : Face x.part) → slice_get x.part.corners number ≡ Some c → ¬ IsApart x.direction f.a f.b f.c c → P f.number
 
 -- ---- tests
 -- what a test of an outline answers

@@ -1,4 +1,4 @@
-use Rattle.std.proofs.Common.{◌≡◌, ℕ, ◌*◌, ◌/◌, ◌%◌, ◌<◌, length, get_or, arith}
+use Rattle.std.proofs.Common.{◌*◌, ◌<◌, get_or, arith}
 use Rattle.out_grid.proofs.NearCells.{column_below, row_below}
 use Rattle.out_grid.proofs.boxes.box_of.Goals as goal
 

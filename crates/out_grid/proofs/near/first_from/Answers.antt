@@ -1,4 +1,4 @@
-use Rattle.std.proofs.Common.{◌≡◌, ◌⊎◌, inl, inr, ℕ, ◌<◌, ◌≤◌, List, Contains, Some, None, length, get_or, slice_get, ltb, ltb-true, ltb-false, refl, sym, ◌∙◌, rules, arith}
+use Rattle.std.proofs.Common.{◌≡◌, ◌⊎◌, inl, inr, ℕ, ◌<◌, ◌≤◌, List, Contains, Some, None, length, get_or, slice_get, ltb, ltb-true, ltb-false, sym, rules, arith}
 use Rattle.std.specs.Prelude.{Option}
 use Rattle.std.specs.List.Sorted.{IsNonDecreasing}
 use Rattle.std.proofs.lemmas.Bool.{cases_lt}

@@ -1,19 +1,19 @@
-use Rattle.std.proofs.Common.{◌≡◌, ℕ, ◌+◌, ◌<◌, ◌≤◌, ◌^◌, false, sym, subst, rules, arith}
+use Rattle.std.proofs.Common.{◌≡◌, ℕ, ◌+◌, ◌<◌, ◌≤◌, false, sym, subst, rules, arith}
 use Rattle.geometry.specs.Parts.{Face, Edge, IsNumbered}
 use Rattle.counting.specs.Counts.{Side}
 use Rattle.counting.specs.Covers.{IsCountedNext}
 use Rattle.counting.specs.Turns.{number_at}
 use Rattle.cross_find.specs.Sights.{SightState}
-use Rattle.span_count.specs.inner.Steps.{AreAllNear}
+use Rattle.span_count.specs.Finders.{AreAllNear}
 use Rattle.span_count.proofs.NearTriangles.{not_counted}
 use Rattle.span_count.proofs.Walks.{AreFirstSoFar, first_none, first_more, first_past, first_all, still_edge, still_tri, still_seen, still_room}
 use Rattle.span_count.proofs.edge_tests.first_counts.Goals as goal
 
 -- the triangles that are passed over are not counted
-passed : (x : SightState) (edge corner : ℕ) (near : ℕ → Type 0) → AreAllNear x corner near → ((e : Edge x.part) → IsNumbered x.halves edge e → corner ≡ number_at e false)
-    → (from to : ℕ) → ((i : ℕ) → from ≤ i → i < to → ¬ near i) → (i : ℕ) → from ≤ i → i < to
+passed : (x : SightState) (edge corner : ℕ) (near : ℕ → ℕ → Type 0) → AreAllNear x.direction x.part near → ((e : Edge x.part) → IsNumbered x.halves edge e → corner ≡ number_at e false)
+    → (from to : ℕ) → ((i : ℕ) → from ≤ i → i < to → ¬ near corner i) → (i : ℕ) → from ≤ i → i < to
     → (k : Side) (e : Edge x.part) (f : Face x.part) → IsNumbered x.halves edge e → f.number ≡ i → ¬ IsCountedNext k x.direction e false f
-passed x edge corner near all at from to none i l m k e f here is = not_counted x corner near all i (none i l m) k e false (at e here) f is
+passed x edge corner near all at from to none i l m k e f here is = not_counted x near all corner i (none i l m) k e false (at e here) f is
 
 pub loop-tri-init : goal.loop-tri-init
 loop-tri-init g c =
@@ -22,7 +22,7 @@ loop-tri-init g c =
     record {
       within = c.next_triangle-tri.ensures.most;
       sums = first_past x c.args.edge 0 tri x 0 0 (first_none x c.args.edge) c.next_triangle-tri.ensures.from
-          (passed x c.args.edge c.args.corner (g.F.Finder.is_near c.args.finder.now c.args.corner) c.requires.near c.requires.corner 0 tri c.next_triangle-tri.ensures.passed_over);
+          (passed x c.args.edge c.args.corner (g.F.Finder.is_near c.args.finder.now) c.requires.near c.requires.corner 0 tri c.next_triangle-tri.ensures.passed_over);
     }
 
 pub cover-on_left-requires-clause-edge_in_range : goal.cover-on_left-requires-clause-edge_in_range
@@ -60,7 +60,7 @@ loop-tri-preserved g c =
     let more = first_more x c.args.edge k now c.loop-tri.left c.loop-tri.right c.loop-tri.invariant.sums new c.cover-on_left.ensures.counted l r l_small r_small
     c.cover-on_left.ensures.left c.cover-on_left.ensures.right in
     let past = first_past x c.args.edge (k + 1) next new (c.loop-tri.left + l) (c.loop-tri.right + r) more c.next_triangle-tri-in-loop-tri.ensures.from
-    (passed x c.args.edge c.args.corner (g.F.Finder.is_near c.args.finder.now c.args.corner) c.requires.near c.requires.corner (k + 1) next c.next_triangle-tri-in-loop-tri.ensures.passed_over) in
+    (passed x c.args.edge c.args.corner (g.F.Finder.is_near c.args.finder.now) c.requires.near c.requires.corner (k + 1) next c.next_triangle-tri-in-loop-tri.ensures.passed_over) in
     record {
       within = c.next_triangle-tri-in-loop-tri.ensures.most;
       sums = subst (λ (n : ℕ). AreFirstSoFar x c.args.edge next new (c.loop-tri.left + n) (c.loop-tri.right + c.from-right.result)) (sym c.from-left.ensures)

@@ -1,4 +1,4 @@
-use Rattle.std.proofs.Common.{◌+◌, false, true, [], length, subst}
+use Rattle.std.proofs.Common.{false, true, [], length, subst}
 use Rattle.std.specs.Prelude.{IfOk}
 use Rattle.std.proofs.lemmas.Result.{IfOk-weaker}
 use Rattle.geometry.specs.Parts.{Edge, IsNumbered}

@@ -25,7 +25,7 @@ first_edge-requires-clause-listed g c =
     listed (g.S.Sight.sight c.args.sight.now) c.requires.seen c.args.picked.now c.requires.picked _ _ _ c.requires.finder c.index-edge.result.now (there_at _ _ _ at)
 
 pub first_edge-requires-clause-near : goal.first_edge-requires-clause-near
-first_edge-requires-clause-near g c number corner f = c.requires.finder.covering number corner f
+first_edge-requires-clause-near g c = c.requires.finder.covering
 
 pub first_edge-requires-clause-room : goal.first_edge-requires-clause-room
 first_edge-requires-clause-room g c ends count =

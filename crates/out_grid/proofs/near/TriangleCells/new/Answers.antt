@@ -1,4 +1,4 @@
-use Rattle.std.proofs.Common.{◌≡◌, ℕ, ◌*◌, ◌<◌, List, length, subst, arith}
+use Rattle.std.proofs.Common.{ℕ, ◌*◌, ◌<◌, List, length, subst, arith}
 use Rattle.std.proofs.lemmas.Option.{slice_get_within, get_or_from_slice_get}
 use Rattle.lattice.specs.Points.{of_dir}
 use Rattle.solid_mesh.specs.Solids.{solid_part}
