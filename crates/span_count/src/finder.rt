@@ -26,8 +26,8 @@ pub trait Finder {
         ensures { result ≡ slice_get (list_over self.now corner) i };
 
     /// A triangle from this number on, or none: those that are passed over are not near the corner. By default none is passed over.
-    fn next_near(&self, _corner: u32, from: u32) -> Option<u32>
-        ensures { IsNext (is_near self.now _corner) from result }
+    fn next_near(&self, corner: u32, from: u32) -> Option<u32>
+        ensures { IsNext (is_near self.now corner) from result }
     {
         Some(from)
     }
