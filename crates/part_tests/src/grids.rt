@@ -9,8 +9,9 @@ use fixtures::{
 };
 use lattice::Dir;
 use out_grid::{CellMeter, GridOutlines, cell_bound};
+use sample_part::boxes;
 use solid_mesh::Solid;
-use span_count::{AllOutlines, CountSpan, EdgeSpans, bound, spans_counted};
+use span_count::{AllOutlines, CountSpan, EdgeSpans, Finder, bound, spans_counted};
 use std::alloc::{AllocError, Global};
 use std::process::Abort;
 use std::test::Fail;
@@ -202,5 +203,39 @@ fn a_put_outline_stands_last(rt: HostRuntime) -> Result<(), Fail> {
     let d = Dir::new(0, -1, 0)?;
     // a cell is three units wide; the corners reach from -5 on, and the cubes from 0 on
     assert!(rt; is_put(rt.alloc(), &solid, &d, Crease::Normal)?);
+    Ok(())
+}
+
+// The first triangle near the first corner, by a grid; the first from this number on; and the same by all triangles.
+fn near(
+    alloc: Global,
+    solid: &Solid,
+    d: &Dir,
+    from: u32,
+) -> Result<(Option<u32>, Option<u32>, Option<u32>), OutOfMemory> {
+    let picked = pick(alloc, solid, d, Crease::Normal)?;
+    let mut meter = CellMeter { cells: 0 };
+    let grid = GridOutlines::new(alloc, solid, d, &picked, 7, &mut meter)?;
+    let all = AllOutlines::new(&picked);
+    Ok((
+        grid.next_near(0, 0),
+        grid.next_near(0, from),
+        all.next_near(0, from),
+    ))
+}
+
+// Eight cubes from the front: the first corner is one of the first triangle, and the last twelve triangles are those of the cube at
+// the other end of the view.
+#[test]
+fn far_triangles_are_passed_over(rt: HostRuntime) -> Result<(), Fail> {
+    let Ok(soup) = boxes(rt.alloc(), 2) else {
+        return Err("no sample".into());
+    };
+    assert!(rt; soup.corners.len() == 64 && soup.triangles.len() == 96);
+    let Ok(solid) = Solid::check(rt.alloc(), soup) else {
+        return Err("no solid".into());
+    };
+    let d = Dir::new(0, -1, 0)?;
+    assert!(rt; near(rt.alloc(), &solid, &d, 84)? == (Some(0), None, Some(84)));
     Ok(())
 }
