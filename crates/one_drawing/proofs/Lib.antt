@@ -8,7 +8,7 @@ pub mod PlainLines
 pub mod Shrinking
 pub mod ViewLines
 pub mod ViewOrder
-mod CornerLines
+pub mod CornerLines
 mod InOrder
 mod LinesAlong
 mod LinesListed

@@ -1,0 +1,5 @@
+pub mod OnPaper
+pub mod Reach
+pub mod Drawn
+pub mod Hatched
+mod Traced
