@@ -11,7 +11,7 @@ use Rattle.part_input.specs.declared.fault.Input.{Input}
 use Rattle.part_input.specs.declared.fault.Input.TheVariants.{Job as TheJob, Part as ThePart}
 use Rattle.part_input.specs.declared.fault.Fault.{Fault}
 use Rattle.part_input.specs.declared.fault.Fault.TheVariants.{Usage, ReadFault, Job as JobUnread, NoPlotter, SampleRange, Part as PartUnread, Nothing, Mesh, WriteFault, Memory}
-use Rattle.part_input.proofs.Answered.{of_steps, of_steady, uncounted, given, refused}
+use Rattle.part_input.proofs.Answered.{IsOfNoDesk, of_steps, of_steady, uncounted, given, refused}
 use Rattle.part_input.proofs.Singles.{IsSingle}
 use Rattle.draw_core.specs.Run.{HasPlotters, Drawn, PlansSheet, TakesMetJob, DrawsFiles, Runs, HasJobFile, HasFiles}
 use Rattle.draw_core.specs.inner.Faults.{IsWriteOutcome}
@@ -97,6 +97,9 @@ module _ (suffixes words : List (List ℕ)) (files : Files) where
   module _ (e : Fault) (fault : Option Fault) (said : (fault ≡ Some e) ⊎ (fault ≡ Some Memory)) where
     pub refused_counted : (old new : ℕ) → Refuses Steps e → HasNoWriteFault (Some e) → CountsReads (Some e) old new → (Rose old new → ⊥) → IsAnswerOf Steps fault
     refused_counted old new h w counts none = refused Steps one e fault said (of_steps Steps e (uncounted e old new (not_written e w) counts none) h)
+
+    pub refused_unread : Refuses Steps e → IsOfNoDesk e → IsAnswerOf Steps fault
+    refused_unread h none = refused Steps one e fault said (of_steps Steps e none h)
 
     pub refused_steady : Refuses Steps e → HasNoWriteFault (Some e) → IsMissing Steps e → IsAnswerOf Steps fault
     refused_steady h w m = refused Steps one e fault said (of_steady Steps e (not_written e w) m h)

@@ -2,8 +2,11 @@ pub mod Answered
 pub mod Drawings
 pub mod DrawnViews
 pub mod FileNames
+pub mod HeldFiles
+pub mod InBoxes
 pub mod Keeping
 pub mod MadeFiles
+pub mod NoFile
 pub mod OneAnswer
 pub mod Orders
 pub mod PlotFiles

@@ -1,5 +1,5 @@
 -- What a drawing shows, and its text.
-use Rattle.std.specs.Prelude.{◌≡◌, ◌≤◌, ℕ, ℤ, List, [], ◌∷◌, map, Option, Some, None, IsSomeAnd}
+use Rattle.std.specs.Prelude.{◌≡◌, ◌≤◌, ℕ, ℤ, List, [], ◌∷◌, map, All, Option, Some, None, IsSomeAnd}
 use Rattle.std.specs.List.{AllZip}
 use Rattle.lattice.specs.Cuts.{Plane}
 use Rattle.lattice.specs.declared.pieces.Crease.{Crease}
@@ -11,18 +11,21 @@ use Rattle.solid_mesh.specs.declared.solid.Solid.{Solid}
 use Rattle.solid_mesh.specs.Solids.{solid_part}
 use Rattle.plot_rack.specs.Choices.{first_with}
 use Rattle.plot_rack.specs.Plotters.{Plot}
+use Rattle.sheet_plan.specs.Boxes.{Box, IsBoxOf}
+use Rattle.sheet_plan.specs.declared.bounds.Extent.{Extent}
 use Rattle.sheet_plan.specs.declared.sheet.Sheet.{Sheet}
 use Rattle.sheet_plan.specs.declared.sheet.Stroke.{Stroke}
 use Rattle.sheet_plan.specs.Sheets.{spacing_of}
 use Rattle.svg_page.specs.Svg.{svg_of}
 use Rattle.drawn_strips.specs.Planes.{planes_in}
 use Rattle.draw_core.specs.Numbers.{SumsViews}
-use Rattle.draw_core.specs.Outputs.{File, plot_name, LeavesAll}
+use Rattle.draw_core.specs.Outputs.{File, plot_name, HoldsAll, LeavesAll}
 use Rattle.draw_core.specs.Run.{Drawn}
 use Rattle.draw_core.specs.Sheets.{IsSheetOf}
 use Rattle.draw_core.specs.Strokes.{AreStrokes}
 use Rattle.draw_core.specs.declared.drawing.Drawing.{Drawing}
 use Rattle.part_input.specs.declared.fault.Fault.{Fault}
+use Rattle.view_boxes.specs.Standing.{StandsInBox}
 use Rattle.view_lines.specs.Views.{ShowsView}
 use Rattle.view_lines.specs.declared.numbers.ViewNumbers.{ViewNumbers}
 use Rattle.view_lines.specs.declared.view.ViewDrawing.{ViewDrawing}
@@ -35,11 +38,17 @@ ShowsJobView solid crease cuts spacing asked view = ShowsView solid crease cuts 
 abbrev pub spacing_on : Sheet → ℕ
 spacing_on sheet = spacing_of sheet.scale.num sheet.scale.den sheet.decimals
 
--- each view of the job is there, in their order, with the traces of the job's cuts, the sheet is the job's for the solid, the bounds are the sums of those of the
--- views, and there were at most as many tests, of plain views and of those of cuts, and at most as many cells were counted
+-- each stroke of the sheet stands in the box of its view
+abbrev pub StandInBoxes : Sheet → List Extent → List Stroke → Type 0
+StandInBoxes sheet extents strokes = All (λ s. (box : Box) → IsBoxOf sheet extents s.view box → StandsInBox box s) strokes
+
+-- each view of the job is there, in their order, with the traces of the job's cuts, the sheet is the job's for the solid, the strokes stand in the boxes of their
+-- views, the bounds are the sums of those of the views, and there were at most as many tests, of plain views and of those of cuts, and at most as many cells were
+-- counted
 pub record IsDrawing (d : Drawing) : Type 0 where
   pub views : AllZip (ShowsJobView d.solid d.job.crease (planes_in d.job.views.items) (spacing_on d.sheet)) d.job.views.items d.views.items
   pub sheet : IsSheetOf d.job (solid_part d.solid).corners d.sheet
+  pub inside : (strokes : List Stroke) → AreStrokes d.sheet d.views.items strokes → StandInBoxes d.sheet sheet.extents strokes
   pub bound : (sums : ViewNumbers) × SumsViews d.solid d.job.crease d.job.views.items sums × (d.bound ≡ sums.bound) × (d.cut_bound ≡ sums.cut_bound) × (d.cell_bound ≡ sums.cell_bound)
   pub tested : d.meter.tests ≤ d.bound
   pub cut_tested : d.cut_meter.tests ≤ d.cut_bound
@@ -76,3 +85,10 @@ pub record Writes (plots : List Plot) (fault : Option Fault) (old new : Files) (
 -- and the words name it
 abbrev pub WritesNamed : List Plot → Option Named → Option Fault → Files → Files → Drawing → Type 0
 WritesNamed plots named fault old new d = IsSomeAnd named (λ names. Writes plots fault old new names.out d)
+
+-- each of the drawing's files, of which the first has this name, is there with its bytes
+abbrev pub Holds : List Plot → Files → List ℕ → Drawing → Type 0
+Holds plots held out d = (files : List File) × AreFilesOf plots d out files × HoldsAll held files
+
+abbrev pub HoldsNamed : List Plot → Option Named → Files → Drawing → Type 0
+HoldsNamed plots named held d = IsSomeAnd named (λ names. Holds plots held names.out d)

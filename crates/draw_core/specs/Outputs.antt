@@ -1,5 +1,5 @@
 -- The outputs of a job, and the files that a run keeps.
-use Rattle.std.specs.Prelude.{◌≡◌, ℕ, ◌+◌, ◌-◌, List, [], ◌∷◌, length, take, drop, slice_get, codes, Option, Some, None, is_some, if◌then◌else◌}
+use Rattle.std.specs.Prelude.{◌≡◌, ℕ, ◌+◌, ◌-◌, All, List, [], ◌∷◌, length, take, drop, slice_get, codes, Option, Some, None, is_some, if◌then◌else◌}
 use Rattle.std.specs.Str.{bytes_eq}
 use Rattle.desk.specs.Files.{Files, Keeps, MayKeepFront}
 use Rattle.plot_rack.specs.Choices.{first_with}
@@ -30,6 +30,10 @@ File = List ℕ × List ℕ
 abbrev pub KeepsAll : Files → Files → List File → Type 0
 KeepsAll old new [] = new ≡ old
 KeepsAll old new (file ∷ files) = (between : Files) × Keeps old between file.0 file.1 × KeepsAll between new files
+
+-- each of these files is there, with its bytes
+abbrev pub HoldsAll : Files → List File → Type 0
+HoldsAll held files = All (λ file. held file.0 ≡ Some file.1) files
 
 -- a file that is kept in part: its name holds what it held, or a prefix of its bytes
 abbrev pub MayKeep : Files → Files → Option File → Type 0

@@ -1,11 +1,11 @@
 -- What a run answers, from its words and the files at entry: steps in order, each with what it gives and what it refuses.
-use Rattle.std.specs.Prelude.{◌≡◌, ◌⊎◌, ℕ, List, Option, Some, None, IsSome, IsSomeAnd, Result, Ok, Err, Bool, false, IsTrue}
+use Rattle.std.specs.Prelude.{◌≡◌, ◌⊎◌, ℕ, List, [], Option, Some, None, IsSome, IsSomeAnd, Result, Ok, Err, Bool, false, IsTrue}
 use Rattle.desk.specs.Files.{Files}
 use Rattle.draw_words.specs.Names.{Named, named_by}
 use Rattle.geometry.specs.Parts.{Part}
 use Rattle.job_file.specs.Documents.{JobValues}
-use Rattle.part_input.specs.Jobs.{TakesReadJob}
-use Rattle.part_input.specs.Parts.{sample_size, TakesSolid, IsOfPart, HasSampleOr}
+use Rattle.part_input.specs.Jobs.{ReadsJob, TakesReadJob}
+use Rattle.part_input.specs.Parts.{sample_size, MakesSample, TakesSolid, IsOfPart, HasSampleOr}
 use Rattle.part_input.specs.Steps.{◌and_then◌}
 use Rattle.part_input.specs.declared.fault.Input.{Input}
 use Rattle.part_input.specs.declared.fault.Input.TheVariants.{Job as TheJob, Part as ThePart}
@@ -84,6 +84,26 @@ AnswersWords named (Some Memory) = Unit {0}
 AnswersWords named (Some (WriteFault target)) = IsSome named
 AnswersWords named (Some fault) = IsSomeAnd named (λ names. IsOfFiles names fault)
 AnswersWords named None = IsSome named
+
+-- they name no file to be read: no job, and a sample as the part
+pub record NamesNoFile (named : Named) : Type 0 where
+  pub no_job : named.job ≡ None
+  pub sample : IsSome (sample_size named.part)
+
+-- where no job is named, it is that of the empty text
+abbrev pub IsJobOf : Option (List ℕ) → JobValues → Type 0
+IsJobOf None job = ReadsJob [] (Ok job)
+IsJobOf (Some name) job = Unit {0}
+
+-- where the part is a sample of this size, it is the one that is made
+abbrev pub IsPartOf : Option (List ℕ) → Part → Type 0
+IsPartOf None part = Unit {0}
+IsPartOf (Some size) part = MakesSample size (Ok part)
+
+-- what the words alone say of what is drawn
+pub record IsOfWords (named : Named) (drawn : Drawn) : Type 0 where
+  pub job : IsJobOf named.job drawn.job
+  pub part : IsPartOf (sample_size named.part) drawn.part
 
 -- the run comes to reading the job where it is named, and to a part that isn't a sample once the job was taken
 abbrev pub ComesTo : List (List ℕ) → Files → Named → Input → Type 0

@@ -1,17 +1,17 @@
 // The top call: from the words and a desk to a drawing.
-ghost use Rattle.std.specs.Prelude.{◌≡◌, ◌⊎◌, true, None, Some, Ok, Err, map, IfOk, IfSome, IfNone, is_some, string_bytes, ◌<◌};
-ghost use Rattle.desk.specs.Files.{OnlyWarns, Rose};
+ghost use Rattle.std.specs.Prelude.{◌≡◌, ◌⊎◌, true, None, Some, Ok, Err, map, IfOk, IfSome, IfNone, IsSomeAnd, is_some, string_bytes, ◌<◌};
+ghost use Rattle.desk.specs.Files.{Files, OnlyWarns, Rose};
 ghost use Rattle.draw_words.specs.Names.{named_by};
 ghost use Rattle.draw_words.specs.Seen.{texts};
 ghost use Rattle.draw_core.specs.inner.Taken.{drawn_of, IsDrawn};
 ghost use Rattle.plot_rack.specs.Racks.{boxes_of};
 ghost use Rattle.part_input.specs.Faults.{CountsReads, status_of};
 ghost use Rattle.part_input.specs.Steps.{Refuses, IsAnswerOf, IsMissing};
-ghost use Rattle.draw_core.specs.Run.{Runs, AnswersWords, RunsInOrder, HasDrawing, HasFiles};
+ghost use Rattle.draw_core.specs.Run.{Runs, AnswersWords, NamesNoFile, IsOfWords, RunsInOrder, HasDrawing, HasFiles};
 ghost use Rattle.draw_core.specs.inner.Faults.{IsWriteOutcome};
 ghost use Rattle.draw_core.specs.Lines.{Warns, WarnsWhole};
 ghost use Rattle.fault_lines.specs.Lines.{NamesNothing};
-ghost use Rattle.draw_core.specs.Drawing.{drawn_in, IsDrawing, WritesNamed};
+ghost use Rattle.draw_core.specs.Drawing.{drawn_in, IsDrawing, WritesNamed, HoldsNamed};
 ghost use Rattle.draw_core.specs.inner.Kept.{AreRackFiles, WritesRack};
 ghost use Rattle.draw_core.specs.Summary.{IsSummaryOf, SaysSummary};
 ghost use Rattle.put_texts.specs.Desks.{HearsAll, OnlyRuns, OnlyWrites};
@@ -213,6 +213,16 @@ pub fn draw<D: Desk>(
     ensures exact { (D.state desk.old).steady ≡ true →
         IsAnswerOf (Runs (map (λ b. (plot b).suffix) extras.items) (texts words.now) (D.state desk.old).files) result.fault }
 
+    // On every desk the words say as much of the drawing as they say without a file: of the job where they name none, of the part
+    // where it is a sample; and where both is so, the answer is that of the steps, whatever files there are, or want of memory,
+    // wherever no fault of writing was counted.
+    ensures words_drawn { IfSome result.drawing (λ d. IsSomeAnd (named_by (texts words.now)) (λ named. IsOfWords named (drawn_in d))) }
+    ensures words_answer { IfSome (named_by (texts words.now)) NamesNoFile → (files : Files) →
+        IfSome result.fault (Refuses (Runs (map (λ b. (plot b).suffix) extras.items) (texts words.now) files)) }
+    ensures words_complete { IfSome (named_by (texts words.now)) NamesNoFile → (files : Files) →
+        (Rose (D.state desk.old).write_faults (D.state desk.new).write_faults → ⊥) →
+        IsAnswerOf (Runs (map (λ b. (plot b).suffix) extras.items) (texts words.now) files) result.fault }
+
     // A steady desk that has the files that the words name to be read counts no fault.
     ensures held { (D.state desk.old).steady ≡ true →
         IfSome (named_by (texts words.now)) (HasFiles (D.state desk.old).files) →
@@ -225,6 +235,8 @@ pub fn draw<D: Desk>(
     ensures shows { IfSome result.drawing IsDrawing }
     ensures files { (D.state desk.old).tells ≡ true →
         IfSome result.drawing (WritesNamed (map (λ b. plot b) extras.items) (named_by (texts words.now)) result.fault (D.state desk.old).files (D.state desk.new).files) }
+    ensures holds { (D.state desk.old).tells ≡ true → result.fault ≡ None →
+        IfSome result.drawing (HoldsNamed (map (λ b. plot b) extras.items) (named_by (texts words.now)) (D.state desk.new).files) }
     ensures untouched { IfNone result.drawing ((D.state desk.new).files ≡ (D.state desk.old).files) }
     ensures firm { (D.state desk.old).firm ≡ true → result.fault ≡ Some Fault.Memory → result.drawing ≡ None }
 

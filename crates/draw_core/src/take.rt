@@ -1,5 +1,5 @@
 // Takes what the words name from a desk, the job and the part, and draws it.
-ghost use Rattle.std.specs.Prelude.{◌≡◌, ◌⊎◌, true, [], map, Some, None, IfOk, IfErr};
+ghost use Rattle.std.specs.Prelude.{◌≡◌, ◌⊎◌, true, [], map, Some, None, IfOk, IfErr, IfSome, IsSomeAnd};
 ghost use Rattle.std.specs.Result.{result_err};
 ghost use Rattle.desk.specs.Files.{Files, OnlyReads};
 ghost use Rattle.draw_words.specs.Names.{named_by};
@@ -11,7 +11,7 @@ ghost use Rattle.part_input.specs.Steps.{Gives, IsMissing};
 ghost use Rattle.plot_rack.specs.Choices.{AreChosen};
 ghost use Rattle.plot_rack.specs.Racks.{boxes_of};
 ghost use Rattle.solid_mesh.specs.Solids.{solid_part};
-ghost use Rattle.draw_core.specs.Run.{HasPlotters, PlansSheet, DrawsFiles, Runs, AnswersWords, IsOfUsualJob, IsOfJob, IsOfSheet, IsOfFiles, RunsInOrder};
+ghost use Rattle.draw_core.specs.Run.{HasPlotters, PlansSheet, DrawsFiles, Runs, AnswersWords, IsOfUsualJob, IsOfJob, IsOfSheet, IsOfFiles, NamesNoFile, IsOfWords, RunsInOrder};
 ghost use Rattle.draw_core.specs.inner.Faults.{IsOfOutputs, ReadsInOrder};
 ghost use Rattle.draw_core.specs.inner.Taken.{drawn_of, IsDrawn, HasItsPlotters, GoesWhereNamed};
 ghost use Rattle.put_texts.specs.Faults.{HasNoWriteFault};
@@ -78,6 +78,7 @@ fn usual_job(alloc: Global) -> Result<Job, Fault>
 fn take_job<D: Desk>(alloc: Global, name: &Option<Name>, desk: &mut D) -> Result<Job, Fault>
     ensures answer { (D.state desk.old).tells ≡ true →
         Gives job_seen (TakesReadJob (D.state desk.old).files name.now) result }
+    ensures usual { name.now ≡ None → (files : Files) → Gives job_seen (TakesReadJob files name.now) result }
     ensures of_job { IfErr result (IsOfJob name.now) }
     ensures outputs { name.now ≡ None → IfOk result (λ job. job.outputs.items ≡ []) }
     ensures reads { CountsReads (result_err result) (D.state desk.old).read_faults (D.state desk.new).read_faults }
@@ -119,6 +120,9 @@ fn take_files<D: Desk>(
 ) -> Result<Taken, Fault>
     ensures answer { (D.state desk.old).tells ≡ true →
         Gives drawn_of (DrawsFiles (map (λ b. (plot b).suffix) extras.items) (D.state desk.old).files (named_seen named)) result }
+    ensures no_file { NamesNoFile (named_seen named) → (files : Files) →
+        Gives drawn_of (DrawsFiles (map (λ b. (plot b).suffix) extras.items) files (named_seen named)) result }
+    ensures by_words { IfOk result (λ taken. IsOfWords (named_seen named) (drawn_of taken)) }
     ensures of_files { IfErr result (IsOfFiles (named_seen named)) }
     ensures drawn { IfOk result IsDrawn }
     ensures out { IfOk result (λ taken. taken.out ≡ (named_seen named).out) }
@@ -153,6 +157,9 @@ pub(crate) fn take<D: Desk>(
 ) -> Result<Taken, Fault>
     ensures answer { (D.state desk.old).tells ≡ true →
         Gives drawn_of (Runs (map (λ b. (plot b).suffix) extras.items) (texts words.now) (D.state desk.old).files) result }
+    ensures no_file { IfSome (named_by (texts words.now)) NamesNoFile → (files : Files) →
+        Gives drawn_of (Runs (map (λ b. (plot b).suffix) extras.items) (texts words.now) files) result }
+    ensures by_words { IfOk result (λ taken. IsSomeAnd (named_by (texts words.now)) (λ named. IsOfWords named (drawn_of taken))) }
     ensures words { AnswersWords (named_by (texts words.now)) (result_err result) }
     ensures drawn { IfOk result IsDrawn }
     ensures out { IfOk result (GoesWhereNamed (named_by (texts words.now))) }

@@ -1,7 +1,7 @@
 // Takes a part from a desk, or makes a sample.
-ghost use Rattle.std.specs.Prelude.{◌≡◌, ◌<◌, ◌≤◌, ◌↔◌, true, length, None, IfOk, IfErr, IsErrOf};
+ghost use Rattle.std.specs.Prelude.{◌≡◌, ◌<◌, ◌≤◌, ◌↔◌, true, length, None, IfOk, IfErr, IsErrOf, IsSome};
 ghost use Rattle.std.specs.Result.{result_err};
-ghost use Rattle.desk.specs.Files.{OnlyReads, Rose};
+ghost use Rattle.desk.specs.Files.{Files, OnlyReads, Rose};
 ghost use Rattle.geometry.specs.Parts.{part_of};
 ghost use Rattle.solid_mesh.specs.Solids.{solid_part};
 ghost use Rattle.part_input.specs.Faults.{CountsReads};
@@ -60,6 +60,7 @@ fn sample_or_file<D: Desk>(
 ) -> Result<Soup, Fault>
     ensures answer { (D.state desk.old).tells ≡ true →
         Gives part_of (TakesSoup (D.state desk.old).files name.now job.now.decimals job.now.unit) result }
+    ensures sample { IsSome (sample_size name.now) → (files : Files) → Gives part_of (TakesSoup files name.now job.now.decimals job.now.unit) result }
     ensures of_soup { IfErr result (IsOfSoup name.now) }
     ensures sized { IfOk result (λ _. HasSize name.now) }
     ensures some_triangle { IfOk result (λ soup. 0 < length (part_of soup).triangles) }
@@ -88,6 +89,10 @@ pub fn fetch_soup<D: Desk>(
     ensures answer { (D.state desk.old).tells ≡ true →
         Gives part_of (TakesSoup (D.state desk.old).files name.now job.now.decimals job.now.unit) result }
     ensures of_soup { IfErr result (IsOfSoup name.now) }
+
+    // A sample is that of its size on every desk, whatever files there are.
+    ensures sample { IsSome (sample_size name.now) → (files : Files) →
+        Gives part_of (TakesSoup files name.now job.now.decimals job.now.unit) result }
 
     // It may be checked.
     ensures sized { IfOk result (λ _. HasSize name.now) }
@@ -141,6 +146,10 @@ pub fn fetch_solid<D: Desk>(
         Gives solid_part (TakesSolid (D.state desk.old).files name.now job.now.decimals job.now.unit) result }
     ensures of_part { IfErr result (IsOfPart name.now) }
     ensures sized { IfOk result (λ _. HasSize name.now) }
+
+    // A sample is that of its size on every desk, whatever files there are.
+    ensures sample { IsSome (sample_size name.now) → (files : Files) →
+        Gives solid_part (TakesSolid files name.now job.now.decimals job.now.unit) result }
 
     // Where no fault of reading was counted, the answer is that of the name, or want of memory; on a steady desk always.
     ensures complete { (D.state desk.old).tells ≡ true →

@@ -6,6 +6,7 @@ use Rattle.view_lines.specs.declared.view.ViewDrawing.{ViewDrawing}
 use Rattle.drawn_strips.specs.Planes.{planes_in}
 use Rattle.draw_core.specs.Drawing.{ShowsJobView, spacing_on}
 use Rattle.draw_core.specs.Numbers.{SumsViews}
+use Rattle.draw_core.proofs.InBoxes.{strokes_in_boxes}
 use Rattle.draw_core.proofs.SheetFacts.{refused_sheet}
 use Rattle.draw_core.proofs.numbered.numbered_drawing.Goals as goal
 
@@ -21,9 +22,11 @@ returns-clause-shows c =
     let asked = c.deref.result.now in
     let views = made.views.items in
     let spaced = subst (λ (n : ℕ). AllZip (R asked n) asked views) c.spacing.ensures.value c.in-Ok-views_of.ensures.shows in
+    let shown = subst (λ (of : List JobView). AllZip (R of (spacing_on c.in-Ok.sheet)) of views) c.deref.ensures.value spaced in
     record {
-      views = subst (λ (of : List JobView). AllZip (R of (spacing_on c.in-Ok.sheet)) of views) c.deref.ensures.value spaced;
+      views = shown;
       sheet = c.in-Ok.ensures.sheet;
+      inside = λ strokes are. strokes_in_boxes solid job c.in-Ok.sheet (planes_in job.views.items) (spacing_on c.in-Ok.sheet) c.in-Ok.ensures.sheet views shown strokes are;
       bound = (made.numbers, subst (λ (of : List JobView). SumsViews solid job.crease of made.numbers) c.deref.ensures.value c.in-Ok-views_of.ensures.sums, refl, refl, refl);
       tested = c.in-Ok-views_of.ensures.tested;
       cut_tested = c.in-Ok-views_of.ensures.cut_tested;

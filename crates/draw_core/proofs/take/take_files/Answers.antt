@@ -11,6 +11,7 @@ use Rattle.draw_core.specs.Run.{DrawsFiles, HasPlotters, TakesMetJob, PlansSheet
 use Rattle.draw_core.specs.inner.Taken.{drawn_of}
 use Rattle.part_input.proofs.Chains.{refuses_as, missing_as, gives_next}
 use Rattle.part_input.proofs.Missing.{solid_missing}
+use Rattle.draw_core.proofs.NoFile.{drawn_by_words}
 use Rattle.draw_core.proofs.Orders.{job_in_order, part_in_order}
 use Rattle.draw_core.proofs.Unmet.{of_rack}
 use Rattle.draw_core.proofs.take.take_files.Goals as goal
@@ -99,3 +100,42 @@ returns-in-Err-fetch_solid-clause-missing g c = λ steady.
     (solid_missing between named.part job.decimals job.unit (Err fault) c.in-Err-fetch_solid.ensures.of_part (c.in-Err-fetch_solid.ensures.missing still)) in
     let met : TakesMetJob suffixes old.files named.job (Ok job) = (job, c.in-Ok.ensures.answer told, c.in-Ok-rack_of.ensures.answer) in
     missing_as (TakesSolid old.files named.part job.decimals job.unit) (DrawsFiles suffixes old.files named) (λ e h. inr (job, met, inl h)) fault missing
+
+-- ---- where no file is named to be read
+pub returns-in-Err-clause-no_file : goal.returns-in-Err-clause-no_file
+returns-in-Err-clause-no_file g c = λ alone files.
+    let named = named_seen c.args.named in
+    let suffixes = (map (λ b. ((goal.Plotter-dyn g (b.vtable, b.value)).plot b.value).suffix) c.args.extras.items) in
+    refuses_as (TakesReadJob files named.job) (DrawsFiles suffixes files named) (λ e h. inl (inl h)) c.in-Err.fault (c.in-Err.ensures.usual alone.no_job files)
+
+pub returns-in-Err-rack_of-clause-no_file : goal.returns-in-Err-rack_of-clause-no_file
+returns-in-Err-rack_of-clause-no_file g c = λ alone files.
+    let named = named_seen c.args.named in
+    let suffixes = (map (λ b. ((goal.Plotter-dyn g (b.vtable, b.value)).plot b.value).suffix) c.args.extras.items) in
+    let job = job_seen c.in-Ok.job in
+    refuses_as (HasPlotters suffixes job) (DrawsFiles suffixes files named) (λ e h. inl (inr (job, c.in-Ok.ensures.usual alone.no_job files, h))) c.in-Err-rack_of.fault c.in-Err-rack_of.ensures.answer
+
+pub returns-in-Err-fetch_solid-clause-no_file : goal.returns-in-Err-fetch_solid-clause-no_file
+returns-in-Err-fetch_solid-clause-no_file g c =
+    λ alone files.
+    let named = named_seen c.args.named in
+    let job = job_seen c.in-Ok.job in
+    let suffixes = (map (λ b. ((goal.Plotter-dyn g (b.vtable, b.value)).plot b.value).suffix) c.args.extras.items) in
+    let met : TakesMetJob suffixes files named.job (Ok job) = (job, c.in-Ok.ensures.usual alone.no_job files, c.in-Ok-rack_of.ensures.answer) in
+    refuses_as (TakesSolid files named.part job.decimals job.unit) (DrawsFiles suffixes files named) (λ e h. inr (job, met, inl h)) c.in-Err-fetch_solid.fault
+    (c.in-Err-fetch_solid.ensures.sample alone.sample files)
+
+pub returns-in-Ok-fetch_solid-clause-no_file : goal.returns-in-Ok-fetch_solid-clause-no_file
+returns-in-Ok-fetch_solid-clause-no_file g c =
+    λ alone files.
+    let named = named_seen c.args.named in
+    let job = job_seen c.in-Ok.job in
+    let suffixes = (map (λ b. ((goal.Plotter-dyn g (b.vtable, b.value)).plot b.value).suffix) c.args.extras.items) in
+    let part = solid_part c.in-Ok-fetch_solid.solid in
+    let met : TakesMetJob suffixes files named.job (Ok job) = (job, c.in-Ok.ensures.usual alone.no_job files, c.in-Ok-rack_of.ensures.answer) in
+    let from_part = gives_next (TakesSolid files named.part job.decimals job.unit) (PlansSheet job) part (c.in-Ok-fetch_solid.ensures.sample alone.sample files) drawn_of c.draw_solid.result c.draw_solid.ensures.answer in
+    gives_next (TakesMetJob suffixes files named.job) (λ job. TakesSolid files named.part job.decimals job.unit and_then PlansSheet job) job met drawn_of c.draw_solid.result from_part
+
+pub returns-in-Ok-fetch_solid-clause-by_words : goal.returns-in-Ok-fetch_solid-clause-by_words
+returns-in-Ok-fetch_solid-clause-by_words g c =
+    drawn_by_words drawn_of c.draw_solid.result (named_seen c.args.named) (job_seen c.in-Ok.job) (solid_part c.in-Ok-fetch_solid.solid) c.in-Ok.ensures.usual c.in-Ok-fetch_solid.ensures.sample c.draw_solid.ensures.answer
