@@ -12,3 +12,5 @@ mod LayoutSizes
 mod Vectors
 pub mod SomeJob
 pub mod SomeSheet
+pub mod SomeSample
+pub mod SomeRun

@@ -35,7 +35,7 @@ decided_place p q =
 abbrev corner_at : (p : Triple) → IsCornerPlace p → Corner
 corner_at p h = record { x = p.x; y = p.y; z = p.z; x_in_range = h.x; y_in_range = h.y; z_in_range = h.z }
 
-corners_at : (ps : List Triple) → All IsCornerPlace ps → (corners : List Corner) × (map of_corner corners ≡ ps)
+pub corners_at : (ps : List Triple) → All IsCornerPlace ps → (corners : List Corner) × (map of_corner corners ≡ ps)
 corners_at [] each = ([], refl)
 corners_at (p ∷ ps) each =
     let others = corners_at ps (λ k d less. each (suc k) d (omega (arith, less))) in
