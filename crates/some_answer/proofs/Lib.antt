@@ -13,4 +13,9 @@ mod Vectors
 pub mod SomeJob
 pub mod SomeSheet
 pub mod SomeSample
+mod Separation
+mod CubeChecks
+mod SampleParts
+pub mod SoundSample
 pub mod SomeRun
+pub mod SampleRun

@@ -151,7 +151,7 @@ few_cubes true digit n h e =
     (omega (arith, low, high, same), omega (arith, low, high, same))
 few_cubes false digit n h e = absurd (none-some n e)
 
-cubes_within : (size : List ℕ) (n : ℕ) → cubes_along size ≡ Some n → (0 < n) × (n ≤ 8)
+pub cubes_within : (size : List ℕ) (n : ℕ) → cubes_along size ≡ Some n → (0 < n) × (n ≤ 8)
 cubes_within [] n e = absurd (none-some n e)
 cubes_within (digit ∷ []) n e = few_cubes (nat_le 49 digit && nat_le digit 56) digit n refl e
 cubes_within (digit ∷ more ∷ rest) n e = absurd (none-some n e)

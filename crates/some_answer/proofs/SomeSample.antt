@@ -5,6 +5,7 @@ use Rattle.std.proofs.lemmas.List.{length-map, length-append}
 use Rattle.std.proofs.lemmas.List.Elements.{All-nil, All-append, All-from_recursion}
 use Rattle.std.proofs.lemmas.List.Folds.{flat_map-map}
 use Rattle.std.proofs.lemmas.Nat.{mod_below, div_below}
+use Rattle.lattice.specs.declared.points.Corner.{Corner}
 use Rattle.lattice.specs.Points.{of_corner}
 use Rattle.lattice.specs.Triangles.{IsBelow}
 use Rattle.geometry.specs.Parts.{Part}
@@ -18,7 +19,7 @@ module _ {Y : Type 0} (P : Y → Type 0) (f : ℕ → List Y) (m : ℕ) (each : 
   all_given start zero h = All-nil P
   all_given start (suc n) h = All-append P (f start) (flat_map f (range_with_len (start + 1) n)) (each start (omega (arith, h))) (all_given (start + 1) n (omega (arith, h)))
 
-many_given : {Y : Type 0} (f : ℕ → List Y) (b : ℕ) → ((k : ℕ) → length (f k) ≡ b) → (start n : ℕ) → length (flat_map f (range_with_len start n)) ≡ n * b
+pub many_given : {Y : Type 0} (f : ℕ → List Y) (b : ℕ) → ((k : ℕ) → length (f k) ≡ b) → (start n : ℕ) → length (flat_map f (range_with_len start n)) ≡ n * b
 many_given f b each start zero = omega arith
 many_given f b each start (suc n) = length-append (f start) (flat_map f (range_with_len (start + 1) n)) ∙ (λ i. each start i + many_given f b each (start + 1) n i) ∙ more n b
   where
@@ -93,6 +94,14 @@ module _ (n : ℕ) (least : 0 < n) (most : n ≤ 8) where
   numbers_in_range : All (IsBelow (n * n * n * 8)) (triangles_of n)
   numbers_in_range = all_given (IsBelow (n * n * n * 8)) cube_triangles (n * n * n) (λ c less. cube_in_range (n * n * n * 8) c (omega (arith, less))) 0 (n * n * n) (omega arith)
 
+  pub sample_in_range : (corners : List Corner) → map of_corner corners ≡ corners_of n → All (IsBelow (length corners)) (triangles_of n)
+  sample_in_range corners there =
+      let long : length corners ≡ n * n * n * 8 = sym (length-map corners of_corner) ∙ ap length there ∙ many in
+      subst (λ (m : ℕ). All (IsBelow m) (triangles_of n)) (sym long) numbers_in_range
+
+  pub sample_some : 0 < length (triangles_of n)
+  sample_some = some_cube (n * n * n) (cube_positive n least)
+
   -- the part of a sample
   pub record IsSampleOf (part : Part) : Type 0 where
     pub corners : map of_corner part.corners ≡ corners_of n
@@ -102,13 +111,7 @@ module _ (n : ℕ) (least : 0 < n) (most : n ≤ 8) where
 
   pub some_sample : (part : Part) × IsSampleOf part
   some_sample =
-      let (corners, there) = corners_at (corners_of n) places in
-      let long : length corners ≡ n * n * n * 8 = sym (length-map corners of_corner) ∙ ap length there ∙ many in (
+      let (corners, there) = corners_at (corners_of n) places in (
         record { corners = corners; triangles = triangles_of n },
-        record {
-          corners = there;
-          triangles = refl;
-          in_range = subst (λ (m : ℕ). All (IsBelow m) (triangles_of n)) (sym long) numbers_in_range;
-          some = some_cube (n * n * n) (cube_positive n least);
-        },
+        record { corners = there; triangles = refl; in_range = sample_in_range corners there; some = sample_some },
       )
