@@ -13,16 +13,16 @@ Decided P = P ⊎ ¬ P
 
 pub decided_as : {P Q : Type 0} → P ↔ Q → Decided P → Decided Q
 decided_as same (inl p) = inl (same.0 p)
-decided_as same (inr apart) = inr (λ q. apart (same.1 q))
+decided_as same (inr fails) = inr (λ q. fails (same.1 q))
 
 pub decided_not : {P : Type 0} → Decided P → Decided (¬ P)
-decided_not (inl p) = inr (λ apart. apart p)
-decided_not (inr apart) = inl apart
+decided_not (inl p) = inr (λ fails. fails p)
+decided_not (inr fails) = inl fails
 
 pub decided_both : {P Q : Type 0} → Decided P → Decided Q → Decided (P × Q)
 decided_both (inl p) (inl q) = inl (p, q)
-decided_both (inl p) (inr apart) = inr (λ both. apart both.1)
-decided_both (inr apart) q = inr (λ both. apart both.0)
+decided_both (inl p) (inr fails) = inr (λ both. fails both.1)
+decided_both (inr fails) q = inr (λ both. fails both.0)
 
 pub decided_by : {P Q : Type 0} → P ↔ Q → Decided Q → Decided P
 decided_by same (inl q) = inl (same.1 q)
@@ -30,23 +30,23 @@ decided_by same (inr never) = inr (λ p. never (same.0 p))
 
 pub decided_three : {P Q R : Type 0} → Decided P → Decided Q → Decided R → Decided (P × Q × R)
 decided_three (inl p) (inl q) (inl r) = inl (p, q, r)
-decided_three (inl p) (inl q) (inr apart) = inr (λ all. apart all.2)
-decided_three (inl p) (inr apart) r = inr (λ all. apart all.1)
-decided_three (inr apart) q r = inr (λ all. apart all.0)
+decided_three (inl p) (inl q) (inr fails) = inr (λ all. fails all.2)
+decided_three (inl p) (inr fails) r = inr (λ all. fails all.1)
+decided_three (inr fails) q r = inr (λ all. fails all.0)
 
 pub decided_implied : {P Q : Type 0} → Decided P → Decided Q → Decided (P → Q)
 decided_implied (inl p) (inl q) = inl (λ _. q)
 decided_implied (inl p) (inr never) = inr (λ f. never (f p))
-decided_implied (inr apart) q = inl (λ p. absurd (apart p))
+decided_implied (inr fails) q = inl (λ p. absurd (fails p))
 
 neither : {P Q : Type 0} → ¬ P → ¬ Q → P ⊎ Q → ⊥
-neither apart never (inl p) = apart p
-neither apart never (inr q) = never q
+neither fails never (inl p) = fails p
+neither fails never (inr q) = never q
 
 pub decided_either : {P Q : Type 0} → Decided P → Decided Q → Decided (P ⊎ Q)
 decided_either (inl p) q = inl (inl p)
-decided_either (inr apart) (inl q) = inl (inr q)
-decided_either (inr apart) (inr never) = inr (neither apart never)
+decided_either (inr fails) (inl q) = inl (inr q)
+decided_either (inr fails) (inr never) = inr (neither fails never)
 
 pub decided_if : {P : Type 0} → (b : Bool) → Decides b P → Decided P
 decided_if true h = inl (h.0 refl)
@@ -116,10 +116,10 @@ pub record IsFirstBelow (P : ℕ → Type 0) (n i : ℕ) : Type 0 where
 
 module _ (P : ℕ → Type 0) where
   none_more : (n : ℕ) → ((i : ℕ) → i < n → ¬ P i) → ¬ P n → (i : ℕ) → i < suc n → ¬ P i
-  none_more n none apart i h p = by (cases_order i n)
+  none_more n none fails i h p = by (cases_order i n)
     where
       by : (i ≡ n) ⊎ ((i < n) ⊎ (n < i)) → ⊥
-      by (inl e) = apart (subst P e p)
+      by (inl e) = fails (subst P e p)
       by (inr (inl less)) = none i less p
       by (inr (inr more)) = absurd (omega (arith, h, more))
 
@@ -131,7 +131,7 @@ module _ (P : ℕ → Type 0) where
       by : ((i : ℕ) × IsFirstBelow P n i) ⊎ ((i : ℕ) → i < n → ¬ P i) → Decided (P n) → ((i : ℕ) × IsFirstBelow P (suc n) i) ⊎ ((i : ℕ) → i < suc n → ¬ P i)
       by (inl (i, first)) here = let less = first.within in inl (i, record { within = omega (arith, less); holds = first.holds; none_before = first.none_before })
       by (inr none) (inl p) = inl (n, record { within = omega arith; holds = p; none_before = none })
-      by (inr none) (inr apart) = inr (none_more n none apart)
+      by (inr none) (inr fails) = inr (none_more n none fails)
 
   -- it is decided whether something decided holds of a number, where it holds of none from n on
   pub decided_some : ((i : ℕ) → Decided (P i)) → (n : ℕ) → ((i : ℕ) → P i → i < n) → Decided ((i : ℕ) × P i)
@@ -149,12 +149,12 @@ module _ {X : Type 0} (P : X → Type 0) (each : (x : X) → Decided (P x)) wher
     where
       by : Decided (P x) → Decided (All P xs) → Decided (All P (x ∷ xs))
       by (inl p) (inl others) = inl (All-cons P x xs p others)
-      by (inl p) (inr apart) = inr (λ all. apart (λ k d less. all (suc k) d (omega (arith, less))))
-      by (inr apart) others = inr (λ all. apart (all 0 x (omega arith)))
+      by (inl p) (inr fails) = inr (λ all. fails (λ k d less. all (suc k) d (omega (arith, less))))
+      by (inr fails) others = inr (λ all. fails (all 0 x (omega arith)))
 
   none_of : (x : X) (xs : List X) → ¬ P x → ¬ Any P xs → (k : ℕ) (y : X) → k < length (x ∷ xs) → get_or (x ∷ xs) k y ≡ y → P y → ⊥
-  none_of x xs apart never zero y less e p = apart (subst P (sym e) p)
-  none_of x xs apart never (suc k) y less e p = never (k, y, omega (arith, less), e, p)
+  none_of x xs fails never zero y less e p = fails (subst P (sym e) p)
+  none_of x xs fails never (suc k) y less e p = never (k, y, omega (arith, less), e, p)
 
   pub decided_any : (xs : List X) → Decided (Any P xs)
   decided_any [] = inr (λ (k, y, less, e, p). absurd (omega (arith, less)))
@@ -162,5 +162,5 @@ module _ {X : Type 0} (P : X → Type 0) (each : (x : X) → Decided (P x)) wher
     where
       by : Decided (P x) → Decided (Any P xs) → Decided (Any P (x ∷ xs))
       by (inl p) others = inl (0, x, omega arith, refl, p)
-      by (inr apart) (inl (k, y, less, e, p)) = inl (suc k, y, omega (arith, less), e, p)
-      by (inr apart) (inr never) = inr (λ (k, y, less, e, p). none_of x xs apart never k y less e p)
+      by (inr fails) (inl (k, y, less, e, p)) = inl (suc k, y, omega (arith, less), e, p)
+      by (inr fails) (inr never) = inr (λ (k, y, less, e, p). none_of x xs fails never k y less e p)

@@ -182,6 +182,17 @@ module _ (files : Files) (name : List ℕ) (decimals : ℕ) (unit : Length) wher
   some_solid : HasAnswer IsProper (TakesSolid files name decimals unit)
   some_solid = some_and_then IsProper IsProper (TakesSoup files name decimals unit) ChecksPart (some_soup_or (sample_size name)) some_check
 
+-- the job that is taken and read, the part that a name stands for, and that part checked
+pub some_job_taken : Global → (files : Files) (name : Option (List ℕ)) → (r : Result JobValues Fault) × TakesReadJob files name r
+some_job_taken alloc files name = let (r, (taken, such)) = some_read_job alloc files name in (r, taken)
+
+module _ (files : Files) (name : List ℕ) (decimals : ℕ) (unit : Length) where
+  pub some_soup_taken : (r : Result Part Fault) × TakesSoup files name decimals unit r
+  some_soup_taken = let (r, (taken, such)) = some_soup_or files name decimals unit (sample_size name) in (r, taken)
+
+  pub some_solid_taken : (r : Result Part Fault) × TakesSolid files name decimals unit r
+  some_solid_taken = let (r, (taken, such)) = some_solid files name decimals unit in (r, taken)
+
 -- ---- the sheet
 module _ (values : JobValues) (job : Job) (same : job_seen job ≡ values) (part : Part) where
   with_extents : (extents : List Extent) × AreExtents part.corners job.views.items extents → HasAnswer Any (PlansSheet values part)

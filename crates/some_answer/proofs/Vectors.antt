@@ -1,4 +1,4 @@
--- Vectors with given items.
+-- Vectors with given items, as contracts see them.
 use Rattle.std.proofs.Common.{◌<◌, ◌^◌, List, length, refl, arith}
 use denote.RawPtr.{null_ptr}
 use Rattle.std.specs.Global.{Vec, Global}
