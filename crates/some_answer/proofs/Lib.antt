@@ -19,3 +19,4 @@ mod SampleParts
 pub mod SoundSample
 pub mod SomeRun
 pub mod SampleRun
+pub mod SomeSheetRun

@@ -52,12 +52,12 @@ use Rattle.some_answer.proofs.SomeWeld.{some_soup}
 
 -- ---- steps in order
 -- P is true of what is given, if something is
-abbrev GivesSuch : {A : Type 0} → (A → Type 0) → Result A Fault → Type 0
+abbrev pub GivesSuch : {A : Type 0} → (A → Type 0) → Result A Fault → Type 0
 GivesSuch P (Ok x) = P x
 GivesSuch P (Err e) = Unit {0}
 
 -- the step has an answer, and P is true of what it gives
-abbrev HasAnswer : {A : Type 0} → (A → Type 0) → (Result A Fault → Type 0) → Type 0
+abbrev pub HasAnswer : {A : Type 0} → (A → Type 0) → (Result A Fault → Type 0) → Type 0
 HasAnswer {A} P step = (r : Result A Fault) × (step r × GivesSuch P r)
 
 module _ {A B : Type 0} (P : A → Type 0) (Q : B → Type 0) (first : Result A Fault → Type 0) (next : A → Result B Fault → Type 0) where
@@ -65,13 +65,13 @@ module _ {A B : Type 0} (P : A → Type 0) (Q : B → Type 0) (first : Result A 
   behind x a (Ok y, (b, q)) = (Ok y, ((x, a, b), q))
   behind x a (Err e, (b, q)) = (Err e, (inr (x, a, b), tt))
 
-  some_and_then : HasAnswer P first → ((x : A) → P x → HasAnswer Q (next x)) → HasAnswer Q (first and_then next)
+  pub some_and_then : HasAnswer P first → ((x : A) → P x → HasAnswer Q (next x)) → HasAnswer Q (first and_then next)
   some_and_then (Ok x, (a, p)) n = behind x a (n x p)
   some_and_then (Err e, (a, p)) n = (Err e, (inl a, tt))
 
 -- ---- files
 -- nothing is asked of it
-abbrev Any : {A : Type 0} → A → Type 0
+abbrev pub Any : {A : Type 0} → A → Type 0
 Any x = Unit {0}
 
 some_file : (input : Input) (files : Files) (name : List ℕ) → HasAnswer Any (TakesFile input files name)
@@ -86,7 +86,7 @@ some_file input files name = by_option (files name) (λ e. (Err (ReadFault input
 
 -- ---- the job
 -- they are the values of a job
-abbrev AreValues : JobValues → Type 0
+abbrev pub AreValues : JobValues → Type 0
 AreValues values = (job : Job) × (job_seen job ≡ values)
 
 some_job_bytes : (files : Files) (name : Option (List ℕ)) → HasAnswer Any (TakesJob files name)
@@ -101,7 +101,7 @@ module _ (alloc : Global) where
       by (inl (job, e)) = (Ok (job_seen job), (e, (job, refl)))
       by (inr (cause, e)) = (Err (JobUnread cause), ((cause, refl, e), tt))
 
-  some_read_job : (files : Files) (name : Option (List ℕ)) → HasAnswer AreValues (TakesReadJob files name)
+  pub some_read_job : (files : Files) (name : Option (List ℕ)) → HasAnswer AreValues (TakesReadJob files name)
   some_read_job files name = some_and_then Any AreValues (TakesJob files name) ReadsJob (some_job_bytes files name) (λ bytes _. some_values bytes)
 
   some_plotters : (suffixes : List (List ℕ)) (values : JobValues) → AreValues values → HasAnswer AreValues (HasPlotters suffixes values)
@@ -113,7 +113,7 @@ module _ (alloc : Global) where
 
 -- ---- the part
 -- it has a triangle, and its corner numbers are in range
-abbrev IsProper : Part → Type 0
+abbrev pub IsProper : Part → Type 0
 IsProper part = All (IsBelow (length part.corners)) part.triangles × (0 < length part.triangles)
 
 module _ (decimals : ℕ) (unit : Length) (bytes : List ℕ) where
@@ -179,7 +179,7 @@ module _ (files : Files) (name : List ℕ) (decimals : ℕ) (unit : Length) wher
       by (inl sound) = (Ok part, ((refl, sound), (in_range, some)))
       by (inr (fault, has)) = (Err (Mesh fault), ((fault, refl, has), tt))
 
-  some_solid : HasAnswer IsProper (TakesSolid files name decimals unit)
+  pub some_solid : HasAnswer IsProper (TakesSolid files name decimals unit)
   some_solid = some_and_then IsProper IsProper (TakesSoup files name decimals unit) ChecksPart (some_soup_or (sample_size name)) some_check
 
 -- the job that is taken and read, the part that a name stands for, and that part checked
@@ -236,7 +236,7 @@ module _ (values : JobValues) (job : Job) (same : job_seen job ≡ values) (part
           none_below (t ∷ ts) h each = let less = (each 0 t (omega arith)).a in omega (arith, less)
       by (c ∷ cs) e = subst (λ (ks : List Corner). (extents : List Extent) × AreExtents ks job.views.items extents) (sym e) (some_extents c cs job.views.items)
 
-some_plan : (values : JobValues) → AreValues values → (part : Part) → IsProper part → HasAnswer Any (PlansSheet values part)
+pub some_plan : (values : JobValues) → AreValues values → (part : Part) → IsProper part → HasAnswer Any (PlansSheet values part)
 some_plan values (job, same) part proper = with_extents values job same part (some_reach values job same part proper)
 
 -- ---- the run
