@@ -6,12 +6,12 @@ use Rattle.std.specs.Option.{option_map}
 use Rattle.std.proofs.lemmas.Bool.{cases_eq}
 use Rattle.std.proofs.lemmas.List.{map-set, get_or_default, get_or-map, get_or-set_same, get_or-set_other, length-set, length-map}
 use Rattle.std.proofs.lemmas.List.Elements.{All-nil, Contains-append_left, Contains-push, All-push}
-use Rattle.std.proofs.lemmas.Option.{slice_get-map, slice_get_within, get_or_from_slice_get, slice_get-get_or, same_Some}
+use Rattle.std.proofs.lemmas.Option.{slice_get-map, slice_get_within, slice_get-get_or, same_Some}
 use Rattle.lattice.specs.declared.soup.Tri.{Tri}
 use Rattle.flip_bounds.specs.declared.bounded.Bounded.{Bounded}
 use Rattle.flip_bounds.specs.Flips.{tri, IsRound, HasSide, IsSideOf}
 use Rattle.geometry.specs.Parts.{IsCornerOf}
-use Rattle.flip_slivers.specs.inner.Around.{IsAround, IsGrown, lists_of, listed_at, triangles_of}
+use Rattle.flip_slivers.specs.inner.Around.{HasSideAt, IsAround, IsGrown, lists_of, listed_at, triangles_of}
 
 -- ---- lists that grow
 abbrev pub items_of : Vec ℕ Global → List ℕ
@@ -73,10 +73,6 @@ second_corner t m n = ⊎_elim (λ h. inr (inl h.1)) (⊎_elim (λ h. inr (inr h
 -- ---- the triangle at a place of a surface
 pub tri_at : (surface : List Bounded) (i : ℕ) (x : Bounded) → slice_get surface i ≡ Some x → slice_get (triangles_of surface) i ≡ Some x.tri
 tri_at surface i x at = slice_get-map (λ (y : Bounded). y.tri) surface i ∙ ap (option_map (λ (y : Bounded). y.tri)) at
-
--- the triangle at a place has the side
-abbrev pub HasSideAt : List Bounded → ℕ → ℕ → ℕ → Type 0
-HasSideAt surface i m n = (x : Bounded) × (slice_get surface i ≡ Some x) × HasSide x.tri m n
 
 -- the lists have the places of the first triangles
 pub record ListsFirst (triangles : List Tri) (count : ℕ) (lists : List (List ℕ)) : Type 0 where
@@ -140,9 +136,6 @@ places_within surface lists m k places around which =
 
 side_place : (surface : List Bounded) (m n : ℕ) → IsSideOf surface m n → (i : ℕ) × HasSideAt surface i m n
 side_place surface m n (x, (i, below, is), has) = (i, (x, slice_get-get_or surface i x below ∙ ap Some is, has))
-
-pub side_of_place : (surface : List Bounded) (i m n : ℕ) → HasSideAt surface i m n → IsSideOf surface m n
-side_of_place surface i m n (x, at, has) = (x, (i, slice_get_within surface i x at, get_or_from_slice_get surface i x x at), has)
 
 -- none of the places has the side, so no triangle has it
 pub no_side_found : (surface : List Bounded) (lists : List (List ℕ)) (m k : ℕ) (places : List ℕ) → IsAround (triangles_of surface) lists

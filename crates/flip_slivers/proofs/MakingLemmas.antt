@@ -1,10 +1,10 @@
 -- What a flip that is made leaves.
-use Rattle.std.proofs.Common.{◌≡◌, ℕ, ◌+◌, ◌<◌, List, length, set, Some, refl, sym, ap, ◌∙◌, subst, inl, inr, ◌⊎◌, ⊎_elim, Vec, Global, add-one, add-suc, add-zero}
+use Rattle.std.proofs.Common.{◌≡◌, ℕ, suc, ◌+◌, ◌<◌, List, [], ◌∷◌, ◌++◌, length, get_or, set, Some, refl, arith, sym, ap, ◌∙◌, subst, inl, inr, ◌⊎◌, ⊎_elim, Vec, Global, add-one, add-suc, add-zero}
 use Rattle.std.specs.Prelude.{slice_get, Contains}
 use Rattle.std.specs.List.{All}
 use Rattle.std.proofs.lemmas.Bool.{cases_eq}
-use Rattle.std.proofs.lemmas.List.{length-map, length-set}
-use Rattle.std.proofs.lemmas.List.Elements.{All-set}
+use Rattle.std.proofs.lemmas.List.{length-append, length-map, length-set}
+use Rattle.std.proofs.lemmas.List.Elements.{All-pop, All-set}
 use Rattle.std.proofs.lemmas.Option.{slice_get_within, same_Some}
 use Rattle.lattice.specs.declared.points.Corner.{Corner}
 use Rattle.lattice.specs.declared.soup.Tri.{Tri}
@@ -15,9 +15,10 @@ use Rattle.flip_bounds.specs.Flips.{tri, IsRound, IsFlip, AreFlips, none, more, 
 use Rattle.flip_bounds.proofs.Changed.{set_same, set_other, map_place, map_place_back}
 use Rattle.flip_slivers.specs.declared.choices.Flip.{Flip}
 use Rattle.flip_slivers.specs.inner.Around.{IsAround, IsGrown, lists_of, listed_at, triangles_of}
-use Rattle.flip_slivers.specs.inner.Choices.{IsLaid, IsChoice, flipped}
+use Rattle.flip_slivers.specs.inner.Choices.{IsLaid, IsChoice, IsSettledAt, IsWithin, flipped}
 use Rattle.flip_slivers.proofs.AroundLemmas.{items_of}
 use Rattle.flip_slivers.proofs.ChoiceLemmas.{round_below, below_at}
+use Rattle.flip_slivers.proofs.Potential.{potential, flip_falls}
 
 -- ---- flips in a row
 pub choice_flip : (corners : List Corner) (most : ℕ) (surface : List Bounded) (f : Flip) → IsChoice corners most surface f → IsFlip corners most surface (flipped surface f)
@@ -58,6 +59,14 @@ flips_join corners most n _ s _ _ first (none t) = let Q : ℕ → Type 0 = λ k
 flips_join corners most n _ s _ _ first (more m t u v flips x) =
     let Q : ℕ → Type 0 = λ k. AreFlips corners most k s v in
     subst Q (sym (add-suc n m)) (more (n + m) s u v (flips_join corners most n m s t u first flips) x)
+
+-- no flips leave the surface as it is
+pub no_flips : (corners : List Corner) (most n : ℕ) (old new : List Bounded) → AreFlips corners most n old new → n ≡ 0 → new ≡ old
+no_flips corners most _ _ _ (none s) e = refl
+no_flips corners most _ _ _ (more n s t u flips x) e = absurd (some n e)
+  where
+    some : (n : ℕ) → suc n ≡ 0 → ⊥
+    some n e = omega arith
 
 -- ---- lists around corners after a flip
 pub round_corner : (t u : Tri) (k : ℕ) → IsRound t u → IsCornerOf u k → IsCornerOf t k
@@ -180,25 +189,63 @@ same_laid corners surface other around also e f laid =
     let Q : List (Vec ℕ Global) → Type 0 = λ a. IsLaid corners surface a in
     subst P e (subst Q f laid)
 
-pub surface_items : (v w : Vec Bounded Global) → v ≡ w → v.items ≡ w.items
-surface_items v w e = ap (λ (u : Vec Bounded Global). u.items) e
-
-pub around_items : (v w : Vec (Vec ℕ Global) Global) → v ≡ w → v.items ≡ w.items
-around_items v w e = ap (λ (u : Vec (Vec ℕ Global) Global). u.items) e
-
 -- ---- numbers within the lists
 pub place_within : (surface : List Bounded) (i n : ℕ) (x : Bounded) → slice_get surface i ≡ Some x → length surface ≡ n → i < n
 place_within surface i n x at e = let P : ℕ → Type 0 = λ k. i < k in subst P e (slice_get_within surface i x at)
 
-pub choice_c : (corners : List Corner) (most : ℕ) (surface : List Bounded) (around : List (Vec ℕ Global)) (f : Flip) → IsLaid corners surface around → IsChoice corners most surface f → f.c < length around
-choice_c corners most surface around f laid choice =
-    let P : ℕ → Type 0 = λ n. f.c < n in
-    subst P (sym laid.for_each) (round_below (length corners) choice.sliver.tri (tri f.a f.b f.c) choice.is_sliver.turned (below_at (length corners) surface f.sliver choice.sliver laid.in_range choice.at_sliver)).c
-
-pub choice_d : (corners : List Corner) (most : ℕ) (surface : List Bounded) (around : List (Vec ℕ Global)) (f : Flip) → IsLaid corners surface around → IsChoice corners most surface f → f.d < length around
-choice_d corners most surface around f laid choice =
-    let P : ℕ → Type 0 = λ n. f.d < n in
-    subst P (sym laid.for_each) (round_below (length corners) choice.neighbour.tri (tri f.b f.a f.d) choice.is_sliver.beside (below_at (length corners) surface f.neighbour choice.neighbour laid.in_range choice.at_neighbour)).c
+pub choice_within : (corners : List Corner) (most : ℕ) (surface seen : List Bounded) (around lists : List (Vec ℕ Global)) (f : Flip) → seen ≡ surface → lists ≡ around → IsLaid corners surface around → IsChoice corners most seen f
+    → IsWithin seen lists f
+choice_within corners most surface seen around lists f read also laid choice =
+    let P : List Bounded → Type 0 = λ s. IsLaid corners s lists in
+    let Q : List (Vec ℕ Global) → Type 0 = λ a. IsLaid corners surface a in
+    within seen lists f (subst P (sym read) (subst Q (sym also) laid)) choice
+  where
+    within : (surface : List Bounded) (around : List (Vec ℕ Global)) (f : Flip) → IsLaid corners surface around → IsChoice corners most surface f → IsWithin surface around f
+    within surface around f laid choice =
+        let P : ℕ → Type 0 = λ n. IsBelow n (tri f.a f.b f.c) in
+        let Q : ℕ → Type 0 = λ n. f.d < n in
+        let sliver = subst P (sym laid.for_each) (round_below (length corners) choice.sliver.tri (tri f.a f.b f.c) choice.is_sliver.turned (below_at (length corners) surface f.sliver choice.sliver laid.in_range choice.at_sliver)) in
+        record {
+          sliver = slice_get_within surface f.sliver choice.sliver choice.at_sliver;
+          neighbour = slice_get_within surface f.neighbour choice.neighbour choice.at_neighbour;
+          a = sliver.a;
+          b = sliver.b;
+          c = sliver.c;
+          d = subst Q (sym laid.for_each) (round_below (length corners) choice.neighbour.tri (tri f.b f.a f.d) choice.is_sliver.beside (below_at (length corners) surface f.neighbour choice.neighbour laid.in_range choice.at_neighbour)).c;
+        }
 
 pub same_choice : (corners : List Corner) (most : ℕ) (seen old : List Bounded) (f : Flip) → seen ≡ old → IsChoice corners most seen f → IsChoice corners most old f
 same_choice corners most seen old f e = let P : List Bounded → Type 0 = λ s. IsChoice corners most s f in subst P e
+
+-- ---- places that are to be looked at
+pub popped : (P : ℕ → Type 0) (xs ys : List ℕ) (x : ℕ) → xs ≡ ys ++ x ∷ [] → All P xs → All P ys × P x
+popped P xs ys x e all = All-pop P xs ys (Some x) e all
+
+pub popped_length : (xs ys : List ℕ) (x : ℕ) → xs ≡ ys ++ x ∷ [] → length xs ≡ length ys + 1
+popped_length xs ys x e = ap length e ∙ length-append ys (x ∷ [])
+
+-- the only one
+pub popped_only : (xs ys : List ℕ) (x y : ℕ) → xs ≡ y ∷ [] → xs ≡ ys ++ x ∷ [] → x ≡ y
+popped_only xs [] x y only e = ap (λ (zs : List ℕ). get_or zs 0 0) (sym e ∙ only)
+popped_only xs (z ∷ ys) x y only e =
+    let one : length xs ≡ 1 = ap length only in
+    let more : length xs ≡ length (z ∷ ys) + 1 = popped_length xs (z ∷ ys) x e in
+    absurd (omega arith)
+
+-- the place was the first, or that is settled
+pub now_settled : (corners : List Corner) (most : ℕ) (surface seen : List Bounded) (place next : ℕ) (places left : List ℕ) → seen ≡ surface → places ≡ left ++ next ∷ [] → IsSettledAt corners most seen next
+    → (places ≡ place ∷ []) ⊎ IsSettledAt corners most surface place → IsSettledAt corners most surface place
+now_settled corners most surface seen place next places left read e here =
+    let P : List Bounded → Type 0 = λ s. IsSettledAt corners most s next in
+    let Q : ℕ → Type 0 = λ k. IsSettledAt corners most surface k in
+    ⊎_elim (λ only. subst Q (popped_only places left next place only e) (subst P read here)) (λ before. before)
+
+pub still_within : (surface seen new : List Bounded) (f : Flip) (places : List ℕ) → seen ≡ surface → new ≡ flipped surface f → All (λ i. i < length seen) places → All (λ i. i < length new) places
+still_within surface seen new f places read made =
+    let P : ℕ → Type 0 = λ n. All (λ i. i < n) places in
+    subst P (ap length read ∙ sym (ap length made ∙ flipped_length surface f))
+
+pub choice_falls : (corners : List Corner) (most : ℕ) (surface seen new : List Bounded) (f : Flip) → seen ≡ surface → IsChoice corners most seen f → new ≡ flipped surface f → potential corners most new < potential corners most surface
+choice_falls corners most surface seen new f read choice made =
+    let P : List Bounded → Type 0 = λ s. potential corners most s < potential corners most surface in
+    subst P (sym made) (flip_falls corners most surface (flipped surface f) (choice_flip corners most surface f (same_choice corners most seen surface f read choice)))

@@ -1,20 +1,19 @@
 -- A triangle has one height, whichever corner comes first.
-use Rattle.std.proofs.Common.{◌≡◌, ℕ, zero, suc, ◌+◌, ◌*◌, ◌<◌, ◌≤◌, List, [], ◌∷◌, refl, sym, ap, ◌∙◌, subst, arith, inl, inr, ◌⊎◌, ⊎_elim, Some, true, false}
-use Rattle.std.specs.Prelude.{ℤ, pos, negsuc, ◌+ℤ◌, ◌-ℤ◌, ◌*ℤ◌, ◌<ℤ◌, ◌≤ℤ◌, slice_get}
-use Rattle.std.proofs.lemmas.Bool.{cases_lt, cases_eq}
+use Rattle.std.proofs.Common.{◌≡◌, ℕ, List, [], ◌∷◌, refl, sym, ap, ◌∙◌, subst, arith, inl, inr, ◌⊎◌, ⊎_elim}
+use Rattle.std.specs.Prelude.{ℤ, pos, ◌+ℤ◌, ◌-ℤ◌, ◌*ℤ◌, ◌<ℤ◌, ◌≤ℤ◌}
+use Rattle.std.proofs.lemmas.Bool.{cases_lt}
 use Rattle.std.proofs.lemmas.Int.{ints}
 use Rattle.std.proofs.lemmas.Option.{same_Some}
-use Rattle.integers.proofs.Absolutes.{natural_not_negative, pos-product}
+use Rattle.integers.proofs.Absolutes.{natural_not_negative}
 use Rattle.integers.proofs.Comparisons.{same_of_both, less_not_at_most}
 use Rattle.integers.proofs.Signs.{mul_nonneg, square_nonneg, square_zero}
-use Rattle.integers.proofs.Ring.{var, ◌⊕◌, ◌⊖◌, ◌⊗◌, ring}
+use Rattle.integers.proofs.Ring.{var, ◌⊖◌, ◌⊗◌, ring}
 use Rattle.lattice.specs.declared.points.Corner.{Corner}
 use Rattle.lattice.specs.declared.soup.Tri.{Tri}
 use Rattle.lattice.specs.Points.{difference}
 use Rattle.lattice.specs.Triple.{Triple, dot, cross}
 use Rattle.geometry.specs.Faces.{normal}
-use Rattle.flip_bounds.specs.Heights.{Placed, HasHeight, IsLongest, IsLower, IsRoundedUp, side_square, area_square}
-use Rattle.flip_bounds.specs.Flips.{tri, IsRound}
+use Rattle.flip_bounds.specs.Heights.{HasHeight, IsLongest, IsLower, IsRoundedUp, side_square, area_square}
 use Rattle.flip_bounds.proofs.Lengths.{square_not_negative}
 
 -- ---- one height

@@ -1,5 +1,5 @@
 -- What falls at each flip: what the triangles have left of the limit, and one for each that is flat.
-use Rattle.std.proofs.Common.{◌≡◌, ℕ, zero, suc, ◌+◌, ◌-◌, ◌*◌, ◌<◌, ◌≤◌, max, List, length, get_or, set, Option, Some, None, sum_by, refl, sym, ap, ◌∙◌, subst, arith, inl, inr, ◌⊎◌, ⊎_elim, le_trans}
+use Rattle.std.proofs.Common.{◌≡◌, ℕ, zero, suc, ◌+◌, ◌-◌, ◌<◌, ◌≤◌, max, List, length, get_or, set, Option, Some, None, sum_by, refl, sym, ap, ◌∙◌, subst, arith, ⊎_elim, le_trans}
 use Rattle.std.specs.Prelude.{ℤ, pos, negsuc, ◌*ℤ◌, ◌<ℤ◌, ◌≤ℤ◌, slice_get}
 use Rattle.std.proofs.lemmas.Int.{ints}
 use Rattle.std.proofs.lemmas.List.{get_or-set_other}
@@ -11,7 +11,7 @@ use Rattle.integers.proofs.Signs.{mul_nonneg}
 use Rattle.lattice.specs.declared.points.Corner.{Corner}
 use Rattle.lattice.specs.declared.soup.Tri.{Tri}
 use Rattle.flip_bounds.specs.declared.bounded.Bounded.{Bounded}
-use Rattle.flip_bounds.specs.Heights.{HasHeight, IsLower, IsRoundedUp, area_square}
+use Rattle.flip_bounds.specs.Heights.{HasHeight, IsLower, area_square}
 use Rattle.flip_bounds.specs.Flips.{tri, IsRound, IsFlip, AreFlips, none, more, first_of, second_of}
 use Rattle.flip_slivers.proofs.OneHeight.{turned_normal, area_not_negative, side_not_negative}
 
@@ -144,3 +144,13 @@ potential_most corners most surface few limit =
   where
     weighed : (x : Bounded) → weight corners most x ≤ 102401
     weighed x = let one : flat_of corners x.tri ≤ 1 = flat_most (slice_get corners x.tri.a) (slice_get corners x.tri.b) (slice_get corners x.tri.c) in omega arith
+
+-- so many flips at most
+pub flips_most : (corners : List Corner) (most n : ℕ) (first last : List Bounded) → length first ≤ 20000 → most ≤ 102400 → AreFlips corners most n first last → n ≤ 2048020000
+flips_most corners most n first last few limit flips =
+    let fall : potential corners most last + n ≤ potential corners most first = flips_fall corners most n first last flips in
+    let start : potential corners most first ≤ 2048020000 = potential_most corners most first few limit in
+    below (potential corners most last) (potential corners most first) n fall start
+  where
+    below : (n m k : ℕ) → n + k ≤ m → m ≤ 2048020000 → k ≤ 2048020000
+    below n m k h most = omega arith

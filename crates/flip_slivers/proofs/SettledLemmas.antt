@@ -3,20 +3,18 @@ use Rattle.std.proofs.Common.{◌≡◌, ◌≢◌, ℕ, ◌+◌, ◌<◌, ◌�
 use Rattle.std.specs.Prelude.{slice_get, Contains, pos, ℤ, ◌+ℤ◌, ◌*ℤ◌, ◌<ℤ◌, ◌≤ℤ◌, ◌-ℤ◌}
 use Rattle.std.proofs.lemmas.Int.{ints}
 use Rattle.std.proofs.lemmas.List.{get_or_default}
-use Rattle.std.proofs.lemmas.Option.{slice_get_read, slice_get-get_or, same_Some, slice_get_within, get_or_from_slice_get}
+use Rattle.std.proofs.lemmas.Option.{same_Some, slice_get_within, get_or_from_slice_get}
 use Rattle.lattice.specs.declared.points.Corner.{Corner}
 use Rattle.lattice.specs.declared.soup.Tri.{Tri}
-use Rattle.lattice.specs.Points.{difference}
 use Rattle.flip_bounds.specs.declared.bounded.Bounded.{Bounded}
-use Rattle.flip_bounds.specs.Heights.{Placed, HasHeight, IsRoundedUp, side_square}
-use Rattle.flip_bounds.specs.Flips.{tri, IsRound, HasSide, IsSideOf, IsFlip, IsRise, first_of, second_of}
-use Rattle.flip_bounds.specs.Near.{square}
+use Rattle.flip_bounds.specs.Heights.{HasHeight, IsRoundedUp, side_square}
+use Rattle.flip_bounds.specs.Flips.{tri, IsRound, HasSide, IsSideOf, IsFlip, AreFlips, IsRise, first_of, second_of}
 use Rattle.flip_slivers.specs.declared.choices.Flip.{Flip}
 use Rattle.flip_slivers.specs.declared.choices.Sliver.{Sliver}
 use Rattle.flip_slivers.specs.inner.Around.{IsAround, listed_at, triangles_of}
 use Rattle.flip_slivers.specs.inner.Choices.{IsSliverAt, IsAcross, IsNewBound, IsChoice, AreSettled, IsSettledAt, IsSettledOn, IsSettledBeside}
 use Rattle.flip_slivers.proofs.AroundLemmas.{tri_at, side_of_round}
-use Rattle.flip_slivers.proofs.MakingLemmas.{round_corner}
+use Rattle.flip_slivers.proofs.MakingLemmas.{round_corner, no_flips}
 use Rattle.flip_slivers.proofs.OneHeight.{one_height, rounded_once}
 
 -- ---- the third corner beside a side is one
@@ -231,12 +229,13 @@ flip_choice corners most old new none x = none (record { sliver = x.i; neighbour
   new_bound = record { is_bound = x.is_bound; within = x.within };
 })
 
-pub more_settled : (corners : List Corner) (most : ℕ) (old seen new : List Bounded) (n m place : ℕ) → new ≡ old → seen ≡ old → m ≡ n → (n ≡ 0 → (k : ℕ) → k < place → IsSettledAt corners most old k)
-    → IsSettledAt corners most seen place → m ≡ 0 → (k : ℕ) → k < place + 1 → IsSettledAt corners most new k
-more_settled corners most old seen new n m place same read counted before here none k below =
-    let P : List Bounded → Type 0 = λ s. IsSettledAt corners most s k in
-    let Q : List Bounded → Type 0 = λ s. IsSettledAt corners most s place in
-    subst P (sym same) (below_more (λ i. IsSettledAt corners most old i) place (before (sym counted ∙ none)) (subst Q read here) k below)
+-- the place is settled too, if no flip was made
+pub more_settled : (corners : List Corner) (most : ℕ) (old new : List Bounded) (n made place : ℕ) → AreFlips corners most made old new → (n ≡ 0 → (k : ℕ) → k < place → IsSettledAt corners most old k)
+    → (made ≡ 0 → IsSettledAt corners most new place) → n + made ≡ 0 → (k : ℕ) → k < place + 1 → IsSettledAt corners most new k
+more_settled corners most old new n made place flips before here sum k below =
+    let nothing : made ≡ 0 = omega arith in
+    let P : List Bounded → Type 0 = λ s. (i : ℕ) → i < place → IsSettledAt corners most s i in
+    below_more (λ i. IsSettledAt corners most new i) place (subst P (sym (no_flips corners most made old new flips nothing)) (before (omega arith))) (here nothing) k below
 
 pub all_settled : (corners : List Corner) (most : ℕ) (surface : List Bounded) (place : ℕ) → length surface ≤ place → ((k : ℕ) → k < place → IsSettledAt corners most surface k) → AreSettled corners most surface
 all_settled corners most surface place all each f x =

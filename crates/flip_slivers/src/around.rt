@@ -3,13 +3,13 @@ ghost use Rattle.std.specs.Prelude.{◌≡◌, ◌≢◌, ◌⊎◌, ℕ, ◌<�
 ghost use Rattle.std.specs.List.{All};
 ghost use Rattle.lattice.specs.Triangles.{IsBelow};
 ghost use Rattle.flip_bounds.specs.Flips.{tri, IsRound, HasSide, IsSideOf};
-ghost use Rattle.flip_slivers.specs.inner.Around.{IsAround, IsGrown, lists_of, listed_at, triangles_of};
+ghost use Rattle.flip_slivers.specs.inner.Around.{HasSideAt, IsAround, IsGrown, lists_of, listed_at, triangles_of};
 
 use flip_bounds::Bounded;
 use lattice::Tri;
 use std::alloc::{AllocError, Global};
 
-/// For each corner, the places of the triangles that have it.
+/// For each corner, the places of the triangles that have it: three places for each triangle.
 pub(crate) fn list_around(
     alloc: Global,
     corners: usize,
@@ -43,7 +43,7 @@ fn empty_lists(alloc: Global, corners: usize) -> Result<Vec<Vec<u32>>, AllocErro
     Ok(around)
 }
 
-/// One place more at a corner.
+/// One place more at a corner. None is ever taken away: a list that is too long costs time alone.
 pub(crate) fn add(around: &mut Vec<Vec<u32>>, corner: u32, place: u32) -> Result<(), AllocError>
     requires { corner < vec_len around.old }
     ensures { OnOk result (IsGrown (lists_of around.old.items) (lists_of around.new.items) corner place) }
@@ -90,6 +90,23 @@ fn has_side(t: &Tri, m: u32, n: u32) -> bool
     third_of(t, m, n).is_some()
 }
 
+/// The place of a triangle that has the directed side from m to n, if there is one.
+pub(crate) fn place_with(surface: &[Bounded], around: &[Vec<u32>], m: u32, n: u32) -> Option<u32>
+    requires around { IsAround (triangles_of surface.now) (lists_of around.now) }
+    requires first { m < length around.now }
+    requires second { n < length around.now }
+    ensures some { IfSome result (λ place. HasSideAt surface.now place m n) }
+    ensures none { IsNone result → ¬ IsSideOf surface.now m n }
+{
+    let places = shorter(around, m, n);
+    for place in places {
+        if has_side(&surface[*place as usize].tri, m, n) {
+            return Some(*place);
+        }
+    }
+    None
+}
+
 /// Some triangle has the directed side from m to n.
 pub(crate) fn is_side(surface: &[Bounded], around: &[Vec<u32>], m: u32, n: u32) -> bool
     requires around { IsAround (triangles_of surface.now) (lists_of around.now) }
@@ -97,11 +114,5 @@ pub(crate) fn is_side(surface: &[Bounded], around: &[Vec<u32>], m: u32, n: u32) 
     requires second { n < length around.now }
     ensures { IsTrue result ↔ IsSideOf surface.now m n }
 {
-    let places = shorter(around, m, n);
-    for place in places {
-        if has_side(&surface[*place as usize].tri, m, n) {
-            return true;
-        }
-    }
-    false
+    place_with(surface, around, m, n).is_some()
 }

@@ -27,7 +27,11 @@ pub struct Flipped {
 /// most 2 units, the side there and a neighbour are taken, and the side is exchanged for the other diagonal of the two, if that is no
 /// side yet, if the lesser height of the two rises, and if no point moves more than `limit` units from the given surface.
 ///
-/// The surface needn't be closed. Each pass goes through the triangles, and looks at those around two corners of each sliver.
+/// The surface needn't be closed. A pass tries each triangle once, and after each flip again its two triangles and those beside them,
+/// six at most; passes go on until one flips none, mostly the second. A try takes a constant time but for a sliver, which looks at the
+/// triangles that are listed at an end of its longest side, at the end where they are fewer, and before a flip in the same way at an end of
+/// the other diagonal. These lists only grow, by two places at each flip: a triangle stays listed at a corner that it left. So around
+/// corners with few triangles time grows with the triangles and the flips, and memory too.
 pub fn flip_slivers(
     alloc: Global,
     corners: &[Corner],
@@ -46,7 +50,7 @@ pub fn flip_slivers(
 {
     let mut surface = start_of(alloc, triangles)?;
     let mut around = list_around(alloc, corners.len(), triangles)?;
-    let flips = flip_all(corners, &mut surface, &mut around, 1024 * limit)?;
+    let flips = flip_all(alloc, corners, &mut surface, &mut around, 1024 * limit)?;
     Ok(Flipped {
         triangles: bare(alloc, &surface)?,
         flips,

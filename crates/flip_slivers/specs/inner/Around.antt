@@ -4,6 +4,7 @@ use Rattle.std.proofs.Common.{Vec, Global}
 use Rattle.std.specs.List.{All}
 use Rattle.lattice.specs.declared.soup.Tri.{Tri}
 use Rattle.flip_bounds.specs.declared.bounded.Bounded.{Bounded}
+use Rattle.flip_bounds.specs.Flips.{HasSide}
 use Rattle.geometry.specs.Parts.{IsCornerOf}
 
 abbrev pub triangles_of : List Bounded → List Tri
@@ -27,3 +28,7 @@ pub record IsGrown (old new : List (List ℕ)) (corner place : ℕ) : Type 0 whe
   pub kept : (m i : ℕ) → Contains (listed_at old m) i → Contains (listed_at new m) i
   pub added : Contains (listed_at new corner) place
   pub within : (n : ℕ) → place < n → ((m : ℕ) → All (λ i. i < n) (listed_at old m)) → (m : ℕ) → All (λ i. i < n) (listed_at new m)
+
+-- the triangle at a place has the directed side from m to n
+abbrev pub HasSideAt : List Bounded → ℕ → ℕ → ℕ → Type 0
+HasSideAt surface i m n = (x : Bounded) × (slice_get surface i ≡ Some x) × HasSide x.tri m n

@@ -1,5 +1,5 @@
 -- The flip that is chosen, and the sliver that it takes.
-use Rattle.std.specs.Prelude.{◌≡◌, ◌≢◌, ℕ, ◌+◌, ◌≤◌, max, ℤ, pos, ◌*ℤ◌, ◌<ℤ◌, ◌≤ℤ◌, List, length, Some, slice_get, slice_set}
+use Rattle.std.specs.Prelude.{◌≡◌, ◌≢◌, ℕ, ◌+◌, ◌<◌, ◌≤◌, max, ℤ, pos, ◌*ℤ◌, ◌<ℤ◌, ◌≤ℤ◌, List, length, Some, slice_get, slice_set}
 use Rattle.std.proofs.Common.{Vec, Global}
 use Rattle.std.specs.List.{All}
 use Rattle.lattice.specs.Triangles.{IsBelow}
@@ -67,6 +67,15 @@ pub record IsChoice (corners : List Corner) (most : ℕ) (surface : List Bounded
   pub rise : ℕ
   pub is_rise : IsRoundedUp rise area side
   pub new_bound : IsNewBound most sliver.bound neighbour.bound rise f.bound
+
+-- the flip's places are those of triangles, and its corners have lists
+pub record IsWithin (surface : List Bounded) (around : List (Vec ℕ Global)) (f : Flip) : Type 0 where
+  pub sliver : f.sliver < length surface
+  pub neighbour : f.neighbour < length surface
+  pub a : f.a < length around
+  pub b : f.b < length around
+  pub c : f.c < length around
+  pub d : f.d < length around
 
 -- no flip may be made
 abbrev pub AreSettled : List Corner → ℕ → List Bounded → Type 0

@@ -2,7 +2,7 @@ use Rattle.std.proofs.Common.{◌≡◌, ℕ, ◌≤◌, ◌<◌, ◌+◌, lengt
 use Rattle.flip_bounds.specs.Flips.{none}
 use Rattle.flip_bounds.proofs.FlipsNear.{flips_count}
 use Rattle.flip_slivers.proofs.MakingLemmas.{flips_join, same_flips}
-use Rattle.flip_slivers.proofs.Potential.{potential, flips_fall, potential_most}
+use Rattle.flip_slivers.proofs.Potential.{potential, flips_fall, flips_most}
 use Rattle.flip_slivers.proofs.making.flip_all.Goals as goal
 
 pub loop-made-init : goal.loop-made-init
@@ -22,17 +22,12 @@ loop-made-smaller c =
     smaller (potential c.args.corners.now c.args.most c.pass.new.surface.items) (potential c.args.corners.now c.args.most c.loop-made.surface.items) c.in_ok-made.made
     (flips_fall c.args.corners.now c.args.most c.in_ok-made.made c.loop-made.surface.items c.pass.new.surface.items c.in_ok-made.ensures.flips) c.if-made-eq0.false
 
-few_flips : (n m k : ℕ) → n + k ≤ m → m ≤ 2048020000 → k ≤ 2048020000
-few_flips n m k h most = omega arith
-
 pub overflow_add-flips : goal.overflow_add-flips
 overflow_add-flips c =
-    let joined = flips_join c.args.corners.now c.args.most c.loop-made.flips c.in_ok-made.made c.args.surface.now.items c.loop-made.surface.items c.pass.new.surface.items
-    c.loop-made.invariant.flips c.in_ok-made.ensures.flips in
     let few : c.loop-made.flips + c.in_ok-made.made ≤ 2048020000 =
-    few_flips (potential c.args.corners.now c.args.most c.pass.new.surface.items) (potential c.args.corners.now c.args.most c.args.surface.now.items) (c.loop-made.flips + c.in_ok-made.made)
-    (flips_fall c.args.corners.now c.args.most (c.loop-made.flips + c.in_ok-made.made) c.args.surface.now.items c.pass.new.surface.items joined)
-    (potential_most c.args.corners.now c.args.most c.args.surface.now.items c.requires.few c.requires.most) in
+    flips_most c.args.corners.now c.args.most (c.loop-made.flips + c.in_ok-made.made) c.args.surface.now.items c.pass.new.surface.items c.requires.few c.requires.most
+    (flips_join c.args.corners.now c.args.most c.loop-made.flips c.in_ok-made.made c.args.surface.now.items c.loop-made.surface.items c.pass.new.surface.items
+    c.loop-made.invariant.flips c.in_ok-made.ensures.flips) in
     omega (arith, few)
 
 pub pass-requires : goal.pass-requires
