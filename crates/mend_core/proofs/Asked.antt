@@ -15,7 +15,7 @@ use Rattle.mend_core.specs.inner.Faults.{IsOfWriting}
 use Rattle.mend_core.proofs.Answered.{ComesToSome}
 use Rattle.mend_words.specs.Names.{Asks, Named, mend, asked_by}
 use Rattle.part_input.specs.Faults.{CountsReads}
-use Rattle.part_input.specs.Parts.{IsOfSoupOr, sample_size}
+use Rattle.part_input.specs.Parts.{HasSize, IsOfSoupOr, sample_size}
 use Rattle.part_input.specs.Steps.{Refuses, IsMissing}
 use Rattle.part_input.specs.declared.fault.Input.{Input}
 use Rattle.part_input.specs.declared.fault.Input.TheVariants.{Job as TheJob, Part as ThePart}
@@ -58,11 +58,11 @@ soup_no_size (Some size) h = absurd h
 module _ (named : Named) where
   no_usage : IsOfNamed named Usage → ⊥
   no_usage (inl h) = soup_no_usage (sample_size named.part) h
-  no_usage (inr h) = h
+  no_usage (inr h) = h.1
 
   no_write : (target : Target) → IsOfNamed named (WriteFault target) → ⊥
   no_write target (inl h) = soup_no_write (sample_size named.part) target h
-  no_write target (inr h) = h
+  no_write target (inr h) = h.1
 
   pub unwritten : (e : Fault) → IsOfNamed named e → HasNoWriteFault (Some e)
   unwritten (WriteFault target) h = absurd (no_write target h)
@@ -86,9 +86,9 @@ module _ (named : Named) where
   -- a fault of reading is that of the part
   comes : (input : Input) → IsOfNamed named (ReadFault input) → ComesTo named.part input
   comes TheJob (inl h) = soup_no_job (sample_size named.part) h
-  comes TheJob (inr h) = h
+  comes TheJob (inr h) = h.1
   comes ThePart (inl h) = soup_no_size (sample_size named.part) h
-  comes ThePart (inr h) = absurd h
+  comes ThePart (inr h) = absurd h.1
 
   in_order : (e : Fault) → AnswersNamed named (Some e) → RunsInOrder (Some (mend named)) e
   in_order (ReadFault input) h = comes input h
@@ -110,9 +110,9 @@ module _ (named : Named) where
 
 -- ---- the check of a surface is no reading
 module _ {T : Type 0} where
-  pub mend_of_named : (named : Named) (r : Result T Fault) → IfErr r IsOfMending → IfErr r (IsOfNamed named)
-  mend_of_named named (Ok x) h = tt
-  mend_of_named named (Err e) h = inr h
+  pub mend_of_named : (named : Named) → HasSize named.part → (r : Result T Fault) → IfErr r IsOfMending → IfErr r (IsOfNamed named)
+  mend_of_named named sized (Ok x) h = tt
+  mend_of_named named sized (Err e) h = inr (sized, h)
 
   pub mend_counts : (r : Result T Fault) (old new : ℕ) → IfErr r IsOfMending → new ≡ old → CountsReads (result_err r) old new
   mend_counts (Ok x) old new h same = same

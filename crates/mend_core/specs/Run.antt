@@ -7,7 +7,7 @@ use Rattle.geometry.specs.Sound.{IsSound}
 use Rattle.mend_core.specs.Mending.{Made, Mends, IsOfMending}
 use Rattle.mend_core.specs.Writing.{AsksMendAnd, IsOfTarget}
 use Rattle.mend_words.specs.Names.{Asks, Named, help, version, mend, asked_by}
-use Rattle.part_input.specs.Parts.{sample_size, TakesSoup, IsOfSoup, HasSampleOr}
+use Rattle.part_input.specs.Parts.{sample_size, TakesSoup, HasSize, IsOfSoup, HasSampleOr}
 use Rattle.part_input.specs.Steps.{◌and_then◌}
 use Rattle.part_input.specs.declared.fault.Input.{Input}
 use Rattle.part_input.specs.declared.fault.Input.TheVariants.{Job as TheJob, Part as ThePart}
@@ -67,9 +67,9 @@ AnswersTaken (Ok (Some part)) fault = (fault ≡ None) ⊎ (fault ≡ Some Memor
 abbrev pub IsAnswerTo : (Result (Option Part) Fault → Type 0) → Option Fault → Type 0
 IsAnswerTo steps fault = (r : Result (Option Part) Fault) → steps r → AnswersTaken r fault
 
--- the faults of a part with these names: of reading it, or of mending it
+-- the faults of a part with these names: of reading it, or of mending it, which a sample without a size never comes to
 abbrev pub IsOfNamed : Named → Fault → Type 0
-IsOfNamed named fault = IsOfSoup named.part fault ⊎ IsOfMending fault
+IsOfNamed named fault = IsOfSoup named.part fault ⊎ (HasSize named.part × IsOfMending fault)
 
 -- with a request of these names
 abbrev pub AnswersNamed : Named → Option Fault → Type 0

@@ -8,7 +8,7 @@ ghost use Rattle.mend_core.specs.Run.{IsOfNamed, MendsPart, TakesPart};
 ghost use Rattle.mend_core.specs.Seen.{made_seen};
 ghost use Rattle.mend_words.specs.Seen.{named_seen};
 ghost use Rattle.part_input.specs.Faults.{CountsReads};
-ghost use Rattle.part_input.specs.Parts.{HasSampleOr, IsOfSoup, sample_size};
+ghost use Rattle.part_input.specs.Parts.{HasSampleOr, HasSize, IsOfSoup, sample_size};
 ghost use Rattle.part_input.specs.Steps.{Gives, IsMissing};
 
 use crate::made::Mended;
@@ -39,6 +39,7 @@ fn take_soup<D: Desk>(alloc: Global, request: &Request, desk: &mut D) -> Result<
     ensures answer { (D.state desk.old).tells ≡ true →
         Gives part_of (TakesPart (D.state desk.old).files (named_seen request.now)) result }
     ensures of_soup { IfErr result (IsOfSoup (named_seen request.now).part) }
+    ensures sized { IfOk result (λ _. HasSize (named_seen request.now).part) }
     ensures some_triangle { IfOk result (λ soup. 0 < length (part_of soup).triangles) }
     ensures few_corners { IfOk result (λ soup. length (part_of soup).corners ≤ 60000) }
     ensures few_triangles { IfOk result (λ soup. length (part_of soup).triangles ≤ 20000) }
