@@ -9,7 +9,6 @@ use Rattle.lattice.specs.Cuts.{toward_of}
 use Rattle.lattice.specs.Points.{of_dir, point_of, across_of, upward_of}
 use Rattle.lattice.specs.Triple.{Triple}
 use Rattle.job_file.specs.declared.job.Job.{Job}
-use Rattle.job_file.specs.declared.job.Paper.{Paper}
 use Rattle.job_file.specs.declared.job.Scale.{Scale}
 use Rattle.job_file.specs.declared.view.JobView.{JobView}
 use Rattle.job_file.specs.Documents.{JobValues}

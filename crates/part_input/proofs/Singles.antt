@@ -112,7 +112,7 @@ reads_as : (is_stl : Bool) (decimals : ℕ) (unit : Length) (bytes : List ℕ) (
 reads_as true decimals unit bytes r s p q = stl.only_reading decimals unit bytes r s p q
 reads_as false decimals unit bytes r s p q = off.only_reading decimals unit bytes r s p q
 
-text_one : (decimals : ℕ) (unit : Length) (bytes : List ℕ) (r s : Result Raw PartFault) → ReadsPartText decimals unit bytes r → ReadsPartText decimals unit bytes s → r ≡ s
+pub text_one : (decimals : ℕ) (unit : Length) (bytes : List ℕ) (r s : Result Raw PartFault) → ReadsPartText decimals unit bytes r → ReadsPartText decimals unit bytes s → r ≡ s
 text_one decimals unit bytes r s (tokens, a, p) (others, b, q) =
     reads_as (begins_solid bytes tokens) decimals unit bytes r s p
     (subst (λ (l : List Token). ReadsAs (begins_solid bytes l) decimals unit bytes s) (only_tokens false bytes others tokens b a) q)
