@@ -52,6 +52,7 @@ module _ (old between new : DeskState) (same : OnlyReads old between) where
           are_texts = w.are_texts;
           files = λ told. subst (λ (f : Files). InOrder KeepsText KeepsTextPart fault w.texts f new.files) files (w.files (ap (λ (s : DeskState). s.tells) same ∙ told));
           said = λ told. subst (λ (t : List ℕ). InOrder SaysText SaysTextPart fault w.texts t new.said) said (w.said (ap (λ (s : DeskState). s.tells_said) same ∙ told));
+          accepted = λ told. w.accepted (ap (λ (s : DeskState). s.tells) same ∙ told);
           spared = subst (λ (f : Files). InOrder (λ way bytes. SparesFile way) (λ way fault bytes. SparesFile way) fault w.texts f new.files) files w.spared;
           silent = subst (λ (t : List ℕ). InOrder (λ way bytes. SparesWord way) (λ way fault bytes. SparesWord way) fault w.texts t new.said) said w.silent;
           noted = λ told. subst (λ (t : List ℕ). IfNone fault (Notes (summary_way named.out) (told_text made.told) t new.warned)) warned_same (w.noted (ap (λ (s : DeskState). s.tells_warned) same ∙ told));

@@ -5,3 +5,4 @@ pub mod OneAnswer
 pub mod Putting
 pub mod ReadLists
 pub mod Repairing
+pub mod Accepted

@@ -1,12 +1,15 @@
 -- Where the texts of a mended part go, and what a run leaves of them.
-use Rattle.std.specs.Prelude.{◌≡◌, ℕ, true, List, [], ◌∷◌, Option, Some, None, IfNone, Ok}
+use Rattle.std.specs.Prelude.{◌≡◌, ℕ, true, List, [], ◌∷◌, Option, Some, None, IfNone, Result, Ok, IsOkAnd}
 use Rattle.dec_text.specs.declared.number.Length.TheVariants.{Millimetre}
-use Rattle.desk.specs.Files.{DeskState}
+use Rattle.desk.specs.Files.{DeskState, Files}
+use Rattle.geometry.specs.Parts.{Part}
+use Rattle.geometry.specs.Sound.{IsSound}
 use Rattle.mend_core.specs.Mending.{Made}
 use Rattle.mend_core.specs.Telling.{told_text}
 use Rattle.mend_core.specs.declared.lines.TheConstants.{HELP, VERSION}
 use Rattle.mend_words.specs.Names.{Asks, Goal, Named, help, version, mend, said, file}
 use Rattle.off_writer.specs.OffTexts.{off_of, raw_of}
+use Rattle.part_input.specs.Parts.{TakesSoup, sample_size}
 use Rattle.part_input.specs.Reading.{ReadsPartText}
 use Rattle.part_input.specs.declared.fault.Fault.{Fault}
 use Rattle.part_input.specs.declared.fault.Target.{Target}
@@ -29,9 +32,18 @@ abbrev pub texts_for : Goal → List ℕ → List ℕ → List Text
 texts_for out part summary =
     record { way = way_of out; target = Out; bytes = part } ∷ record { way = summary_way out; target = Summary; bytes = summary } ∷ []
 
+-- ---- what is read of it
+-- The file that the part was written to is read again as a sound part, with these decimals, in millimetres; but where its name is that of
+-- a sample this is read in its place.
+abbrev pub ReadsSound : ℕ → Goal → Files → Type 0
+ReadsSound decimals said files = Unit {0}
+ReadsSound decimals (file name) files = sample_size name ≡ None → (r : Result Part Fault) → TakesSoup files name decimals Millimetre r → IsOkAnd r IsSound
+
+-- ---- what is written
 -- What a run with a part writes: the part as OFF with the decimals that it was read with, from which its corners and triangles are read
 -- again, and the line that tells of it, put in this order, as far as the fault allows; and with no fault the warning in place of a line
--- that isn't said. On every desk what isn't kept touches no file, and what isn't said adds nothing to what was said.
+-- that isn't said. A file that was written without a fault is accepted: once it is read and welded it is sound. On every desk what isn't
+-- kept touches no file, and what isn't said adds nothing to what was said.
 pub record Writes (named : Named) (fault : Option Fault) (old new : DeskState) (made : Made) : Type 0 where
   pub text : List ℕ
   pub is_text : text ≡ off_of named.decimals made.part.corners made.part.triangles
@@ -40,6 +52,7 @@ pub record Writes (named : Named) (fault : Option Fault) (old new : DeskState) (
   pub are_texts : texts ≡ texts_for named.out text (told_text made.told)
   pub files : old.tells ≡ true → KeepsTexts fault texts old.files new.files
   pub said : old.tells_said ≡ true → SaysTexts fault texts old.said new.said
+  pub accepted : old.tells ≡ true → IfNone fault (ReadsSound named.decimals named.out new.files)
   pub spared : SparesFiles fault texts old.files new.files
   pub silent : SparesSaid fault texts old.said new.said
   pub noted : old.tells_warned ≡ true → IfNone fault (Notes (summary_way named.out) (told_text made.told) old.warned new.warned)

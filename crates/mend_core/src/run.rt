@@ -176,7 +176,8 @@ pub fn mend<D: Desk>(alloc: Global, words: &[String], desk: &mut D) -> MendOutco
         IfSome result.mended (λ m. Runs (texts words.now) (D.state desk.old).files (Ok (Some (made_seen m)))) }
     ensures sound { IfSome result.mended (λ m. IsSound (solid_part m.solid)) }
 
-    // Its text, which reads as the very part, is put where the words say, and then the line that tells of it.
+    // Its text, which reads as the very part, and as a sound one once that is welded, is put where the words say, and then the line that
+    // tells of it.
     ensures written { IfSome result.mended (λ m. WritesAsked (asked_by (texts words.now)) result.fault (D.state desk.old) (D.state desk.new) (made_seen m)) }
     ensures firm { (D.state desk.old).firm ≡ true → result.fault ≡ Some Fault.Memory → result.mended ≡ None }
 

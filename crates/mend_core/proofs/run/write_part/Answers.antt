@@ -1,10 +1,13 @@
 use Rattle.std.proofs.Common.{List, ℕ, ap, subst, string_bytes}
 use Rattle.std.specs.Prelude.{IfNone}
 use Rattle.mend_core.specs.Writing.{summary_way, texts_for}
+use Rattle.mend_core.proofs.Accepted.{accepted}
 use Rattle.mend_core.proofs.Asked.{written_of}
 use Rattle.mend_core.proofs.Putting.{all_of_writing}
 use Rattle.mend_words.specs.Seen.{named_seen}
 use Rattle.put_texts.specs.Noting.{Notes, NotesWhole}
+use Rattle.solid_mesh.specs.Solids.{solid_part}
+use Rattle.solid_mesh.proofs.Facts.{in_range, sound}
 use Rattle.mend_core.proofs.run.write_part.Goals as goal
 
 pub returns-clause-fault : goal.returns-clause-fault
@@ -34,6 +37,8 @@ returns-clause-written g c =
       are_texts = ap (λ (s : List ℕ). texts_for named.out texts.part.items s) made.summary;
       files = put.files;
       said = put.said;
+      accepted = λ told. accepted named.decimals (solid_part c.args.mended.solid) texts.part.items (in_range c.args.mended.solid) (sound c.args.mended.solid) made.short made.reads_back
+          named.out (string_bytes texts.summary) fault (state c.args.desk.now).files (state c.put-fault.new.desk).files (put.files told);
       spared = put.spared;
       silent = put.silent;
       noted = λ told. subst (λ (s : List ℕ). IfNone fault (Notes (summary_way named.out) s (state c.args.desk.now).warned (state c.put-fault.new.desk).warned)) made.summary (c.put-fault.ensures.noted told);

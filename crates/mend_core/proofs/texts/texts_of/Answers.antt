@@ -27,5 +27,6 @@ returns c =
     record {
       part = c.in_ok-part.ensures.text ∙ ap (λ (p : Part). off_of decimals p.corners p.triangles) same;
       reads_back = subst (λ (p : Part). ReadsPartText decimals Millimetre c.in_ok-part.part.items (Ok (raw_of p.corners p.triangles))) same c.in_ok-part.ensures.read;
+      short = c.in_ok-part.ensures.short;
       summary = c.in_ok-summary.ensures;
     }
