@@ -53,10 +53,10 @@ module _ {T : Type 0} (cmp : T → T → Ordering) where
   }
 
 module _ {T : Type 0} (xs ys : List (Interval T)) where
-  end_left : (t : T) → IsEndOf xs t → IsEndOf (xs ++ ys) t
+  pub end_left : (t : T) → IsEndOf xs t → IsEndOf (xs ++ ys) t
   end_left t h = any_left (λ x. (x.from ≡ t) ⊎ (x.to ≡ t)) xs ys h
 
-  ends_left : (u : Interval T) → AreEndsOf xs u → AreEndsOf (xs ++ ys) u
+  pub ends_left : (u : Interval T) → AreEndsOf xs u → AreEndsOf (xs ++ ys) u
   ends_left u h = (end_left u.from h.0, end_left u.to h.1)
 
 module _ {T : Type 0} (xs : List (Interval T)) (x : Interval T) where

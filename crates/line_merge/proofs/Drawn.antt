@@ -15,9 +15,8 @@ use Rattle.lattice.proofs.SameLines.{same_line, same_of_parallel}
 use Rattle.geometry.specs.Pieces.{IsBefore, rank_of, StandsBefore, ArePiecesParallel, ShareAnEnd}
 use Rattle.geometry.proofs.Sights.{sight_back}
 use Rattle.line_merge.specs.declared.ends.SeenEnd.{SeenEnd}
-use Rattle.line_merge.specs.declared.stretches.Stretch.{Stretch}
 use Rattle.line_merge.specs.inner.Ends.{seen_order, end_order, IsSeenEnd}
-use Rattle.line_merge.specs.inner.Stretches.{stretch_order, piece_of}
+use Rattle.line_merge.proofs.Stretches.{Stretch, stretch_order, piece_of}
 use Rattle.line_merge.proofs.Sights.{before, sight, not_seen, before_on}
 use Rattle.line_merge.proofs.EndOrders.{seen_is, order_on_line}
 use Rattle.line_merge.proofs.Courses.{AreNumberedStrips, IsCourse, first_on, second_on}

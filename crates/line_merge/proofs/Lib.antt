@@ -7,7 +7,10 @@ pub mod Between
 pub mod Courses
 pub mod Given
 pub mod Layers
+pub mod Stretches
 pub mod Drawn
 pub mod Merged
 pub mod Untraced
 pub mod Filtered
+pub mod ByLine
+pub mod Regrouped

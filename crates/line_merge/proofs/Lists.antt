@@ -1,12 +1,13 @@
 -- Elements of lists that are mapped, filtered or permuted, and pairs of them.
-use Rattle.std.proofs.Common.{◌≡◌, ℕ, zero, suc, ◌<◌, ◌⊎◌, inl, inr, Bool, true, false, cond, List, [], ◌∷◌, Contains, length, map, get_or, refl, sym, ap, subst, ◌∙◌, arith}
+use Rattle.std.proofs.Common.{◌≡◌, ℕ, zero, suc, ◌<◌, ◌⊎◌, inl, inr, Bool, true, false, cond, List, [], ◌∷◌, ◌++◌, Contains, length, map, get_or, set, refl, sym, ap, subst, ◌∙◌, arith}
 use Rattle.std.specs.List.{All, AllPairs, filter, swap}
 use Rattle.std.specs.List.Sorted.{IsPermutation}
 use Rattle.std.proofs.lemmas.Bool.{cases_eq, cases_order}
+use Rattle.std.proofs.lemmas.List.{append_assoc, map-set, length-map, get_or-map}
 use Rattle.std.proofs.lemmas.List.Edits.{Swapped, length-swap, swapped_from_swap}
 use Rattle.std.proofs.lemmas.List.Elements.{All-map, Contains-get_or}
 use Rattle.std.proofs.lemmas.List.Kept.{AllPairs-cons}
-use Rattle.std.proofs.lemmas.List.Sorted.{IsPermutation-keeps}
+use Rattle.std.proofs.lemmas.List.Sorted.{IsPermutation-refl, IsPermutation-trans, IsPermutation-swap, IsPermutation-keeps, IsPermutation-append_left, IsPermutation-append_right, IsPermutation-append_comm}
 use Rattle.integers.proofs.Lists.{Contains-later}
 
 pub contains_first : {A : Type 0} (xs : List A) (x : A) → Contains (x ∷ xs) x
@@ -118,3 +119,39 @@ module _ {A : Type 0} where
 
     pub pairs_permuted : (xs ys : List A) → IsPermutation xs ys → AllPairs R xs → AllPairs R ys
     pairs_permuted xs ys moves pairs = IsPermutation-keeps xs (AllPairs R) pairs (λ l i j hi hj h. pairs_swapped l i j hi hj h) ys moves
+
+-- ---- exchanges
+module _ {A B : Type 0} (f : A → B) where
+  map_swap : (xs : List A) (i j : ℕ) → i < length xs → j < length xs → map f (swap xs i j) ≡ swap (map f xs) i j
+  map_swap [] i j hi hj = refl
+  map_swap (x ∷ xs) i j hi hj =
+      let all : List A = x ∷ xs in
+      map-set f (set all i (get_or all j x)) j (get_or all i x)
+      ∙ (λ k. set ((map-set f all i (get_or all j x) ∙ ap (set (map f all) i) (sym (get_or-map f all j x (f x) hj))) k) j (sym (get_or-map f all i x (f x) hi) k))
+
+  -- what is exchanged of images is so of what they are images of
+  pub map_permuted : (xs : List A) (zs : List B) → IsPermutation (map f xs) zs → (ys : List A) × (zs ≡ map f ys) × IsPermutation xs ys
+  map_permuted xs zs moves = IsPermutation-keeps (map f xs) IsMoved (xs, refl, IsPermutation-refl xs) step zs moves
+    where
+      IsMoved : List B → Type 0
+      IsMoved l = (ys : List A) × (l ≡ map f ys) × IsPermutation xs ys
+
+      step : (l : List B) (i j : ℕ) → i < length l → j < length l → IsMoved l → IsMoved (swap l i j)
+      step l i j hi hj (ys, e, h) =
+          let long : length l ≡ length ys = ap length e ∙ length-map ys f in
+          let ki : i < length ys = omega (arith, long) in
+          let kj : j < length ys = omega (arith, long) in (
+            swap ys i j,
+            ap (λ (m : List B). swap m i j) e ∙ sym (map_swap ys i j ki kj),
+            IsPermutation-trans xs ys (swap ys i j) h (IsPermutation-swap ys (swap ys i j) i j ki kj refl),
+          )
+
+-- two lists behind two others, each behind its own
+pub two_and_two : {A : Type 0} (xs ys us vs : List A) → IsPermutation ((xs ++ ys) ++ (us ++ vs)) ((xs ++ us) ++ (ys ++ vs))
+two_and_two {A} xs ys us vs =
+    subst (λ (l : List A). IsPermutation l ((xs ++ us) ++ (ys ++ vs))) (sym (append_assoc xs ys (us ++ vs)))
+    (subst (λ (l : List A). IsPermutation (xs ++ (ys ++ (us ++ vs))) l) (sym (append_assoc xs us (ys ++ vs)))
+    (IsPermutation-append_right xs (ys ++ (us ++ vs)) (us ++ (ys ++ vs))
+    (subst (λ (l : List A). IsPermutation l (us ++ (ys ++ vs))) (append_assoc ys us vs)
+    (subst (λ (l : List A). IsPermutation ((ys ++ us) ++ vs) l) (append_assoc us ys vs)
+    (IsPermutation-append_left vs (ys ++ us) (us ++ ys) (IsPermutation-append_comm ys us))))))

@@ -2,8 +2,9 @@
 use Rattle.std.proofs.Common.{◌≡◌, ℕ, ◌⊎◌, inl, inr, Bool, true, false, true≢false, List, ◌++◌, Contains, ◌↔◌, map, get_or, refl, sym, ap, subst, ◌∙◌, arith}
 use Rattle.std.specs.List.{All, AllPairs}
 use Rattle.std.specs.List.Sorted.{IsPermutation, IsSorted}
-use Rattle.std.specs.Ordering.{ordering_reverse, is_lt}
+use Rattle.std.specs.Ordering.{nat_cmp, ordering_then, ordering_reverse, is_lt}
 use Rattle.std.specs.declared.cmp.Ordering.TheVariants.{Less, Greater}
+use Rattle.std.proofs.lemmas.List.{length-map, get_or-map}
 use Rattle.std.proofs.lemmas.List.Elements.{All-contains, All-map, All-weaker, Contains-append_left, Contains-append_right, Contains-append_cases, Contains-get_or}
 use Rattle.std.proofs.lemmas.List.Sorted.{Contains-permutation, IsPermutation-sym, ranks_by, sorted_far}
 use Rattle.intervals.specs.declared.interval.Interval.{Interval}
@@ -18,16 +19,16 @@ use Rattle.lattice.specs.declared.pieces.Style.{Style}
 use Rattle.lattice.specs.declared.pieces.Style.TheVariants.{Solid, Dashed, Chain}
 use Rattle.lattice.specs.Triple.{Triple}
 use Rattle.lattice.specs.Points.{Point, IsPoint, of_spot, OnOneSight}
-use Rattle.geometry.specs.Pieces.{LiesBetween, LiesOn, LiesOnStyle, StandsBefore, ArePiecesParallel, ShareAnEnd, IsBefore}
+use Rattle.geometry.specs.Pieces.{rank_of, LiesBetween, LiesOn, LiesOnStyle, StandsBefore, ArePiecesParallel, ShareAnEnd, IsBefore}
 use Rattle.line_merge.specs.declared.ends.SeenEnd.{SeenEnd}
-use Rattle.line_merge.specs.declared.stretches.Stretch.{Stretch}
 use Rattle.line_merge.specs.inner.Kinds.{is_up_to}
-use Rattle.line_merge.specs.inner.Laws.{stretch_order_total}
 use Rattle.line_merge.specs.inner.Ends.{end_order}
-use Rattle.line_merge.specs.inner.Stretches.{stretch_order, stretch_of, piece_of}
+use Rattle.line_merge.specs.inner.Pieces.{piece_order, pieces_over}
+use Rattle.line_merge.proofs.Stretches.{Stretch, stretch_order, stretch_of, piece_of, stretches_over, pieces_of_stretches}
 use Rattle.line_merge.specs.Merging.{LiesOnStrip, IsClear, LiesOnKind, LiesOnTracesOnly, AreMerged}
-use Rattle.line_merge.proofs.Sights.{not_seen}
-use Rattle.line_merge.proofs.Lists.{map_contains, contains_map, pairs_map, pairs_from, pairs_permuted}
+use Rattle.line_merge.proofs.Sights.{not_seen, piece_order_total}
+use Rattle.line_merge.proofs.EndOrders.{seen_is}
+use Rattle.line_merge.proofs.Lists.{map_contains, contains_map, pairs_map, pairs_from, pairs_permuted, map_permuted}
 use Rattle.line_merge.proofs.Courses.{cut_at, is_cut, AreNumberedStrips, IsCourse, meets}
 use Rattle.line_merge.proofs.Given.{lies_of_any, any_of_lies}
 use Rattle.line_merge.proofs.Drawn.{AreSeparate, separate_back, IsAlong, not_going_on, stands_first}
@@ -190,7 +191,7 @@ module _ (d : Triple) (strips : List Strip) (number : Line → ℕ) (are : AreNu
         by (inr (inr before)) = earlier t s drawn_t drawn_s on_t on_s before
 
   -- ---- the pieces, in order
-  module _ (sorted : List Stretch) (moves : IsPermutation drawn sorted) (ascending : IsSorted stretch_order sorted) where
+  module _ (sorted : List Stretch) (moves : IsPermutation drawn sorted) (ascending : IsSorted (piece_order d) (map piece_of sorted)) where
     abbrev pieces : List Piece
     pieces = map piece_of sorted
 
@@ -205,13 +206,30 @@ module _ (d : Triple) (strips : List Strip) (number : Line → ℕ) (are : AreNu
         pairs_from AreSeparate (λ x y. ¬ (stretch_order x y ≡ Greater)) T sorted separate not_after
         (λ x y there_x there_y apart h. holds x y (drawn_of x there_x) (drawn_of y there_y) apart h)
       where
+        -- the order of stretches is that of their pieces
+        same_order : (x y : Stretch) → IsAlong d strips number x → IsAlong d strips number y → stretch_order x y ≡ piece_order d (piece_of x) (piece_of y)
+        same_order x y along_x along_y =
+            λ i. ordering_then (nat_cmp (rank_of x.style) (rank_of y.style))
+            (ordering_then (seen_is d x.from y.from along_x.from.seen along_y.from.seen i) (seen_is d x.to y.to along_x.to.seen along_y.to.seen i))
+
+        pieces_after : AllPairs (λ l m. ¬ (piece_order d l m ≡ Greater)) pieces
+        pieces_after i j e less within after =
+            let l = get_or pieces i e in
+            let m = get_or pieces j e in
+            true≢false
+            (sym (ap is_lt ((piece_order_total d).antisymm m l ∙ ap ordering_reverse after))
+            ∙ sorted_far (λ l m. is_lt (piece_order d l m)) (ranks_by (piece_order_total d) (λ (l : Piece). l)) pieces ascending i j e (omega arith) within)
+
         not_after : AllPairs (λ x y. ¬ (stretch_order x y ≡ Greater)) sorted
         not_after i j e less within after =
             let x = get_or sorted i e in
             let y = get_or sorted j e in
-            true≢false
-            (sym (ap is_lt (stretch_order_total.antisymm y x ∙ ap ordering_reverse after))
-            ∙ sorted_far (λ x y. is_lt (stretch_order x y)) (ranks_by stretch_order_total (λ (x : Stretch). x)) sorted ascending i j e (omega arith) within)
+            let in_x = Contains-get_or sorted i e (omega arith) in
+            let in_y = Contains-get_or sorted j e within in
+            let long = length-map sorted piece_of in
+            pieces_after i j (piece_of e) less (omega (arith, long))
+            ((λ k. piece_order d (get_or-map piece_of sorted i e (piece_of e) (omega arith) k) (get_or-map piece_of sorted j e (piece_of e) within k))
+            ∙ sym (same_order x y (along x (drawn_of x in_x)) (along y (drawn_of y in_y))) ∙ after)
 
     -- p lies on a strip that the style shows, and on none that goes before it
     abbrev IsShown : Style → Point → Type 0
@@ -307,6 +325,8 @@ module _ (d : Triple) (strips : List Strip) (number : Line → ℕ) (visible dra
   right Dashed = rest_layer d strips number steps.are (shown_in Dashed) (shown_in Solid) drawn visible hidden steps.of_drawn steps.of_visible steps.left_hidden
   right Chain = rest_layer d strips number steps.are (shown_in Chain) (shown_in Dashed) all drawn traces steps.of_all steps.of_drawn steps.left_traces
 
-  pub merged_of : (sorted : List Stretch) → IsPermutation ((map (stretch_of Solid) visible ++ map (stretch_of Dashed) hidden) ++ map (stretch_of Chain) traces) sorted → IsSorted stretch_order sorted
-      → AreMerged d strips (map piece_of sorted)
-  merged_of = merged d strips number steps.are layers right
+  pub merged_of : (pieces : List Piece) → IsPermutation (pieces_over visible hidden traces) pieces → IsSorted (piece_order d) pieces → AreMerged d strips pieces
+  merged_of pieces moves ascending =
+      let (sorted, e, moved) = map_permuted piece_of (stretches_over visible hidden traces) pieces
+      (subst (λ (ls : List Piece). IsPermutation ls pieces) (pieces_of_stretches visible hidden traces) moves) in
+      subst (AreMerged d strips) (sym e) (merged d strips number steps.are layers right sorted moved (subst (λ (ls : List Piece). IsSorted (piece_order d) ls) e ascending))

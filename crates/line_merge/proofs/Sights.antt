@@ -1,18 +1,19 @@
 -- The order in which points are seen, by U and then by V.
 use Rattle.std.proofs.Common.{◌≡◌, ◌⊎◌, inl, inr, refl, sym, ap, ◌∙◌}
 use Rattle.std.specs.Prelude.{ℤ, ◌*ℤ◌, ◌<ℤ◌}
-use Rattle.std.specs.Cmp.{int_cmp_is, int_cmp_total}
+use Rattle.std.specs.Cmp.{IsTotalOrder, int_cmp_is, int_cmp_total, nat_cmp_total, on_total, then_total}
 use Rattle.std.specs.Ordering.{int_cmp, ordering_then, ordering_reverse}
 use Rattle.std.specs.declared.cmp.Ordering.{Ordering}
 use Rattle.std.specs.declared.cmp.Ordering.TheVariants.{Less, Equal, Greater}
+use Rattle.lattice.specs.declared.pieces.Piece.{Piece}
+use Rattle.lattice.specs.declared.points.Spot.{Spot}
 use Rattle.lattice.specs.Triple.{Triple}
-use Rattle.lattice.specs.Points.{Point, IsPoint, across_of, upward_of, OnOneSight}
-use Rattle.geometry.specs.Pieces.{IsBefore}
+use Rattle.lattice.specs.Points.{Point, IsPoint, of_spot, across_of, upward_of, OnOneSight}
+use Rattle.geometry.specs.Pieces.{IsBefore, rank_of}
+use Rattle.line_merge.specs.inner.Pieces.{piece_order}
+pub use Rattle.line_merge.specs.inner.Pieces.{view_order}
 use Rattle.integers.proofs.Orders.{less_of_cmp, equal_of_cmp}
 use Rattle.integers.proofs.Chains.{Chains, chained, chained_ratios}
-
-abbrev pub view_order : Triple → Point → Point → Ordering
-view_order d p q = ordering_then (int_cmp (across_of d p *ℤ q.w) (across_of d q *ℤ p.w)) (int_cmp (upward_of d p *ℤ q.w) (upward_of d q *ℤ p.w))
 
 -- the order of two pairs of numbers
 module _ (a b x y : ℤ) where
@@ -82,3 +83,16 @@ module _ (d : Triple) (p q r : Point) (hp : IsPoint p) (hq : IsPoint q) (hr : Is
 -- what is before another point is not seen with it
 pub not_seen : (d : Triple) (p q : Point) → IsBefore d p q → ¬ OnOneSight d p q
 not_seen d p q h k = let e = sym (order_of_before d p q h) ∙ order_of_sight d p q k in cc
+
+-- the order of pieces
+spot_order_total : (d : Triple) → IsTotalOrder (λ (s t : Spot). view_order d (of_spot s) (of_spot t))
+spot_order_total d = record {
+  antisymm = λ s t. order_back d (of_spot s) (of_spot t);
+  trans = λ s t u. (chained_views d (of_spot s) (of_spot t) (of_spot u) s.positive t.positive u.positive).less;
+  congr = λ s t u. (chained_views d (of_spot s) (of_spot t) (of_spot u) s.positive t.positive u.positive).first;
+}
+
+pub piece_order_total : (d : Triple) → IsTotalOrder (piece_order d)
+piece_order_total d =
+    then_total (on_total (λ (x : Piece). rank_of x.style) nat_cmp_total)
+    (then_total (on_total (λ (x : Piece). x.a) (spot_order_total d)) (on_total (λ (x : Piece). x.b) (spot_order_total d)))

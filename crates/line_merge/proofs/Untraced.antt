@@ -15,7 +15,7 @@ use Rattle.line_merge.specs.inner.Ends.{end_order, AreUnitedOf, IsLeftOfAll}
 use Rattle.line_merge.specs.inner.Kinds.{is_up_to, is_trace}
 
 -- nothing is left of intervals without themselves
-nothing_left : {T : Type 0} (cmp : T → T → Ordering) (whole : List (Interval T)) → AreRest cmp whole whole []
+pub nothing_left : {T : Type 0} (cmp : T → T → Ordering) (whole : List (Interval T)) → AreRest cmp whole whole []
 nothing_left cmp whole = record {
   apart = record { inside = λ k d h. absurd (omega arith); apart = λ i j d e h. absurd (omega arith) };
   within = λ cut is. ((λ h. let (k, d, within, is, on) = h in absurd (omega (arith, within))), (λ h. absurd (h.1 h.0)));

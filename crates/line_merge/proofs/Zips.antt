@@ -10,6 +10,12 @@ module _ {A B : Type 0} (R : A → B → Type 0) where
   zip_push (w ∷ xs) [] x y h k = absurd h
   zip_push (v ∷ xs) (w ∷ ys) x y (h, more) k = (h, zip_push xs ys x y more k)
 
+  pub zip_append : (xs : List A) (us : List B) (ys : List A) (vs : List B) → AllZip R xs us → AllZip R ys vs → AllZip R (xs ++ ys) (us ++ vs)
+  zip_append [] [] ys vs h k = k
+  zip_append [] (w ∷ us) ys vs h k = absurd h
+  zip_append (v ∷ xs) [] ys vs h k = absurd h
+  zip_append (v ∷ xs) (w ∷ us) ys vs (h, more) k = (h, zip_append xs us ys vs more k)
+
   -- one more of each
   pub zip_more : (xs : List A) (ys : List B) (k : ℕ) (x : A) (y : B) → k < length xs → x ≡ get_or xs k x → AllZip R (take k xs) ys → R x y → AllZip R (take (k + 1) xs) (ys ++ y ∷ [])
   zip_more xs ys k x y less is h r =

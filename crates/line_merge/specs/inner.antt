@@ -3,4 +3,4 @@ pub mod Ends
 pub mod Kinds
 pub mod Laws
 pub mod Numbering
-pub mod Stretches
+pub mod Pieces

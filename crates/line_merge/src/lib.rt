@@ -1,13 +1,14 @@
 //! Strips of lines put together to the pieces of a view.
 //!
-//! Lines are numbered in the order in which they are first seen, by a table that hashes each strip's line once. Then all strips
-//! are gone through at once: the places of all lines are in one order, first by the number of their line and then along it, so
-//! that strips of different lines neither overlap nor touch, and no line needs a list of its own.
+//! Lines are numbered in the order in which they are first seen, by a table that hashes each strip's line once. Then the strips are
+//! gone through in the order of these numbers, and those of one line are put together at a time: their ends take more memory than
+//! the strips, and so they are there for one line alone. The places of all lines are in one order, first by the number of their line
+//! and then along it, so what was put together line by line is all strips put together.
 #![tactic(auto)]
 
 mod ends;
 mod merging;
 mod numbering;
-mod stretches;
+mod pieces;
 
 pub use merging::merge;

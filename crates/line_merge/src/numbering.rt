@@ -1,6 +1,7 @@
 // Strips by the numbers of their lines.
-ghost use Rattle.std.specs.Prelude.{IfOk};
-ghost use Rattle.line_merge.specs.inner.Numbering.{AreNumbered};
+ghost use Rattle.std.specs.Prelude.{◌≡◌, map, IfOk, IsPermutation};
+ghost use Rattle.std.specs.List.Sorted.{IsNonDecreasingBy};
+ghost use Rattle.line_merge.specs.inner.Numbering.{listed_strip, AreNumbered, AreListedByLine};
 
 use exact_frac::OutOfMemory;
 use indexmap::IndexSet;
@@ -14,18 +15,53 @@ pub(crate) struct Numbered {
     pub line: usize,
 }
 
+/// A strip that stands in another list, and the number of its line: a twelfth of what the strip itself takes.
+#[derive(Clone, Copy)]
+pub(crate) struct Listed<'s> {
+    pub strip: &'s Strip,
+    pub line: usize,
+}
+
+/// The strip itself, with the number of its line.
+pub(crate) fn listed_strip(x: &Listed<'_>) -> Numbered
+    ensures { result ≡ listed_strip x.now }
+{
+    Numbered {
+        strip: *x.strip,
+        line: x.line,
+    }
+}
+
 /// The strips with the numbers of their lines, which are numbered in the order in which they are first seen.
-pub(crate) fn number_lines(alloc: Global, strips: &[Strip]) -> Result<Vec<Numbered>, OutOfMemory>
-    ensures { IfOk result (λ numbered. AreNumbered strips.now numbered.items) }
+fn number_lines(alloc: Global, strips: &[Strip]) -> Result<Vec<Listed<'_>>, OutOfMemory>
+    ensures { IfOk result (λ listed. AreNumbered strips.now (map listed_strip listed.items)) }
 {
     let mut lines = IndexSet::new(alloc);
-    let mut numbered = Vec::new(alloc);
+    let mut listed = Vec::with_capacity(alloc, strips.len())?;
     for strip in strips {
         let (line, _) = lines.insert_full(strip.line)?;
-        numbered.push(Numbered {
-            strip: *strip,
-            line,
-        })?;
+        listed.push(Listed { strip, line })?;
     }
-    Ok(numbered)
+    Ok(listed)
+}
+
+/// These strips in the order of the numbers of their lines.
+fn sorted_by_line(mut listed: Vec<Listed<'_>>) -> Result<Vec<Listed<'_>>, OutOfMemory>
+    ensures same { IfOk result (λ sorted. IsPermutation listed.entry.items sorted.items) }
+    ensures sorted { IfOk result (λ sorted. IsNonDecreasingBy (λ x. x.line) sorted.items) }
+{
+    listed.sort_by_key(|x| x.line)?;
+    Ok(listed)
+}
+
+/// The strips with the numbers of their lines, in the order of these numbers.
+pub(crate) fn listed_by_line(
+    alloc: Global,
+    strips: &[Strip],
+) -> Result<Vec<Listed<'_>>, OutOfMemory>
+    ensures { IfOk result (λ listed. AreListedByLine strips.now listed.items) }
+{
+    let listed = number_lines(alloc, strips)?;
+    let sorted = sorted_by_line(listed)?;
+    Ok(sorted)
 }

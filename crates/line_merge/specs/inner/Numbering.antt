@@ -1,8 +1,10 @@
 -- Lines by numbers, and strips with the numbers of their lines.
-use Rattle.std.specs.Prelude.{◌≡◌, ◌↔◌, ℕ, List, Contains, map}
+use Rattle.std.specs.Prelude.{◌≡◌, ◌↔◌, ℕ, List, Contains, map, IsPermutation}
+use Rattle.std.specs.List.Sorted.{IsNonDecreasingBy}
 use Rattle.lattice.specs.declared.lines.Line.{Line}
 use Rattle.lattice.specs.declared.pieces.Strip.{Strip}
 use Rattle.lattice.specs.Lines.{IsSameLine}
+use Rattle.line_merge.specs.declared.numbering.Listed.{Listed}
 use Rattle.line_merge.specs.declared.numbering.Numbered.{Numbered}
 
 -- two strips have one number exactly where their lines are the same
@@ -17,3 +19,14 @@ pub record AreNumbered (strips : List Strip) (numbered : List Numbered) : Type 0
   pub number : Line → ℕ
   pub numbering : IsNumbering strips number
   pub same : numbered ≡ map (numbered_by number) strips
+
+-- the strip itself, with the number of its line
+abbrev pub listed_strip : Listed → Numbered
+listed_strip x = record { strip = x.strip.now; line = x.line }
+
+-- the strips, each with the number of its line, in the order of these numbers
+pub record AreListedByLine (strips : List Strip) (listed : List Listed) : Type 0 where
+  pub number : Line → ℕ
+  pub numbering : IsNumbering strips number
+  pub moves : IsPermutation (map (numbered_by number) strips) (map listed_strip listed)
+  pub ascending : IsNonDecreasingBy (λ (x : Listed). x.line) listed
