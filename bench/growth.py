@@ -1,6 +1,7 @@
 #!/usr/bin/env python3
 """Times one view of parts that grow, by `draw` and by other programs in the same run, and writes the table that growth.gnuplot
-draws: growth.py TABLE [RUNS] [NAME=COMMAND ...]; TABLE is written as text, a block for each curve: triangles, seconds, MB.
+draws: growth.py TABLE [RUNS] [NAME=COMMAND ...]; TABLE is written as text, for each part a block for each program: triangles,
+seconds, MB.
 A COMMAND has PART for the part's file and TOWARD for the direction, as a,b,c; or MODEL for a model of SolveSpace and VIEW for
 the view's name there; `draw` is crates/draw_cli's built program where it isn't given. bench/peers/setup.sh FOLDER builds the others:
 "OpenCASCADE=FOLDER/occ_hlr PART TOWARD exact"
@@ -83,7 +84,7 @@ def main(table, runs, programs):
                 write_part(kind, size, file)
                 parts.append((triangles_of(file), file))
             for name, command in programs:
-                out.write('"%s, %s"\n' % (name, title))
+                out.write("%s\n" % name.replace(" ", "-"))
                 for count, file in parts:
                     if "MODEL" in command:
                         link(command[0], file)
