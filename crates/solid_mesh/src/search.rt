@@ -42,8 +42,9 @@ pub(crate) struct Found {
 
 /// The first edge, by the halves, that meets a triangle in another point than a shared corner, with the first such triangle.
 /// The edges are searched in their order, up to the first that meets one: the search of an edge goes over a tree of boxes and
-/// leaves out each subtree whose box misses that of the edge, so it takes the time of the boxes of subtrees that meet it, and
-/// of a short test for each triangle whose box meets it: up to all, where all boxes overlap.
+/// leaves out each subtree whose bounds miss those of the edge, or are a fan's that the edge leaves at its corner. So it takes the
+/// time of comparing the bounds of subtrees that meet it, and of a short test for each triangle whose bounds do: up to all, where
+/// all bounds overlap.
 pub(crate) fn find_meeting(alloc: Global, soup: &Soup, halves: &[u32]) -> Result<Found, AllocError>
     requires few_edges { length halves.now ≤ 60000 }
     requires few_triangles { length (part_of soup.now).triangles ≤ 20000 }
