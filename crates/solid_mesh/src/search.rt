@@ -139,8 +139,8 @@ fn reach_of(soup: &Soup, halves: &[u32], edge: u32) -> Reach
     }
 }
 
-/// Tests an edge and the triangle at a place, if the edge's bounds meet those of its subtree, and not in a common corner alone. From the result on nothing is left to
-/// be tested.
+/// Tests an edge and the triangle at a place, if the edge's bounds meet those of its subtree, and not in a common corner alone.
+/// From the result on nothing is left to be tested.
 fn visit(
     soup: &Soup,
     halves: &[u32],
@@ -176,7 +176,7 @@ fn visit(
     place
 }
 
-/// Whether the bounds tell that an edge meets the triangles of a subtree in a corner of them all, in an end of it, and nowhere else.
+/// Whether the bounds tell that an edge meets the triangles of a subtree in a corner of them all, an end of it, and nowhere else.
 fn meets_in_corner(reach: &Reach, subtree: &Subtree) -> bool
     ensures { IsTrue result → MeetsInCorner reach.now subtree.now }
 {

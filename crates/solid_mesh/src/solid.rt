@@ -65,8 +65,7 @@ impl Solid {
     /// of a hash for each directed side, of sorting the triangles, of a walk over a tree of boxes for each edge, and of a short
     /// test for each triangle whose box meets that of the edge, a fan around a corner of the edge left out where the edge is seen
     /// to pass by: about as long as sorting where these are few, and up to every pair where all boxes overlap. The walks end with
-    /// the first edge that meets a triangle so. Each reader takes constant time and no
-    /// memory.
+    /// the first edge that meets a triangle so. Each reader takes constant time and no memory.
     pub fn check(alloc: Global, soup: Soup) -> Result<Solid, MeshError>
         requires some_triangle { 0 < length (part_of soup).triangles }
         requires few_corners { length (part_of soup).corners ≤ 60000 }
