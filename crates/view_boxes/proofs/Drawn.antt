@@ -5,7 +5,6 @@ use Rattle.lattice.specs.Cuts.{Plane, toward_of}
 use Rattle.lattice.specs.Points.{Point, of_dir, of_spot}
 use Rattle.lattice.specs.Triple.{Triple}
 use Rattle.lattice.specs.declared.pieces.Piece.{Piece}
-use Rattle.lattice.specs.declared.points.Corner.{Corner}
 use Rattle.lattice.specs.declared.points.Dir.{Dir}
 use Rattle.geometry.specs.Cuts.{IsDrawnInCut, IsHiddenInCut, IsOrdinaryInCut}
 use Rattle.geometry.specs.Parts.{Part}
@@ -19,7 +18,7 @@ use Rattle.one_drawing.proofs.Sparse.{ViewLine}
 use Rattle.sheet_plan.specs.Extents.{IsExtent}
 use Rattle.sheet_plan.specs.declared.bounds.Extent.{Extent}
 use Rattle.view_boxes.proofs.OnPaper.{across_line, upward_line, left_line, right_line, low_line, high_line, IsInExtent}
-use Rattle.view_boxes.proofs.Reach.{CornersUpTo, IsExtentOfCorners, extent_of_corners, edge_up_to, face_up_to}
+use Rattle.view_boxes.proofs.Reach.{CornersUpTo, extent_of_corners, edge_up_to, face_up_to}
 use Rattle.view_boxes.proofs.Traced.{trace_across, trace_upward}
 
 -- both ends of the piece are

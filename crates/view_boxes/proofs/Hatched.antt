@@ -1,5 +1,5 @@
 -- The section is within the extent of the part, and so are the ends of its hatch lines.
-use Rattle.std.proofs.Common.{◌≡◌, ◌⊎◌, inl, inr, ℕ, zero, suc, ◌+◌, ◌<◌, ◌≤◌, ◌%◌, [], ◌∷◌, Contains, All, List, length, refl, sym, subst, ◌∙◌, arith}
+use Rattle.std.proofs.Common.{◌≡◌, inl, inr, ℕ, zero, suc, ◌%◌, [], ◌∷◌, Contains, All, List, length, refl, sym, subst, arith}
 use Rattle.std.specs.Prelude.{ℤ, pos, negsuc, ◌+ℤ◌, ◌-ℤ◌, ◌*ℤ◌, ◌<ℤ◌, ◌≤ℤ◌}
 use Rattle.std.proofs.lemmas.Int.{ints, by_lt_z}
 use Rattle.std.proofs.lemmas.List.Elements.{All-contains}
@@ -7,11 +7,10 @@ use Rattle.integers.proofs.Comparisons.{at_most_by, at_most_of_gap, at_most_of_l
 use Rattle.integers.proofs.Ring.{var, con, ◌⊕◌, ◌⊖◌, ◌⊗◌, ring, by_one}
 use Rattle.integers.proofs.Signs.{mul_nonneg, nonneg_of_mul}
 use Rattle.lattice.specs.declared.pieces.HatchLine.{HatchLine}
-use Rattle.lattice.specs.declared.points.Corner.{Corner}
 use Rattle.lattice.specs.declared.points.Spot.{Spot}
 use Rattle.lattice.specs.declared.soup.Tri.{Tri}
 use Rattle.lattice.specs.Cuts.{Plane, toward_of}
-use Rattle.lattice.specs.Points.{Point, IsPoint, of_spot, point_of, across_of, upward_of, OnOneSight}
+use Rattle.lattice.specs.Points.{Point, IsPoint, of_spot, point_of, across_of, upward_of}
 use Rattle.lattice.specs.Triangles.{IsBelow}
 use Rattle.lattice.specs.Triple.{Triple}
 use Rattle.geometry.specs.Cuts.{IsBorderOf, IsCount, HasBorderRightOf, IsInSection, IsLeftOfBorder, crossing_of, start_corner, end_corner}
@@ -22,7 +21,7 @@ use Rattle.hatch_fill.specs.Hatching.{IsHatching, IsHatchLine, IsOnHatch, LiesOn
 use Rattle.one_drawing.proofs.HalfPlanes.{IsUpToLine, IsPointUpToLine, up_to_seen}
 use Rattle.one_drawing.proofs.Sparse.{ViewLine}
 use Rattle.one_drawing.proofs.ViewOrder.{seen_itself, lies_first, lies_second}
-use Rattle.section_parity.specs.Diagonals.{diagonal_of, IsUnderBorder}
+use Rattle.section_parity.specs.Diagonals.{IsUnderBorder}
 use Rattle.section_parity.proofs.Diagonals.{section_on_diagonal}
 use Rattle.section_parity.proofs.OverDiagonals.{CrossesLeftOf, HasCrossingLeftOf}
 use Rattle.section_parity.proofs.Sights.{sight_of, turn_of}

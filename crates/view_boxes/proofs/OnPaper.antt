@@ -1,5 +1,5 @@
 -- Rounding keeps order: what lies within the extent of a part is put into the box of its view.
-use Rattle.std.proofs.Common.{◌≡◌, [], ◌∷◌, refl, ℕ, ◌*◌, ◌+◌, ◌≤◌, ◌^◌, arith, subst}
+use Rattle.std.proofs.Common.{◌≡◌, [], ◌∷◌, refl, ℕ, ◌*◌, ◌+◌, ◌≤◌, ◌^◌, arith}
 use Rattle.std.specs.Prelude.{ℤ, pos, negsuc, ◌+ℤ◌, ◌-ℤ◌, ◌*ℤ◌, ◌<ℤ◌, ◌≤ℤ◌}
 use Rattle.std.proofs.lemmas.Int.{ints}
 use Rattle.integers.proofs.Absolutes.{natural_not_negative}

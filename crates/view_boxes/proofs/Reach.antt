@@ -1,13 +1,13 @@
 -- Where the corners of a part are on one side of a line of the view, so are the points of its edges and faces.
-use Rattle.std.proofs.Common.{◌≡◌, ℕ, ◌+◌, ◌<◌, [], ◌∷◌, Contains, All, List, slice_get, Some, sym, subst, ◌∙◌, refl, arith}
-use Rattle.std.specs.Prelude.{ℤ, pos, negsuc, ◌+ℤ◌, ◌-ℤ◌, ◌*ℤ◌, ◌<ℤ◌, ◌≤ℤ◌}
+use Rattle.std.proofs.Common.{◌≡◌, ℕ, ◌+◌, [], ◌∷◌, Contains, List, slice_get, Some, sym, subst, ◌∙◌, refl}
+use Rattle.std.specs.Prelude.{ℤ, pos, negsuc, ◌+ℤ◌, ◌-ℤ◌, ◌*ℤ◌, ◌≤ℤ◌}
 use Rattle.std.proofs.lemmas.List.Elements.{All-contains}
 use Rattle.integers.proofs.Absolutes.{natural_not_negative, natural_positive, pos-sum, pos-sum_of_three}
 use Rattle.integers.proofs.Comparisons.{gap_of_at_most, at_most_by, sum_not_negative}
 use Rattle.integers.proofs.Ring.{var, con, ◌⊕◌, ◌⊖◌, ◌⊗◌, ring}
 use Rattle.integers.proofs.Signs.{mul_nonneg}
 use Rattle.lattice.specs.declared.points.Corner.{Corner}
-use Rattle.lattice.specs.Points.{Point, IsPoint, point_of, across_of, upward_of}
+use Rattle.lattice.specs.Points.{Point, point_of, across_of, upward_of}
 use Rattle.lattice.specs.Triple.{Triple, right_axis, up_axis}
 use Rattle.geometry.specs.Faces.{edge_sum, face_sum, IsPointOfEdge, IsPointOfFace}
 use Rattle.geometry.specs.Parts.{Part, Face, Edge}

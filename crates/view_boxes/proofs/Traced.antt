@@ -1,21 +1,21 @@
 -- Points of traces reach no farther across a view, and no farther upward, than the part's corners do.
-use Rattle.std.proofs.Common.{◌≡◌, ◌≢◌, ◌⊎◌, inl, inr, ℕ, zero, suc, Bool, true, false, [], ◌∷◌, Contains, List, refl, sym, ap, subst, ◌∙◌, arith}
+use Rattle.std.proofs.Common.{◌≡◌, ◌≢◌, ◌⊎◌, inl, inr, ℕ, Bool, true, false, [], ◌∷◌, refl, sym, ap, subst, arith}
 use Rattle.std.specs.Prelude.{ℤ, pos, negsuc, neg_ℤ, ◌+ℤ◌, ◌-ℤ◌, ◌*ℤ◌, ◌<ℤ◌, ◌≤ℤ◌, if◌then◌else◌, ◌&&◌}
 use Rattle.std.specs.Ordering.{int_eq}
 use Rattle.std.proofs.lemmas.Int.{ints}
 use Rattle.integers.proofs.Absolutes.{natural_not_negative}
-use Rattle.integers.proofs.Comparisons.{gap_of_at_most, at_most_by, at_most_of_less, sum_not_negative, not_negative_of_positive, times_one}
+use Rattle.integers.proofs.Comparisons.{gap_of_at_most, at_most_by, sum_not_negative, not_negative_of_positive}
 use Rattle.integers.proofs.Ring.{var, con, ◌⊕◌, ◌⊖◌, ◌⊗◌, ring, by_one, by_two}
 use Rattle.integers.proofs.Signs.{mul_nonneg}
 use Rattle.lattice.specs.declared.points.Axis.{Axis}
 use Rattle.lattice.specs.declared.points.Axis.TheVariants.{X, Y, Z}
 use Rattle.lattice.specs.declared.points.Corner.{Corner}
-use Rattle.lattice.specs.Cuts.{Plane, toward_of, level_of}
+use Rattle.lattice.specs.Cuts.{Plane, toward_of}
 use Rattle.lattice.specs.Points.{Point, IsPoint, point_of, scaled, across_of, upward_of, height_of}
 use Rattle.lattice.specs.Triple.{Triple, dot, right_axis, up_axis}
 use Rattle.lattice.proofs.CutSides.{corner_beyond, corner_before}
 use Rattle.geometry.specs.Parts.{Part}
-use Rattle.geometry.specs.Traces.{component_of, coordinate_of, third_of, IsAlong, IsAmongCorners, HasTrace, IsOnTrace}
+use Rattle.geometry.specs.Traces.{component_of, coordinate_of, third_of, IsAlong, IsAmongCorners, IsOnTrace}
 use Rattle.geometry.proofs.TracePoints.{same_or_other, one_of_others}
 use Rattle.one_drawing.proofs.HalfPlanes.{IsUpToLine}
 use Rattle.view_boxes.proofs.OnPaper.{across_line, upward_line}
@@ -112,9 +112,11 @@ module _ (d : Triple) where
   pub up_only : (sight : Axis) → IsAlong sight d → (axis : Axis) × HasOnly axis (up_axis d)
   up_only X along = (Z, only_z (up_axis d) (inner_gone d.y (right_axis d).z d.z (right_axis d).y (level straight) (along.alone Z (λ e. cc))) (outer_gone d.z (right_axis d).x d.x (right_axis d).z (along.alone Z (λ e. cc)) (level straight)))
   up_only Y along = (Z, only_z (up_axis d) (inner_gone d.y (right_axis d).z d.z (right_axis d).y (level straight) (along.alone Z (λ e. cc))) (outer_gone d.z (right_axis d).x d.x (right_axis d).z (along.alone Z (λ e. cc)) (level straight)))
-  up_only Z along =
-      (Y, only_y (up_axis d) (second_gone d.y (right_axis d).z d.z (right_axis d).y (level straight) (in_x (along.alone X (λ e. cc)) straight))
-      (first_gone d.x (right_axis d).y d.y (right_axis d).x (along.alone X (λ e. cc)) (along.alone Y (λ e. cc))))
+  up_only Z along = (
+    Y,
+    only_y (up_axis d) (second_gone d.y (right_axis d).z d.z (right_axis d).y (level straight) (in_x (along.alone X (λ e. cc)) straight))
+        (first_gone d.x (right_axis d).y d.y (right_axis d).x (along.alone X (λ e. cc)) (along.alone Y (λ e. cc))),
+  )
 
 -- ---- a point of a trace is among the corners on each axis
 height_high : (axis : Axis) (at : ℤ) (k : Corner) → height_of (toward_of (record { axis = axis; at = at; from_high = true })) (point_of k) ≡ coordinate_of axis (point_of k)
