@@ -32,11 +32,12 @@ record IsMatched (s : Part) (others : List Corner) (i : ℕ) (t : Tri) : Type 0 
   b : AtOne s.corners others tri.b t.b
   c : AtOne s.corners others tri.c t.c
 
-AreMatched : Part → Part → Type 0
+-- each triangle of t is matched by the one of s at its place
+abbrev AreMatched : Part → Part → Type 0
 AreMatched s t = (i : ℕ) (u : Tri) → slice_get t.triangles i ≡ Some u → IsMatched s t.corners i u
 
 -- ---- over from one part to the other
-module _ (s t : Part) (matched : (i : ℕ) (u : Tri) → slice_get t.triangles i ≡ Some u → IsMatched s t.corners i u) where
+module _ (s t : Part) (matched : AreMatched s t) where
   start_over : (i : ℕ) (u : Tri) (m : IsMatched s t.corners i u) (side : ℕ) → AtOne s.corners t.corners (start_of m.tri side) (start_of u side)
   start_over i u m zero = m.a
   start_over i u m (suc zero) = m.b
@@ -98,8 +99,8 @@ distinct_once corners distinct m n c here there = by (cases_order m n)
 
 -- ---- a part that is matched with a sound one
 module _ (s t : Part) (in_range : All (IsBelow (length s.corners)) s.triangles) (sound : IsSound s) (distinct : AllPairs (λ c d. of_corner c ≢ of_corner d) t.corners)
-    (as_many : length t.triangles ≡ length s.triangles) (over : (i : ℕ) (u : Tri) → slice_get t.triangles i ≡ Some u → IsMatched s t.corners i u)
-    (back : (i : ℕ) (u : Tri) → slice_get s.triangles i ≡ Some u → IsMatched t s.corners i u) where
+    (as_many : length t.triangles ≡ length s.triangles) (over : AreMatched s t)
+    (back : AreMatched t s) where
   -- numbers of s that stand for one number of t, in triangles of s
   one_below : (i j m n k : ℕ) (u v : Tri) → slice_get s.triangles i ≡ Some u → IsCornerOf u m → slice_get s.triangles j ≡ Some v → IsCornerOf v n → AtOne s.corners t.corners m k → AtOne s.corners t.corners n k → m ≡ n
   one_below i j m n k u v at_u of_u at_v of_v (c, here, there) other =
@@ -257,7 +258,7 @@ at_one corners others m n below within same =
     (c.0, c.1, d.1 ∙ ap Some (sym (same_corner c.0 d.0 (sym (vertex_is corners m c.0 c.1) ∙ same ∙ vertex_is others n d.0 d.1))))
 
 matched_at : (s t : Part) → All (IsBelow (length s.corners)) s.triangles → All (IsBelow (length t.corners)) t.triangles
-    → map (placed (map of_corner t.corners)) t.triangles ≡ map (placed (map of_corner s.corners)) s.triangles → (i : ℕ) (u : Tri) → slice_get t.triangles i ≡ Some u → IsMatched s t.corners i u
+    → map (placed (map of_corner t.corners)) t.triangles ≡ map (placed (map of_corner s.corners)) s.triangles → AreMatched s t
 matched_at s t below within same i u at =
     let found = same_at (placed (map of_corner t.corners)) (placed (map of_corner s.corners)) t.triangles s.triangles same i u at in
     let here = triangle_below s below found.0 i found.1 in
