@@ -39,11 +39,7 @@ pub fn merge(alloc: Global, d: &Dir, strips: &[Strip]) -> Result<Vec<Piece>, Out
 }
 
 /// The pieces of the strips, which stand in the order of their lines' numbers, line by line.
-fn pieces_by_line(
-    alloc: Global,
-    d: &Dir,
-    listed: &[Listed<'_>],
-) -> Result<Vec<Piece>, OutOfMemory>
+fn pieces_by_line(alloc: Global, d: &Dir, listed: &[Listed<'_>]) -> Result<Vec<Piece>, OutOfMemory>
     requires ends { All (λ x. AreStripEnds (of_dir d.now) x.strip.line x.strip.a x.strip.b) (map listed_strip listed.now) }
     requires ascending { IsNonDecreasingBy (λ x. x.line) listed.now }
     ensures { IfOk result (λ pieces. ArePiecesOf (of_dir d.now) (map listed_strip listed.now) pieces.items) }

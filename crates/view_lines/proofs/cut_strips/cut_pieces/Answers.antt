@@ -56,5 +56,9 @@ returns-clause-merged c =
     let (borders, each, told) = c.in_ok-strips.ensures.told in
     IfOk-weaker c.merge.result (λ pieces. AreMerged (of_dir c.dir.result) c.deref.result.now pieces.items)
     (λ pieces. (of_borders : List Strip) × AllZip IsBorderStrip section.segments.items of_borders × AreMergedWith d solid entries of_borders pieces.items)
-    (λ pieces merged. (borders, each, merged_with d solid entries entries borders strips pieces.items refl told
-    (subst (λ (v : Triple). AreMerged v strips pieces.items) c.dir.ensures (subst (λ (ys : List Strip). AreMerged (of_dir c.dir.result) ys pieces.items) c.deref.ensures.value merged)))) c.merge.ensures
+    (λ pieces merged. (
+      borders,
+      each,
+      merged_with d solid entries entries borders strips pieces.items refl told
+          (subst (λ (v : Triple). AreMerged v strips pieces.items) c.dir.ensures (subst (λ (ys : List Strip). AreMerged (of_dir c.dir.result) ys pieces.items) c.deref.ensures.value merged)),
+    )) c.merge.ensures

@@ -46,7 +46,9 @@ returns-clause-told c =
     let (borders, together, each) = c.in_ok-add_borders.ensures in (
       borders,
       each,
-      (strips,
-      subst (λ (v : Triple). AreEdgeStrips v {s = solid_part solid} (AreTold entries (edge_halves solid)) (edge_halves solid) (map (λ x. x.edge) entries) strips) c.dir.ensures c.in_ok-strips.ensures,
-      together),
+      (
+        strips,
+        subst (λ (v : Triple). AreEdgeStrips v {s = solid_part solid} (AreTold entries (edge_halves solid)) (edge_halves solid) (map (λ x. x.edge) entries) strips) c.dir.ensures c.in_ok-strips.ensures,
+        together,
+      ),
     )

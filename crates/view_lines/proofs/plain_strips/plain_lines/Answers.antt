@@ -44,9 +44,12 @@ returns-clause-merged c =
     let d = of_dir c.args.d.now in
     let strips = c.in_ok-strips.strips.items in
     let pieces = c.in_ok-pieces.pieces.items in
-    let (traces, are, told) = c.in_ok-strips.ensures.told in
-    (traces, are, merged_with d c.args.solid.now c.deref.result.now c.in_ok-entries.field-0.entries.items traces strips pieces c.deref.ensures.value told
-    (subst (λ (ys : List Strip). AreMerged d ys pieces) c.deref-2.ensures.value c.in_ok-pieces.ensures))
+    let (traces, are, told) = c.in_ok-strips.ensures.told in (
+      traces,
+      are,
+      merged_with d c.args.solid.now c.deref.result.now c.in_ok-entries.field-0.entries.items traces strips pieces c.deref.ensures.value told
+          (subst (λ (ys : List Strip). AreMerged d ys pieces) c.deref-2.ensures.value c.in_ok-pieces.ensures),
+    )
 
 pub returns-clause-counted : goal.returns-clause-counted
 returns-clause-counted c = (c.in_ok-picked.picked, c.in_ok-picked.ensures, c.in_ok-entries.ensures.counted)
