@@ -16,3 +16,6 @@ few d is = omega (arith, as_many_views d is, d.job.few_views)
 
 pub placed : (d : Drawing) → IsDrawing d → length d.views.items ≤ length d.sheet.places.items
 placed d is = omega (arith, as_many_views d is, as_many_places d.job (solid_part d.solid).corners d.sheet is.sheet)
+
+pub as_many_placed : (d : Drawing) → IsDrawing d → length d.views.items ≡ length d.sheet.places.items
+as_many_placed d is = omega (arith, as_many_views d is, as_many_places d.job (solid_part d.solid).corners d.sheet is.sheet)

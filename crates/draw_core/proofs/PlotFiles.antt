@@ -1,5 +1,5 @@
 -- The files of the plotters that were chosen are those that the job's outputs name.
-use Rattle.std.proofs.Common.{◌≡◌, ℕ, ℤ, List, [], ◌∷◌, map, Option, Some, option_map, Bool, true, false, cond, refl, sym, ap, ◌∙◌}
+use Rattle.std.proofs.Common.{◌≡◌, ℕ, ℤ, List, [], ◌∷◌, length, map, Option, Some, option_map, Bool, true, false, cond, refl, sym, ap, ◌∙◌, arith}
 use Rattle.std.specs.List.{find}
 use Rattle.std.specs.Str.{bytes_eq}
 use Rattle.std.proofs.lemmas.Slice.Eq.{bytes_eq-Decides}
@@ -47,3 +47,8 @@ module _ {B : Type 0} (plot_of : B → Plot) (all : List B) (sheet : Sheet) (str
       let drew : plot_of c ≡ drawn page strokes (plot_of b) = cc in
       let rest : map plot_of cs ≡ map (λ (x : B). drawn page strokes (plot_of x)) bs = cc in
       (λ i. one_file b c name found drew i ∷ files_are names bs cs others rest i)
+
+-- no boxes have drawn
+pub none_drawn : {B : Type 0} (plot_of : B → Plot) (page : ℤ × ℤ) (strokes : List Stroke) (boxes : List B) → length boxes ≡ 0 → AreDrawn plot_of page strokes boxes boxes
+none_drawn plot_of page strokes [] none = refl
+none_drawn plot_of page strokes (b ∷ bs) none = absurd (omega arith)

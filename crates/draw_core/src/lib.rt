@@ -7,6 +7,7 @@ mod lines;
 mod made;
 mod numbered;
 mod outputs;
+mod pages;
 mod run;
 mod sheets;
 mod strokes;

@@ -22,6 +22,7 @@ use crate::keep::write_all;
 use crate::lines::{MEMORY_LINE, draw_line};
 use crate::made::outputs_of;
 use crate::outputs::Output;
+use crate::pages::page_text;
 use crate::strokes::strokes_of;
 use crate::summary::{Summary, summary_of};
 use crate::take::{Taken, take};
@@ -43,7 +44,7 @@ struct Made {
 }
 
 /// The files of a drawing with this name, from its strokes, which the plotters draw.
-fn files_of(
+fn plotted_files(
     alloc: Global,
     out: Name,
     rack: Rack,
@@ -56,6 +57,24 @@ fn files_of(
     let strokes = strokes_of(alloc, &drawing.sheet, &drawing.views)?;
     rack.draw(drawing.sheet.width, drawing.sheet.height, &strokes)?;
     let text = svg(alloc, &drawing.sheet, &drawing.job.title, &strokes)?;
+    let outputs = outputs_of(alloc, out, text, &rack)?;
+    Ok(outputs)
+}
+
+/// The files of a drawing with this name. Where no plotter draws, no list of its strokes is made.
+fn files_of(
+    alloc: Global,
+    out: Name,
+    rack: Rack,
+    drawing: &Drawing,
+) -> Result<Vec<Output>, OutOfMemory>
+    requires { IsDrawing drawing.now }
+    ensures { IfOk result (λ outputs. AreRackFiles (λ b. plot (b.vtable, b.value)) (boxes_of rack) drawing.now out outputs.items) }
+{
+    if rack.len() != 0 {
+        return plotted_files(alloc, out, rack, drawing);
+    }
+    let text = page_text(alloc, &drawing.sheet, &drawing.job.title, &drawing.views)?;
     let outputs = outputs_of(alloc, out, text, &rack)?;
     Ok(outputs)
 }

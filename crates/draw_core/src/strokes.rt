@@ -11,7 +11,7 @@ use std::alloc::Global;
 use view_lines::ViewDrawing;
 
 /// The stroke of a piece of the view with this number.
-fn stroke_of(sheet: &Sheet, number: u32, piece: &Piece) -> Stroke
+pub(crate) fn stroke_of(sheet: &Sheet, number: u32, piece: &Piece) -> Stroke
     requires { number < length sheet.now.places.items }
     ensures { IsStrokeOn sheet.now number piece.now result }
 {
@@ -36,7 +36,7 @@ fn add_strokes(
 }
 
 /// The stroke of a hatch line of the view with this number.
-fn hatch_stroke_of(sheet: &Sheet, number: u32, line: &HatchLine) -> Stroke
+pub(crate) fn hatch_stroke_of(sheet: &Sheet, number: u32, line: &HatchLine) -> Stroke
     requires { number < length sheet.now.places.items }
     ensures { IsHatchStrokeOn sheet.now number line.now result }
 {

@@ -7,9 +7,8 @@ use Rattle.sheet_plan.specs.declared.sheet.Stroke.{Stroke}
 use Rattle.svg_page.specs.Svg.{escaped, before_title, title_line, group, groups_below}
 
 -- before the first view
-pub before_views : (old text new first head title line : List ℕ) → old ≡ [] → text ≡ old ++ first → first ≡ head → new ≡ text ++ title → title ≡ line → new ≡ (head ++ line) ++ []
-before_views old text new first head title line none step begin last name =
-    last ∙ (λ i. (step ∙ (λ j. none j ++ begin j)) i ++ name i) ∙ sym (append-nil (head ++ line))
+pub before_views : (old text new first head title line : List ℕ) → old ≡ [] → text ≡ old ++ first → first ≡ head → new ≡ text ++ title → title ≡ line → new ≡ head ++ line
+before_views old text new first head title line none step begin last name = last ∙ (λ i. (step ∙ (λ j. none j ++ begin j)) i ++ name i)
 
 -- one more view
 pub after_view : (new text before : List ℕ) (view : ℕ) (strokes : List Stroke) → new ≡ text ++ group view strokes → text ≡ before ++ groups_below view strokes → new ≡ before ++ groups_below (view + 1) strokes

@@ -61,16 +61,29 @@ stroke_line s =
 abbrev pub view_lines : ℕ → List Stroke → List ℕ
 view_lines view strokes = flat_map stroke_line (filter (λ s. s.view == view) strokes)
 
+abbrev pub group_begin : List ℕ
+group_begin = codes "<g stroke=\"black\" fill=\"none\">\n"
+
+abbrev pub group_end : List ℕ
+group_end = codes "</g>\n"
+
 -- the group of a view, also of one without strokes
 abbrev pub group : ℕ → List Stroke → List ℕ
-group view strokes = codes "<g stroke=\"black\" fill=\"none\">\n" ++ view_lines view strokes ++ codes "</g>\n"
+group view strokes = group_begin ++ view_lines view strokes ++ group_end
 
 -- the groups of the first views
 abbrev pub groups_below : ℕ → List Stroke → List ℕ
 groups_below zero strokes = []
 groups_below (suc n) strokes = groups_below n strokes ++ group n strokes
 
+-- what stands before the groups, and behind them
+abbrev pub page_begin : Sheet → List ℕ → List ℕ
+page_begin sheet title = head sheet.width sheet.height ++ title_line sheet.height title
+
+abbrev pub page_end : List ℕ
+page_end = codes "</svg>\n"
+
 -- the text of a sheet with a title and strokes: each view is a group of its strokes
 unfoldable pub svg_of : Sheet → List ℕ → List Stroke → List ℕ
 svg_of sheet title strokes =
-    head sheet.width sheet.height ++ title_line sheet.height title ++ groups_below (length sheet.places.items) strokes ++ codes "</svg>\n"
+    page_begin sheet title ++ groups_below (length sheet.places.items) strokes ++ page_end

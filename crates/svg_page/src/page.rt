@@ -1,7 +1,7 @@
 // The text of a sheet with its strokes.
 ghost use Rattle.std.specs.Prelude.{◌≡◌, ◌<◌, ◌^◌, ◌++◌, pos, ◌≤ℤ◌, unsigned_abs, length, IfOk, OnOk, string_bytes};
 ghost use Rattle.std.specs.List.{All};
-ghost use Rattle.svg_page.specs.Svg.{opening, frame, head, escaped, before_title, title_line, pen, stroke_line, group, svg_of};
+ghost use Rattle.svg_page.specs.Svg.{opening, frame, head, escaped, before_title, title_line, pen, stroke_line, group_begin, group_end, group, page_begin, page_end, svg_of};
 
 use dec_text::Name;
 use exact_frac::OutOfMemory;
@@ -21,14 +21,54 @@ pub fn svg(
     requires { All (λ s. s.view < length sheet.now.places.items) strokes.now }
     ensures { IfOk result (λ text. text.items ≡ svg_of sheet.now title.now strokes.now) }
 {
-    let mut text = Vec::new(alloc);
-    text.extend_from_slice(head(alloc, sheet.width, sheet.height)?.as_bytes())?;
-    add_title(alloc, &mut text, sheet.height, title.as_str())?;
+    let mut text = begin_page(alloc, sheet, title)?;
     for view in 0..sheet.places.len() {
         add_group(alloc, &mut text, view, strokes)?;
     }
-    text.extend_from_slice("</svg>\n".as_bytes())?;
+    end_page(&mut text)?;
     Ok(text)
+}
+
+/// The text of a sheet with this title before its groups: the frame, and a line for the title if there is one.
+pub fn begin_page(alloc: Global, sheet: &Sheet, title: &Name) -> Result<Vec<u8>, OutOfMemory>
+    ensures { IfOk result (λ text. text.items ≡ page_begin sheet.now title.now) }
+{
+    let mut text = Vec::new(alloc);
+    text.extend_from_slice(head(alloc, sheet.width, sheet.height)?.as_bytes())?;
+    add_title(alloc, &mut text, sheet.height, title.as_str())?;
+    Ok(text)
+}
+
+/// Adds the end of the text of a sheet, which comes behind its groups.
+pub fn end_page(text: &mut Vec<u8>) -> Result<(), OutOfMemory>
+    ensures { OnOk result (text.new.items ≡ text.old.items ++ page_end) }
+{
+    text.extend_from_slice("</svg>\n".as_bytes())?;
+    Ok(())
+}
+
+/// Adds the beginning of the group of a view.
+pub fn begin_group(text: &mut Vec<u8>) -> Result<(), OutOfMemory>
+    ensures { OnOk result (text.new.items ≡ text.old.items ++ group_begin) }
+{
+    text.extend_from_slice("<g stroke=\"black\" fill=\"none\">\n".as_bytes())?;
+    Ok(())
+}
+
+/// Adds the end of the group of a view.
+pub fn end_group(text: &mut Vec<u8>) -> Result<(), OutOfMemory>
+    ensures { OnOk result (text.new.items ≡ text.old.items ++ group_end) }
+{
+    text.extend_from_slice("</g>\n".as_bytes())?;
+    Ok(())
+}
+
+/// Adds the line of a stroke.
+pub fn add_line(alloc: Global, text: &mut Vec<u8>, stroke: &Stroke) -> Result<(), OutOfMemory>
+    ensures { OnOk result (text.new.items ≡ text.old.items ++ stroke_line stroke.now) }
+{
+    text.extend_from_slice(line(alloc, stroke)?.as_bytes())?;
+    Ok(())
 }
 
 /// The beginning of the sheet and its frame.
@@ -115,13 +155,13 @@ fn add_group(
 ) -> Result<(), OutOfMemory>
     ensures { OnOk result (text.new.items ≡ text.old.items ++ group view strokes.now) }
 {
-    text.extend_from_slice("<g stroke=\"black\" fill=\"none\">\n".as_bytes())?;
+    begin_group(text)?;
     for stroke in strokes {
         if stroke.view as usize == view {
-            text.extend_from_slice(line(alloc, stroke)?.as_bytes())?;
+            add_line(alloc, text, stroke)?;
         }
     }
-    text.extend_from_slice("</g>\n".as_bytes())?;
+    end_group(text)?;
     Ok(())
 }
 
