@@ -67,11 +67,11 @@ view_numbers sheet n view strokes are =
     All-same (λ (s : Stroke). s.view ≡ n) strokes (are.of_pieces ++ are.of_hatches) are.together
     (All-append (λ (s : Stroke). s.view ≡ n) are.of_pieces are.of_hatches
     (λ k e less.
-        let (x, there, drawn) = zip_right (IsStrokeOn sheet n) view.pieces.items are.of_pieces are.pieces (get_or are.of_pieces k e) (Contains-get_or are.of_pieces k e less) in
-        drawn.2.view_is)
+    let (x, there, drawn) = zip_right (IsStrokeOn sheet n) view.pieces.items are.of_pieces are.pieces (get_or are.of_pieces k e) (Contains-get_or are.of_pieces k e less) in
+    drawn.2.view_is)
     (λ k e less.
-        let (x, there, drawn) = zip_right (IsHatchStrokeOn sheet n) view.hatches.items are.of_hatches are.hatches (get_or are.of_hatches k e) (Contains-get_or are.of_hatches k e less) in
-        drawn.2.view_is))
+    let (x, there, drawn) = zip_right (IsHatchStrokeOn sheet n) view.hatches.items are.of_hatches are.hatches (get_or are.of_hatches k e) (Contains-get_or are.of_hatches k e less) in
+    drawn.2.view_is))
 
 -- ---- the text of the views so far
 -- these are the strokes of the first views, and the text ends with their groups
