@@ -238,12 +238,14 @@ pub(crate) fn cover_counts<F: Finder>(
     let triangles = solid.triangles();
     let mut left = 0;
     let mut right = 0;
-    let mut tri = next_triangle(finder, corner, 0, triangles);
+    let mut told = 0;
+    let mut tri = next_triangle(finder, corner, told, 0, triangles);
     while tri < triangles {
         let (on_left, on_right) = cut_cover(solid, section, end, tri, meter);
         left += i64::from(on_left);
         right += i64::from(on_right);
-        tri = next_triangle(finder, corner, tri + 1, triangles);
+        told += 1;
+        tri = next_triangle(finder, corner, told, tri + 1, triangles);
     }
     Sides { left, right }
 }

@@ -148,7 +148,7 @@ impl Finder for GridOutlines {
         number_at(&self.cells, *cell, i)
     }
 
-    fn next_near(&self, corner: u32, from: u32) -> Option<u32> {
-        self.triangles.next_near(corner, from)
+    fn next_near(&self, corner: u32, told: u32, from: u32) -> Option<u32> {
+        self.triangles.next_near(corner, told, from)
     }
 }

@@ -1,5 +1,5 @@
 // The triangles near each corner: those in its cell, in a grid of boxes.
-ghost use Rattle.std.specs.Prelude.{◌≡◌, ℕ, ◌<◌, List, [], Contains, Some, length, slice_get, slice_index_or, IfOk};
+ghost use Rattle.std.specs.Prelude.{◌≡◌, ℕ, ◌-◌, ◌<◌, ◌≤◌, List, [], Contains, Some, length, slice_get, slice_index_or, IfOk, IsTrue};
 ghost use Rattle.std.specs.List.Sorted.{IsNonDecreasing};
 ghost use Rattle.lattice.specs.Points.{of_dir};
 ghost use Rattle.solid_mesh.specs.Solids.{solid_part};
@@ -43,23 +43,42 @@ impl TriangleCells {
         })
     }
 
-    /// The least triangle near a corner from this number on, or none. Searches the corner's list by halves.
-    pub(crate) fn next_near(&self, corner: u32, from: u32) -> Option<u32>
+    /// The least triangle near a corner from this number on, or none. Looks at the place of the corner's list that the number of those
+    /// told before says, and else searches it by halves.
+    pub(crate) fn next_near(&self, corner: u32, told: u32, from: u32) -> Option<u32>
         ensures { IsNext (Contains (near_list self.now corner)) from result }
     {
         let Some(cell) = at(&self.corner_cells, corner as usize) else {
             return None;
         };
-        first_from(&self.cells[cell as usize], from)
+        first_from(&self.cells[cell as usize], told as usize, from)
     }
 }
 
-/// The first of ascending numbers that is not below this one.
-fn first_from(numbers: &[u32], from: u32) -> Option<u32>
+/// The first of ascending numbers that is not below this one; looked for at a place first.
+fn first_from(numbers: &[u32], place: usize, from: u32) -> Option<u32>
     requires { IsNonDecreasing numbers.now }
     ensures { IsNext (Contains numbers.now) from result }
 {
+    if is_first_from(numbers, place, from) {
+        return at(numbers, place);
+    }
     at(numbers, numbers.partition_point(|x| *x < from))
+}
+
+/// The number at this place is not below this one, and that before it is, if there is one.
+fn is_first_from(numbers: &[u32], place: usize, from: u32) -> bool
+    ensures within { IsTrue result → place < length numbers.now }
+    ensures reached { IsTrue result → from ≤ slice_index_or numbers.now place 0 }
+    ensures before { IsTrue result → 0 < place → slice_index_or numbers.now (place - 1) 0 < from }
+{
+    if place >= numbers.len() || numbers[place] < from {
+        return false;
+    }
+    if place == 0 {
+        return true;
+    }
+    numbers[place - 1] < from
 }
 
 /// The number at a place, if there is one.

@@ -218,9 +218,9 @@ fn near(
     let grid = GridOutlines::new(alloc, solid, d, &picked, 7, &mut meter)?;
     let all = AllOutlines::new(&picked);
     Ok((
-        grid.next_near(0, 0),
-        grid.next_near(0, from),
-        all.next_near(0, from),
+        grid.next_near(0, 0, 0),
+        grid.next_near(0, 1, from),
+        all.next_near(0, 0, from),
     ))
 }
 

@@ -33,12 +33,14 @@ pub(crate) fn first_counts<S: Sight, F: Finder>(
     let end = End { edge, at_b: false };
     let mut left = 0;
     let mut right = 0;
-    let mut tri = next_triangle(finder, corner, 0, triangles);
+    let mut told = 0;
+    let mut tri = next_triangle(finder, corner, told, 0, triangles);
     while tri < triangles {
         let (on_left, on_right) = sight.cover(end, tri);
         left += u64::from(on_left);
         right += u64::from(on_right);
-        tri = next_triangle(finder, corner, tri + 1, triangles);
+        told += 1;
+        tri = next_triangle(finder, corner, told, tri + 1, triangles);
     }
     Sides::counts(left, right)
 }

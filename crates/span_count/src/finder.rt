@@ -26,7 +26,8 @@ pub trait Finder {
         ensures { result ≡ slice_get (list_over self.now corner) i };
 
     /// A triangle from this number on, or none: those that are passed over are not near the corner. By default none is passed over.
-    fn next_near(&self, corner: u32, from: u32) -> Option<u32>
+    /// `told` is how many the caller was told of this corner before; it may say where to look, and no answer rests on it.
+    fn next_near(&self, corner: u32, told: u32, from: u32) -> Option<u32>
         ensures { IsNext (is_near self.now corner) from result }
     {
         Some(from)
@@ -34,14 +35,20 @@ pub trait Finder {
 }
 
 /// The next triangle, of so many, that may be near a corner, from this number on; their number where there is none. Each that is
-/// passed over is not near the corner.
-pub fn next_triangle<F: Finder>(finder: &F, corner: u32, from: u32, triangles: u32) -> u32
+/// passed over is not near the corner. So many of this corner were told before, for a finder that looks by that.
+pub fn next_triangle<F: Finder>(
+    finder: &F,
+    corner: u32,
+    told: u32,
+    from: u32,
+    triangles: u32,
+) -> u32
     requires { from ≤ triangles }
     ensures from { from ≤ result }
     ensures most { result ≤ triangles }
     ensures passed_over { (tri : ℕ) → from ≤ tri → tri < result → ¬ F.is_near finder.now corner tri }
 {
-    match finder.next_near(corner, from) {
+    match finder.next_near(corner, told, from) {
         Some(tri) => tri.min(triangles),
         None => triangles,
     }

@@ -15,12 +15,16 @@ loop-tri-init g c =
     let tri = c.next_triangle-tri.result in
     record {
       within = c.next_triangle-tri.ensures.most;
+      few = omega arith;
       sums = covers_past plane part halves c.args.end.edge c.args.end.at_b 0 tri before before (pos 0) (pos 0) (covers_none plane part halves c.args.end.edge c.args.end.at_b before) c.next_triangle-tri.ensures.from
           (not_covered plane part halves c.args.end.edge c.args.end.at_b c.corner_of-corner.result (g.F.Finder.is_near c.args.finder.now) c.requires.near c.corner_of-corner.ensures 0 tri c.next_triangle-tri.ensures.passed_over);
     }
 
 pub cut_cover-on_left-requires-clause-room : goal.cut_cover-on_left-requires-clause-room
 cut_cover-on_left-requires-clause-room g c = omega (arith, c.requires.room, c.loop-tri.invariant.sums.tested.1, c.loop-tri-test.true, c.triangles-triangles.ensures.count)
+
+pub overflow_add-told : goal.overflow_add-told
+overflow_add-told g c = omega (arith, c.loop-tri.invariant.few, c.loop-tri-test.true)
 
 pub loop-tri-preserved : goal.loop-tri-preserved
 loop-tri-preserved g c =
@@ -46,6 +50,7 @@ loop-tri-preserved g c =
     (not_covered plane part halves edge at_b c.corner_of-corner.result (g.F.Finder.is_near c.args.finder.now) c.requires.near c.corner_of-corner.ensures (n + 1) next c.next_triangle-tri-in-loop-tri.ensures.passed_over) in
     record {
       within = c.next_triangle-tri-in-loop-tri.ensures.most;
+      few = omega (arith, c.loop-tri.invariant.few, c.next_triangle-tri-in-loop-tri.ensures.from);
       sums = subst (λ (T : Type 0). T) (λ i. AreCoversSoFar plane part halves edge at_b next before new (sym left i) (sym right i)) past;
     }
 

@@ -8,6 +8,7 @@ use Rattle.cut_count.proofs.start.cover_counts.Given as goal
 abbrev pub invariant-loop-tri : goal.invariant-loop-tri
 invariant-loop-tri g l = record {
   within : l.tri ≤ l.triangles;
+  few : l.told ≤ l.tri;
   sums : AreCoversSoFar (plane_of l.section.cut) (solid_part l.solid) (edge_halves l.solid) l.end.edge l.end.at_b l.tri l.fn.meter.tests l.meter.tests l.left l.right;
 }
 

@@ -21,6 +21,7 @@ loop-tri-init g c =
     let tri = c.next_triangle-tri.result in
     record {
       within = c.next_triangle-tri.ensures.most;
+      few = omega arith;
       sums = first_past x c.args.edge 0 tri x 0 0 (first_none x c.args.edge) c.next_triangle-tri.ensures.from
           (passed x c.args.edge c.args.corner (g.F.Finder.is_near c.args.finder.now) c.requires.near c.requires.corner 0 tri c.next_triangle-tri.ensures.passed_over);
     }
@@ -46,6 +47,9 @@ cover-on_left-requires-clause-room g c =
     let less : made < c.args.triangles = omega (arith, c.loop-tri-test.true) in
     still_room (g.S.Sight.sight c.args.sight.now) _ made e c.args.triangles less c.requires.room
 
+pub overflow_add-told : goal.overflow_add-told
+overflow_add-told g c = omega (arith, c.loop-tri.invariant.few, c.loop-tri-test.true)
+
 pub loop-tri-preserved : goal.loop-tri-preserved
 loop-tri-preserved g c =
     let x = g.S.Sight.sight c.args.sight.now in
@@ -63,6 +67,7 @@ loop-tri-preserved g c =
     (passed x c.args.edge c.args.corner (g.F.Finder.is_near c.args.finder.now) c.requires.near c.requires.corner (k + 1) next c.next_triangle-tri-in-loop-tri.ensures.passed_over) in
     record {
       within = c.next_triangle-tri-in-loop-tri.ensures.most;
+      few = omega (arith, c.loop-tri.invariant.few, c.next_triangle-tri-in-loop-tri.ensures.from);
       sums = subst (λ (n : ℕ). AreFirstSoFar x c.args.edge next new (c.loop-tri.left + n) (c.loop-tri.right + c.from-right.result)) (sym c.from-left.ensures)
           (subst (λ (n : ℕ). AreFirstSoFar x c.args.edge next new (c.loop-tri.left + l) (c.loop-tri.right + n)) (sym c.from-right.ensures) past);
     }

@@ -6,6 +6,7 @@ use Rattle.span_count.proofs.edge_tests.first_counts.Given as goal
 abbrev pub invariant-loop-tri : goal.invariant-loop-tri
 invariant-loop-tri g l = record {
   within : l.tri ≤ l.triangles;
+  few : l.told ≤ l.tri;
   sums : AreFirstSoFar (g.S.Sight.sight l.fn.sight) l.edge l.tri (g.S.Sight.sight l.sight) l.left l.right;
 }
 
