@@ -1,5 +1,5 @@
 -- Pieces that are the strips which a view's own counts tell, put together.
-use Rattle.std.specs.Prelude.{◌++◌, ℕ, List, map}
+use Rattle.std.specs.Prelude.{◌++◌, List, map}
 use Rattle.std.specs.List.{AllZip}
 use Rattle.lattice.specs.Cuts.{Plane, plane_of, toward_of}
 use Rattle.lattice.specs.Points.{of_dir}

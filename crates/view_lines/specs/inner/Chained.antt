@@ -1,5 +1,5 @@
 -- Counts that follow one another.
-use Rattle.std.specs.Prelude.{ℕ, ◌<◌, length, List}
+use Rattle.std.specs.Prelude.{◌<◌, length, List}
 use Rattle.exact_frac.specs.declared.Frac.{Frac}
 use Rattle.span_count.specs.CountSpans.{Follow}
 use Rattle.span_count.specs.declared.span.CountSpan.{CountSpan}
