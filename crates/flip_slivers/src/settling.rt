@@ -28,10 +28,11 @@ pub struct Flipped {
 /// side yet, if the lesser height of the two rises, and if no point moves more than `limit` units from the given surface.
 ///
 /// The surface needn't be closed. A pass tries each triangle once, and after each flip again its two triangles and those beside them,
-/// six at most; passes go on until one flips none, mostly the second. A try takes a constant time but for a sliver, which looks at the
-/// triangles that are listed at an end of its longest side, at the end where they are fewer, and before a flip in the same way at an end of
-/// the other diagonal. These lists only grow, by two places at each flip: a triangle stays listed at a corner that it left. So around
-/// corners with few triangles time grows with the triangles and the flips, and memory too.
+/// six at most; passes go on until one flips none, mostly the second. What is beside a side is found among the triangles that are listed
+/// at one of its ends, at that where they are fewer: once for each longest side of a sliver, twice more for the diagonal in its place, and
+/// four times for a flip. These lists only grow, by two places at each flip: a triangle stays listed at a corner that it left. So around
+/// corners with few triangles time grows with the triangles and the flips, and memory too; with many around both ends of a side time
+/// grows at worst with the product of triangles and flips.
 pub fn flip_slivers(
     alloc: Global,
     corners: &[Corner],
