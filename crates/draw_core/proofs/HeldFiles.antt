@@ -1,6 +1,6 @@
 -- The names of a drawing's files differ, so that at the end each of them holds its bytes.
 use Rattle.std.proofs.Common.{◌≡◌, ◌≢◌, ◌<◌, ◌-◌, ℕ, suc, List, [], ◌∷◌, ◌++◌, All, AllPairs, length, take, drop, map, codes, Option, Some, None, Bool, true, false, true≢false, refl, sym, ap, ◌∙◌, subst, length-append, arith}
-use Rattle.std.specs.Prelude.{◌&&◌, ◌||◌, not, nat_le, IsTrue, IfSome, IsSomeAnd, if◌then◌else◌}
+use Rattle.std.specs.Prelude.{◌&&◌, not, nat_le, IsTrue, IfSome, if◌then◌else◌}
 use Rattle.std.specs.List.{list_all}
 use Rattle.std.specs.Str.{bytes_eq}
 use Rattle.std.proofs.lemmas.List.{take-append-drop, append_cancel_left}
@@ -15,7 +15,7 @@ use Rattle.part_input.specs.declared.fault.Fault.{Fault}
 use Rattle.plot_rack.specs.Plotters.{Plot}
 use Rattle.sheet_plan.specs.declared.sheet.Stroke.{Stroke}
 use Rattle.draw_core.specs.Drawing.{plot_file, files_of, Writes, WritesNamed, Holds, HoldsNamed}
-use Rattle.draw_core.specs.Outputs.{File, KeepsAll, LeavesAll, HoldsAll, stem_of, plot_name}
+use Rattle.draw_core.specs.Outputs.{File, KeepsAll, HoldsAll, stem_of, plot_name}
 use Rattle.draw_core.specs.declared.drawing.Drawing.{Drawing}
 use Rattle.draw_core.proofs.Unmet.{and_left, and_right, not_true, outputs_differ}
 

@@ -1,15 +1,14 @@
 -- The strokes of a drawing stand in the boxes of their views.
-use Rattle.std.proofs.Common.{◌≡◌, ℕ, zero, suc, ◌+◌, List, [], ◌∷◌, ◌++◌, All, Contains, Some, slice_get, get_or, refl, sym, ap, subst, ◌∙◌, arith}
+use Rattle.std.proofs.Common.{◌≡◌, ℕ, suc, ◌+◌, List, [], ◌∷◌, All, Contains, Some, slice_get, get_or, refl, sym, subst, ◌∙◌, arith}
 use Rattle.std.specs.List.{AllZip}
 use Rattle.std.proofs.lemmas.List.Elements.{All-nil, All-append, Contains-get_or}
-use Rattle.geometry.specs.Parts.{Part, IsClosed}
+use Rattle.geometry.specs.Parts.{Part}
 use Rattle.job_file.specs.Seen.{direction_seen}
 use Rattle.job_file.specs.declared.job.Job.{Job}
 use Rattle.job_file.specs.declared.view.JobView.{JobView}
 use Rattle.lattice.specs.Cuts.{Plane, plane_of}
 use Rattle.lattice.specs.Points.{of_dir, of_spot}
 use Rattle.lattice.specs.Triple.{Triple}
-use Rattle.lattice.specs.declared.pieces.Crease.{Crease}
 use Rattle.lattice.specs.declared.pieces.HatchLine.{HatchLine}
 use Rattle.lattice.specs.declared.pieces.Piece.{Piece}
 use Rattle.lattice.specs.declared.pieces.ViewSpec.{ViewSpec}
@@ -18,7 +17,7 @@ use Rattle.lattice.specs.declared.points.Corner.{Corner}
 use Rattle.lattice.specs.declared.points.Spot.{Spot}
 use Rattle.line_merge.proofs.Zips.{zip_right}
 use Rattle.sheet_plan.specs.Boxes.{Box, box_at, IsBoxOf}
-use Rattle.sheet_plan.specs.Extents.{IsExtent, AreExtents}
+use Rattle.sheet_plan.specs.Extents.{IsExtent}
 use Rattle.sheet_plan.specs.Numbers.{measure_of}
 use Rattle.sheet_plan.specs.Sheets.{IsPlaceOf, IsShownAt, IsStrokeBetween}
 use Rattle.sheet_plan.specs.declared.bounds.Extent.{Extent}

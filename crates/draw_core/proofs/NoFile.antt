@@ -1,6 +1,6 @@
 -- Words that name no file to be read: what they say of a drawing, on every desk, and which faults they can't have.
 use Rattle.std.proofs.Common.{◌≡◌, ◌⊎◌, inl, inr, ℕ, List, Option, Some, None, IfSome, IsSome, Result, Ok, Err, refl, sym, subst}
-use Rattle.std.specs.Prelude.{IfOk, IsSomeAnd}
+use Rattle.std.specs.Prelude.{IfOk}
 use Rattle.dec_text.specs.declared.number.Length.{Length}
 use Rattle.desk.specs.Files.{Files}
 use Rattle.draw_words.specs.Names.{Named}

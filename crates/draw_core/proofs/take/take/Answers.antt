@@ -1,4 +1,4 @@
-use Rattle.std.proofs.Common.{Option, Some, map, sym, subst}
+use Rattle.std.proofs.Common.{Option, map, subst}
 use Rattle.std.specs.Prelude.{IfSome}
 use Rattle.draw_words.specs.Names.{Named}
 use Rattle.draw_words.specs.Seen.{named_seen, texts}
