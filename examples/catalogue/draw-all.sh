@@ -1,6 +1,6 @@
 #!/bin/sh
 # Draws every part of a folder on all cores, goes on past bad parts, and reports on each.
-# Usage: draw-all.sh PROGRAM JOB PARTS SHEETS; PARTS is a folder of .off and .stl files (.OFF and .STL too), the sheets are
+# Usage: draw-all.sh PROGRAM JOB PARTS SHEETS; PARTS is a folder of .off, .stl and .ast files (in capitals too), the sheets are
 # written to the folder SHEETS, and the report to SHEETS/report.tsv: part, status, line; SHEETS/index.html shows them all. A part
 # that is refused has no sheet there, also none of an earlier run. Further words go to GNU parallel, as `--sshlogin` does.
 # It ends with 0 where every part was drawn, with 1 where one wasn't or there is none, with 2 where the words are wrong.
@@ -20,7 +20,7 @@ if [ ! -d "$parts" ]; then
 fi
 command -v parallel >/dev/null || { echo "draw-all.sh: GNU parallel is needed, Debian's package parallel" >&2; exit 2; }
 mkdir -p "$sheets" || exit 2
-find "$parts" -maxdepth 1 -type f \( -iname '*.off' -o -iname '*.stl' \) -print0 | sort -z |
+find "$parts" -maxdepth 1 -type f \( -iname '*.off' -o -iname '*.stl' -o -iname '*.ast' \) -print0 | sort -z |
     parallel --null --keep-order "$@" "$here/draw-one.sh" "$program" "$job" "$sheets" >"$sheets/report.tsv"
 "$here/index.sh" "$sheets"
 if [ ! -s "$sheets/report.tsv" ]; then
