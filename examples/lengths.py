@@ -28,7 +28,9 @@ def squares(toward):
 
 def main(name):
     unit, views, sums = 1, {}, {}
-    with open(name, encoding="ascii") as lines:
+    with open(name, encoding="ascii", errors="replace") as lines:
+        if next(lines, "") != "sheet list 1\n":
+            sys.exit("%s isn't what sheet --list writes" % name)
         for words in map(str.split, lines):
             if words[0] == "decimals":
                 unit = 10 ** -int(words[1])
