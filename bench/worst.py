@@ -2,7 +2,7 @@
 """Looks for parts that are slow to draw: worst.py PROGRAM MINUTES [SEED] [FOLDER]. Parts of each family below are made with random
 numbers, drawn in one view or cut, and the slowest of a family is changed a little again and again. Prints each new worst with its
 processor seconds and MB; its part and job are kept in FOLDER, `worst` where it isn't given. All parts are within the limits of `draw`;
-one that is refused counts too, since the check takes its time as well."""
+one that is refused counts too, since the check takes its time as well. A run has at most 4 GB."""
 import os
 import random
 import resource
@@ -161,7 +161,8 @@ def measured(program, part, file):
 
 def main(program, minutes, seed, folder):
     os.makedirs(folder, exist_ok=True)
-    resource.setrlimit(resource.RLIMIT_CPU, (36000, 36000))
+    # a run that takes more ends by want of memory, or by a signal, and counts with what it took
+    resource.setrlimit(resource.RLIMIT_AS, (4 << 30, 4 << 30))
     choice = random.Random(seed)
     worst = {}
     end = time.monotonic() + 60 * minutes
