@@ -1,14 +1,15 @@
 #!/bin/sh
 # Draws each sheet that sheets.txt names and compares it with the one that is kept in sheets/, and so the further files that its
 # job asks for; and lists the strokes of the bracket's sheet as sheet makes it, which is compared with the list in lists/. Then it has
-# the kept piece lists judged, and draws the detail of the pillow block that README.md shows.
-# Usage: examples/check.sh [DRAW [SHEET [PIECES]]]; these are the built programs, crates/draw_cli/out/draw_cli,
-# crates/sheet_cli/out/sheet_cli and crates/piece_cli/out/piece_cli where they aren't given.
+# the kept piece lists judged, draws the sheet and the detail of the pillow block that README.md shows, and mends bent.off, which is compared with the part in mended/.
+# Usage: examples/check.sh [DRAW [SHEET [PIECES [MEND]]]]; these are the built programs, crates/draw_cli/out/draw_cli,
+# crates/sheet_cli/out/sheet_cli, crates/piece_cli/out/piece_cli and crates/mend_cli/out/mend_cli where they aren't given.
 set -u
 here=$(dirname "$0")
 program=$(realpath "${1:-$here/../crates/draw_cli/out/draw_cli}") || exit 1
 sheet=$(realpath "${2:-$here/../crates/sheet_cli/out/sheet_cli}") || exit 1
 pieces=$(realpath "${3:-$here/../crates/piece_cli/out/piece_cli}") || exit 1
+mend=$(realpath "${4:-$here/../crates/mend_cli/out/mend_cli}") || exit 1
 cd "$here" || exit 1
 drawn=$(mktemp -d) || exit 1
 trap 'rm -rf "$drawn"' EXIT
@@ -58,6 +59,19 @@ if cmp -s "$drawn/pillow-detail.svg" ../docs/pillow-detail.svg; then
     echo "pillow-detail.svg: as kept"
 else
     echo "pillow-detail.svg: differs from docs/pillow-detail.svg"
+    wrong=1
+fi
+"$sheet" pillow.off --job pillow.toml --out "$drawn/pillow.svg" >/dev/null || wrong=1
+if cmp -s "$drawn/pillow.svg" ../docs/pillow.svg; then
+    echo "pillow.svg: as kept"
+else
+    echo "pillow.svg: differs from docs/pillow.svg"
+    wrong=1
+fi
+if [ "$("$mend" bent.off --out "$drawn/bent.off")" = "mended flips 1 moved at most 1.00 units" ] && cmp -s "$drawn/bent.off" mended/bent.off; then
+    echo "bent.off: mended as kept"
+else
+    echo "bent.off: not mended as mended/bent.off"
     wrong=1
 fi
 exit "$wrong"
