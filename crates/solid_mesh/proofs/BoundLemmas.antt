@@ -11,14 +11,14 @@ use Rattle.meeting.specs.declared.range.Range.{Range}
 use Rattle.meeting.specs.Ranges.{IsInRange, RangesMeet, IsEdgeRange, IsTriangleRange}
 use Rattle.meeting.proofs.BoxAxes.{read}
 use Rattle.meeting.proofs.Ranges.{coordinates-by-ranges}
-use Rattle.solid_mesh.specs.inner.Bounds.{AreEdgeBounds, BoundsMeet, IsInBounds, IsWithin, AreWithin}
+use Rattle.solid_mesh.specs.inner.Bounds.{AreEdgeBounds, AreTriangleBounds, BoundsMeet, IsInBounds, IsWithin, AreWithin}
 use Rattle.solid_mesh.specs.inner.Searches.{AtHalf, IsReachOf}
 use Rattle.solid_mesh.specs.inner.Trees.{IsPlaced}
 use Rattle.solid_mesh.specs.Meetings.{HaveCommonX, HaveCommonBox, MeetApart}
 use Rattle.solid_mesh.specs.declared.bounds.Bounds.{Bounds}
 use Rattle.solid_mesh.specs.declared.placed.Placed.{Placed}
 use Rattle.solid_mesh.specs.declared.search.Reach.{Reach}
-use Rattle.meeting.proofs.TouchingBoxes.{edge_low, edge_high, boxes-of-touch, differences-of-touch}
+use Rattle.meeting.proofs.TouchingBoxes.{edge_low, edge_high, face_low, face_high, boxes-of-touch, differences-of-touch}
 use Rattle.solid_mesh.proofs.Meets.{touch_of_apart, box_here, x_here}
 
 -- ---- ranges as the machine reads them
@@ -69,6 +69,22 @@ ends_in p q r h = (record { x = first h.x; y = first h.y; z = first h.z }, recor
 
     last : {p q : ℤ} {r : Range} → IsEdgeRange p q r → IsInRange r q
     last {p} {q} h = record { from = subst (λ (z : ℤ). z ≤ℤ q) (sym h.from) ((edge_low p q).1); to = subst (λ (z : ℤ). q ≤ℤ z) (sym h.to) ((edge_high p q).1) }
+
+pub corners_in : (a b c : Corner) (r : Bounds) → AreTriangleBounds a b c r → IsInBounds a r × IsInBounds b r × IsInBounds c r
+corners_in a b c r h =
+    let (a_x, b_x, c_x) = along h.x in
+    let (a_y, b_y, c_y) = along h.y in
+    let (a_z, b_z, c_z) = along h.z in
+    (record { x = a_x; y = a_y; z = a_z }, record { x = b_x; y = b_y; z = b_z }, record { x = c_x; y = c_y; z = c_z })
+  where
+    one : {n low high : ℤ} {r : Range} → r.from ≡ low → r.to ≡ high → low ≤ℤ n → n ≤ℤ high → IsInRange r n
+    one {n} from to h g = record { from = subst (λ (z : ℤ). z ≤ℤ n) (sym from) h; to = subst (λ (z : ℤ). n ≤ℤ z) (sym to) g }
+
+    along : {a b c : ℤ} {r : Range} → IsTriangleRange a b c r → IsInRange r a × IsInRange r b × IsInRange r c
+    along {a} {b} {c} h =
+        let (low_a, low_b, low_c) = face_low a b c in
+        let (high_a, high_b, high_c) = face_high a b c in
+        (one h.from h.to low_a high_a, one h.from h.to low_b high_b, one h.from h.to low_c high_c)
 
 -- what meets bounds meets those that these are within
 pub meet_around : (r s t : Bounds) → AreWithin r s → BoundsMeet r t → BoundsMeet s t

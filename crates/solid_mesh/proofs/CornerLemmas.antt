@@ -1,5 +1,5 @@
--- An edge and a triangle with a common corner, whose bounds meet no farther than in an end of the edge's.
-use Rattle.std.proofs.Common.{◌≡◌, ℕ, ◌<◌, ◌⊎◌, inl, inr, List, [], ◌∷◌, slice_get, Some, refl, sym, subst, ap, ◌∙◌, arith}
+-- An edge and a triangle whose bounds tell that they meet nowhere, or in a common corner alone.
+use Rattle.std.proofs.Common.{◌≡◌, ℕ, ◌<◌, ◌⊎◌, inl, inr, List, Option, [], ◌∷◌, slice_get, Some, refl, sym, subst, ap, ◌∙◌, arith}
 use Rattle.std.specs.Prelude.{ℤ, pos, negsuc, ◌+ℤ◌, ◌-ℤ◌, ◌*ℤ◌, ◌≤ℤ◌, ◌<ℤ◌}
 use Rattle.std.specs.Int.{int_min, int_max}
 use Rattle.std.proofs.lemmas.Int.{ints, clamps}
@@ -16,15 +16,15 @@ use Rattle.meeting.specs.Ranges.{IsEdgeRange, IsTriangleRange}
 use Rattle.meeting.proofs.Beyond.{off-start}
 use Rattle.meeting.proofs.TouchingBoxes.{above, least, below, most, edge_low, edge_high, face_low, face_high, difference}
 use Rattle.solid_mesh.specs.Meetings.{Side, MeetApart}
-use Rattle.solid_mesh.specs.inner.Bounds.{AreEdgeBounds, AreTriangleBounds, RangesEnd, BoundsEnd, PassesBy, IsInBounds, IsWithin, AreWithin}
+use Rattle.solid_mesh.specs.inner.Bounds.{AreEdgeBounds, AreTriangleBounds, RangesEnd, BoundsEnd, PassesBy, PassesRound, IsInBounds, IsWithin, AreWithin}
 use Rattle.solid_mesh.specs.inner.Pairs.{MeetBeyond}
-use Rattle.solid_mesh.specs.inner.Searches.{AtHalf, IsReachOf, IsEnd}
-use Rattle.solid_mesh.specs.inner.Trees.{IsPlaced}
+use Rattle.solid_mesh.specs.inner.Searches.{AtHalf, IsReachOf, IsEnd, IsBeside, IsApart}
+use Rattle.solid_mesh.specs.inner.Trees.{IsRim, IsPlaced}
 use Rattle.solid_mesh.specs.declared.bounds.Bounds.{Bounds}
 use Rattle.solid_mesh.specs.declared.placed.Placed.{Placed}
 use Rattle.solid_mesh.specs.declared.search.Reach.{Reach}
-use Rattle.solid_mesh.proofs.BoundLemmas.{in_wider}
-use Rattle.solid_mesh.proofs.PassingLemmas.{passed}
+use Rattle.solid_mesh.proofs.BoundLemmas.{in_wider, corners_in}
+use Rattle.solid_mesh.proofs.PassingLemmas.{passed, passed_all, passed_round, first_beside, second_beside, third_beside}
 use Rattle.solid_mesh.proofs.Meets.{touch_of_apart, apart_from, apart-first, apart-second, apart-both}
 
 -- ---- equal sums with weights, along one of the six
@@ -172,7 +172,7 @@ module _ (s : Part) (halves : List ℕ) (edge : ℕ) (reach : Reach) (of_edge : 
   ]
 
   -- where the bounds meet no farther than in an end of the edge's, and a corner of the edge is the triangle's, they don't meet apart
-  pub apart_in_corner : IsEnd reach x.corner → BoundsEnd reach.bounds around → AtHalf (MeetApart s) halves (edge, x.tri) → ⊥
+  apart_in_corner : IsEnd reach x.corner → BoundsEnd reach.bounds around → AtHalf (MeetApart s) halves (edge, x.tri) → ⊥
   apart_in_corner end ends (half, at, meets) = by end
     where
       h : MeetApart s of_edge.half x.tri
@@ -189,7 +189,7 @@ module _ (s : Part) (halves : List ℕ) (edge : ℕ) (reach : Reach) (of_edge : 
           ((apart-second s of_edge.half x.tri e f of_triangle.numbered (λ other. apart-both s of_edge.half x.tri e f of_triangle.numbered other has h) has).1 h)
 
   -- the same where the edge passes by bounds of the other corners
-  pub apart_beside : IsEnd reach x.corner → (rim : Bounds) → AreWithin x.rim rim → PassesBy reach.p reach.q rim → AtHalf (MeetApart s) halves (edge, x.tri) → ⊥
+  apart_beside : IsEnd reach x.corner → (rim : Bounds) → AreWithin x.rim rim → PassesBy reach.p reach.q rim → AtHalf (MeetApart s) halves (edge, x.tri) → ⊥
   apart_beside end rim in_rim passes (half, at, meets) = by end
     where
       h : MeetApart s of_edge.half x.tri
@@ -207,9 +207,46 @@ module _ (s : Part) (halves : List ℕ) (edge : ℕ) (reach : Reach) (of_edge : 
       by_corner n p at is end here =
           apart_from s of_edge.half x.tri e f of_triangle.numbered h n p at here (subst (IsCornerOf f.tri) is of_triangle.has)
           (passed f.a f.b f.c e.p e.q p rim end
-          (in_either n f.tri.a p f.a at f.at_a is of_triangle.rim.first) (in_either n f.tri.b p f.b at f.at_b is of_triangle.rim.second) (in_either n f.tri.c p f.c at f.at_c is of_triangle.rim.third)
+          (in_either n f.tri.a p f.a at f.at_a is (first_beside f.tri x.corner f.a f.b f.c x.rim of_triangle.rim)) (in_either n f.tri.b p f.b at f.at_b is (second_beside f.tri x.corner f.a f.b f.c x.rim of_triangle.rim))
+          (in_either n f.tri.c p f.c at f.at_c is (third_beside f.tri x.corner f.a f.b f.c x.rim of_triangle.rim))
           (touch_of_apart s of_edge.half x.tri e f of_triangle.numbered h) line)
 
       by : IsEnd reach x.corner → ⊥
       by (inl is) = by_corner e.m e.p e.at_m (sym is ∙ of_edge.start) (inl refl) (inl refl)
       by (inr is) = by_corner e.n e.q e.at_n (sym is ∙ of_edge.end) (inr refl) (inr refl)
+
+  here : AtHalf (MeetApart s) halves (edge, x.tri) → MeetApart s of_edge.half x.tri
+  here (half, at, meets) = subst (λ (k : ℕ). MeetApart s k x.tri) (same_element halves edge edge half of_edge.half refl at of_edge.listed) meets
+
+  -- where the edge passes by all of them
+  apart_all : PassesBy reach.p reach.q around → AtHalf (MeetApart s) halves (edge, x.tri) → ⊥
+  apart_all passes meets =
+      let (in_a, in_b, in_c) = corners_in f.a f.b f.c x.bounds of_triangle.of_face in
+      passed_all f.a f.b f.c e.p e.q around (in_wider f.a x.bounds around within in_a) (in_wider f.b x.bounds around within in_b) (in_wider f.c x.bounds around within in_c)
+      (subst (λ (k : Corner). PassesBy e.p k around) of_edge.at_end (subst (λ (k : Corner). PassesBy k reach.q around) of_edge.at_start passes))
+      (touch_of_apart s of_edge.half x.tri e f of_triangle.numbered (here meets))
+
+  -- where it passes round the common corner and bounds of the others
+  apart_round : (rim : Bounds) → AreWithin x.rim rim → PassesRound x.at reach.p reach.q rim → AtHalf (MeetApart s) halves (edge, x.tri) → ⊥
+  apart_round rim in_rim passes meets =
+      passed_round f.tri x.corner f.a f.b f.c e.p e.q x.at rim
+      (λ is. same_element s.corners f.tri.a x.corner f.a x.at is f.at_a of_triangle.at) (λ is. same_element s.corners f.tri.b x.corner f.b x.at is f.at_b of_triangle.at)
+      (λ is. same_element s.corners f.tri.c x.corner f.c x.at is f.at_c of_triangle.at) (wider of_triangle.rim)
+      (subst (λ (k : Corner). PassesRound x.at e.p k rim) of_edge.at_end (subst (λ (k : Corner). PassesRound x.at k reach.q rim) of_edge.at_start passes))
+      (touch_of_apart s of_edge.half x.tri e f of_triangle.numbered (here meets))
+    where
+      wider : IsRim f.tri x.corner f.a f.b f.c x.rim → IsRim f.tri x.corner f.a f.b f.c rim
+      wider (inl (is, b, c)) = inl (is, in_wider f.b x.rim rim in_rim b, in_wider f.c x.rim rim in_rim c)
+      wider (inr (inl (is, c, a))) = inr (inl (is, in_wider f.c x.rim rim in_rim c, in_wider f.a x.rim rim in_rim a))
+      wider (inr (inr (is, a, b))) = inr (inr (is, in_wider f.a x.rim rim in_rim a, in_wider f.b x.rim rim in_rim b))
+
+  -- where bounds tell that the edge is apart from all triangles with the same corner, or from all within these bounds
+  pub apart_by_bounds : (corner : Option ℕ) (at : Corner) → ((n : ℕ) → corner ≡ Some n → (x.corner ≡ n) × (x.at ≡ at)) → (rim : Bounds) → AreWithin x.rim rim
+      → IsApart reach around corner at rim → AtHalf (MeetApart s) halves (edge, x.tri) → ⊥
+  apart_by_bounds corner at same rim in_rim (inl passes) meets = apart_all passes meets
+  apart_by_bounds corner at same rim in_rim (inr (n, is, beside)) meets = by beside
+    where
+      by : IsBeside reach around n at rim → ⊥
+      by (inl (end, inl ends)) = apart_in_corner (subst (IsEnd reach) (sym ((same n is).0)) end) ends meets
+      by (inl (end, inr passes)) = apart_beside (subst (IsEnd reach) (sym ((same n is).0)) end) rim in_rim passes meets
+      by (inr passes) = apart_round rim in_rim (subst (λ (k : Corner). PassesRound k reach.p reach.q rim) (sym ((same n is).1)) passes) meets

@@ -11,7 +11,7 @@ use Rattle.solid_mesh.specs.declared.placed.Placed.{Placed}
 use Rattle.solid_mesh.specs.declared.subtrees.Subtree.{Subtree}
 use Rattle.solid_mesh.proofs.BoundLemmas.{within_both}
 
-some_same : (m n : ℕ) → Some m ≡ Some n → m ≡ n
+pub some_same : (m n : ℕ) → Some m ≡ Some n → m ≡ n
 some_same m n e = cc
 
 module _ (placed : List Placed) where

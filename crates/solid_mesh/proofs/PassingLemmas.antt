@@ -1,20 +1,24 @@
 -- An edge that passes by bounds, and triangles whose corners but a common one are within them.
-use Rattle.std.proofs.Common.{◌≡◌, ℕ, ◌*◌, ◌+◌, ◌≤◌, ◌^◌, ◌⊎◌, inl, inr, [], ◌∷◌, refl, sym, subst, ap, ◌∙◌, arith, FitsSigned, to_z, of_z}
-use Rattle.std.specs.Prelude.{ℤ, pos, ◌+ℤ◌, ◌-ℤ◌, ◌*ℤ◌, ◌≤ℤ◌, unsigned_abs}
+use Rattle.std.proofs.Common.{◌≡◌, ℕ, ◌*◌, ◌+◌, ◌<◌, ◌≤◌, ◌^◌, ◌⊎◌, inl, inr, [], ◌∷◌, refl, sym, subst, ap, ◌∙◌, arith, FitsSigned, to_z, of_z}
+use Rattle.std.specs.Prelude.{ℤ, pos, negsuc, ◌+ℤ◌, ◌-ℤ◌, ◌*ℤ◌, ◌≤ℤ◌, ◌<ℤ◌, unsigned_abs}
 use Rattle.std.specs.Int.{w32, w64}
 use Rattle.std.proofs.lemmas.Int.{ints, to_z-of_z}
-use Rattle.integers.proofs.Absolutes.{natural_not_negative}
-use Rattle.integers.proofs.Comparisons.{gap_of_at_most, at_most_by, at_most_itself, not_negative_of_positive, zero_times}
+use Rattle.std.proofs.lemmas.Bool.{cases_lt}
+use Rattle.integers.proofs.Absolutes.{natural_not_negative, natural_positive}
+use Rattle.integers.proofs.Comparisons.{gap_of_at_most, at_most_by, at_most_itself, not_negative_of_positive, sum_positive_first, sum_positive_last, sum_not_negative, positive_not_zero, zero_times}
 use Rattle.integers.proofs.Ring.{var, con, ◌⊕◌, ◌⊖◌, ◌⊗◌, ring, by_three}
-use Rattle.integers.proofs.Signs.{mul_nonneg, zero_of_mul}
+use Rattle.integers.proofs.Signs.{mul_nonneg, mul_pos, zero_of_mul}
 use Rattle.integers.proofs.Worth.{Reads, pass, minus, times}
 use Rattle.lattice.specs.declared.points.Corner.{Corner}
+use Rattle.lattice.specs.declared.soup.Tri.{Tri}
 use Rattle.lattice.specs.Points.{Point, point_of, AreOnePoint}
 use Rattle.geometry.specs.Faces.{edge_sum, face_sum}
+use Rattle.geometry.proofs.FacePoints.{face_point-round}
 use Rattle.meeting.specs.declared.range.Range.{Range}
 use Rattle.meeting.specs.Ranges.{IsInRange}
 use Rattle.meeting.specs.Touching.{Touch}
-use Rattle.solid_mesh.specs.inner.Bounds.{IsInBounds, left_of_line, AreLeft, PassesBy}
+use Rattle.solid_mesh.specs.inner.Bounds.{IsInBounds, left_of_line, AreLeft, AreLeftOfBoth, PassesBy, PassesRound}
+use Rattle.solid_mesh.specs.inner.Trees.{IsRim}
 use Rattle.solid_mesh.specs.declared.bounds.Bounds.{Bounds}
 
 -- ---- products of a number with those of a range
@@ -157,3 +161,179 @@ module _ (a b c p q h : Corner) (rim : Bounds) (end : (h ≡ p) ⊎ (h ≡ q)) (
           seen (λ n. n.z) (λ n. n.x) rim.z rim.x (λ n e. (e.z, e.x)) i j k l m (ap (λ (n : Point). n.w) same) (ap (λ (n : Point). n.z) same) (ap (λ (n : Point). n.x) same) left
       by i j k l m same (inr (inr (inr (inr (inr left))))) =
           seen (λ n. n.x) (λ n. n.z) rim.x rim.z (λ n e. (e.x, e.z)) i j k l m (ap (λ (n : Point). n.w) same) (ap (λ (n : Point). n.x) same) (ap (λ (n : Point). n.z) same) left
+
+-- ---- sums with weights of what is positive
+some_of_two : (i j : ℕ) (x y : ℤ) → 0 < i + j → pos 0 <ℤ x → pos 0 <ℤ y → pos 0 <ℤ ((pos i *ℤ x) +ℤ (pos j *ℤ y))
+some_of_two i j x y some hx hy = elim (cases_lt 0 i) [
+  | inl h ↦ sum_positive_first (pos i *ℤ x) (pos j *ℤ y) (mul_pos (pos i) x (natural_positive i h) hx) (mul_nonneg (pos j) y (natural_not_negative j) (not_negative_of_positive y hy))
+  | inr h ↦
+      let there : 0 < j = omega (arith, some, h) in
+      sum_positive_last (pos i *ℤ x) (pos j *ℤ y) (mul_nonneg (pos i) x (natural_not_negative i) (not_negative_of_positive x hx)) (mul_pos (pos j) y (natural_positive j there) hy)
+]
+
+some_of_three : (i j k : ℕ) (x y z : ℤ) → 0 < i + j + k → pos 0 <ℤ x → pos 0 <ℤ y → pos 0 <ℤ z → pos 0 <ℤ (((pos i *ℤ x) +ℤ (pos j *ℤ y)) +ℤ (pos k *ℤ z))
+some_of_three i j k x y z some hx hy hz = elim (cases_lt 0 k) [
+  | inl h ↦
+      sum_positive_last _ _
+      (sum_not_negative (pos i *ℤ x) (pos j *ℤ y) (mul_nonneg (pos i) x (natural_not_negative i) (not_negative_of_positive x hx)) (mul_nonneg (pos j) y (natural_not_negative j) (not_negative_of_positive y hy)))
+      (mul_pos (pos k) z (natural_positive k h) hz)
+  | inr h ↦
+      let there : 0 < i + j = omega (arith, some, h) in
+      sum_positive_first _ _ (some_of_two i j x y there hx hy) (mul_nonneg (pos k) z (natural_not_negative k) (not_negative_of_positive z hz))
+]
+
+-- ---- a triangle within bounds that the edge passes by
+pub passed_all : (a b c p q : Corner) (r : Bounds) → IsInBounds a r → IsInBounds b r → IsInBounds c r → PassesBy p q r → Touch a b c p q → ⊥
+passed_all a b c p q r in_a in_b in_c passes t =
+    let (i, j, some, e) = t.on_edge in
+    let (k, l, m, some_face, is) = t.on_face in
+    let same : edge_sum p q i j ≡ face_sum a b c k l m = sym e ∙ is in
+    let weights = ap (λ (n : Point). n.w) same in
+    let x = ap (λ (n : Point). n.x) same in
+    let y = ap (λ (n : Point). n.y) same in
+    let z = ap (λ (n : Point). n.z) same in
+    elim passes [
+      | inl left ↦ seen i j k l m some_face (λ n. n.x) (λ n. n.y) r.x r.y (λ n g. (g.x, g.y)) weights x y left
+      | inr g ↦ elim g [
+        | inl left ↦ seen i j k l m some_face (λ n. n.y) (λ n. n.x) r.y r.x (λ n g. (g.y, g.x)) weights y x left
+        | inr g ↦ elim g [
+          | inl left ↦ seen i j k l m some_face (λ n. n.y) (λ n. n.z) r.y r.z (λ n g. (g.y, g.z)) weights y z left
+          | inr g ↦ elim g [
+            | inl left ↦ seen i j k l m some_face (λ n. n.z) (λ n. n.y) r.z r.y (λ n g. (g.z, g.y)) weights z y left
+            | inr g ↦ elim g [
+              | inl left ↦ seen i j k l m some_face (λ n. n.z) (λ n. n.x) r.z r.x (λ n g. (g.z, g.x)) weights z x left
+              | inr left ↦ seen i j k l m some_face (λ n. n.x) (λ n. n.z) r.x r.z (λ n g. (g.x, g.z)) weights x z left
+            ]
+          ]
+        ]
+      ]
+    ]
+  where
+    seen : (i j k l m : ℕ) → 0 < k + l + m → (f g : Corner → ℤ) (u v : Range) → ((n : Corner) → IsInBounds n r → IsInRange u (f n) × IsInRange v (g n)) → pos i +ℤ pos j ≡ (pos k +ℤ pos l) +ℤ pos m
+        → (pos i *ℤ f p) +ℤ (pos j *ℤ f q) ≡ ((pos k *ℤ f a) +ℤ (pos l *ℤ f b)) +ℤ (pos m *ℤ f c)
+        → (pos i *ℤ g p) +ℤ (pos j *ℤ g q) ≡ ((pos k *ℤ g a) +ℤ (pos l *ℤ g b)) +ℤ (pos m *ℤ g c)
+        → AreLeft (f p) (f q) (g p) (g q) u v → ⊥
+    seen i j k l m some f g u v read weights same_u same_v left =
+        positive_not_zero _
+        (some_of_three k l m _ _ _ some (left (f a) (g a) ((read a in_a).0) ((read a in_a).1)) (left (f b) (g b) ((read b in_b).0) ((read b in_b).1)) (left (f c) (g c) ((read c in_c).0) ((read c in_c).1)))
+        (sum_on_line i j k l m (f p) (f q) (f a) (f b) (f c) (g p) (g q) (g a) (g b) (g c) weights same_u same_v)
+
+-- ---- a triangle of h and of two corners that are to the left of the lines from h to both ends of an edge
+module _ (i j k l m : ℕ) (hu hv pu pv qu qv bu bv cu cv : ℤ) (weights : pos i +ℤ pos j ≡ (pos k +ℤ pos l) +ℤ pos m)
+    (same_u : (pos i *ℤ pu) +ℤ (pos j *ℤ qu) ≡ ((pos k *ℤ hu) +ℤ (pos l *ℤ bu)) +ℤ (pos m *ℤ cu))
+    (same_v : (pos i *ℤ pv) +ℤ (pos j *ℤ qv) ≡ ((pos k *ℤ hv) +ℤ (pos l *ℤ bv)) +ℤ (pos m *ℤ cv)) where
+  -- how far the one corner is to the right of the line from h to the other
+  abbrev turn : ℤ
+  turn = ((cu -ℤ hu) *ℤ (bv -ℤ hv)) -ℤ ((cv -ℤ hv) *ℤ (bu -ℤ hu))
+
+  -- how far a corner is to the left of the line from h to the common point, with that point's weight
+  first_left : (pos i *ℤ left_of_line hu pu hv pv bu bv) +ℤ (pos j *ℤ left_of_line hu qu hv qv bu bv) ≡ pos m *ℤ turn
+  first_left =
+      by_three _ _ ((pos i *ℤ pu) +ℤ (pos j *ℤ qu)) (((pos k *ℤ hu) +ℤ (pos l *ℤ bu)) +ℤ (pos m *ℤ cu)) (bv -ℤ hv)
+      ((pos i *ℤ pv) +ℤ (pos j *ℤ qv)) (((pos k *ℤ hv) +ℤ (pos l *ℤ bv)) +ℤ (pos m *ℤ cv)) (hu -ℤ bu)
+      (pos i +ℤ pos j) ((pos k +ℤ pos l) +ℤ pos m) ((hv *ℤ (bu -ℤ hu)) -ℤ (hu *ℤ (bv -ℤ hv)))
+      (ring (pos i ∷ pos j ∷ pos k ∷ pos l ∷ pos m ∷ hu ∷ hv ∷ pu ∷ pv ∷ qu ∷ qv ∷ bu ∷ bv ∷ cu ∷ cv ∷ [])
+      (((var 0 ⊗ (((var 7 ⊖ var 5) ⊗ (var 12 ⊖ var 6)) ⊖ ((var 8 ⊖ var 6) ⊗ (var 11 ⊖ var 5)))) ⊕ (var 1 ⊗ (((var 9 ⊖ var 5) ⊗ (var 12 ⊖ var 6)) ⊖ ((var 10 ⊖ var 6) ⊗ (var 11 ⊖ var 5)))))
+      ⊖ (var 4 ⊗ (((var 13 ⊖ var 5) ⊗ (var 12 ⊖ var 6)) ⊖ ((var 14 ⊖ var 6) ⊗ (var 11 ⊖ var 5)))))
+      (((((((var 0 ⊗ var 7) ⊕ (var 1 ⊗ var 9)) ⊖ (((var 2 ⊗ var 5) ⊕ (var 3 ⊗ var 11)) ⊕ (var 4 ⊗ var 13))) ⊗ (var 12 ⊖ var 6))
+      ⊕ ((((var 0 ⊗ var 8) ⊕ (var 1 ⊗ var 10)) ⊖ (((var 2 ⊗ var 6) ⊕ (var 3 ⊗ var 12)) ⊕ (var 4 ⊗ var 14))) ⊗ (var 5 ⊖ var 11)))
+      ⊕ (((var 0 ⊕ var 1) ⊖ ((var 2 ⊕ var 3) ⊕ var 4)) ⊗ ((var 6 ⊗ (var 11 ⊖ var 5)) ⊖ (var 5 ⊗ (var 12 ⊖ var 6)))))) refl) same_u same_v weights
+
+  second_left : (pos i *ℤ left_of_line hu pu hv pv cu cv) +ℤ (pos j *ℤ left_of_line hu qu hv qv cu cv) ≡ pos 0 -ℤ (pos l *ℤ turn)
+  second_left =
+      by_three _ _ ((pos i *ℤ pu) +ℤ (pos j *ℤ qu)) (((pos k *ℤ hu) +ℤ (pos l *ℤ bu)) +ℤ (pos m *ℤ cu)) (cv -ℤ hv)
+      ((pos i *ℤ pv) +ℤ (pos j *ℤ qv)) (((pos k *ℤ hv) +ℤ (pos l *ℤ bv)) +ℤ (pos m *ℤ cv)) (hu -ℤ cu)
+      (pos i +ℤ pos j) ((pos k +ℤ pos l) +ℤ pos m) ((hv *ℤ (cu -ℤ hu)) -ℤ (hu *ℤ (cv -ℤ hv)))
+      (ring (pos i ∷ pos j ∷ pos k ∷ pos l ∷ pos m ∷ hu ∷ hv ∷ pu ∷ pv ∷ qu ∷ qv ∷ bu ∷ bv ∷ cu ∷ cv ∷ [])
+      (((var 0 ⊗ (((var 7 ⊖ var 5) ⊗ (var 14 ⊖ var 6)) ⊖ ((var 8 ⊖ var 6) ⊗ (var 13 ⊖ var 5)))) ⊕ (var 1 ⊗ (((var 9 ⊖ var 5) ⊗ (var 14 ⊖ var 6)) ⊖ ((var 10 ⊖ var 6) ⊗ (var 13 ⊖ var 5)))))
+      ⊖ (con (pos 0) ⊖ (var 3 ⊗ (((var 13 ⊖ var 5) ⊗ (var 12 ⊖ var 6)) ⊖ ((var 14 ⊖ var 6) ⊗ (var 11 ⊖ var 5))))))
+      (((((((var 0 ⊗ var 7) ⊕ (var 1 ⊗ var 9)) ⊖ (((var 2 ⊗ var 5) ⊕ (var 3 ⊗ var 11)) ⊕ (var 4 ⊗ var 13))) ⊗ (var 14 ⊖ var 6))
+      ⊕ ((((var 0 ⊗ var 8) ⊕ (var 1 ⊗ var 10)) ⊖ (((var 2 ⊗ var 6) ⊕ (var 3 ⊗ var 12)) ⊕ (var 4 ⊗ var 14))) ⊗ (var 5 ⊖ var 13)))
+      ⊕ (((var 0 ⊕ var 1) ⊖ ((var 2 ⊕ var 3) ⊕ var 4)) ⊗ ((var 6 ⊗ (var 13 ⊖ var 5)) ⊖ (var 5 ⊗ (var 14 ⊖ var 6)))))) refl) same_u same_v weights
+
+  -- both can't be to the left
+  none_between : 0 < i + j → pos 0 <ℤ left_of_line hu pu hv pv bu bv → pos 0 <ℤ left_of_line hu qu hv qv bu bv → pos 0 <ℤ left_of_line hu pu hv pv cu cv → pos 0 <ℤ left_of_line hu qu hv qv cu cv → ⊥
+  none_between some b_p b_q c_p c_q =
+      by turn (subst (λ (z : ℤ). pos 0 <ℤ z) first_left (some_of_two i j _ _ some b_p b_q)) (subst (λ (z : ℤ). pos 0 <ℤ z) second_left (some_of_two i j _ _ some c_p c_q))
+    where
+      none : (x : ℤ) → pos 0 <ℤ (pos 0 -ℤ x) → pos 0 ≤ℤ x → ⊥
+      none x h g = omega (arith, ints)
+
+      flipped : (x y : ℤ) → x ≡ pos 0 -ℤ y → pos 0 ≤ℤ x → pos 0 <ℤ y → ⊥
+      flipped x y e h g = omega (arith, ints)
+
+      at_least : (n : ℕ) → pos 0 ≤ℤ (pos 0 -ℤ negsuc n)
+      at_least n = omega (arith, ints)
+
+      by : (d : ℤ) → pos 0 <ℤ (pos m *ℤ d) → pos 0 <ℤ (pos 0 -ℤ (pos l *ℤ d)) → ⊥
+      by (pos n) first second = none (pos l *ℤ pos n) second (mul_nonneg (pos l) (pos n) (natural_not_negative l) (natural_not_negative n))
+      by (negsuc n) first second =
+          flipped (pos m *ℤ (pos 0 -ℤ negsuc n)) (pos m *ℤ negsuc n) (ring (pos m ∷ negsuc n ∷ []) (var 0 ⊗ (con (pos 0) ⊖ var 1)) (con (pos 0) ⊖ (var 0 ⊗ var 1)) refl)
+          (mul_nonneg (pos m) (pos 0 -ℤ negsuc n) (natural_not_negative m) (at_least n)) first
+
+-- the triangle of h and of two corners within bounds that the edge passes round
+past_fan : (h b c p q : Corner) (r : Bounds) → IsInBounds b r → IsInBounds c r → PassesRound h p q r → Touch h b c p q → ⊥
+past_fan h b c p q r in_b in_c passes t =
+    let (i, j, some, e) = t.on_edge in
+    let (k, l, m, some_face, is) = t.on_face in
+    let same : edge_sum p q i j ≡ face_sum h b c k l m = sym e ∙ is in
+    let weights = ap (λ (n : Point). n.w) same in
+    let x = ap (λ (n : Point). n.x) same in
+    let y = ap (λ (n : Point). n.y) same in
+    let z = ap (λ (n : Point). n.z) same in
+    elim passes [
+      | inl left ↦ seen i j k l m some (λ n. n.x) (λ n. n.y) r.x r.y (λ n g. (g.x, g.y)) weights x y left
+      | inr g ↦ elim g [
+        | inl left ↦ seen i j k l m some (λ n. n.y) (λ n. n.x) r.y r.x (λ n g. (g.y, g.x)) weights y x left
+        | inr g ↦ elim g [
+          | inl left ↦ seen i j k l m some (λ n. n.y) (λ n. n.z) r.y r.z (λ n g. (g.y, g.z)) weights y z left
+          | inr g ↦ elim g [
+            | inl left ↦ seen i j k l m some (λ n. n.z) (λ n. n.y) r.z r.y (λ n g. (g.z, g.y)) weights z y left
+            | inr g ↦ elim g [
+              | inl left ↦ seen i j k l m some (λ n. n.z) (λ n. n.x) r.z r.x (λ n g. (g.z, g.x)) weights z x left
+              | inr left ↦ seen i j k l m some (λ n. n.x) (λ n. n.z) r.x r.z (λ n g. (g.x, g.z)) weights x z left
+            ]
+          ]
+        ]
+      ]
+    ]
+  where
+    seen : (i j k l m : ℕ) → 0 < i + j → (f g : Corner → ℤ) (u v : Range) → ((n : Corner) → IsInBounds n r → IsInRange u (f n) × IsInRange v (g n)) → pos i +ℤ pos j ≡ (pos k +ℤ pos l) +ℤ pos m
+        → (pos i *ℤ f p) +ℤ (pos j *ℤ f q) ≡ ((pos k *ℤ f h) +ℤ (pos l *ℤ f b)) +ℤ (pos m *ℤ f c)
+        → (pos i *ℤ g p) +ℤ (pos j *ℤ g q) ≡ ((pos k *ℤ g h) +ℤ (pos l *ℤ g b)) +ℤ (pos m *ℤ g c)
+        → AreLeftOfBoth (f h) (f p) (f q) (g h) (g p) (g q) u v → ⊥
+    seen i j k l m some f g u v read weights same_u same_v (of_p, of_q) =
+        let (b_u, b_v) = read b in_b in
+        let (c_u, c_v) = read c in_c in
+        none_between i j k l m (f h) (g h) (f p) (g p) (f q) (g q) (f b) (g b) (f c) (g c) weights same_u same_v some
+        (of_p (f b) (g b) b_u b_v) (of_q (f b) (g b) b_u b_v) (of_p (f c) (g c) c_u c_v) (of_q (f c) (g c) c_u c_v)
+
+-- ---- a triangle with the bounds of all its corners but one
+touch_round : (a b c p q : Corner) → Touch a b c p q → Touch b c a p q
+touch_round a b c p q t = record { point = t.point; on_edge = t.on_edge; on_face = face_point-round a b c t.point t.on_face }
+
+-- the one is at h, and the edge passes round it and the bounds
+pub passed_round : (t : Tri) (corner : ℕ) (a b c p q h : Corner) (r : Bounds) → (t.a ≡ corner → a ≡ h) → (t.b ≡ corner → b ≡ h) → (t.c ≡ corner → c ≡ h)
+    → IsRim t corner a b c r → PassesRound h p q r → Touch a b c p q → ⊥
+passed_round t corner a b c p q h r at_a at_b at_c (inl (is, in_b, in_c)) passes touch = past_fan a b c p q r in_b in_c (subst (λ (k : Corner). PassesRound k p q r) (sym (at_a is)) passes) touch
+passed_round t corner a b c p q h r at_a at_b at_c (inr (inl (is, in_c, in_a))) passes touch =
+    past_fan b c a p q r in_c in_a (subst (λ (k : Corner). PassesRound k p q r) (sym (at_b is)) passes) (touch_round a b c p q touch)
+passed_round t corner a b c p q h r at_a at_b at_c (inr (inr (is, in_a, in_b))) passes touch =
+    past_fan c a b p q r in_a in_b (subst (λ (k : Corner). PassesRound k p q r) (sym (at_c is)) passes) (touch_round b c a p q (touch_round a b c p q touch))
+
+-- each corner has its number, or is within the bounds
+module _ (t : Tri) (corner : ℕ) (a b c : Corner) (r : Bounds) where
+  pub first_beside : IsRim t corner a b c r → (t.a ≡ corner) ⊎ IsInBounds a r
+  first_beside (inl (is, b, c)) = inl is
+  first_beside (inr (inl (is, c, a))) = inr a
+  first_beside (inr (inr (is, a, b))) = inr a
+
+  pub second_beside : IsRim t corner a b c r → (t.b ≡ corner) ⊎ IsInBounds b r
+  second_beside (inl (is, b, c)) = inr b
+  second_beside (inr (inl (is, c, a))) = inl is
+  second_beside (inr (inr (is, a, b))) = inr b
+
+  pub third_beside : IsRim t corner a b c r → (t.c ≡ corner) ⊎ IsInBounds c r
+  third_beside (inl (is, b, c)) = inr c
+  third_beside (inr (inl (is, c, a))) = inr c
+  third_beside (inr (inr (is, a, b))) = inl is

@@ -8,7 +8,7 @@ use Rattle.geometry.specs.Parts.{Part}
 use Rattle.geometry.proofs.Listed.{same_element}
 use Rattle.solid_mesh.specs.inner.Bounds.{BoundsMeet}
 use Rattle.solid_mesh.specs.inner.Trees.{IsPlaced, AreAllPlaced, IsSubtree}
-use Rattle.solid_mesh.specs.inner.Searches.{AtHalf, IsReachOf, IsEnd, MeetsInCorner, ComesBefore, IsPair, IsOfPlaces, IsOfEdge, Searched}
+use Rattle.solid_mesh.specs.inner.Searches.{AtHalf, IsReachOf, IsApart, ComesBefore, IsPair, IsOfPlaces, IsOfEdge, Searched}
 use Rattle.solid_mesh.specs.Meetings.{HaveCommonX, HaveCommonBox, MeetApart}
 use Rattle.solid_mesh.specs.declared.placed.Placed.{Placed}
 use Rattle.solid_mesh.specs.declared.subtrees.Subtree.{Subtree}
@@ -16,7 +16,7 @@ use Rattle.solid_mesh.specs.declared.search.Meeting.{Meeting}
 use Rattle.solid_mesh.specs.declared.search.Reach.{Reach}
 use Rattle.solid_mesh.specs.declared.search.Found.{Found}
 use Rattle.solid_mesh.proofs.BoundLemmas.{bounds_of_apart, meet_around}
-use Rattle.solid_mesh.proofs.CornerLemmas.{apart_in_corner, apart_beside}
+use Rattle.solid_mesh.proofs.CornerLemmas.{apart_by_bounds}
 use Rattle.solid_mesh.proofs.Placing.{places_differ, place_there}
 use Rattle.solid_mesh.proofs.Searching.{searched-apart, searched-as, searched-then, rises-as}
 
@@ -49,15 +49,16 @@ module _ (s : Part) (halves : List ℕ) where
       places_missed miss = places_apart k t
           (λ j y low high at meets. miss (meet_around y.bounds t.around reach.bounds (subtree.around j y low high at) (bounds_of_apart s halves edge reach of_edge y (each y j at) meets)))
 
-      -- one that they meet in a common corner alone
-      pub places_cornered : MeetsInCorner reach t → (x : Found) → Searched s halves (At t.first (k + 1)) x x
-      places_cornered h = places_apart k t
+      -- one from which bounds tell that the edge is apart
+      pub places_beside : (own : Placed) → slice_get placed k ≡ Some own → IsApart reach t.around t.corner own.at t.rim → (x : Found) → Searched s halves (At t.first (k + 1)) x x
+      places_beside own here apart = places_apart k t
           (λ j y low high at meets.
-          let end = subst (IsEnd reach) (sym (subtree.corner h.corner h.common j y low high at)) h.of_edge in
-          elim h.leaves [
-            | inl ends ↦ apart_in_corner s halves edge reach of_edge y (each y j at) t.around (subtree.around j y low high at) end ends meets
-            | inr passes ↦ apart_beside s halves edge reach of_edge y (each y j at) t.around (subtree.around j y low high at) end t.rim (subtree.rim j y low high at) passes meets
-          ])
+          apart_by_bounds s halves edge reach of_edge y (each y j at) t.around (subtree.around j y low high at) t.corner own.at
+          (λ n common.
+          let is : y.corner ≡ n = subtree.corner n common j y low high at in
+          let own_is : own.corner ≡ n = subtree.corner n common k own subtree.first (omega arith) here in
+          (is, same_element s.corners y.corner own.corner y.at own.at (is ∙ sym own_is) ((each y j at).at) ((each own k here).at)))
+          t.rim (subtree.rim j y low high at) apart meets)
 
     pub places_more : AreAllPlaced s placed → (low middle high : ℕ) → low ≤ middle → middle ≤ high
         → (x y z : Found) → Searched s halves (At middle high) x y → Searched s halves (At low middle) y z → Searched s halves (At low high) x z

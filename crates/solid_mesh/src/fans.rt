@@ -32,7 +32,8 @@ fn count(counts: &mut [u32], corner: u32)
 /// The corner of a triangle with the greatest of these counts, the first of several.
 pub(crate) fn greatest_corner(counts: &[u32], triangle: &Tri) -> u32
     requires { IsBelow (length counts.now) triangle.now }
-    ensures { IsCornerOf triangle.now result }
+    ensures has { IsCornerOf triangle.now result }
+    ensures below { result < length counts.now }
 {
     let Tri { a, b, c } = *triangle;
     if counts[b as usize] > counts[a as usize] {

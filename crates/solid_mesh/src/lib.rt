@@ -2,6 +2,7 @@
 //! each directed side which one goes back, and for each corner the triangles around it.
 #![tactic(auto)]
 
+mod beside;
 mod bounds;
 mod doubles;
 mod edges;

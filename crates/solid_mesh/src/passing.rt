@@ -1,7 +1,7 @@
-// Edges that pass by what is within some bounds, as they are seen along an axis.
+// Edges that pass by what is within some bounds, or by a fan over it, as they are seen along an axis.
 ghost use Rattle.std.specs.Prelude.{◌≡◌, ℤ, ◌≤◌, ◌^◌, ◌*ℤ◌, ◌-ℤ◌, ◌≤ℤ◌, unsigned_abs, IsTrue};
 ghost use Rattle.meeting.specs.Ranges.{IsInRange};
-ghost use Rattle.solid_mesh.specs.inner.Bounds.{AreLeft, PassesBy};
+ghost use Rattle.solid_mesh.specs.inner.Bounds.{AreLeft, PassesBy, PassesRound};
 
 use crate::bounds::Bounds;
 use lattice::Corner;
@@ -27,6 +27,30 @@ pub(crate) fn passes_by(p: &Corner, q: &Corner, bounds: &Bounds) -> bool
         return true;
     }
     is_left(p.x, q.x, p.z, q.z, &bounds.x, &bounds.z)
+}
+
+/// Whether along one of the axes all places within the bounds are seen strictly on one side of the lines from `h` to `p` and to `q`, on
+/// the same of both. Then no triangle of `h` and two places within the bounds has a point of the edge from `p` to `q`.
+pub(crate) fn passes_round(h: &Corner, p: &Corner, q: &Corner, bounds: &Bounds) -> bool
+    ensures { IsTrue result → PassesRound h.now p.now q.now bounds.now }
+{
+    let Bounds { x, y, z, .. } = bounds;
+    if is_left(h.x, p.x, h.y, p.y, x, y) && is_left(h.x, q.x, h.y, q.y, x, y) {
+        return true;
+    }
+    if is_left(h.y, p.y, h.x, p.x, y, x) && is_left(h.y, q.y, h.x, q.x, y, x) {
+        return true;
+    }
+    if is_left(h.y, p.y, h.z, p.z, y, z) && is_left(h.y, q.y, h.z, q.z, y, z) {
+        return true;
+    }
+    if is_left(h.z, p.z, h.y, p.y, z, y) && is_left(h.z, q.z, h.y, q.y, z, y) {
+        return true;
+    }
+    if is_left(h.z, p.z, h.x, p.x, z, x) && is_left(h.z, q.z, h.x, q.x, z, x) {
+        return true;
+    }
+    is_left(h.x, p.x, h.z, p.z, x, z) && is_left(h.x, q.x, h.z, q.z, x, z)
 }
 
 /// Whether all places with both coordinates in these ranges are strictly to the left of the line from one place to another.

@@ -10,18 +10,23 @@ use lattice::{Corner, Soup, Tri};
 use meeting::Range;
 use std::alloc::{AllocError, Global};
 
-/// A triangle, by its number, with its bounds, the Morton code of their middle, that of its corners with the most triangles, and
-/// the bounds of the other two.
+/// As many triangles around a corner are a large fan.
+const LARGE_FAN: u32 = 64;
+
+/// A triangle, by its number, with a code for its place in the order, its bounds, that of its corners with the most triangles, by its
+/// number and its place, and the bounds of the other two.
 #[derive(Clone, Copy, Debug)]
 pub(crate) struct Placed {
-    pub code: u64,
+    pub code: u128,
     pub tri: u32,
     pub corner: u32,
+    pub at: Corner,
     pub bounds: Bounds,
     pub rim: Bounds,
 }
 
-/// The triangles in the order of their Morton codes (Morton 1966). Takes the time of sorting.
+/// The triangles, those of large fans fan by fan behind all others, in the order of the Morton codes of their middles (Morton 1966).
+/// Takes the time of sorting.
 pub(crate) fn place_triangles(alloc: Global, soup: &Soup) -> Result<Vec<Placed>, AllocError>
     requires few { length (part_of soup.now).triangles ≤ 20000 }
     ensures { IfOk result (λ v. AreAllPlaced (part_of soup.now) v.items) }
@@ -58,12 +63,23 @@ fn place(soup: &Soup, counts: &[u32], tri: u32) -> Placed
     let corner = greatest_corner(counts, &triangle);
     let rim = rim_of(&triangle, corner, a, b, c);
     Placed {
-        code: code_of(&bounds),
+        code: u128::from(fan_of(counts, corner)) << 64 | u128::from(code_of(&bounds)),
         tri,
         corner,
+        at: soup.corners[corner as usize],
         bounds,
         rim,
     }
+}
+
+/// The number of a fan around a corner, or 0 where it is small: near one another in space are the triangles of a small one anyway.
+fn fan_of(counts: &[u32], corner: u32) -> u64
+    requires { corner < length counts.now }
+{
+    if counts[corner as usize] < LARGE_FAN {
+        return 0;
+    }
+    u64::from(corner) + 1
 }
 
 /// The bounds of a triangle's corners `a`, `b` and `c` but that with this number.

@@ -4,11 +4,11 @@ ghost use Rattle.std.specs.List.{All};
 ghost use Rattle.geometry.specs.Parts.{part_of, IsClosed, AreEdges};
 ghost use Rattle.solid_mesh.specs.Meetings.{HaveCommonX, HaveCommonBox, IsAtMostPairs};
 ghost use Rattle.solid_mesh.specs.inner.Trees.{IsPlaced, AreAllPlaced, AreSubtrees};
-ghost use Rattle.solid_mesh.specs.inner.Searches.{ComesBefore, Searched, AtHalf, IsReachOf, IsEnd, Leaves, MeetsInCorner, IsPair, IsOfPlaces, IsOfEdge, IsFirst};
+ghost use Rattle.solid_mesh.specs.inner.Searches.{ComesBefore, Searched, AtHalf, IsReachOf, IsPair, IsOfPlaces, IsOfEdge, IsFirst};
 
-use crate::bounds::{Bounds, bounds_end, bounds_meet, edge_bounds};
+use crate::beside::is_apart;
+use crate::bounds::{Bounds, bounds_meet, edge_bounds};
 use crate::pairs::{PairMeter, pair_test};
-use crate::passing::passes_by;
 use crate::placed::{Placed, place_triangles};
 use crate::sides::ends;
 use crate::subtrees::{Subtree, grow_subtrees};
@@ -42,9 +42,9 @@ pub(crate) struct Found {
 
 /// The first edge, by the halves, that meets a triangle in another point than a shared corner, with the first such triangle.
 /// The edges are searched in their order, up to the first that meets one: the search of an edge goes over a tree of boxes and
-/// leaves out each subtree whose bounds miss those of the edge, or are a fan's that the edge leaves at its corner. So it takes the
-/// time of comparing the bounds of subtrees that meet it, and of a short test for each triangle whose bounds do: up to all, where
-/// all bounds overlap.
+/// leaves out each subtree whose bounds miss those of the edge, or are seen beside it, and each fan that the edge leaves at its
+/// corner or goes past. So it takes the time of comparing the bounds of subtrees that meet it, and of a short test for each triangle
+/// whose bounds do: up to all, where all bounds overlap.
 pub(crate) fn find_meeting(alloc: Global, soup: &Soup, halves: &[u32]) -> Result<Found, AllocError>
     requires few_edges { length halves.now ≤ 60000 }
     requires few_triangles { length (part_of soup.now).triangles ≤ 20000 }
@@ -90,8 +90,8 @@ fn search(soup: &Soup, halves: &[u32], placed: &[Placed], subtrees: &[Subtree], 
     }
 }
 
-/// Searches one edge: over the places of the triangles from the last to the first, of which each subtree is left out whose
-/// bounds the edge's don't meet, or meet in a corner of it alone that all triangles of the subtree have.
+/// Searches one edge: over the places of the triangles from the last to the first, of which each subtree is left out from which
+/// bounds tell that the edge is apart.
 fn search_edge(
     soup: &Soup,
     halves: &[u32],
@@ -139,7 +139,7 @@ fn reach_of(soup: &Soup, halves: &[u32], edge: u32) -> Reach
     }
 }
 
-/// Tests an edge and the triangle at a place, if the edge's bounds meet those of its subtree, and not in a common corner alone.
+/// Tests an edge and the triangle at a place, unless bounds tell that the edge is apart from its whole subtree.
 /// From the result on nothing is left to be tested.
 fn visit(
     soup: &Soup,
@@ -169,42 +169,22 @@ fn visit(
     if !bounds_meet(&subtree.around, &reach.bounds) {
         return subtree.first as usize;
     }
-    if meets_in_corner(reach, subtree) {
+    let own = &placed[place];
+    if is_apart(
+        reach,
+        &subtree.around,
+        subtree.corner,
+        &own.at,
+        &subtree.rim,
+    ) {
         return subtree.first as usize;
     }
-    test(soup, halves, edge, reach, &placed[place], found);
+    test(soup, halves, edge, reach, own, found);
     place
 }
 
-/// Whether the bounds tell that an edge meets the triangles of a subtree in a corner of them all, an end of it, and nowhere else.
-fn meets_in_corner(reach: &Reach, subtree: &Subtree) -> bool
-    ensures { IsTrue result → MeetsInCorner reach.now subtree.now }
-{
-    match subtree.corner {
-        None => false,
-        Some(corner) => is_end(reach, corner) && leaves(reach, subtree),
-    }
-}
-
-/// Whether the bounds tell that an edge from a common corner of a subtree's triangles goes to another side than these.
-fn leaves(reach: &Reach, subtree: &Subtree) -> bool
-    ensures { IsTrue result → Leaves reach.now subtree.now }
-{
-    if bounds_end(&reach.bounds, &subtree.around) {
-        return true;
-    }
-    passes_by(&reach.p, &reach.q, &subtree.rim)
-}
-
-/// Whether this is a corner of the edge.
-fn is_end(reach: &Reach, corner: u32) -> bool
-    ensures { IsTrue result ↔ IsEnd reach.now corner }
-{
-    reach.m == corner || reach.n == corner
-}
-
-/// Tests an edge and a triangle: their boxes if their ranges of x meet, and if the boxes meet, and the pair is before the one that
-/// was found, the pair.
+/// Tests an edge and a triangle: their boxes if their ranges of x meet, and if the boxes meet, no bounds tell that the two are apart,
+/// and the pair is before the one that was found, the pair.
 fn test(soup: &Soup, halves: &[u32], edge: u32, reach: &Reach, placed: &Placed, found: &mut Found)
     requires halves { All (λ half. half < 3 * length (part_of soup.now).triangles) halves.now }
     requires reach { IsReachOf (part_of soup.now) halves.now edge reach.now }
@@ -221,6 +201,15 @@ fn test(soup: &Soup, halves: &[u32], edge: u32, reach: &Reach, placed: &Placed, 
     }
     found.meter.boxes += 1;
     if !bounds_meet(&placed.bounds, &reach.bounds) {
+        return;
+    }
+    if is_apart(
+        reach,
+        &placed.bounds,
+        Some(placed.corner),
+        &placed.at,
+        &placed.rim,
+    ) {
         return;
     }
     if !comes_before(edge, placed.tri, &found.first) {

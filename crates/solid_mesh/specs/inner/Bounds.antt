@@ -74,3 +74,14 @@ abbrev pub PassesBy : Corner → Corner → Bounds → Type 0
 PassesBy p q r =
     AreLeft p.x q.x p.y q.y r.x r.y ⊎ AreLeft p.y q.y p.x q.x r.y r.x ⊎ AreLeft p.y q.y p.z q.z r.y r.z
     ⊎ AreLeft p.z q.z p.y q.y r.z r.y ⊎ AreLeft p.z q.z p.x q.x r.z r.x ⊎ AreLeft p.x q.x p.z q.z r.x r.z
+
+-- all places with both coordinates in these ranges are strictly to the left of the line from h to p, and of that from h to q
+abbrev pub AreLeftOfBoth : ℤ → ℤ → ℤ → ℤ → ℤ → ℤ → Range → Range → Type 0
+AreLeftOfBoth h_u p_u q_u h_v p_v q_v over_u over_v = AreLeft h_u p_u h_v p_v over_u over_v × AreLeft h_u q_u h_v q_v over_u over_v
+
+-- along one of the axes all places within the bounds are seen strictly to the left of the lines from h to p and to q, or strictly to
+-- the right of both
+abbrev pub PassesRound : Corner → Corner → Corner → Bounds → Type 0
+PassesRound h p q r =
+    AreLeftOfBoth h.x p.x q.x h.y p.y q.y r.x r.y ⊎ AreLeftOfBoth h.y p.y q.y h.x p.x q.x r.y r.x ⊎ AreLeftOfBoth h.y p.y q.y h.z p.z q.z r.y r.z
+    ⊎ AreLeftOfBoth h.z p.z q.z h.y p.y q.y r.z r.y ⊎ AreLeftOfBoth h.z p.z q.z h.x p.x q.x r.z r.x ⊎ AreLeftOfBoth h.x p.x q.x h.z p.z q.z r.x r.z

@@ -1,14 +1,15 @@
 -- What a search has tested and found.
 use Rattle.std.specs.Prelude.{◌≡◌, ◌≢◌, ◌⊎◌, ℕ, ◌+◌, ◌<◌, ◌≤◌, List, Option, Some, None, length, slice_get, All, AllPairs, MatchOption, IfSome}
+use Rattle.lattice.specs.declared.points.Corner.{Corner}
 use Rattle.geometry.specs.Parts.{Part}
 use Rattle.solid_mesh.specs.Faults.{IsLeast, MeetsAt}
 use Rattle.solid_mesh.specs.Meetings.{Side, HaveCommonX, HaveCommonBox, MeetApart}
 use Rattle.solid_mesh.specs.inner.Meetings.{HasNoMeeting}
-use Rattle.solid_mesh.specs.inner.Bounds.{AreEdgeBounds, BoundsEnd, PassesBy}
+use Rattle.solid_mesh.specs.inner.Bounds.{AreEdgeBounds, BoundsEnd, PassesBy, PassesRound}
+use Rattle.solid_mesh.specs.declared.bounds.Bounds.{Bounds}
 use Rattle.solid_mesh.specs.declared.placed.Placed.{Placed}
 use Rattle.solid_mesh.specs.declared.search.Meeting.{Meeting}
 use Rattle.solid_mesh.specs.declared.search.Reach.{Reach}
-use Rattle.solid_mesh.specs.declared.subtrees.Subtree.{Subtree}
 use Rattle.solid_mesh.specs.declared.search.Found.{Found}
 
 -- ---- pairs of the number of an edge, by its half in a list, and the number of a triangle
@@ -29,16 +30,17 @@ pub record IsReachOf (s : Part) (halves : List ℕ) (edge : ℕ) (r : Reach) : T
 abbrev pub IsEnd : Reach → ℕ → Type 0
 IsEnd r corner = (r.m ≡ corner) ⊎ (r.n ≡ corner)
 
--- the bounds of the edge reach no farther into those of the subtree than to an end, or the edge passes by the rim
-abbrev pub Leaves : Reach → Subtree → Type 0
-Leaves r t = BoundsEnd r.bounds t.around ⊎ PassesBy r.p r.q t.rim
+-- the bounds of the edge reach no farther into those around than to an end, or the edge passes by the rim
+abbrev pub Leaves : Reach → Bounds → Bounds → Type 0
+Leaves r around rim = BoundsEnd r.bounds around ⊎ PassesBy r.p r.q rim
 
--- all triangles of the subtree have a corner of the edge, which leaves them there
-pub record MeetsInCorner (r : Reach) (t : Subtree) : Type 0 where
-  pub corner : ℕ
-  pub common : t.corner ≡ Some corner
-  pub of_edge : IsEnd r corner
-  pub leaves : Leaves r t
+-- the edge leaves the triangles with a common corner there, if it has that corner, or passes round their fan
+abbrev pub IsBeside : Reach → Bounds → ℕ → Corner → Bounds → Type 0
+IsBeside r around corner at rim = (IsEnd r corner × Leaves r around rim) ⊎ PassesRound at r.p r.q rim
+
+-- the edge passes by the triangles within these bounds, or is beside them and their common corner, if they have one
+abbrev pub IsApart : Reach → Bounds → Option ℕ → Corner → Bounds → Type 0
+IsApart r around corner at rim = PassesBy r.p r.q around ⊎ ((n : ℕ) × (corner ≡ Some n) × IsBeside r around n at rim)
 
 -- ---- the pairs that are tested: their ranges of x meet
 -- this one

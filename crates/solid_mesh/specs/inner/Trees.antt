@@ -10,18 +10,19 @@ use Rattle.solid_mesh.specs.declared.bounds.Bounds.{Bounds}
 use Rattle.solid_mesh.specs.declared.placed.Placed.{Placed}
 use Rattle.solid_mesh.specs.declared.subtrees.Subtree.{Subtree}
 
--- the corners a, b and c of the triangle are within the bounds, but that with this number
-pub record IsRim (t : Tri) (corner : ℕ) (a b c : Corner) (r : Bounds) : Type 0 where
-  pub first : (t.a ≡ corner) ⊎ IsInBounds a r
-  pub second : (t.b ≡ corner) ⊎ IsInBounds b r
-  pub third : (t.c ≡ corner) ⊎ IsInBounds c r
+-- of the triangle's corners a, b and c one has this number, and the other two are within the bounds
+abbrev pub IsRim : Tri → ℕ → Corner → Corner → Corner → Bounds → Type 0
+IsRim t corner a b c r =
+    ((t.a ≡ corner) × IsInBounds b r × IsInBounds c r) ⊎ ((t.b ≡ corner) × IsInBounds c r × IsInBounds a r)
+    ⊎ ((t.c ≡ corner) × IsInBounds a r × IsInBounds b r)
 
--- the bounds are those of the triangle with its number, the corner is one of its three, and the others are within the rim
+-- the bounds are those of the triangle with its number, the corner is one of its three, at its place, and the others are within the rim
 pub record IsPlaced (s : Part) (x : Placed) : Type 0 where
   pub face : Face s
   pub numbered : face.number ≡ x.tri
   pub of_face : AreTriangleBounds face.a face.b face.c x.bounds
   pub has : IsCornerOf face.tri x.corner
+  pub at : slice_get s.corners x.corner ≡ Some x.at
   pub rim : IsRim face.tri x.corner face.a face.b face.c x.rim
 
 -- each of the part's triangles, in some order

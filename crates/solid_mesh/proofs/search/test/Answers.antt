@@ -1,9 +1,11 @@
-use Rattle.std.proofs.Common.{ℕ, refl, sym, subst, ◌∙◌, true≢false}
+use Rattle.std.proofs.Common.{ℕ, Some, refl, sym, subst, ◌∙◌, true≢false}
 use Rattle.std.proofs.lemmas.Option.{slice_get_within}
 use Rattle.geometry.specs.Parts.{part_of}
 use Rattle.solid_mesh.specs.Meetings.{MeetApart}
 use Rattle.solid_mesh.specs.inner.Searches.{AtHalf, IsPair}
-use Rattle.solid_mesh.proofs.BoundLemmas.{common_x, common_box, bounds_of_apart}
+use Rattle.solid_mesh.proofs.BoundLemmas.{common_x, common_box, bounds_of_apart, within_itself}
+use Rattle.solid_mesh.proofs.CornerLemmas.{apart_by_bounds}
+use Rattle.solid_mesh.proofs.Growing.{some_same}
 use Rattle.solid_mesh.proofs.Placing.{tri_within}
 use Rattle.solid_mesh.proofs.Searching.{searched-apart, tested-apart, tested-later, tested-missed, tested-found}
 use Rattle.solid_mesh.proofs.search.test.Goals as goal
@@ -24,6 +26,16 @@ returns-then-not-bounds_meet-clause-searched c =
     tested-apart s halves c.args.edge c.args.placed.now.tri (slice_get_within halves c.args.edge c.requires.reach.half c.requires.reach.listed)
     (common_x s halves c.args.edge c.args.reach.now c.requires.reach c.args.placed.now c.requires.placed (c.ranges_meet.ensures.0 c.if-not-ranges_meet.false)) c.args.found.now _ refl
     (λ meets. true≢false (sym (c.bounds_meet.ensures.1 (bounds_of_apart s halves c.args.edge c.args.reach.now c.requires.reach c.args.placed.now c.requires.placed meets)) ∙ c.if-not-bounds_meet.true)) refl refl
+
+pub returns-then-is_apart-clause-searched : goal.returns-then-is_apart-clause-searched
+returns-then-is_apart-clause-searched c =
+    let s = part_of c.args.soup.now in
+    let halves = c.args.halves.now in
+    let x = c.args.placed.now in
+    tested-apart s halves c.args.edge x.tri (slice_get_within halves c.args.edge c.requires.reach.half c.requires.reach.listed)
+    (common_x s halves c.args.edge c.args.reach.now c.requires.reach x c.requires.placed (c.ranges_meet.ensures.0 c.if-not-ranges_meet.false)) c.args.found.now _ refl
+    (apart_by_bounds s halves c.args.edge c.args.reach.now c.requires.reach x c.requires.placed x.bounds (within_itself x.bounds) (Some x.corner) x.at
+    (λ n is. (some_same x.corner n is, refl)) x.rim (within_itself x.rim) (c.is_apart.ensures c.if-is_apart.true)) refl refl
 
 pub returns-then-not-comes_before-clause-searched : goal.returns-then-not-comes_before-clause-searched
 returns-then-not-comes_before-clause-searched c =
