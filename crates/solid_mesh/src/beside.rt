@@ -7,8 +7,8 @@ use crate::passing::{passes_by, passes_round};
 use crate::search::Reach;
 use lattice::Corner;
 
-/// Whether bounds tell that an edge is apart from the triangles within `around`. If they have a common corner, this is its number,
-/// `at` its place, and `rim` has their other corners within it.
+/// Whether bounds tell that an edge is apart from the triangles within `around`, which have this corner, if one is given, at the place
+/// `at`, and their other corners within `rim`. Of others nothing is told.
 pub(crate) fn is_apart(
     reach: &Reach,
     around: &Bounds,
@@ -18,9 +18,6 @@ pub(crate) fn is_apart(
 ) -> bool
     ensures { IsTrue result → IsApart reach.now around.now corner at.now rim.now }
 {
-    if passes_by(&reach.p, &reach.q, around) {
-        return true;
-    }
     match corner {
         None => false,
         Some(number) => is_beside(reach, around, number, at, rim),

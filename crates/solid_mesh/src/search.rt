@@ -9,12 +9,16 @@ ghost use Rattle.solid_mesh.specs.inner.Searches.{ComesBefore, Searched, AtHalf,
 use crate::beside::is_apart;
 use crate::bounds::{Bounds, bounds_meet, edge_bounds};
 use crate::pairs::{PairMeter, pair_test};
+use crate::passing::passes_by;
 use crate::placed::{Placed, place_triangles};
 use crate::sides::ends;
 use crate::subtrees::{Subtree, grow_subtrees};
 use lattice::{Corner, Soup};
 use meeting::ranges_meet;
 use std::alloc::{AllocError, Global};
+
+/// From so many triangles below its own on, a subtree is worth the time of looking at it along each axis.
+const LARGE_SUBTREE: usize = 8;
 
 /// An edge that meets a triangle, by their numbers.
 #[derive(Clone, Copy, Debug)]
@@ -167,6 +171,10 @@ fn visit(
 {
     let subtree = &subtrees[place];
     if !bounds_meet(&subtree.around, &reach.bounds) {
+        return subtree.first as usize;
+    }
+    let large = subtree.first as usize + LARGE_SUBTREE <= place;
+    if large && passes_by(&reach.p, &reach.q, &subtree.around) {
         return subtree.first as usize;
     }
     let own = &placed[place];

@@ -1,5 +1,6 @@
-use Rattle.std.proofs.Common.{◌<◌, length, refl, sym, ◌∙◌, arith, true≢false}
+use Rattle.std.proofs.Common.{◌<◌, inl, length, refl, sym, ◌∙◌, arith, true≢false}
 use Rattle.std.proofs.lemmas.Option.{slice_get_read}
+use Rattle.integers.proofs.Lists.{some_element}
 use Rattle.geometry.specs.Parts.{part_of}
 use Rattle.solid_mesh.proofs.Growing.{subtree_read}
 use Rattle.solid_mesh.proofs.Placing.{placed_at}
@@ -14,6 +15,17 @@ returns-then-not-bounds_meet-clause-searched c =
     places_missed s c.args.halves.now c.args.edge placed c.args.reach.now c.requires.reach (placed_at s placed c.requires.placed) c.args.place subtree
     (subtree_read placed c.args.subtrees.now c.requires.subtrees c.args.place c.requires.place subtree c.index-subtrees-place.is)
     (λ h. true≢false (sym (c.bounds_meet.ensures.1 h) ∙ c.if-not-bounds_meet.true)) c.args.found.now
+
+pub returns-then-passes_by-clause-searched : goal.returns-then-passes_by-clause-searched
+returns-then-passes_by-clause-searched c =
+    let s = part_of c.args.soup.now in
+    let placed = c.args.placed.now in
+    let subtree = c.index-subtrees-place.result in
+    let within : c.args.place < length placed = omega (arith, c.requires.place, c.requires.count) in
+    let (own, there) = some_element placed c.args.place within in
+    places_beside s c.args.halves.now c.args.edge placed c.args.reach.now c.requires.reach (placed_at s placed c.requires.placed) c.args.place subtree
+    (subtree_read placed c.args.subtrees.now c.requires.subtrees c.args.place c.requires.place subtree c.index-subtrees-place.is)
+    own there (inl (c.passes_by.ensures c.if-passes_by.true)) c.args.found.now
 
 pub returns-then-is_apart-clause-searched : goal.returns-then-is_apart-clause-searched
 returns-then-is_apart-clause-searched c =
@@ -42,6 +54,10 @@ returns-clause-searched c =
 
 pub returns-then-is_apart-clause-low : goal.returns-then-is_apart-clause-low
 returns-then-is_apart-clause-low c =
+    (subtree_read c.args.placed.now c.args.subtrees.now c.requires.subtrees c.args.place c.requires.place c.index-subtrees-place.result c.index-subtrees-place.is).first
+
+pub returns-then-passes_by-clause-low : goal.returns-then-passes_by-clause-low
+returns-then-passes_by-clause-low c =
     (subtree_read c.args.placed.now c.args.subtrees.now c.requires.subtrees c.args.place c.requires.place c.index-subtrees-place.result c.index-subtrees-place.is).first
 
 pub returns-then-not-bounds_meet-clause-low : goal.returns-then-not-bounds_meet-clause-low
