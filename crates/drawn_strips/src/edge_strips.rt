@@ -14,8 +14,8 @@ use lattice::{Dir, Line, Strip, StripKind};
 use solid_mesh::Solid;
 use span_slow::Span;
 
-/// The line that the edge is seen on.
-fn edge_line(solid: &Solid, d: &Dir, edge: u32) -> Line
+/// The line that the edge is seen on. It takes what `Line::through` takes.
+pub fn edge_line(solid: &Solid, d: &Dir, edge: u32) -> Line
     requires in_range { edge < length (edge_halves solid.now) }
     requires seen { OfEdge solid.now edge (λ e. ¬ IsEndOn (of_dir d.now) e) }
     ensures { OfEdge solid.now edge (λ e. IsEdgeLine (of_dir d.now) e result) }

@@ -13,7 +13,7 @@ mod slow_views;
 mod trace_strips;
 
 pub use border_strips::add_borders;
-pub use edge_strips::add_strips;
+pub use edge_strips::{add_strips, edge_line};
 pub use job_cuts::cuts_in;
 pub use slow_views::slow_strips;
 pub use trace_strips::add_traces;

@@ -21,7 +21,7 @@ use Rattle.geometry.proofs.OnLines.{on_line_between}
 use Rattle.line_merge.specs.declared.ends.SeenEnd.{SeenEnd}
 use Rattle.line_merge.specs.inner.Ends.{seen_order, end_order, IsSeenEnd}
 use Rattle.line_merge.specs.Merging.{AreStrips}
-use Rattle.line_merge.specs.inner.Numbering.{IsNumbering}
+use Rattle.line_merge.specs.Numbers.{IsNumbering}
 use Rattle.integers.proofs.Chains.{chained, chained_total, chained_ratios, before_less}
 use Rattle.integers.proofs.Orders.{less_of_is_lt}
 use Rattle.line_merge.proofs.Sights.{view_order, before, order_of_before, order_back, sight}

@@ -14,3 +14,4 @@ pub mod Untraced
 pub mod Filtered
 pub mod ByLine
 pub mod Regrouped
+pub mod Taken

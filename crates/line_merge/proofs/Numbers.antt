@@ -14,24 +14,14 @@ use Rattle.lattice.specs.declared.lines.Line.{Line}
 use Rattle.lattice.specs.declared.pieces.Strip.{Strip}
 use Rattle.lattice.specs.Lines.{IsSameLine}
 use Rattle.line_merge.specs.declared.numbering.Numbered.{Numbered}
+use Rattle.line_merge.specs.Numbers.{IsNumbering, same_line, number_in, IsIn}
 use Rattle.line_merge.specs.inner.Numbering.{numbered_by, AreNumbered}
 use Rattle.line_merge.proofs.Zips.{zip_more, zip_left, zip_weaker}
-
--- the test of two lines, number by number
-abbrev pub same_line : Line → Line → Bool
-same_line l m = int_eq l.a m.a && (int_eq l.b m.b && int_eq l.c m.c)
 
 decides_same : (l m : Line) → Decides (same_line l m) (IsSameLine l m)
 decides_same l m =
     Decides-like (same_line l m) (λ (a, (b, c)). record { a = a; b = b; c = c }) (λ same. (same.a, (same.b, same.c)))
     (Decides-and (int_eq l.a m.a) (int_eq l.b m.b && int_eq l.c m.c) (Decides-int_eq l.a m.a) (Decides-and (int_eq l.b m.b) (int_eq l.c m.c) (Decides-int_eq l.b m.b) (Decides-int_eq l.c m.c)))
-
-abbrev pub number_in : List Line → Line → ℕ
-number_in lines l = position_or_len (same_line l) lines
-
--- a line of the table
-abbrev pub IsIn : List Line → Line → Type 0
-IsIn lines l = list_any (same_line l) lines ≡ true
 
 -- ---- places
 first_within : {A : Type 0} (test : A → Bool) (xs : List A) → list_any test xs ≡ true → position_or_len test xs < length xs
@@ -58,7 +48,7 @@ first_stays test (x ∷ xs) y h = by (test x) h (first_stays test xs y)
 
 -- ---- lines with one number
 module _ (lines : List Line) (l m : Line) where
-  one_number : IsSameLine l m → number_in lines l ≡ number_in lines m
+  pub one_number : IsSameLine l m → number_in lines l ≡ number_in lines m
   one_number same = λ i. position_or_len (λ (k : Line). int_eq (same.a i) k.a && (int_eq (same.b i) k.b && int_eq (same.c i) k.c)) lines
 
   one_line : IsIn lines l → IsIn lines m → number_in lines l ≡ number_in lines m → IsSameLine l m
@@ -70,23 +60,31 @@ module _ (lines : List Line) (l m : Line) where
       (subst (λ (n : ℕ). same_line m (get_or lines n l) ≡ true) (sym e) (passes_at_first (same_line m) lines l (first_within (same_line m) lines in_m))) in
       record { a = first.a ∙ sym second.a; b = first.b ∙ sym second.b; c = first.c ∙ sym second.c }
 
+-- a line that is one of the table's is there
+pub same_in : (lines : List Line) (l m : Line) → IsSameLine l m → IsIn lines l → IsIn lines m
+same_in lines l m same there = subst (λ (b : Bool). b ≡ true) (λ i. list_any (λ (k : Line). int_eq (same.a i) k.a && (int_eq (same.b i) k.b && int_eq (same.c i) k.c)) lines) there
+
+-- lines of the table are numbered by their places
+pub numbered_in_table : (lines : List Line) (strips : List Strip) → ((x : Strip) → Contains strips x → IsIn lines x.line) → IsNumbering strips (number_in lines)
+numbered_in_table lines strips listed x y there_x there_y = (one_line lines x.line y.line (listed x there_x) (listed y there_y), one_number lines x.line y.line)
+
 -- ---- one more line
 module _ (lines after : List Line) (l : Line) (inserted : after ≡ insert_key same_line lines l) where
-  grown : (m : Line) → IsIn after m → number_in after m ≡ number_in lines m
+  pub grown : (m : Line) → IsIn after m → number_in after m ≡ number_in lines m
   grown m = by (list_any (same_line l) lines) inserted
     where
       by : (b : Bool) → after ≡ (if b then lines else lines ++ l ∷ []) → IsIn after m → number_in after m ≡ number_in lines m
       by true e there = ap (λ (ls : List Line). number_in ls m) e
       by false e there = ap (λ (ls : List Line). number_in ls m) e ∙ first_stays (same_line m) lines l (sym (ap (λ (ls : List Line). list_any (same_line m) ls) e) ∙ there)
 
-  stays_in : (m : Line) → IsIn lines m → IsIn after m
+  pub stays_in : (m : Line) → IsIn lines m → IsIn after m
   stays_in m there = by (list_any (same_line l) lines) inserted
     where
       by : (b : Bool) → after ≡ (if b then lines else lines ++ l ∷ []) → IsIn after m
       by true e = ap (λ (ls : List Line). list_any (same_line m) ls) e ∙ there
       by false e = ap (λ (ls : List Line). list_any (same_line m) ls) e ∙ list_any-append (same_line m) lines (l ∷ []) ∙ ap (λ b. b || list_any (same_line m) (l ∷ [])) there
 
-  is_in : IsIn after l
+  pub is_in : IsIn after l
   is_in = by (list_any (same_line l) lines) refl inserted
     where
       by : (b : Bool) → list_any (same_line l) lines ≡ b → after ≡ (if b then lines else lines ++ l ∷ []) → IsIn after l
@@ -132,7 +130,7 @@ all_numbered lines strips numbered k all so_far = by (subst (λ (xs : List Strip
     by : AreNumberedIn lines strips numbered → AreNumbered strips numbered
     by each = record {
       number = number_in lines;
-      numbering = λ x y there_x there_y. (one_line lines x.line y.line (listed x there_x) (listed y there_y), one_number lines x.line y.line);
+      numbering = numbered_in_table lines strips listed;
       same = AllZip-map (numbered_by (number_in lines)) strips numbered (zip_weaker (IsNumberedIn lines) (λ x y. y ≡ numbered_by (number_in lines) x) (λ x y h. h.is) strips numbered each);
     }
       where

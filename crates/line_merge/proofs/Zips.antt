@@ -1,7 +1,10 @@
 -- Lists of which the elements at each place belong together.
-use Rattle.std.proofs.Common.{◌≡◌, ℕ, zero, suc, ◌+◌, ◌<◌, List, [], ◌∷◌, ◌++◌, Contains, length, map, take, get_or, refl, sym, subst, arith}
-use Rattle.std.specs.List.{AllZip, Any}
+use Rattle.std.proofs.Common.{◌≡◌, ℕ, zero, suc, ◌+◌, ◌<◌, List, [], ◌∷◌, ◌++◌, Contains, length, map, take, get_or, IsPermutation, refl, sym, ap, subst, arith}
+use Rattle.std.specs.List.{All, AllZip, Any}
 use Rattle.std.proofs.lemmas.List.{take_more}
+use Rattle.std.proofs.lemmas.List.Elements.{All-nil, All-cons}
+use Rattle.std.proofs.lemmas.List.Sorted.{All-permutation, IsPermutation-map}
+use Rattle.line_merge.proofs.Lists.{map_permuted}
 
 module _ {A B : Type 0} (R : A → B → Type 0) where
   pub zip_push : (xs : List A) (ys : List B) (x : A) (y : B) → AllZip R xs ys → R x y → AllZip R (xs ++ x ∷ []) (ys ++ y ∷ [])
@@ -47,3 +50,29 @@ module _ {A B : Type 0} (R : A → B → Type 0) where
   zip_right [] (w ∷ ys) h y there = absurd h
   zip_right (v ∷ xs) (w ∷ ys) (r, more) y (zero, less, is) = (v, (zero, omega arith, refl), subst (λ (z : B). R v z) is r)
   zip_right (v ∷ xs) (w ∷ ys) (r, more) y (suc k, less, is) = let (x, (j, within, at), s) = zip_right xs ys more y (k, omega arith, is) in (x, (suc j, omega arith, at), s)
+
+  -- ---- in another order
+  abbrev HasPairs : List A → List B → Type 0
+  HasPairs xs ys = (ps : List (A × B)) × (map (λ p. p.0) ps ≡ xs) × (map (λ p. p.1) ps ≡ ys) × All (λ p. R p.0 p.1) ps
+
+  pairs_of : (xs : List A) (ys : List B) → AllZip R xs ys → HasPairs xs ys
+  pairs_of [] [] h = ([], refl, refl, All-nil (λ (p : A × B). R p.0 p.1))
+  pairs_of [] (w ∷ ys) h = absurd h
+  pairs_of (v ∷ xs) [] h = absurd h
+  pairs_of (v ∷ xs) (w ∷ ys) (r, more) =
+      let (ps, first, second, each) = pairs_of xs ys more in
+      ((v, w) ∷ ps, ap (λ (l : List A). v ∷ l) first, ap (λ (l : List B). w ∷ l) second, All-cons (λ (p : A × B). R p.0 p.1) (v, w) ps r each)
+
+  zip_of_pairs : (ps : List (A × B)) → All (λ p. R p.0 p.1) ps → AllZip R (map (λ p. p.0) ps) (map (λ p. p.1) ps)
+  zip_of_pairs [] each = tt
+  zip_of_pairs (p ∷ ps) each = (each zero p (omega arith), zip_of_pairs ps (λ k e less. each (suc k) e (omega arith)))
+
+  -- what belongs to a list's elements goes with them
+  pub zip_permuted : (xs zs : List A) (ys : List B) → AllZip R xs ys → IsPermutation xs zs → (us : List B) × AllZip R zs us × IsPermutation ys us
+  zip_permuted xs zs ys h moves =
+      let (ps, first, second, each) = pairs_of xs ys h in
+      let (qs, same, moved) = map_permuted (λ (p : A × B). p.0) ps zs (subst (λ (l : List A). IsPermutation l zs) (sym first) moves) in (
+        map (λ p. p.1) qs,
+        subst (λ (l : List A). AllZip R l (map (λ p. p.1) qs)) (sym same) (zip_of_pairs qs (All-permutation (λ (p : A × B). R p.0 p.1) ps qs moved each)),
+        subst (λ (l : List B). IsPermutation l (map (λ p. p.1) qs)) second (IsPermutation-map (λ (p : A × B). p.1) ps qs moved),
+      )

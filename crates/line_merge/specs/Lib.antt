@@ -1,2 +1,4 @@
 pub mod Merging
+pub mod Numbers
+pub mod Taken
 pub mod inner

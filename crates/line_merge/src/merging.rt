@@ -1,84 +1,24 @@
-// From the strips of a view to its pieces.
-ghost use Rattle.std.specs.Prelude.{◌≡◌, ℕ, ◌≤◌, List, [], ◌∷◌, ◌++◌, map, IfOk, OnOk};
+// From the strips of one line to its pieces.
+ghost use Rattle.std.specs.Prelude.{◌≡◌, List, ◌++◌, map, IfOk, OnOk};
 ghost use Rattle.std.specs.List.{All, AllZip, filter, list_any};
-ghost use Rattle.std.specs.List.Sorted.{IsNonDecreasingBy};
 ghost use Rattle.lattice.specs.Points.{of_dir};
 ghost use Rattle.lattice.specs.Lines.{AreStripEnds};
 ghost use Rattle.lattice.specs.declared.pieces.Piece.{Piece};
 ghost use Rattle.lattice.specs.declared.pieces.StripKind.{StripKind};
-ghost use Rattle.line_merge.specs.declared.numbering.Numbered.{Numbered};
-ghost use Rattle.line_merge.specs.Merging.{AreStrips, AreMerged};
 ghost use Rattle.line_merge.specs.inner.Kinds.{is_up_to, is_trace};
 ghost use Rattle.line_merge.specs.inner.Ends.{IsIntervalOf, AreUnitedOf, IsLeftOfAll};
-ghost use Rattle.line_merge.specs.inner.Numbering.{listed_strip};
-ghost use Rattle.line_merge.specs.inner.Pieces.{piece_over, ArePiecesOf, AreUpToLine};
+ghost use Rattle.line_merge.specs.inner.Pieces.{piece_over, ArePiecesOf};
 
 use crate::ends::{SeenEnd, interval_of};
-use crate::numbering::{Listed, Numbered, listed_by_line, listed_strip};
-use crate::pieces::{piece_over, sorted};
+use crate::numbering::Numbered;
+use crate::pieces::piece_over;
 use exact_frac::OutOfMemory;
 use intervals::{Interval, rest, united};
-use lattice::{Dir, Piece, Strip, StripKind, Style};
+use lattice::{Dir, Piece, StripKind, Style};
 use std::alloc::Global;
 
-/// The pieces of these strips: where strips coincide, visible goes before hidden and hidden before traces; strips of one style
-/// that overlap or touch are one piece, and pieces neither overlap nor go on where another of their line and style ends. Solid
-/// pieces stand first, then dashed ones, then chain ones; pieces of one style are in the order of U and V of their ends, of
-/// which `a` is the lesser.
-///
-/// Each strip's line is hashed once, and the rest of the time is near linear in the number of strips, but for sorting their ends
-/// and the pieces. Memory: 16 bytes for each strip, once more while these are sorted, the pieces, which are sorted in place, and
-/// the table of lines; the ends of strips, which take more, are there for one line at a time.
-pub fn merge(alloc: Global, d: &Dir, strips: &[Strip]) -> Result<Vec<Piece>, OutOfMemory>
-    requires { AreStrips (of_dir d.now) strips.now }
-    ensures { IfOk result (λ pieces. AreMerged (of_dir d.now) strips.now pieces.items) }
-{
-    let listed = listed_by_line(alloc, strips)?;
-    let pieces = pieces_by_line(alloc, d, &listed)?;
-    Ok(sorted(d, pieces))
-}
-
-/// The pieces of the strips, which stand in the order of their lines' numbers, line by line.
-fn pieces_by_line(alloc: Global, d: &Dir, listed: &[Listed<'_>]) -> Result<Vec<Piece>, OutOfMemory>
-    requires ends { All (λ x. AreStripEnds (of_dir d.now) x.strip.line x.strip.a x.strip.b) (map listed_strip listed.now) }
-    requires ascending { IsNonDecreasingBy (λ x. x.line) listed.now }
-    ensures { IfOk result (λ pieces. ArePiecesOf (of_dir d.now) (map listed_strip listed.now) pieces.items) }
-{
-    let mut pieces = Vec::new(alloc);
-    let mut here = Vec::new(alloc);
-    let mut line = 0;
-    for x in listed {
-        go_on(alloc, d, &mut pieces, &mut here, line, x)?;
-        line = x.line;
-    }
-    add_pieces(alloc, d, &mut pieces, &here)?;
-    Ok(pieces)
-}
-
-/// Takes the next strip to those of the line with this number. If it is on another line, the pieces of that line are added, and the
-/// strip is the first of its own.
-fn go_on(
-    alloc: Global,
-    d: &Dir,
-    pieces: &mut Vec<Piece>,
-    here: &mut Vec<Numbered>,
-    line: usize,
-    x: &Listed<'_>,
-) -> Result<(), OutOfMemory>
-    requires { All (λ x. AreStripEnds (of_dir d.now) x.strip.line x.strip.a x.strip.b) here.old.items }
-    ensures { OnOk result ((given : List Numbered) → line ≤ x.now.line → AreUpToLine (of_dir d.now) given pieces.old.items here.old.items line →
-        AreUpToLine (of_dir d.now) (given ++ listed_strip x.now ∷ []) pieces.new.items here.new.items x.now.line) }
-{
-    if x.line != line {
-        add_pieces(alloc, d, pieces, here)?;
-        here.clear();
-    }
-    here.push(listed_strip(x))?;
-    Ok(())
-}
-
 /// Adds the pieces of these strips, which are on one line.
-fn add_pieces(
+pub(crate) fn add_pieces(
     alloc: Global,
     d: &Dir,
     pieces: &mut Vec<Piece>,

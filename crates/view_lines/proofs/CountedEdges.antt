@@ -94,10 +94,6 @@ module _ (solid : Solid) (c : Plane) (fraction : ℕ) (picked : Picked) (are : I
   }
 
 -- ---- an entry's edge
-pub edges_more : (entries : List EdgeSpans) (k : ℕ) (x : EdgeSpans) → k < length entries → x ≡ get_or entries k x
-    → map (λ y. y.edge) (take (k + 1) entries) ≡ map (λ y. y.edge) (take k entries) ++ x.edge ∷ []
-edges_more entries k x less is = map_more (λ (y : EdgeSpans). y.edge) entries k x less ∙ ap (λ (y : EdgeSpans). map (λ z. z.edge) (take k entries) ++ y.edge ∷ []) (sym is)
-
 module _ (d : Triple) (fraction : ℕ) (solid : Solid) (entries : List EdgeSpans) (drawn : AreDrawnEdges d fraction (solid_part solid) (edge_halves solid) (map (λ y. y.edge) entries))
     (x : EdgeSpans) (listed : Contains entries x) where
   in_edges : Contains (map (λ y. y.edge) entries) x.edge

@@ -1,4 +1,6 @@
 pub mod CountedEdges
 pub mod CountedSpans
-pub mod MergedStrips
+pub mod OriginStrips
+pub mod PlacedSources
+pub mod RightViews
 pub mod Runs

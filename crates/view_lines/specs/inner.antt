@@ -1,3 +1,3 @@
 -- What only this crate's own functions cite.
 pub mod Chained
-pub mod Merging
+pub mod Sources

@@ -1,55 +1,35 @@
 // The view of what a cut leaves of the solid: the spans of its drawn edges by their counts and the section's borders, as strips that
 // are put together to pieces, and the hatch lines of the section.
-ghost use Rattle.std.specs.Prelude.{◌≡◌, ℕ, ◌≤◌, ◌^◌, List, [], map, IfOk};
+ghost use Rattle.std.specs.Prelude.{◌≡◌, ℕ, ◌≤◌, ◌^◌, List, [], IfOk};
 ghost use Rattle.std.specs.List.{AllZip};
 ghost use Rattle.lattice.specs.Creases.{fraction_of};
 ghost use Rattle.lattice.specs.Cuts.{plane_of, toward_of};
 ghost use Rattle.geometry.specs.Pieces.{AreInOrder};
 ghost use Rattle.geometry.specs.Scenes.{AreRightInCut};
-ghost use Rattle.solid_mesh.specs.Solids.{solid_part, edge_halves};
+ghost use Rattle.solid_mesh.specs.Solids.{solid_part};
 ghost use Rattle.cut_plane.specs.Loops.{AreBorders};
 ghost use Rattle.hatch_fill.specs.Hatching.{IsHatching};
 ghost use Rattle.view_lines.specs.Counts.{AreCountsBeyond};
 ghost use Rattle.view_lines.specs.Numbers.{CountsView, AreBelow};
-ghost use Rattle.drawn_strips.specs.Strips.{IsOffBorders, IsBorderStrip, AreCutStrips};
+ghost use Rattle.drawn_strips.specs.Strips.{IsBorderStrip};
 ghost use Rattle.lattice.specs.declared.pieces.Strip.{Strip};
 ghost use Rattle.view_lines.specs.Merged.{AreMergedWith, IsMergedView};
-ghost use Rattle.view_lines.specs.inner.Merging.{AreToldWith};
 
 use crate::counts::{Counts, counts_beyond};
-use crate::strips::counted_strips;
+use crate::merged::merged_pieces;
 use crate::view::{ViewDrawing, ViewLines};
 use cut_plane::{Section, borders};
 use drawn_strips::add_borders;
 use edge_pick::{Crease, pick};
 use exact_frac::OutOfMemory;
 use hatch_fill::hatch;
-use lattice::{Cut, Piece, Strip, ViewSpec};
-use line_merge::merge;
+use lattice::{Cut, Piece, ViewSpec};
 use solid_mesh::Solid;
 use span_count::EdgeSpans;
 use std::alloc::Global;
 
-/// The strips of a cut view: those of the drawn edges with these counts, and then the borders.
-fn cut_strips(
-    alloc: Global,
-    solid: &Solid,
-    section: &Section,
-    entries: &[EdgeSpans],
-) -> Result<Vec<Strip>, OutOfMemory>
-    requires counts { (fraction : ℕ) × AreCountsBeyond (plane_of section.now.cut) fraction solid.now entries.now }
-    requires borders { AreBorders (plane_of section.now.cut) (solid_part solid.now) section.now.segments.items section.now.loops.items }
-    ensures are { IfOk result (λ strips. AreCutStrips (plane_of section.now.cut) (IsOffBorders (plane_of section.now.cut) (solid_part solid.now)) (solid_part solid.now) (edge_halves solid.now) (map (λ x. x.edge) entries.now) section.now.segments.items strips.items) }
-    ensures told { IfOk result (λ strips. (of_borders : List Strip) × AllZip IsBorderStrip section.now.segments.items of_borders ×
-        AreToldWith (toward_of (plane_of section.now.cut)) solid.now entries.now of_borders strips.items) }
-{
-    let mut strips = counted_strips(alloc, solid, &section.cut.dir(), entries)?;
-    add_borders(&mut strips, section)?;
-    Ok(strips)
-}
-
 /// The pieces of a cut view, visible lines solid and hidden ones dashed, in their order: what the cut leaves of the drawn edges, by
-/// these counts, and the border of the section. Sorts the strips of both along their lines.
+/// these counts, and the border of the section.
 fn cut_pieces(
     alloc: Global,
     solid: &Solid,
@@ -64,14 +44,16 @@ fn cut_pieces(
     ensures merged { IfOk result (λ pieces. (of_borders : List Strip) × AllZip IsBorderStrip section.now.segments.items of_borders ×
         AreMergedWith (toward_of (plane_of section.now.cut)) solid.now entries.now of_borders pieces.items) }
 {
-    let strips = cut_strips(alloc, solid, section, entries)?;
-    merge(alloc, &section.cut.dir(), &strips)
+    let mut strips = Vec::new(alloc);
+    add_borders(&mut strips, section)?;
+    let pieces = merged_pieces(alloc, solid, &section.cut.dir(), entries, &strips)?;
+    Ok(pieces)
 }
 
 /// The view of what a cut leaves of the solid, with hatch lines so many units apart in U, and its counts and numbers.
 ///
 /// Puts the outlines into a grid, where it counts as many cells as the cell bound at most, carries the counts along the parts of the
-/// drawn edges beyond the plane, by as many tests as the bound of the cut at most, and then sorts the strips along their lines.
+/// drawn edges beyond the plane, by as many tests as the bound of the cut at most, and then puts the strips together, line by line.
 pub(crate) fn cut_lines(
     alloc: Global,
     solid: &Solid,

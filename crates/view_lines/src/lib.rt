@@ -16,8 +16,10 @@ ghost use Rattle.view_lines.specs.Views.{ShowsView};
 
 mod counts;
 mod cut_strips;
+mod merged;
 mod numbers;
 mod plain_strips;
+mod sources;
 mod strips;
 mod view;
 

@@ -5,49 +5,47 @@ ghost use Rattle.lattice.specs.Cuts.{plane_of};
 ghost use Rattle.lattice.specs.Points.{of_dir};
 ghost use Rattle.geometry.specs.Pieces.{AreInOrder};
 ghost use Rattle.geometry.specs.Scenes.{AreRight};
-ghost use Rattle.solid_mesh.specs.Solids.{solid_part, edge_halves};
+ghost use Rattle.solid_mesh.specs.Solids.{solid_part};
 ghost use Rattle.view_lines.specs.Counts.{AreCountsAlong};
 ghost use Rattle.view_lines.specs.Numbers.{CountsView, AreBelow};
-ghost use Rattle.drawn_strips.specs.Traces.{ArePlainStrips, AreTraceStrips};
+ghost use Rattle.drawn_strips.specs.Traces.{AreTraceStrips};
 ghost use Rattle.lattice.specs.declared.pieces.Strip.{Strip};
-ghost use Rattle.view_lines.specs.Merged.{IsMergedView};
-ghost use Rattle.view_lines.specs.inner.Merging.{AreToldWith};
+ghost use Rattle.view_lines.specs.Merged.{AreMergedWith, IsMergedView};
 
 use crate::counts::{Counts, counts_along};
-use crate::strips::counted_strips;
+use crate::merged::merged_pieces;
 use crate::view::{ViewDrawing, ViewLines};
 use drawn_strips::add_traces;
 use edge_pick::{Crease, pick};
 use exact_frac::OutOfMemory;
-use lattice::{Cut, Dir, Strip, ViewSpec};
-use line_merge::merge;
+use lattice::{Cut, Dir, Piece, ViewSpec};
 use solid_mesh::Solid;
 use span_count::EdgeSpans;
 use std::alloc::Global;
 
-/// The strips of a plain view: those of the drawn edges with these counts, and then the traces of these cuts.
-fn view_strips(
+/// The pieces of a plain view: the strips of the drawn edges with these counts and the traces of these cuts, put together.
+fn plain_pieces(
     alloc: Global,
     solid: &Solid,
     d: &Dir,
     entries: &[EdgeSpans],
     cuts: &[Cut],
-) -> Result<Vec<Strip>, OutOfMemory>
+) -> Result<Vec<Piece>, OutOfMemory>
     requires { (fraction : ℕ) × AreCountsAlong (of_dir d.now) fraction solid.now entries.now }
-    ensures are { IfOk result (λ strips. ArePlainStrips (of_dir d.now) (solid_part solid.now) (edge_halves solid.now) (map (λ x. x.edge) entries.now) (map plane_of cuts.now) strips.items) }
-    ensures told { IfOk result (λ strips. (traces : List Strip) × AreTraceStrips (of_dir d.now) (solid_part solid.now) (map plane_of cuts.now) traces ×
-        AreToldWith (of_dir d.now) solid.now entries.now traces strips.items) }
+    ensures { IfOk result (λ pieces. (traces : List Strip) × AreTraceStrips (of_dir d.now) (solid_part solid.now) (map plane_of cuts.now) traces ×
+        AreMergedWith (of_dir d.now) solid.now entries.now traces pieces.items) }
 {
-    let mut strips = counted_strips(alloc, solid, d, entries)?;
-    add_traces(&mut strips, solid, d, cuts)?;
-    Ok(strips)
+    let mut traces = Vec::new(alloc);
+    add_traces(&mut traces, solid, d, cuts)?;
+    let pieces = merged_pieces(alloc, solid, d, entries, &traces)?;
+    Ok(pieces)
 }
 
 /// The plain view along a direction: visible lines solid, hidden ones dashed and traces of cuts chain lines, in their order, and its
 /// counts and numbers.
 ///
 /// Puts the outlines into a grid, where it counts as many cells as the cell bound at most, carries the counts along the drawn edges
-/// and around corners, by as many tests as the bound at most, and then sorts the strips along their lines.
+/// and around corners, by as many tests as the bound at most, and then puts the strips together, line by line.
 pub(crate) fn plain_lines(
     alloc: Global,
     solid: &Solid,
@@ -69,8 +67,7 @@ pub(crate) fn plain_lines(
 {
     let picked = pick(alloc, solid, d, crease)?;
     let Counts { entries, numbers } = counts_along(alloc, solid, d, crease, &picked)?;
-    let strips = view_strips(alloc, solid, d, &entries, cuts)?;
-    let pieces = merge(alloc, d, &strips)?;
+    let pieces = plain_pieces(alloc, solid, d, &entries, cuts)?;
     let view = ViewDrawing {
         spec: ViewSpec::Plain(*d),
         pieces,

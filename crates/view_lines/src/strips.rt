@@ -1,13 +1,14 @@
 // The spans of the drawn edges by their counts, as strips of lines: a span is hidden where its counts are not both 0, and neighbours that
 // are all hidden or all visible are one strip.
-ghost use Rattle.std.specs.Prelude.{◌≡◌, ◌≢◌, ◌↔◌, ℕ, ◌+◌, List, [], ◌∷◌, ◌++◌, map, All, IfOk, IsTrue};
+ghost use Rattle.std.specs.Prelude.{◌≡◌, ◌≢◌, ◌↔◌, ℕ, ◌+◌, ◌<◌, List, [], ◌∷◌, ◌++◌, length, All, IfOk, IsTrue};
 ghost use Rattle.lattice.specs.Points.{of_dir};
-ghost use Rattle.geometry.specs.Views.{AreDrawnEdges};
-ghost use Rattle.solid_mesh.specs.Solids.{solid_part, edge_halves};
+ghost use Rattle.geometry.specs.Views.{IsEndOn};
+ghost use Rattle.edge_pick.specs.Edges.{OfEdge};
+ghost use Rattle.solid_mesh.specs.Solids.{edge_halves};
 ghost use Rattle.geometry.specs.Places.{IsSame};
-ghost use Rattle.drawn_strips.specs.Strips.{AreEdgeStrips};
-ghost use Rattle.view_lines.specs.Told.{IsToldBy, AreRuns, AreToldBy, AreTold};
+ghost use Rattle.view_lines.specs.Told.{IsToldBy, AreRuns, AreToldBy};
 ghost use Rattle.view_lines.specs.inner.Chained.{AreChained};
+ghost use Rattle.view_lines.specs.inner.Sources.{AreEntryStrips};
 
 use drawn_strips::add_strips;
 use exact_frac::OutOfMemory;
@@ -77,21 +78,20 @@ fn spans_of(alloc: Global, counts: &[CountSpan]) -> Result<Vec<Span>, OutOfMemor
     Ok(spans)
 }
 
-/// The strips of the drawn edges of a view with these counts, edge by edge.
-pub(crate) fn counted_strips(
+/// The strips of an edge with these counts.
+pub(crate) fn entry_strips(
     alloc: Global,
     solid: &Solid,
     d: &Dir,
-    entries: &[EdgeSpans],
+    entry: &EdgeSpans,
 ) -> Result<Vec<Strip>, OutOfMemory>
-    requires drawn { (fraction : ℕ) × AreDrawnEdges (of_dir d.now) fraction (solid_part solid.now) (edge_halves solid.now) (map (λ x. x.edge) entries.now) }
-    requires chained { All (λ x. AreChained x.spans.items) entries.now }
-    ensures { IfOk result (λ strips. AreEdgeStrips (of_dir d.now) {s = solid_part solid.now} (AreTold entries.now (edge_halves solid.now)) (edge_halves solid.now) (map (λ x. x.edge) entries.now) strips.items) }
+    requires in_range { entry.now.edge < length (edge_halves solid.now) }
+    requires seen { OfEdge solid.now entry.now.edge (λ e. ¬ IsEndOn (of_dir d.now) e) }
+    requires chained { AreChained entry.now.spans.items }
+    ensures { IfOk result (λ strips. AreEntryStrips (of_dir d.now) solid.now entry.now strips.items) }
 {
-    let mut strips = Vec::new(alloc);
-    for entry in entries {
-        let spans = spans_of(alloc, &entry.spans)?;
-        add_strips(&mut strips, solid, d, entry.edge, &spans)?;
-    }
+    let spans = spans_of(alloc, &entry.spans)?;
+    let mut strips = Vec::with_capacity(alloc, spans.len())?;
+    add_strips(&mut strips, solid, d, entry.edge, &spans)?;
     Ok(strips)
 }

@@ -1,15 +1,11 @@
 -- Lines by numbers, and strips with the numbers of their lines.
-use Rattle.std.specs.Prelude.{◌≡◌, ◌↔◌, ℕ, List, Contains, map, IsPermutation}
+use Rattle.std.specs.Prelude.{◌≡◌, ℕ, List, map, IsPermutation}
 use Rattle.std.specs.List.Sorted.{IsNonDecreasingBy}
 use Rattle.lattice.specs.declared.lines.Line.{Line}
 use Rattle.lattice.specs.declared.pieces.Strip.{Strip}
-use Rattle.lattice.specs.Lines.{IsSameLine}
 use Rattle.line_merge.specs.declared.numbering.Listed.{Listed}
 use Rattle.line_merge.specs.declared.numbering.Numbered.{Numbered}
-
--- two strips have one number exactly where their lines are the same
-abbrev pub IsNumbering : List Strip → (Line → ℕ) → Type 0
-IsNumbering strips number = (x y : Strip) → Contains strips x → Contains strips y → (number x.line ≡ number y.line) ↔ IsSameLine x.line y.line
+use Rattle.line_merge.specs.Numbers.{IsNumbering}
 
 abbrev pub numbered_by : (Line → ℕ) → Strip → Numbered
 numbered_by number x = record { strip = x; line = number x.line }

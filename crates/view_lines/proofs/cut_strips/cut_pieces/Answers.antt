@@ -1,64 +1,64 @@
-use Rattle.std.proofs.Common.{ℕ, List, map, refl, sym, subst}
+use Rattle.std.proofs.Common.{◌≡◌, List, ◌++◌, map, get_or, sym, subst, ap, ◌∙◌}
 use Rattle.std.specs.List.{AllZip}
-use Rattle.std.proofs.lemmas.Result.{IfOk-weaker}
-use Rattle.lattice.specs.Cuts.{plane_of, toward_of}
+use Rattle.std.proofs.lemmas.List.Elements.{All-contains, Contains-get_or}
+use Rattle.cut_plane.specs.Loops.{IsSegmentOf}
+use Rattle.geometry.specs.Pieces.{AreInOrder}
+use Rattle.geometry.specs.Views.{AreDrawnEdges}
+use Rattle.lattice.specs.Cuts.{plane_of}
 use Rattle.lattice.specs.Points.{of_dir}
 use Rattle.lattice.specs.declared.pieces.Strip.{Strip}
 use Rattle.lattice.specs.Triple.{Triple}
-use Rattle.geometry.specs.Pieces.{AreInOrder}
-use Rattle.geometry.specs.Scenes.{AreRightInCut}
-use Rattle.line_merge.specs.Merging.{AreStrips, AreMerged}
+use Rattle.line_merge.specs.Merging.{AreStrips}
 use Rattle.solid_mesh.specs.Solids.{solid_part, edge_halves}
-use Rattle.solid_mesh.proofs.Facts.{closed, in_range, edge_there}
-use Rattle.drawn_strips.specs.Strips.{IsOffBorders, IsBorderStrip}
-use Rattle.view_lines.specs.Counts.{AreCountsBeyond}
+use Rattle.solid_mesh.proofs.Facts.{closed, in_range}
+use Rattle.drawn_strips.specs.Strips.{IsBorderStrip}
 use Rattle.view_lines.specs.Merged.{AreMergedWith}
-use Rattle.view_lines.proofs.MergedStrips.{merged_with}
-use Rattle.drawn_strips.proofs.CutRight.{off_borders_along, are_cut_strips, right_in_cut}
+use Rattle.view_lines.proofs.CountedEdges.{beyond_cut_chained}
+use Rattle.view_lines.proofs.RightViews.{border_ends, right_cut}
 use Rattle.view_lines.proofs.cut_strips.cut_pieces.Goals as goal
 
-pub merge-requires : goal.merge-requires
-merge-requires c =
+pub add_borders-requires : goal.add_borders-requires
+add_borders-requires c = (solid_part c.args.solid.now, closed c.args.solid.now, c.requires.borders)
+
+pub merged_pieces-requires-clause-drawn : goal.merged_pieces-requires-clause-drawn
+merged_pieces-requires-clause-drawn c =
     let solid = c.args.solid.now in
-    let section = c.args.section.now in
     let (fraction, beyond) = c.requires.counts in
-    subst (AreStrips (of_dir c.dir.result)) (sym c.deref.ensures.value)
-    (subst (λ (v : Triple). AreStrips v c.in_ok-strips.strips.items) (sym c.dir.ensures)
-    (are_cut_strips (plane_of section.cut) (IsOffBorders (plane_of section.cut) (solid_part solid)) (off_borders_along (plane_of section.cut) (solid_part solid)) fraction (solid_part solid) (edge_halves solid) (map (λ x. x.edge) c.args.entries.now) section.segments.items section.loops.items c.in_ok-strips.strips.items
-    (closed solid) (in_range solid) (edge_there solid) beyond.edges c.requires.borders c.in_ok-strips.ensures.are))
+    (fraction, subst (λ (v : Triple). AreDrawnEdges v fraction (solid_part solid) (edge_halves solid) (map (λ x. x.edge) c.args.entries.now)) (sym c.dir.ensures) beyond.edges)
+
+pub merged_pieces-requires-clause-chained : goal.merged_pieces-requires-clause-chained
+merged_pieces-requires-clause-chained c =
+    let (fraction, beyond) = c.requires.counts in beyond_cut_chained (plane_of c.args.section.now.cut) fraction c.args.solid.now c.args.entries.now beyond
+
+pub merged_pieces-requires-clause-others : goal.merged_pieces-requires-clause-others
+merged_pieces-requires-clause-others c =
+    let section = c.args.section.now in
+    let (here, together, each) = c.in_ok-add_borders.ensures in
+    let same : here ≡ c.deref.result.now = sym {A = List Strip} (c.deref.ensures.value ∙ together ∙ ap (λ (ys : List Strip). ys ++ here) c.new-strips.ensures.items) in
+    subst (λ (ys : List Strip). AreStrips (of_dir c.dir.result) ys) same
+    (subst (λ (v : Triple). AreStrips v here) (sym c.dir.ensures)
+    (border_ends (plane_of section.cut) c.args.solid.now section.segments.items section.loops.items here c.requires.borders each))
 
 pub returns-clause-right : goal.returns-clause-right
-returns-clause-right c =
+returns-clause-right c fraction beyond =
     let solid = c.args.solid.now in
     let section = c.args.section.now in
-    let plane = plane_of section.cut in
-    let entries = c.args.entries.now in
-    let strips = c.in_ok-strips.strips.items in
-    IfOk-weaker c.merge.result (λ pieces. AreMerged (of_dir c.dir.result) c.deref.result.now pieces.items)
-    (λ pieces. (fraction : ℕ) → AreCountsBeyond plane fraction solid entries → AreRightInCut plane fraction (solid_part solid) pieces.items)
-    (λ pieces merged fraction beyond.
-    right_in_cut plane (IsOffBorders plane (solid_part solid)) (off_borders_along plane (solid_part solid)) fraction (solid_part solid) (edge_halves solid) (map (λ x. x.edge) entries) section.segments.items section.loops.items strips
-    (closed solid) (in_range solid) (edge_there solid) beyond.edges c.requires.borders c.in_ok-strips.ensures.are (λ p off. off) pieces.items
-    (subst (λ (v : Triple). AreMerged v strips pieces.items) c.dir.ensures (subst (λ (ys : List Strip). AreMerged (of_dir c.dir.result) ys pieces.items) c.deref.ensures.value merged))) c.merge.ensures
+    let pieces = c.in_ok-pieces.pieces.items in
+    let (here, together, each) = c.in_ok-add_borders.ensures in
+    let same : here ≡ c.deref.result.now = sym {A = List Strip} (c.deref.ensures.value ∙ together ∙ ap (λ (ys : List Strip). ys ++ here) c.new-strips.ensures.items) in
+    right_cut (plane_of section.cut) fraction solid c.args.entries.now section.segments.items section.loops.items c.deref.result.now pieces c.requires.borders beyond (subst (AllZip IsBorderStrip section.segments.items) same each)
+    (subst (λ (v : Triple). AreMergedWith v solid c.args.entries.now c.deref.result.now pieces) c.dir.ensures c.in_ok-pieces.ensures)
 
 pub returns-clause-order : goal.returns-clause-order
-returns-clause-order c =
-    IfOk-weaker c.merge.result (λ pieces. AreMerged (of_dir c.dir.result) c.deref.result.now pieces.items) (λ pieces. AreInOrder (toward_of (plane_of c.args.section.now.cut)) pieces.items)
-    (λ pieces merged. subst (λ (v : Triple). AreInOrder v pieces.items) c.dir.ensures merged.order) c.merge.ensures
+returns-clause-order c = let (of_edges, told, merged) = c.in_ok-pieces.ensures in subst (λ (v : Triple). AreInOrder v c.in_ok-pieces.pieces.items) c.dir.ensures merged.order
 
 pub returns-clause-merged : goal.returns-clause-merged
 returns-clause-merged c =
     let solid = c.args.solid.now in
-    let section = c.args.section.now in
-    let d = toward_of (plane_of section.cut) in
-    let entries = c.args.entries.now in
-    let strips = c.in_ok-strips.strips.items in
-    let (borders, each, told) = c.in_ok-strips.ensures.told in
-    IfOk-weaker c.merge.result (λ pieces. AreMerged (of_dir c.dir.result) c.deref.result.now pieces.items)
-    (λ pieces. (of_borders : List Strip) × AllZip IsBorderStrip section.segments.items of_borders × AreMergedWith d solid entries of_borders pieces.items)
-    (λ pieces merged. (
-      borders,
-      each,
-      merged_with d solid entries entries borders strips pieces.items refl told
-          (subst (λ (v : Triple). AreMerged v strips pieces.items) c.dir.ensures (subst (λ (ys : List Strip). AreMerged (of_dir c.dir.result) ys pieces.items) c.deref.ensures.value merged)),
-    )) c.merge.ensures
+    let segments = c.args.section.now.segments.items in
+    let (here, together, each) = c.in_ok-add_borders.ensures in
+    let same : here ≡ c.deref.result.now = sym {A = List Strip} (c.deref.ensures.value ∙ together ∙ ap (λ (ys : List Strip). ys ++ here) c.new-strips.ensures.items) in (
+      c.deref.result.now,
+      subst (AllZip IsBorderStrip segments) same each,
+      subst (λ (v : Triple). AreMergedWith v solid c.args.entries.now c.deref.result.now c.in_ok-pieces.pieces.items) c.dir.ensures c.in_ok-pieces.ensures,
+    )
