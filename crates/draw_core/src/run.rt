@@ -194,11 +194,11 @@ fn write_drawing<D: Desk>(alloc: Global, taken: Taken, desk: &mut D) -> Outcome
 /// text, whether it has a triangle, its surface, whether the views fit the sheet, the drawing's files, in their order, the summary.
 /// Want of memory may be answered at any place; then some first files stand whole, perhaps none, and the others are as before,
 /// nothing is said, and where there is no drawing no file has changed. Time is about linear in the bytes of the job and of the
-/// part; for the check that of sorting, and of one test for each pair of an edge and a triangle whose ranges of x meet, which
-/// for some parts is nearly every pair; and for each view, for its spans that of the cells that are counted for its grid of outlines, at
-/// most its cell bound, of the tests, and of sorting each edge's crossings, and for the pieces and the hatch lines that of sorting the
-/// spans and the crossings of borders with hatch lines. In a plain view the tests are at most its bound, and few where a cell has few
-/// outlines, in the view of a cut at most its cut bound.
+/// part; for the check that of sorting, and for each edge of a walk over a tree of the triangles' bounds, which is short where few
+/// triangles are near and goes over all of them where all bounds overlap; and for each view, for its spans that of the cells that are
+/// counted for its grid of outlines, at most its cell bound, of the tests, and of sorting each edge's crossings, and for the pieces
+/// and the hatch lines that of sorting the spans and the crossings of borders with hatch lines. In a plain view the tests are at most
+/// its bound, and few where a cell has few outlines, in the view of a cut at most its cut bound.
 pub fn draw<D: Desk>(
     alloc: Global,
     words: &[String],
