@@ -3,49 +3,30 @@ ghost use Rattle.std.specs.Prelude.{◌≡◌, ◌<◌, ◌≤◌, List, ◌++�
 ghost use Rattle.std.specs.List.{AllZip, flat_map};
 ghost use Rattle.sheet_plan.specs.declared.sheet.Stroke.{Stroke};
 ghost use Rattle.svg_page.specs.Svg.{stroke_line, group_begin, group_end, svg_of};
-ghost use Rattle.draw_core.specs.Strokes.{IsStrokeOn, IsHatchStrokeOn, AreStrokesOf, AreStrokes};
+ghost use Rattle.draw_core.specs.Strokes.{AreStrokesOf, AreStrokes};
 
-use crate::strokes::{hatch_stroke_of, stroke_of};
+use crate::strokes::Stroked;
 use dec_text::Name;
 use exact_frac::OutOfMemory;
-use lattice::{HatchLine, Piece};
 use sheet_plan::Sheet;
 use std::alloc::Global;
 use svg_page::{add_line, begin_group, begin_page, end_group, end_page};
 use view_lines::ViewDrawing;
 
-/// Adds the lines of the strokes of these pieces of the view with this number.
-fn add_piece_lines(
+/// Adds the lines of the strokes of these in the view with this number.
+fn add_lines<S: Stroked>(
     alloc: Global,
     text: &mut Vec<u8>,
     sheet: &Sheet,
     number: u32,
-    pieces: &[Piece],
+    shown: &[S],
 ) -> Result<(), OutOfMemory>
     requires { number < length sheet.now.places.items }
     ensures { OnOk result ((here : List Stroke) × (text.new.items ≡ text.old.items ++ flat_map stroke_line here) ×
-        AllZip (IsStrokeOn sheet.now number) pieces.now here) }
+        AllZip (S.has_stroke_on sheet.now number) shown.now here) }
 {
-    for piece in pieces {
-        add_line(alloc, text, &stroke_of(sheet, number, piece))?;
-    }
-    Ok(())
-}
-
-/// Adds the lines of the strokes of these hatch lines of the view with this number.
-fn add_hatch_lines(
-    alloc: Global,
-    text: &mut Vec<u8>,
-    sheet: &Sheet,
-    number: u32,
-    lines: &[HatchLine],
-) -> Result<(), OutOfMemory>
-    requires { number < length sheet.now.places.items }
-    ensures { OnOk result ((here : List Stroke) × (text.new.items ≡ text.old.items ++ flat_map stroke_line here) ×
-        AllZip (IsHatchStrokeOn sheet.now number) lines.now here) }
-{
-    for line in lines {
-        add_line(alloc, text, &hatch_stroke_of(sheet, number, line))?;
+    for one in shown {
+        add_line(alloc, text, &one.stroke_on(sheet, number))?;
     }
     Ok(())
 }
@@ -63,8 +44,8 @@ fn add_view_group(
         AreStrokesOf sheet.now number view.now here) }
 {
     begin_group(text)?;
-    add_piece_lines(alloc, text, sheet, number, &view.pieces)?;
-    add_hatch_lines(alloc, text, sheet, number, &view.hatches)?;
+    add_lines(alloc, text, sheet, number, &view.pieces)?;
+    add_lines(alloc, text, sheet, number, &view.hatches)?;
     end_group(text)?;
     Ok(())
 }

@@ -1,6 +1,7 @@
 // The strokes of a sheet: view by view, one for each piece and then one for each hatch line.
-ghost use Rattle.std.specs.Prelude.{◌≡◌, ◌<◌, ◌≤◌, List, ◌++◌, length, IfOk, OnOk};
+ghost use Rattle.std.specs.Prelude.{◌≡◌, ℕ, ◌<◌, ◌≤◌, List, ◌++◌, length, IfOk, OnOk};
 ghost use Rattle.std.specs.List.{All, AllZip};
+ghost use Rattle.sheet_plan.specs.declared.sheet.Sheet.{Sheet};
 ghost use Rattle.sheet_plan.specs.declared.sheet.Stroke.{Stroke};
 ghost use Rattle.draw_core.specs.Strokes.{IsStrokeOn, IsHatchStrokeOn, AreStrokesOf, AreStrokes};
 
@@ -10,52 +11,46 @@ use sheet_plan::{Sheet, Stroke};
 use std::alloc::Global;
 use view_lines::ViewDrawing;
 
-/// The stroke of a piece of the view with this number.
-pub(crate) fn stroke_of(sheet: &Sheet, number: u32, piece: &Piece) -> Stroke
-    requires { number < length sheet.now.places.items }
-    ensures { IsStrokeOn sheet.now number piece.now result }
-{
-    sheet.stroke(number, piece)
+/// What a sheet shows by one stroke.
+pub(crate) trait Stroked {
+    /// The stroke shows this in the view with this number.
+    ghost has_stroke_on: { Sheet → ℕ → Self → Stroke → Type 0 };
+
+    /// The stroke that shows this in the view with this number.
+    fn stroke_on(&self, sheet: &Sheet, number: u32) -> Stroke
+        requires { number < length sheet.now.places.items }
+        ensures { has_stroke_on sheet.now number self.now result };
 }
 
-/// Adds the strokes of the pieces of the view with this number.
-fn add_strokes(
-    strokes: &mut Vec<Stroke>,
-    sheet: &Sheet,
-    number: u32,
-    pieces: &[Piece],
-) -> Result<(), OutOfMemory>
-    requires { number < length sheet.now.places.items }
-    ensures { OnOk result ((here : List Stroke) × (strokes.new.items ≡ strokes.old.items ++ here) ×
-        AllZip (IsStrokeOn sheet.now number) pieces.now here) }
-{
-    for piece in pieces {
-        strokes.push(stroke_of(sheet, number, piece))?;
+impl Stroked for Piece {
+    ghost has_stroke_on = { IsStrokeOn };
+
+    fn stroke_on(&self, sheet: &Sheet, number: u32) -> Stroke {
+        sheet.stroke(number, self)
     }
-    Ok(())
 }
 
-/// The stroke of a hatch line of the view with this number.
-pub(crate) fn hatch_stroke_of(sheet: &Sheet, number: u32, line: &HatchLine) -> Stroke
-    requires { number < length sheet.now.places.items }
-    ensures { IsHatchStrokeOn sheet.now number line.now result }
-{
-    sheet.hatch_stroke(number, line)
+impl Stroked for HatchLine {
+    ghost has_stroke_on = { IsHatchStrokeOn };
+
+    fn stroke_on(&self, sheet: &Sheet, number: u32) -> Stroke {
+        sheet.hatch_stroke(number, self)
+    }
 }
 
-/// Adds the strokes of the hatch lines of the view with this number.
-fn add_hatches(
+/// Adds the strokes of these in the view with this number.
+fn add_strokes<S: Stroked>(
     strokes: &mut Vec<Stroke>,
     sheet: &Sheet,
     number: u32,
-    lines: &[HatchLine],
+    shown: &[S],
 ) -> Result<(), OutOfMemory>
     requires { number < length sheet.now.places.items }
     ensures { OnOk result ((here : List Stroke) × (strokes.new.items ≡ strokes.old.items ++ here) ×
-        AllZip (IsHatchStrokeOn sheet.now number) lines.now here) }
+        AllZip (S.has_stroke_on sheet.now number) shown.now here) }
 {
-    for line in lines {
-        strokes.push(hatch_stroke_of(sheet, number, line))?;
+    for one in shown {
+        strokes.push(one.stroke_on(sheet, number))?;
     }
     Ok(())
 }
@@ -71,7 +66,7 @@ fn add_view(
     ensures { OnOk result ((here : List Stroke) × (strokes.new.items ≡ strokes.old.items ++ here) × AreStrokesOf sheet.now number view.now here) }
 {
     add_strokes(strokes, sheet, number, &view.pieces)?;
-    add_hatches(strokes, sheet, number, &view.hatches)?;
+    add_strokes(strokes, sheet, number, &view.hatches)?;
     Ok(())
 }
 

@@ -15,8 +15,8 @@ returns c =
     let sheet = c.args.sheet.now in
     let number = c.args.number in
     let old = c.args.text.now.items in
-    let (pieces, added, zip) = c.in_ok-add_piece_lines.ensures in
-    let (hatches, added_too, zip_too) = c.in_ok-add_hatch_lines.ensures in (
+    let (pieces, added, zip) = c.in_ok-add_lines.ensures in
+    let (hatches, added_too, zip_too) = c.in_ok-add_lines-2.ensures in (
       pieces ++ hatches,
       c.in_ok-end_group.ensures
           ∙ ap (λ (t : List ℕ). t ++ group_end) (added_too ∙ ap (λ (t : List ℕ). t ++ flat_map stroke_line hatches) (added ∙ ap (λ (t : List ℕ). t ++ flat_map stroke_line pieces) c.in_ok-begin_group.ensures))

@@ -13,7 +13,7 @@ returns c =
     let number = c.args.number in
     let old = c.args.strokes.now.items in
     let (pieces, added, zip) = c.in_ok-add_strokes.ensures in
-    let (hatches, added_too, zip_too) = c.in_ok-add_hatches.ensures in (
+    let (hatches, added_too, zip_too) = c.in_ok-add_strokes-2.ensures in (
       pieces ++ hatches,
       added_too ∙ ap (λ (ys : List Stroke). ys ++ hatches) added ∙ append_assoc old pieces hatches,
       record {

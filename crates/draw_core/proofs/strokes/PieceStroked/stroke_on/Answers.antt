@@ -1,5 +1,5 @@
 use Rattle.draw_core.proofs.StrokeLists.{place_there}
-use Rattle.draw_core.proofs.strokes.stroke_of.Goals as goal
+use Rattle.draw_core.proofs.strokes.PieceStroked.stroke_on.Goals as goal
 
 pub returns : goal.returns
 returns c =
