@@ -139,16 +139,6 @@ fn refuse<D: Desk>(alloc: Global, fault: Fault, desk: &mut D) -> Outcome
     }
 }
 
-/// The program's status at the end of a run.
-fn end_status(fault: &Option<Fault>) -> u8
-    ensures { result ≡ status_of fault.now }
-{
-    match fault {
-        None => 0,
-        Some(fault) => fault.status(),
-    }
-}
-
 /// Writes the drawing of what was taken, and says its summary.
 fn write_drawing<D: Desk>(alloc: Global, taken: Taken, desk: &mut D) -> Outcome
     requires { IsDrawn taken }
@@ -179,7 +169,7 @@ fn write_drawing<D: Desk>(alloc: Global, taken: Taken, desk: &mut D) -> Outcome
     };
     let fault = write_all(&made.outputs, &made.summary, desk);
     Outcome {
-        status: end_status(&fault),
+        status: Fault::end_status(&fault),
         fault,
         drawing: Some(made.drawing),
     }

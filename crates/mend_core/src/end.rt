@@ -25,16 +25,6 @@ pub struct MendOutcome {
     pub mended: Option<Mended>,
 }
 
-/// The program's status at the end of a run.
-pub(crate) fn end_status(fault: &Option<Fault>) -> u8
-    ensures { result ≡ status_of fault.now }
-{
-    match fault {
-        None => 0,
-        Some(fault) => fault.status(),
-    }
-}
-
 /// Ends a run with a fault and no part, and warns by this line.
 pub(crate) fn end_by<D: Desk>(line: &str, fault: Fault, desk: &mut D) -> MendOutcome
     ensures status { result.status ≡ status_of result.fault }

@@ -6,7 +6,7 @@ ghost use Rattle.geometry.specs.Sound.{IsSound};
 ghost use Rattle.mend_core.specs.Lines.{Warns, WarnsWhole};
 ghost use Rattle.mend_core.specs.Run.{AnswersNamed, AnswersWords, HasFilesAsked, HasMended, IsAnswerTo, IsWritten, MendsAsked, Runs, RunsInOrder, Takes};
 ghost use Rattle.mend_core.specs.Seen.{made_seen};
-ghost use Rattle.mend_core.specs.Writing.{IsQuietIfAsked, SpeaksIfTold, Tells, TellsAsked, Writes, WritesAsked, summary_way};
+ghost use Rattle.mend_core.specs.Writing.{IsQuietIfAsked, SpeaksIfTold, TellsAsked, Writes, WritesAsked, summary_way};
 ghost use Rattle.mend_core.specs.inner.Faults.{IsOfTelling, IsOfWriting};
 ghost use Rattle.mend_words.specs.Names.{asked_by, help, mend as of_mend};
 ghost use Rattle.mend_words.specs.Seen.{named_seen};
@@ -15,9 +15,10 @@ ghost use Rattle.part_input.specs.Steps.{Refuses, IsMissing};
 ghost use Rattle.put_texts.specs.Desks.{HearsAll, OnlyRuns, OnlySaidAndWarned, OnlyWrites};
 ghost use Rattle.put_texts.specs.Faults.{CountsWrites, HasNoWriteFault};
 ghost use Rattle.put_texts.specs.Noting.{IsQuiet};
+ghost use Rattle.put_texts.specs.Order.{SaysAlone};
 ghost use Rattle.solid_mesh.specs.Solids.{solid_part};
 
-use crate::end::{MendOutcome, end_by, end_status, refuse};
+use crate::end::{MendOutcome, end_by, refuse};
 use crate::lines::{HELP, MEMORY_LINE, SAID_LINE, VERSION};
 use crate::made::Mended;
 use crate::put::put;
@@ -35,7 +36,7 @@ fn tell<D: Desk>(text: &str, desk: &mut D) -> MendOutcome
     ensures fault { IfSome result.fault IsOfTelling }
     ensures none { result.mended ≡ None }
     ensures said { (D.state desk.old).tells_said ≡ true →
-        Tells result.fault text.now (D.state desk.old).said (D.state desk.new).said }
+        SaysAlone result.fault text.now (D.state desk.old).said (D.state desk.new).said }
     ensures writes { CountsWrites result.fault (D.state desk.old).write_faults (D.state desk.new).write_faults }
     ensures steady { (D.state desk.old).steady ≡ true → HasNoWriteFault result.fault }
     ensures warned { (D.state desk.old).tells_warned ≡ true →
@@ -87,7 +88,7 @@ fn write_part<D: Desk>(
     };
     let fault = put(request, &texts, desk);
     MendOutcome {
-        status: end_status(&fault),
+        status: Fault::end_status(&fault),
         fault,
         mended: Some(mended),
     }

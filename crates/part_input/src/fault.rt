@@ -80,4 +80,14 @@ impl Fault {
             Fault::Memory => 9,
         }
     }
+
+    /// The program's status at the end of a run: 0 without a fault.
+    pub fn end_status(fault: &Option<Fault>) -> u8
+        ensures { result ≡ status_of fault.now }
+    {
+        match fault {
+            None => 0,
+            Some(fault) => fault.status(),
+        }
+    }
 }

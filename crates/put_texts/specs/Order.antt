@@ -52,6 +52,11 @@ abbrev pub SaysTextPart : Way → Fault → List ℕ → List ℕ → List ℕ �
 SaysTextPart aloud (WriteFault target) bytes old new = AppendsFront old new bytes
 SaysTextPart way fault bytes old new = new ≡ old
 
+-- of one that is said alone: the whole text, or where it couldn't be said a prefix
+abbrev pub SaysAlone : Option Fault → List ℕ → List ℕ → List ℕ → Type 0
+SaysAlone None bytes old new = SaysText aloud bytes old new
+SaysAlone (Some fault) bytes old new = SaysTextPart aloud fault bytes old new
+
 -- ---- texts in order
 -- With no fault all are put whole, one after the other. A fault is that of one of them: those before it are put whole, that one in
 -- part, and the later ones not at all.

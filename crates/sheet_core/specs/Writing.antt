@@ -9,7 +9,7 @@ use Rattle.part_input.specs.declared.fault.Target.{Target}
 use Rattle.part_input.specs.declared.fault.Target.TheVariants.{Out, Plot, Summary}
 use Rattle.put_texts.specs.Desks.{HearsAll}
 use Rattle.put_texts.specs.Noting.{IsQuiet, Notes, NotesWhole, unless_said}
-use Rattle.put_texts.specs.Order.{Way, Text, nowhere, aloud, under, SaysText, SaysTextPart, KeepsTexts, SaysTexts, SparesFiles, SparesSaid}
+use Rattle.put_texts.specs.Order.{Way, Text, nowhere, aloud, under, SaysAlone, KeepsTexts, SaysTexts, SparesFiles, SparesSaid}
 use Rattle.sheet_core.specs.Pages.{IsPageWith, shown_strokes}
 use Rattle.sheet_core.specs.Summary.{summary_of}
 use Rattle.sheet_core.specs.declared.lines.TheConstants.{HELP, VERSION}
@@ -100,14 +100,10 @@ IsQuietIfAsked (Some version) old new = new ≡ old
 IsQuietIfAsked (Some (sheet named)) old new = IsQuiet (summary_way named) old new
 IsQuietIfAsked None old new = new ≡ old
 
--- without a drawing only help and the version are said: the whole text, or where it couldn't be said a prefix
-abbrev pub Tells : Option Fault → List ℕ → List ℕ → List ℕ → Type 0
-Tells None text old new = SaysText aloud text old new
-Tells (Some fault) text old new = SaysTextPart aloud fault text old new
-
+-- without a drawing only help and the version are said
 abbrev pub TellsAsked : Option Asks → Option Fault → List ℕ → List ℕ → Type 0
-TellsAsked (Some help) fault old new = Tells fault HELP.now old new
-TellsAsked (Some version) fault old new = Tells fault VERSION.now old new
+TellsAsked (Some help) fault old new = SaysAlone fault HELP.now old new
+TellsAsked (Some version) fault old new = SaysAlone fault VERSION.now old new
 TellsAsked (Some (sheet named)) fault old new = new ≡ old
 TellsAsked None fault old new = new ≡ old
 

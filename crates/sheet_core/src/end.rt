@@ -17,16 +17,6 @@ use sheet_lines::{MEMORY_LINE, UnreadLines, line_of};
 use sheet_words::Request;
 use std::alloc::Global;
 
-/// The program's status at the end of a run.
-pub(crate) fn end_status(fault: &Option<Fault>) -> u8
-    ensures { result ≡ status_of fault.now }
-{
-    match fault {
-        None => 0,
-        Some(fault) => fault.status(),
-    }
-}
-
 /// Ends a run with a fault and no drawing, and warns by this line.
 pub(crate) fn end_by<D: Desk>(line: &str, fault: Fault, desk: &mut D) -> Outcome
     ensures status { result.status ≡ status_of result.fault }

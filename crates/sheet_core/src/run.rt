@@ -8,15 +8,16 @@ ghost use Rattle.part_input.specs.Steps.{Refuses, IsAnswerOf, IsMissing};
 ghost use Rattle.put_texts.specs.Desks.{HearsAll, OnlyRuns, OnlySaidAndWarned, OnlyWrites};
 ghost use Rattle.put_texts.specs.Faults.{CountsWrites, HasNoWriteFault};
 ghost use Rattle.put_texts.specs.Noting.{IsQuiet};
+ghost use Rattle.put_texts.specs.Order.{SaysAlone};
 ghost use Rattle.sheet_core.specs.Lines.{named_in, Warns, WarnsWhole};
 ghost use Rattle.sheet_core.specs.Run.{Draws, Runs, AnswersNamed, AnswersWords, ReadsInOrder, RunsInOrder, HasFilesAsked, IsWritten, HasDrawing};
-ghost use Rattle.sheet_core.specs.Writing.{IsQuietIfAsked, SpeaksIfTold, Tells, TellsAsked, Writes, WritesAsked, summary_way};
+ghost use Rattle.sheet_core.specs.Writing.{IsQuietIfAsked, SpeaksIfTold, TellsAsked, Writes, WritesAsked, summary_way};
 ghost use Rattle.sheet_core.specs.inner.Faults.{IsOfTelling, IsOfWriting};
 ghost use Rattle.sheet_lines.specs.Lines.{fault_line};
 ghost use Rattle.sheet_words.specs.Names.{asked_by, sheet as of_sheet};
 ghost use Rattle.sheet_words.specs.Seen.{named_seen};
 
-use crate::end::{end_by, end_status, refuse};
+use crate::end::{end_by, refuse};
 use crate::lines::{HELP, VERSION};
 use crate::put::put;
 use crate::take::take;
@@ -35,7 +36,7 @@ fn tell<D: Desk>(text: &str, desk: &mut D) -> Outcome
     ensures fault { IfSome result.fault IsOfTelling }
     ensures none { result.drawing ≡ None }
     ensures said { (D.state desk.old).tells_said ≡ true →
-        Tells result.fault text.now (D.state desk.old).said (D.state desk.new).said }
+        SaysAlone result.fault text.now (D.state desk.old).said (D.state desk.new).said }
     ensures writes { CountsWrites result.fault (D.state desk.old).write_faults (D.state desk.new).write_faults }
     ensures steady { (D.state desk.old).steady ≡ true → HasNoWriteFault result.fault }
     ensures warned { (D.state desk.old).tells_warned ≡ true →
@@ -83,7 +84,7 @@ fn write_sheet<D: Desk>(alloc: Global, request: &Request, drawing: Drawing, desk
     };
     let fault = put(request, &texts, desk);
     Outcome {
-        status: end_status(&fault),
+        status: Fault::end_status(&fault),
         fault,
         drawing: Some(drawing),
     }
