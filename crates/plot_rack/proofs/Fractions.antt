@@ -29,11 +29,11 @@ divides a b c d positive lowest same =
 alike : (b d : ℤ) → pos 0 <ℤ b → pos 0 <ℤ d → unsigned_abs b ≡ unsigned_abs d → b ≡ d
 alike b d p q h = omega (arith, ints)
 
-record AreSame (a b c d : ℤ) : Type 0 where
-  first : a ≡ c
-  second : b ≡ d
+pub record AreSame (a b c d : ℤ) : Type 0 where
+  pub first : a ≡ c
+  pub second : b ≡ d
 
-same_terms : (a b c d : ℤ) → pos 0 <ℤ b → pos 0 <ℤ d → IsGreatestDivisor a b (pos 1) → IsGreatestDivisor c d (pos 1) → a *ℤ d ≡ c *ℤ b → AreSame a b c d
+pub same_terms : (a b c d : ℤ) → pos 0 <ℤ b → pos 0 <ℤ d → IsGreatestDivisor a b (pos 1) → IsGreatestDivisor c d (pos 1) → a *ℤ d ≡ c *ℤ b → AreSame a b c d
 same_terms a b c d p q lowest lowest_too same =
     let second : b ≡ d = alike b d p q (dvd_antisymm (divides a b c d p lowest same) (divides c d a b q lowest_too (sym same))) in
     record { first = same_of_products a c d q (same ∙ ap (λ (x : ℤ). c *ℤ x) second); second = second }

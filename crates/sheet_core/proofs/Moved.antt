@@ -1,21 +1,17 @@
 -- The strokes of a sheet whose views were moved are those of the sheet before, moved as far.
-use Rattle.std.proofs.Common.{◌≡◌, ◌*◌, ℕ, suc, List, [], ◌∷◌, ◌++◌, ℤ, pos, ◌+ℤ◌, ◌-ℤ◌, ◌*ℤ◌, ◌<ℤ◌, unsigned_abs, sym, ap, ◌∙◌, subst, arith, mul_comm}
-use Rattle.std.specs.Int.{◌∣◌}
+use Rattle.std.proofs.Common.{◌≡◌, ℕ, suc, List, [], ◌∷◌, ◌++◌, ℤ, pos, ◌+ℤ◌, ◌-ℤ◌, ◌*ℤ◌, ◌<ℤ◌, sym, ap, ◌∙◌, subst, arith}
 use Rattle.std.specs.List.{AllZip}
-use Rattle.std.proofs.lemmas.Int.{ints, unsigned_abs-mul}
-use Rattle.std.proofs.lemmas.Nat.Gcd.{dvd_antisymm}
-use Rattle.std.proofs.Math.Nat.{dvd-mul_left, eq-one_of_dvd-one}
+use Rattle.std.proofs.lemmas.Int.{ints}
 use Rattle.centring.specs.Centred.{IsMovedPlace, IsMoved}
 use Rattle.draw_core.specs.Strokes.{IsStrokeOn, IsHatchStrokeOn, AreStrokesOf, AreStrokesFrom, AreStrokes}
 use Rattle.exact_frac.specs.declared.Frac.{Frac}
-use Rattle.exact_frac.specs.Divisors.{IsGreatestDivisor}
 use Rattle.exact_frac.specs.Frac.{IsLowest}
-use Rattle.integers.proofs.Divisors.{divides_factor}
-use Rattle.integers.proofs.Orders.{same_of_products, same_through}
+use Rattle.integers.proofs.Orders.{same_through}
 use Rattle.lattice.specs.declared.pieces.HatchLine.{HatchLine}
 use Rattle.lattice.specs.declared.pieces.Piece.{Piece}
 use Rattle.lattice.specs.declared.points.Spot.{Spot}
 use Rattle.lattice.specs.Points.{Point, of_dir, of_spot, across_of, upward_of, IsRatio}
+use Rattle.plot_rack.proofs.Fractions.{same_terms}
 use Rattle.sheet_plan.specs.declared.sheet.Mark.{Mark}
 use Rattle.sheet_plan.specs.declared.sheet.Mark.TheVariants.{Hatch}
 use Rattle.sheet_plan.specs.declared.sheet.Sheet.{Sheet}
@@ -28,26 +24,11 @@ use Rattle.view_lines.specs.declared.view.ViewDrawing.{ViewDrawing}
 use Rattle.sheet_core.specs.Moved.{IsMovedStroke, AreMovedStrokes}
 
 -- ---- two fractions of one value in lowest terms have the same terms
--- of a / b and c / d, with a / b in lowest terms
-divides : (a b c d : ℤ) → pos 0 <ℤ b → IsGreatestDivisor a b (pos 1) → a *ℤ d ≡ c *ℤ b → unsigned_abs b ∣ unsigned_abs d
-divides a b c d positive lowest same =
-    let product : unsigned_abs c * unsigned_abs b ≡ unsigned_abs d * unsigned_abs a =
-    sym (unsigned_abs-mul c b) ∙ ap unsigned_abs (sym same) ∙ unsigned_abs-mul a d ∙ mul_comm (unsigned_abs a) (unsigned_abs d) in
-    let first : unsigned_abs b ∣ unsigned_abs d * unsigned_abs a = subst (λ x. unsigned_abs b ∣ x) product (dvd-mul_left (unsigned_abs b) (unsigned_abs c)) in
-    let second = dvd-mul_left (unsigned_abs b) (unsigned_abs d) in
-    divides_factor (unsigned_abs b) (unsigned_abs d) (unsigned_abs a) (unsigned_abs b) (unsigned_abs b) (omega (arith, ints))
-    (λ k ka kb again. eq-one_of_dvd-one (lowest.greatest.2 k ka kb)) first second second
-
-alike : (b d : ℤ) → pos 0 <ℤ b → pos 0 <ℤ d → unsigned_abs b ≡ unsigned_abs d → d ≡ b
-alike b d p q h = omega (arith, ints)
-
-same_terms : (f g : Frac) (n m w : ℤ) → pos 0 <ℤ w → m ≡ n → IsLowest f → IsLowest g → HasValue f n w → HasValue g m w → IsRatio g f.num f.den
-same_terms f g n m w positive at lowest lowest_too is_f is_g =
+ratio_of : (f g : Frac) (n m w : ℤ) → pos 0 <ℤ w → m ≡ n → IsLowest f → IsLowest g → HasValue f n w → HasValue g m w → IsRatio g f.num f.den
+ratio_of f g n m w positive at lowest lowest_too is_f is_g =
     let same : f.num *ℤ g.den ≡ g.num *ℤ f.den = same_through f.num n g.num f.den w g.den positive is_f (sym (is_g ∙ ap (λ (z : ℤ). z *ℤ g.den) at)) in
-    let den : g.den ≡ f.den =
-    alike f.den g.den f.positive g.positive
-    (dvd_antisymm (divides f.num f.den g.num g.den f.positive lowest same) (divides g.num g.den f.num f.den g.positive lowest_too (sym same))) in
-    record { num = sym (same_of_products f.num g.num f.den f.positive (ap (λ (z : ℤ). f.num *ℤ z) (sym den) ∙ same)); den = den }
+    let terms = same_terms g.num g.den f.num f.den g.positive f.positive lowest_too lowest (sym same) in
+    record { num = terms.first; den = terms.second }
 
 -- ---- lists, place by place
 module _ {X Y Z : Type 0} (R : X → Y → Type 0) (Q : X → Z → Type 0) (S : Y → Z → Type 0) (meet : (x : X) (y : Y) (z : Z) → R x y → Q x z → S y z) where
@@ -94,10 +75,10 @@ module _ (right down : ℤ) (old new : Sheet) (moved : IsMoved right down old ne
         is.y (λ i. sheet_upward (same_measure i) (is.direction i) at) was.down now.down
 
     same_across : (a : Spot) (f g : Frac) → IsLowest f → IsLowest g → HasValue f (across_of (of_dir p.d) (of_spot a)) a.w → HasValue g (across_of (of_dir q.d) (of_spot a)) a.w → IsRatio g f.num f.den
-    same_across a f g = same_terms f g (across_of (of_dir p.d) (of_spot a)) (across_of (of_dir q.d) (of_spot a)) a.w a.positive (λ i. across_of (is.direction i) (of_spot a))
+    same_across a f g = ratio_of f g (across_of (of_dir p.d) (of_spot a)) (across_of (of_dir q.d) (of_spot a)) a.w a.positive (λ i. across_of (is.direction i) (of_spot a))
 
     same_upward : (a : Spot) (f g : Frac) → IsLowest f → IsLowest g → HasValue f (upward_of (of_dir p.d) (of_spot a)) a.w → HasValue g (upward_of (of_dir q.d) (of_spot a)) a.w → IsRatio g f.num f.den
-    same_upward a f g = same_terms f g (upward_of (of_dir p.d) (of_spot a)) (upward_of (of_dir q.d) (of_spot a)) a.w a.positive (λ i. upward_of (is.direction i) (of_spot a))
+    same_upward a f g = ratio_of f g (upward_of (of_dir p.d) (of_spot a)) (upward_of (of_dir q.d) (of_spot a)) a.w a.positive (λ i. upward_of (is.direction i) (of_spot a))
 
     moved_between : (number : ℕ) (mark : Mark) (a b : Spot) (s t : Stroke) → IsStrokeBetween old number p mark a b s → IsStrokeBetween new number q mark a b t → IsMovedStroke right down s t
     moved_between number mark a b s t was now =
