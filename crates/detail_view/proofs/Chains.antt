@@ -1,5 +1,5 @@
 -- What a chain of steps answers, from the answer of a part of it.
-use Rattle.std.proofs.Common.{◌≡◌, ◌⊎◌, ℕ, List, Option, None, inl, inr, refl}
+use Rattle.std.proofs.Common.{◌⊎◌, ℕ, List, Option, None, inl, inr, refl}
 use Rattle.std.specs.Prelude.{Result, Ok, Err, Some, IfErr, IfSome}
 use Rattle.desk.specs.Files.{Files}
 use Rattle.geometry.specs.Parts.{Part}
@@ -7,10 +7,10 @@ use Rattle.job_file.specs.Documents.{JobValues}
 use Rattle.piece_verify.specs.declared.check.Verdict.{Verdict}
 use Rattle.part_input.specs.Faults.{CountsReads as CountsInput}
 use Rattle.part_input.specs.Jobs.{TakesReadJob, IsOfJobFile}
-use Rattle.part_input.specs.Parts.{sample_size, IsOfSampleOr, IsOfPart}
-use Rattle.part_input.proofs.Missing.{part_not_written}
+use Rattle.part_input.specs.Parts.{sample_size, IsOfPart}
+use Rattle.part_input.proofs.Missing.{no_size, part_not_written}
 use Rattle.part_input.specs.Steps.{Refuses as RefusesInput, IsMissing as IsMissingInput}
-use Rattle.part_input.specs.declared.fault.Input.TheVariants.{Job as TheJob, Part as ThePart}
+use Rattle.part_input.specs.declared.fault.Input.TheVariants.{Part as ThePart}
 use Rattle.part_input.specs.declared.fault.Fault.{Fault}
 use Rattle.part_input.specs.declared.fault.Fault.TheVariants as input
 use Rattle.part_input.proofs.Answered.{IsOfNoWriting}
@@ -88,17 +88,9 @@ judges_next first next x so_far (Ok v) h =
 judges_next first next x so_far (Err e) h = refuses_as (next x) (first and_then next) (λ e h. inr (x, so_far, h)) e h
 
 -- ---- which faults are whose, and in which order
-pub no_sample : (size : Option (List ℕ)) (which : _) → IsOfSampleOr size (input.ReadFault which) → size ≡ None
-no_sample None which h = refl
-no_sample (Some size) which h = absurd h
-
-pub no_job : (size : Option (List ℕ)) → IsOfSampleOr size (input.ReadFault TheJob) → ⊥
-no_job None h = h
-no_job (Some size) h = h
-
 module _ (files : Files) (c : Check) where
   pub part_after : (job : JobValues) (e : PiecesFault) → IsOfPartNamed c.part e → ComesAfterJob files c job e
-  part_after job (Input (input.ReadFault which)) h = no_sample (sample_size c.part) which h.0
+  part_after job (Input (input.ReadFault which)) h = no_size (sample_size c.part) which h.0
   part_after job ReadList h = absurd h
   part_after job e h = tt
 

@@ -1,17 +1,18 @@
 -- The job and the part of a detail, in their order.
-use Rattle.std.proofs.Common.{◌≡◌, ◌⊎◌, ◌<◌, ◌≤◌, ℕ, inl, inr, Some}
+use Rattle.std.proofs.Common.{◌⊎◌, ℕ, inl, inr}
 use Rattle.std.specs.Prelude.{Result, Ok, Err, IfErr}
 use Rattle.desk.specs.Files.{Files}
 use Rattle.job_file.specs.Documents.{JobValues}
 use Rattle.part_input.specs.Parts.{sample_size}
-use Rattle.part_input.specs.declared.fault.Input.TheVariants.{Job as TheJob, Part as ThePart}
+use Rattle.part_input.proofs.Missing.{no_size}
+use Rattle.part_input.specs.declared.fault.Input.TheVariants.{Part as ThePart}
 use Rattle.part_input.specs.declared.fault.Fault.TheVariants.{ReadFault}
 use Rattle.detail_view.specs.Run.{IsOfJob, IsOfView, IsOfPartNamed, IsOfDetail, TakesViewed, DetailsInOrder}
-use Rattle.detail_view.specs.Steps.{◌and_then◌, Refuses, Gives, IsMissing}
+use Rattle.detail_view.specs.Steps.{◌and_then◌, Gives, IsMissing}
 use Rattle.detail_view.specs.Words.{Detail}
 use Rattle.detail_view.specs.declared.fault.PiecesFault.{PiecesFault}
 use Rattle.detail_view.specs.declared.fault.PiecesFault.TheVariants.{Input, ReadList}
-use Rattle.detail_view.proofs.Chains.{refuses_as, no_sample}
+use Rattle.detail_view.proofs.Chains.{refuses_as}
 
 -- what the first step gave goes on
 pub gives_next : {A B X : Type 0} (first : Result A PiecesFault → Type 0) (next : A → Result B PiecesFault → Type 0) (x : A) → first (Ok x)
@@ -26,7 +27,7 @@ module _ (files : Files) (d : Detail) where
   viewed_in_order e h = tt
 
   pub part_in_order : (job : JobValues) → TakesViewed files d (Ok job) → (e : PiecesFault) → IsOfPartNamed d.part e → DetailsInOrder files d e
-  part_in_order job taken (Input (ReadFault ThePart)) h = (no_sample (sample_size d.part) ThePart h.0, job, taken)
+  part_in_order job taken (Input (ReadFault ThePart)) h = (no_size (sample_size d.part) ThePart h.0, job, taken)
   part_in_order job taken e h = tt
 
   pub of_viewed : (e : PiecesFault) → IsOfJob e ⊎ IsOfView d.view e → IsOfDetail d e

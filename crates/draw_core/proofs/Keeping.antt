@@ -9,7 +9,7 @@ use Rattle.draw_core.specs.inner.Made.{file_seen}
 use Rattle.draw_core.specs.Outputs.{File, KeepsAll, MayKeep, LeavesUpTo, LeavesAll, place_of}
 use Rattle.draw_core.specs.declared.outputs.Output.{Output}
 use Rattle.part_input.specs.declared.fault.Fault.{Fault}
-use Rattle.part_input.specs.declared.fault.Fault.TheVariants.{Usage, ReadFault, JobTooLong, Job as JobUnread, NoPlotter, SampleRange, PartTooLong, Part as PartUnread, Nothing, Mesh, DoesNotFit, WriteFault, Memory}
+use Rattle.part_input.specs.declared.fault.Fault.TheVariants.{WriteFault, Memory}
 
 -- one file more
 pub keeps_more : (old between new : Files) (files : List File) (file : File) → KeepsAll old between files → Keeps between new file.0 file.1 → KeepsAll old new (files ++ file ∷ [])
@@ -37,14 +37,4 @@ module _ (outputs : List Output) (i : ℕ) where
       subst (λ place. LeavesUpTo place old new files) (sym at) (between, before, subst (MayKeep between new) (sym found) part)
   leaves_at Memory old between new output places here kept same =
       (i, subst (λ (f : Files). KeepsAll old f (take i (map file_seen outputs))) (sym same) (subst (λ (fs : List File). KeepsAll old between fs) (sym (take-map file_seen i outputs)) kept))
-  leaves_at Usage old between new output places here kept h = absurd h
-  leaves_at (ReadFault input) old between new output places here kept h = absurd h
-  leaves_at JobTooLong old between new output places here kept h = absurd h
-  leaves_at (JobUnread cause) old between new output places here kept h = absurd h
-  leaves_at (NoPlotter name) old between new output places here kept h = absurd h
-  leaves_at SampleRange old between new output places here kept h = absurd h
-  leaves_at PartTooLong old between new output places here kept h = absurd h
-  leaves_at (PartUnread cause) old between new output places here kept h = absurd h
-  leaves_at Nothing old between new output places here kept h = absurd h
-  leaves_at (Mesh fault) old between new output places here kept h = absurd h
-  leaves_at (DoesNotFit need_w need_h have_w have_h) old between new output places here kept h = absurd h
+  leaves_at e old between new output places here kept h = absurd h

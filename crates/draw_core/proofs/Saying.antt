@@ -8,59 +8,24 @@ use Rattle.draw_core.specs.Outputs.{File, KeepsAll, LeavesAll}
 use Rattle.draw_core.specs.inner.Faults.{IsWriteOutcome}
 use Rattle.draw_core.specs.Summary.{Says}
 use Rattle.part_input.specs.declared.fault.Fault.{Fault}
-use Rattle.part_input.specs.declared.fault.Fault.TheVariants.{Usage, ReadFault, JobTooLong, Job as JobUnread, NoPlotter, SampleRange, PartTooLong, Part as PartUnread, Nothing, Mesh, DoesNotFit, WriteFault, Memory}
-use Rattle.part_input.specs.declared.fault.Target.TheVariants.{Out, Plot, Summary}
+use Rattle.part_input.specs.declared.fault.Fault.TheVariants.{WriteFault, Memory}
+use Rattle.part_input.specs.declared.fault.Target.TheVariants.{Summary}
 
 -- where nothing is said, that is so with each fault
 pub says_nothing : (fault : Fault) (old new line : List ℕ) → new ≡ old → Says (Some fault) old new line
 says_nothing (WriteFault Summary) old new line same = (0, same ∙ sym (append-nil old))
-says_nothing (WriteFault Out) old new line same = same
-says_nothing (WriteFault (Plot number)) old new line same = same
-says_nothing Memory old new line same = same
-says_nothing Usage old new line same = same
-says_nothing (ReadFault input) old new line same = same
-says_nothing JobTooLong old new line same = same
-says_nothing (JobUnread cause) old new line same = same
-says_nothing (NoPlotter name) old new line same = same
-says_nothing SampleRange old new line same = same
-says_nothing PartTooLong old new line same = same
-says_nothing (PartUnread cause) old new line same = same
-says_nothing Nothing old new line same = same
-says_nothing (Mesh fault) old new line same = same
-says_nothing (DoesNotFit need_w need_h have_w have_h) old new line same = same
+says_nothing e old new line same = same
 
 -- all files stand, whatever comes of saying
 leaves_whole : (fault : Fault) (old new : Files) (files : List File) → IsOfSaying fault → KeepsAll old new files → LeavesAll (Some fault) old new files
 leaves_whole (WriteFault Summary) old new files of_saying kept = kept
-leaves_whole (WriteFault Out) old new files of_saying kept = absurd of_saying
-leaves_whole (WriteFault (Plot number)) old new files of_saying kept = absurd of_saying
 leaves_whole Memory old new files of_saying kept = (length files, subst (KeepsAll old new) (sym (take_all (length files) files (omega arith))) kept)
-leaves_whole Usage old new files of_saying kept = absurd of_saying
-leaves_whole (ReadFault input) old new files of_saying kept = absurd of_saying
-leaves_whole JobTooLong old new files of_saying kept = absurd of_saying
-leaves_whole (JobUnread cause) old new files of_saying kept = absurd of_saying
-leaves_whole (NoPlotter name) old new files of_saying kept = absurd of_saying
-leaves_whole SampleRange old new files of_saying kept = absurd of_saying
-leaves_whole PartTooLong old new files of_saying kept = absurd of_saying
-leaves_whole (PartUnread cause) old new files of_saying kept = absurd of_saying
-leaves_whole Nothing old new files of_saying kept = absurd of_saying
-leaves_whole (Mesh fault) old new files of_saying kept = absurd of_saying
-leaves_whole (DoesNotFit need_w need_h have_w have_h) old new files of_saying kept = absurd of_saying
+leaves_whole e old new files of_saying kept = absurd of_saying
 
 write_outcome : (fault : Fault) → IsOfSaying fault → IsWriteOutcome fault
 write_outcome (WriteFault target) of_saying = tt
 write_outcome Memory of_saying = tt
-write_outcome Usage of_saying = absurd of_saying
-write_outcome (ReadFault input) of_saying = absurd of_saying
-write_outcome JobTooLong of_saying = absurd of_saying
-write_outcome (JobUnread cause) of_saying = absurd of_saying
-write_outcome (NoPlotter name) of_saying = absurd of_saying
-write_outcome SampleRange of_saying = absurd of_saying
-write_outcome PartTooLong of_saying = absurd of_saying
-write_outcome (PartUnread cause) of_saying = absurd of_saying
-write_outcome Nothing of_saying = absurd of_saying
-write_outcome (Mesh fault) of_saying = absurd of_saying
-write_outcome (DoesNotFit need_w need_h have_w have_h) of_saying = absurd of_saying
+write_outcome e of_saying = absurd of_saying
 
 -- what is answered where the summary was said or not
 pub leaves_said : (answer : Option Fault) (old new : Files) (files : List File) → IfSome answer IsOfSaying → KeepsAll old new files → LeavesAll answer old new files

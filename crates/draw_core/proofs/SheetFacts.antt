@@ -17,7 +17,7 @@ use Rattle.draw_core.specs.Run.{PlansSheet, IsOfSheet}
 use Rattle.draw_core.specs.Sheets.{IsSheetOf}
 use Rattle.draw_core.specs.inner.Faults.{IsNoSheetOf}
 use Rattle.part_input.specs.declared.fault.Fault.{Fault}
-use Rattle.part_input.specs.declared.fault.Fault.TheVariants.{Usage, ReadFault, JobTooLong, Job as JobUnread, NoPlotter, SampleRange, PartTooLong, Part as PartUnread, Nothing, Mesh, DoesNotFit, WriteFault, Memory}
+use Rattle.part_input.specs.declared.fault.Fault.TheVariants.{ReadFault, DoesNotFit, WriteFault, Memory}
 
 -- there is an extent for each view
 pub as_many_extents : (corners : List Corner) (views : List JobView) (extents : List Extent) → AreExtents corners views extents → length extents ≡ length views
@@ -31,17 +31,7 @@ as_many_places job corners sheet is =
 pub refused_sheet : (job : Job) (part : Part) (e : Fault) → IsNoSheetOf job part.corners e → Refuses (PlansSheet (job_seen job) part) e
 refused_sheet job part (DoesNotFit need_w need_h have_w have_h) none = (job, refl, none)
 refused_sheet job part Memory none = tt
-refused_sheet job part Usage none = absurd none
-refused_sheet job part (ReadFault input) none = absurd none
-refused_sheet job part JobTooLong none = absurd none
-refused_sheet job part (JobUnread cause) none = absurd none
-refused_sheet job part (NoPlotter name) none = absurd none
-refused_sheet job part SampleRange none = absurd none
-refused_sheet job part PartTooLong none = absurd none
-refused_sheet job part (PartUnread cause) none = absurd none
-refused_sheet job part Nothing none = absurd none
-refused_sheet job part (Mesh fault) none = absurd none
-refused_sheet job part (WriteFault target) none = absurd none
+refused_sheet job part e none = absurd none
 
 -- nor is it the desk's
 pub sheet_no_desk : {X : Type 0} (r : Result X Fault) → IfErr r IsOfSheet → IfErr r IsOfNoDesk

@@ -13,7 +13,7 @@ use Rattle.part_input.specs.Steps.{Refuses}
 use Rattle.draw_core.specs.Run.{HasPlotters, IsOfUsualJob, IsOfJob}
 use Rattle.draw_core.specs.inner.Faults.{IsOfOutputs}
 use Rattle.part_input.specs.declared.fault.Fault.{Fault}
-use Rattle.part_input.specs.declared.fault.Fault.TheVariants.{Usage, ReadFault, JobTooLong, Job as JobUnread, NoPlotter, SampleRange, PartTooLong, Part as PartUnread, Nothing, Mesh, DoesNotFit, WriteFault, Memory}
+use Rattle.part_input.specs.declared.fault.Fault.TheVariants.{NoPlotter, Memory}
 
 -- ---- names and suffixes
 cond_map : {A B : Type 0} (f : A → B) (b : Bool) (x : A) (mapped : Option B) (plain : Option A) → mapped ≡ option_map f plain → cond b (Some (f x)) mapped ≡ option_map f (cond b (Some x) plain)
@@ -128,14 +128,4 @@ pub of_rack : (named : Option (List ℕ)) (e : Fault) → IsOfOutputs e → (nam
 of_rack None e h usual = usual refl
 of_rack (Some text) (NoPlotter name) h usual = tt
 of_rack (Some text) Memory h usual = tt
-of_rack (Some text) Usage h usual = absurd h
-of_rack (Some text) (ReadFault input) h usual = absurd h
-of_rack (Some text) JobTooLong h usual = absurd h
-of_rack (Some text) (JobUnread cause) h usual = absurd h
-of_rack (Some text) SampleRange h usual = absurd h
-of_rack (Some text) PartTooLong h usual = absurd h
-of_rack (Some text) (PartUnread cause) h usual = absurd h
-of_rack (Some text) Nothing h usual = absurd h
-of_rack (Some text) (Mesh fault) h usual = absurd h
-of_rack (Some text) (DoesNotFit need_w need_h have_w have_h) h usual = absurd h
-of_rack (Some text) (WriteFault target) h usual = absurd h
+of_rack (Some text) e h usual = absurd h

@@ -2,41 +2,21 @@
 use Rattle.std.proofs.Common.{inl, inr}
 use Rattle.std.specs.Prelude.{Result, Ok, Err}
 use Rattle.part_input.specs.declared.fault.Fault.{Fault}
-use Rattle.part_input.specs.declared.fault.Fault.TheVariants.{Usage, ReadFault, JobTooLong, Job as JobUnread, NoPlotter, SampleRange, PartTooLong, Part as PartUnread, Nothing, Mesh, DoesNotFit, WriteFault, Memory}
+use Rattle.part_input.specs.declared.fault.Fault.TheVariants.{ReadFault, WriteFault, Memory}
 use Rattle.part_input.specs.Steps.{◌and_then◌, Refuses, Gives, IsMissing}
 
 -- what is refused by some steps is refused by others that refuse at least as much
 pub refuses_as : {A B : Type 0} (steps : Result A Fault → Type 0) (others : Result B Fault → Type 0) → ((e : Fault) → steps (Err e) → others (Err e))
     → (e : Fault) → Refuses steps e → Refuses others e
-refuses_as steps others h Usage r = h Usage r
 refuses_as steps others h (ReadFault input) r = tt
-refuses_as steps others h JobTooLong r = h JobTooLong r
-refuses_as steps others h (JobUnread cause) r = h (JobUnread cause) r
-refuses_as steps others h (NoPlotter name) r = h (NoPlotter name) r
-refuses_as steps others h SampleRange r = h SampleRange r
-refuses_as steps others h PartTooLong r = h PartTooLong r
-refuses_as steps others h (PartUnread cause) r = h (PartUnread cause) r
-refuses_as steps others h Nothing r = h Nothing r
-refuses_as steps others h (Mesh fault) r = h (Mesh fault) r
-refuses_as steps others h (DoesNotFit need_w need_h have_w have_h) r = h (DoesNotFit need_w need_h have_w have_h) r
 refuses_as steps others h (WriteFault target) r = tt
 refuses_as steps others h Memory r = tt
+refuses_as steps others h e r = h e r
 
 pub missing_as : {A B : Type 0} (steps : Result A Fault → Type 0) (others : Result B Fault → Type 0) → ((e : Fault) → steps (Err e) → others (Err e))
     → (e : Fault) → IsMissing steps e → IsMissing others e
-missing_as steps others h Usage r = tt
 missing_as steps others h (ReadFault input) r = h (ReadFault input) r
-missing_as steps others h JobTooLong r = tt
-missing_as steps others h (JobUnread cause) r = tt
-missing_as steps others h (NoPlotter name) r = tt
-missing_as steps others h SampleRange r = tt
-missing_as steps others h PartTooLong r = tt
-missing_as steps others h (PartUnread cause) r = tt
-missing_as steps others h Nothing r = tt
-missing_as steps others h (Mesh fault) r = tt
-missing_as steps others h (DoesNotFit need_w need_h have_w have_h) r = tt
-missing_as steps others h (WriteFault target) r = tt
-missing_as steps others h Memory r = tt
+missing_as steps others h e r = tt
 
 -- what the first step gave goes on
 module _ {A B : Type 0} (first : Result A Fault → Type 0) (next : A → Result B Fault → Type 0) (x : A) (so_far : first (Ok x)) where

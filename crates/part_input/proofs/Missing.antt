@@ -7,9 +7,10 @@ use Rattle.part_input.specs.Jobs.{TakesReadJob, IsOfJobFile}
 use Rattle.part_input.specs.Parts.{sample_size, cubes_along, TakesSoupOr, TakesSoup, TakesSolid, HasSize, IsOfSoupOr, IsOfSoup, IsOfSampleOr, IsOfPart}
 use Rattle.part_input.specs.Steps.{IsMissing}
 use Rattle.part_input.specs.inner.Texts.{IsOfMesh}
+use Rattle.part_input.specs.declared.fault.Input.{Input}
 use Rattle.part_input.specs.declared.fault.Input.TheVariants.{Job as TheJob, Part as ThePart}
 use Rattle.part_input.specs.declared.fault.Fault.{Fault}
-use Rattle.part_input.specs.declared.fault.Fault.TheVariants.{Usage, ReadFault, JobTooLong, Job as JobUnread, NoPlotter, SampleRange, PartTooLong, Part as PartUnread, Nothing, Mesh, DoesNotFit, WriteFault, Memory}
+use Rattle.part_input.specs.declared.fault.Fault.TheVariants.{ReadFault, SampleRange, PartTooLong, Part as PartUnread, Nothing, Mesh, WriteFault, Memory}
 use Rattle.part_input.proofs.Answered.{IsOfNoDesk, IsOfNoWriting}
 
 -- ---- jobs
@@ -27,9 +28,14 @@ module _ {X : Type 0} (files : Files) (name : List ℕ) where
   job_missing (Err e) h m = tt
 
 -- ---- parts
-no_job : (size : Option (List ℕ)) → IsOfSampleOr size (ReadFault TheJob) → ⊥
+-- a fault of reading a part is one of the part, and of a file
+pub no_job : (size : Option (List ℕ)) → IsOfSampleOr size (ReadFault TheJob) → ⊥
 no_job None h = h
 no_job (Some size) h = h
+
+pub no_size : (size : Option (List ℕ)) (which : Input) → IsOfSampleOr size (ReadFault which) → size ≡ None
+no_size None which h = refl
+no_size (Some size) which h = absurd h
 
 no_writing : (size : Option (List ℕ)) (target : _) → IsOfSampleOr size (WriteFault target) → ⊥
 no_writing None target h = h
@@ -43,49 +49,17 @@ soup_in_part None PartTooLong h = tt
 soup_in_part None (PartUnread cause) h = tt
 soup_in_part None Nothing h = tt
 soup_in_part None Memory h = tt
-soup_in_part None Usage h = absurd h
-soup_in_part None JobTooLong h = absurd h
-soup_in_part None (JobUnread cause) h = absurd h
-soup_in_part None (NoPlotter name) h = absurd h
-soup_in_part None SampleRange h = absurd h
-soup_in_part None (Mesh fault) h = absurd h
-soup_in_part None (DoesNotFit need_w need_h have_w have_h) h = absurd h
-soup_in_part None (WriteFault target) h = absurd h
+soup_in_part None e h = absurd h
 soup_in_part (Some size) SampleRange h = h
 soup_in_part (Some size) Memory h = tt
-soup_in_part (Some size) Usage h = absurd h
-soup_in_part (Some size) (ReadFault input) h = absurd h
-soup_in_part (Some size) JobTooLong h = absurd h
-soup_in_part (Some size) (JobUnread cause) h = absurd h
-soup_in_part (Some size) (NoPlotter name) h = absurd h
-soup_in_part (Some size) PartTooLong h = absurd h
-soup_in_part (Some size) (PartUnread cause) h = absurd h
-soup_in_part (Some size) Nothing h = absurd h
-soup_in_part (Some size) (Mesh fault) h = absurd h
-soup_in_part (Some size) (DoesNotFit need_w need_h have_w have_h) h = absurd h
-soup_in_part (Some size) (WriteFault target) h = absurd h
+soup_in_part (Some size) e h = absurd h
 
 mesh_in_part : (size : Option (List ℕ)) → IfSome size (λ s. IsSome (cubes_along s)) → (e : Fault) → IsOfMesh e → IsOfSampleOr size e
 mesh_in_part None sized (Mesh fault) h = tt
 mesh_in_part None sized Memory h = tt
 mesh_in_part (Some size) sized (Mesh fault) h = sized
 mesh_in_part (Some size) sized Memory h = tt
-mesh_in_part size sized Usage h = absurd h
-mesh_in_part size sized (ReadFault input) h = absurd h
-mesh_in_part size sized JobTooLong h = absurd h
-mesh_in_part size sized (JobUnread cause) h = absurd h
-mesh_in_part size sized (NoPlotter name) h = absurd h
-mesh_in_part size sized SampleRange h = absurd h
-mesh_in_part size sized PartTooLong h = absurd h
-mesh_in_part size sized (PartUnread cause) h = absurd h
-mesh_in_part size sized Nothing h = absurd h
-mesh_in_part size sized (DoesNotFit need_w need_h have_w have_h) h = absurd h
-mesh_in_part size sized (WriteFault target) h = absurd h
-
--- a fault of reading comes with no size
-no_size : (size : Option (List ℕ)) → IsOfSampleOr size (ReadFault ThePart) → size ≡ None
-no_size None h = refl
-no_size (Some size) h = absurd h
+mesh_in_part size sized e h = absurd h
 
 -- the check is no fault of the desk
 pub mesh_no_desk : {X : Type 0} (r : Result X Fault) → IfErr r IsOfMesh → IfErr r IsOfNoDesk

@@ -3,7 +3,7 @@ use Rattle.std.proofs.Common.{◌≡◌, inl, inr, ℕ, ◌++◌, List, [], ◌�
 use Rattle.std.specs.Prelude.{IfSome}
 use Rattle.desk.specs.Files.{Files, DeskState, AppendsFront, OnlyWarns, Rose}
 use Rattle.part_input.specs.declared.fault.Fault.{Fault}
-use Rattle.part_input.specs.declared.fault.Fault.TheVariants.{Usage, ReadFault, JobTooLong, Job as JobUnread, NoPlotter, SampleRange, PartTooLong, Part as PartUnread, Nothing, Mesh, DoesNotFit, WriteFault, Memory}
+use Rattle.part_input.specs.declared.fault.Fault.TheVariants.{WriteFault, Memory}
 use Rattle.part_input.specs.declared.fault.Target.{Target}
 use Rattle.put_texts.specs.Desks.{HearsAll, IsUnwarned, OnlyWrites, OnlyFilesAndWarned, OnlySaidAndWarned}
 use Rattle.put_texts.specs.Faults.{CountsWrites, HasNoWriteFault}
@@ -19,17 +19,7 @@ never f e = subst (λ (o : Option Fault). IfSome o (λ g. ⊥)) e tt
 pub by_fault : (P : Fault → Type 0) (target : Target) → P (WriteFault target) → P Memory → (f : Fault) → IsFaultAt target f → P f
 by_fault P target w m (WriteFault other) is = subst (λ (t : Target). P (WriteFault t)) (sym is) w
 by_fault P target w m Memory is = m
-by_fault P target w m Usage is = absurd is
-by_fault P target w m (ReadFault input) is = absurd is
-by_fault P target w m JobTooLong is = absurd is
-by_fault P target w m (JobUnread cause) is = absurd is
-by_fault P target w m (NoPlotter name) is = absurd is
-by_fault P target w m SampleRange is = absurd is
-by_fault P target w m PartTooLong is = absurd is
-by_fault P target w m (PartUnread cause) is = absurd is
-by_fault P target w m Nothing is = absurd is
-by_fault P target w m (Mesh fault) is = absurd is
-by_fault P target w m (DoesNotFit need_w need_h have_w have_h) is = absurd is
+by_fault P target w m e is = absurd is
 
 pub of_way : (way : Way) (target : Target) (f : Fault) → IsOfWay way target f → IsFaultAt target f
 of_way nowhere target f is = absurd is

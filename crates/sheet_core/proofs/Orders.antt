@@ -3,10 +3,10 @@ use Rattle.std.proofs.Common.{ℕ, List, Option, Some, None, refl}
 use Rattle.std.specs.Prelude.{Result, Ok, Err, IfErr, IsSome}
 use Rattle.desk.specs.Files.{Files}
 use Rattle.draw_core.specs.Run.{IsOfSheet}
-use Rattle.draw_core.proofs.Orders.{no_job, is_no_sample}
 use Rattle.job_file.specs.Documents.{JobValues}
 use Rattle.part_input.specs.Jobs.{TakesReadJob}
 use Rattle.part_input.specs.Parts.{sample_size, IsOfPart}
+use Rattle.part_input.proofs.Missing.{no_job, no_size}
 use Rattle.part_input.specs.declared.fault.Input.TheVariants.{Job as TheJob, Part as ThePart}
 use Rattle.part_input.specs.declared.fault.Fault.{Fault}
 use Rattle.part_input.specs.declared.fault.Fault.TheVariants.{ReadFault}
@@ -29,7 +29,7 @@ module _ (files : Files) (part : List ℕ) (job : Option (List ℕ)) where
   module _ (values : JobValues) (taken : TakesReadJob files job (Ok values)) where
     pub part_in_order : (e : Fault) → IsOfPart part e → ReadsInOrder files part job e
     part_in_order (ReadFault TheJob) h = absurd (no_job (sample_size part) h)
-    part_in_order (ReadFault ThePart) h = (is_no_sample (sample_size part) h, values, taken)
+    part_in_order (ReadFault ThePart) h = (no_size (sample_size part) ThePart h, values, taken)
     part_in_order e h = tt
 
   pub sheet_in_order : {X : Type 0} (r : Result X Fault) → IfErr r IsOfSheet → IfErr r (ReadsInOrder files part job)

@@ -2,7 +2,7 @@
 use Rattle.std.proofs.Common.{◌≡◌, inl, inr, ℕ, List, Option, None, Some, refl}
 use Rattle.std.specs.Prelude.{IfSome, IsSome}
 use Rattle.part_input.specs.declared.fault.Fault.{Fault}
-use Rattle.part_input.specs.declared.fault.Fault.TheVariants.{Usage, ReadFault, JobTooLong, Job as JobUnread, NoPlotter, SampleRange, PartTooLong, Part as PartUnread, Nothing, Mesh, DoesNotFit, WriteFault, Memory}
+use Rattle.part_input.specs.declared.fault.Fault.TheVariants.{WriteFault, Memory}
 use Rattle.part_input.specs.declared.fault.Target.{Target}
 use Rattle.part_input.specs.declared.fault.Target.TheVariants.{Out, Plot, Summary}
 use Rattle.put_texts.specs.Noting.{unless_said}
@@ -17,17 +17,7 @@ use Rattle.sheet_words.specs.Names.{Goal, ListGoal, Named, said, svg_file, pdf_f
 pub by_writing : (named : Named) (P : Fault → Type 0) → ((target : Target) → IsOfTarget named target → P (WriteFault target)) → P Memory → (f : Fault) → IsOfWriting named f → P f
 by_writing named P w m (WriteFault target) is = w target is
 by_writing named P w m Memory is = m
-by_writing named P w m Usage is = absurd is
-by_writing named P w m (ReadFault input) is = absurd is
-by_writing named P w m JobTooLong is = absurd is
-by_writing named P w m (JobUnread cause) is = absurd is
-by_writing named P w m (NoPlotter name) is = absurd is
-by_writing named P w m SampleRange is = absurd is
-by_writing named P w m PartTooLong is = absurd is
-by_writing named P w m (PartUnread cause) is = absurd is
-by_writing named P w m Nothing is = absurd is
-by_writing named P w m (Mesh fault) is = absurd is
-by_writing named P w m (DoesNotFit need_w need_h have_w have_h) is = absurd is
+by_writing named P w m e is = absurd is
 
 module _ (named : Named) (f : Fault) where
   of_list : (list : Option ListGoal) → IsOfWay (list_way list) (Plot 0) f → IsSome list × IsFaultAt (Plot 0) f
