@@ -1,7 +1,6 @@
 use Rattle.std.proofs.Common.{◌≡◌, ◌≤◌, ◌∷◌, List, length, sym, subst, ◌∙◌, arith}
 use Rattle.std.proofs.lemmas.Option.{slice_get_within}
 use Rattle.plot_rack.specs.Racks.{boxes_of}
-use Rattle.svg_page.specs.Svg.{svg_of}
 use Rattle.draw_core.specs.Strokes.{AreStrokes}
 use Rattle.view_lines.specs.declared.view.ViewDrawing.{ViewDrawing}
 use Rattle.draw_core.proofs.DrawnViews.{few, as_many_placed}
