@@ -1,6 +1,6 @@
 -- Intervals of which some come before all others: what is united of all, and what parts leave of all.
 use Rattle.std.proofs.Common.{◌≡◌, Bool, true≢false, List, ◌++◌, sym, ◌∙◌, refl, ◌⊎◌, inl, inr, ⊎_elim}
-use Rattle.std.specs.Prelude.{All, Contains}
+use Rattle.std.specs.Prelude.{Contains}
 use Rattle.std.specs.declared.cmp.Ordering.{Ordering}
 use Rattle.std.specs.declared.cmp.Ordering.TheVariants.{Less}
 use Rattle.std.specs.Cmp.{IsTotalOrder}
