@@ -1,13 +1,11 @@
 -- The strips of edges, and others, that are taken in the order of the numbers of their lines, and in the order of the edges again.
-use Rattle.std.proofs.Common.{◌≡◌, ℕ, zero, suc, ◌+◌, ◌<◌, ◌≤◌, ◌⊎◌, inl, inr, List, [], ◌∷◌, ◌++◌, Contains, length, map, flat_map, take, get_or, IsPermutation, refl, sym, subst, ap, ◌∙◌, arith, append-nil}
+use Rattle.std.proofs.Common.{◌≡◌, zero, suc, ◌≤◌, ◌⊎◌, inl, inr, List, [], ◌∷◌, ◌++◌, Contains, map, flat_map, get_or, IsPermutation, refl, sym, subst, ap, ◌∙◌, arith, append-nil}
 use Rattle.std.specs.List.{All, AllZip}
 use Rattle.std.proofs.lemmas.Grind.{flat_map-append}
-use Rattle.std.proofs.lemmas.List.{append_assoc, take_more, map-append}
+use Rattle.std.proofs.lemmas.List.{append_assoc}
 use Rattle.std.proofs.lemmas.List.Elements.{All-append, All-contains, All-push, Contains-append_cases, Contains-append_left, Contains-append_right, Contains-get_or}
 use Rattle.std.proofs.lemmas.List.Sorted.{Contains-permutation, IsPermutation-sym}
-use Rattle.geometry.specs.Parts.{Edge, IsNumbered}
 use Rattle.geometry.specs.Places.{IsEarlier}
-use Rattle.geometry.specs.Views.{IsEndOn}
 use Rattle.integers.proofs.Lists.{Contains-later}
 use Rattle.lattice.proofs.SameLines.{same_line}
 use Rattle.lattice.specs.declared.lines.Line.{Line}
@@ -29,13 +27,13 @@ use Rattle.solid_mesh.specs.Solids.{solid_part, edge_halves}
 use Rattle.solid_mesh.specs.declared.solid.Solid.{Solid}
 use Rattle.span_count.specs.declared.span.EdgeSpans.{EdgeSpans}
 use Rattle.span_slow.specs.declared.span.Span.{Span}
-use Rattle.drawn_strips.specs.Strips.{IsEdgeLine, IsStripOf, AreStripsOf, AreEdgeStrips}
+use Rattle.drawn_strips.specs.Strips.{IsStripOf, AreEdgeStrips}
 use Rattle.drawn_strips.proofs.StripPlaces.{span_ends}
 use Rattle.view_lines.proofs.CountedSpans.{told_earlier}
 use Rattle.view_lines.specs.Merged.{AreStripsTold}
 use Rattle.view_lines.specs.Told.{AreTold}
 use Rattle.view_lines.specs.declared.sources.Placed.{Placed}
-use Rattle.view_lines.specs.inner.Sources.{Origin, origin_of, origins, CanBeDrawn, HasLine, AreEntryStrips, AreOriginStrips, IsPlaced, AreTakenOf}
+use Rattle.view_lines.specs.inner.Sources.{Origin, origin_of, origins, CanBeDrawn, HasLine, AreOriginStrips, IsPlaced, AreTakenOf}
 
 -- ---- strips of one list behind the other
 abbrev pub joined : List (List Strip) → List Strip
@@ -65,7 +63,7 @@ joined_permuted strips others moves y there =
 module _ (d : Triple) (solid : Solid) where
   -- ---- the strips of one edge, or the strip itself
   pub origin_ends : (x : Origin) (strips : List Strip) → CanBeDrawn d solid x → AreOriginStrips d solid x strips → AreStrips d strips
-  origin_ends (inl x) strips (within, seen, chained) (spans, told, zip) k z less =
+  origin_ends (inl x) strips (within, seen, chained) (spans, told, zip) = λ k z less.
       let y = get_or strips k z in
       let (e, n) = edge_there solid x.edge within in
       let (span, listed, is) = zip_right (IsStripOf d e) spans strips (zip e n) y (Contains-get_or strips k z less) in
@@ -75,7 +73,7 @@ module _ (d : Triple) (solid : Solid) where
 
   -- they are on its line
   pub origin_lines : (x : Origin) (l : Line) (strips : List Strip) → CanBeDrawn d solid x → HasLine d solid x l → AreOriginStrips d solid x strips → All (λ y. IsSameLine l y.line) strips
-  origin_lines (inl x) l strips (within, seen, chained) on (spans, told, zip) k z less =
+  origin_lines (inl x) l strips (within, seen, chained) on (spans, told, zip) = λ k z less.
       let y = get_or strips k z in
       let (e, n) = edge_there solid x.edge within in
       let (span, listed, is) = zip_right (IsStripOf d e) spans strips (zip e n) y (Contains-get_or strips k z less) in

@@ -36,7 +36,7 @@ fn source_strips(
     source: Source<'_>,
 ) -> Result<Vec<Strip>, OutOfMemory>
     requires { CanBeDrawn (of_dir d.now) solid.now (origin_of source) }
-    ensures { IfOk result (λ strips. AreOriginStrips (of_dir d.now) solid.now (origin_of source) strips.items) }
+    ensures { IfOk result (λ strips. AreOriginStrips (of_dir d.now) solid.now (origin_of source.entry) strips.items) }
 {
     match source {
         Source::Edge(entry) => entry_strips(alloc, solid, d, entry),

@@ -1,5 +1,6 @@
 // What the strips of a view come from, in the order of the numbers of their lines.
-ghost use Rattle.std.specs.Prelude.{◌++◌, ◌∷◌, ◌<◌, [], inl, inr, List, map, length, All, IfOk, OnOk, IsPermutation};
+ghost use Rattle.std.proofs.Common.{inl, inr};
+ghost use Rattle.std.specs.Prelude.{◌++◌, ◌∷◌, ◌<◌, [], List, map, length, All, IfOk, OnOk, IsPermutation};
 ghost use Rattle.std.specs.List.Sorted.{IsNonDecreasingBy};
 ghost use Rattle.lattice.specs.Points.{of_dir};
 ghost use Rattle.lattice.specs.Triple.{Triple};
@@ -38,8 +39,8 @@ fn place<'s>(
     source: Source<'s>,
     line: Line,
 ) -> Result<(), OutOfMemory>
-    ensures { OnOk result ((d : Triple) → (solid : Solid) → (all : List Origin) → HasLine d solid (origin_of source) line → ArePlaced d solid table.old.keys all placed.old.items →
-        ArePlaced d solid table.new.keys (all ++ origin_of source ∷ []) placed.new.items) }
+    ensures { OnOk result ((d : Triple) → (solid : Solid) → (all : List Origin) → HasLine d solid (origin_of source.entry) line → ArePlaced d solid table.old.keys all placed.old.items →
+        ArePlaced d solid table.new.keys (all ++ origin_of source.entry ∷ []) placed.new.items) }
 {
     let (number, _) = table.insert_full(line)?;
     placed.push(Placed {

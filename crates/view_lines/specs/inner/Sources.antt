@@ -1,5 +1,6 @@
 -- What the strips of a view come from, in the order of the numbers of their lines.
-use Rattle.std.specs.Prelude.{◌≡◌, ◌⊎◌, inl, inr, ℕ, ◌<◌, List, [], ◌∷◌, ◌++◌, map, flat_map, length, All, IsPermutation}
+use Rattle.std.proofs.Common.{inl, inr}
+use Rattle.std.specs.Prelude.{◌≡◌, ◌⊎◌, ◌<◌, List, [], ◌∷◌, ◌++◌, map, flat_map, length, All, IsPermutation}
 use Rattle.std.specs.List.{AllZip}
 use Rattle.std.specs.List.Sorted.{IsNonDecreasingBy}
 use Rattle.lattice.specs.declared.lines.Line.{Line}
@@ -12,7 +13,7 @@ use Rattle.drawn_strips.specs.Strips.{IsEdgeLine, IsStripOf}
 use Rattle.line_merge.specs.declared.by_line.LineMerge.{LineMerge}
 use Rattle.line_merge.specs.Numbers.{number_in, IsIn}
 use Rattle.line_merge.specs.Taken.{AreTaken}
-use Rattle.solid_mesh.specs.Solids.{solid_part, edge_halves}
+use Rattle.solid_mesh.specs.Solids.{edge_halves}
 use Rattle.solid_mesh.specs.declared.solid.Solid.{Solid}
 use Rattle.span_count.specs.declared.span.EdgeSpans.{EdgeSpans}
 use Rattle.span_slow.specs.declared.span.Span.{Span}

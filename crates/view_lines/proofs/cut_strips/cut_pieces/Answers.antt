@@ -1,7 +1,5 @@
-use Rattle.std.proofs.Common.{◌≡◌, List, ◌++◌, map, get_or, sym, subst, ap, ◌∙◌}
+use Rattle.std.proofs.Common.{◌≡◌, List, ◌++◌, map, sym, subst, ap, ◌∙◌}
 use Rattle.std.specs.List.{AllZip}
-use Rattle.std.proofs.lemmas.List.Elements.{All-contains, Contains-get_or}
-use Rattle.cut_plane.specs.Loops.{IsSegmentOf}
 use Rattle.geometry.specs.Pieces.{AreInOrder}
 use Rattle.geometry.specs.Views.{AreDrawnEdges}
 use Rattle.lattice.specs.Cuts.{plane_of}
@@ -10,7 +8,7 @@ use Rattle.lattice.specs.declared.pieces.Strip.{Strip}
 use Rattle.lattice.specs.Triple.{Triple}
 use Rattle.line_merge.specs.Merging.{AreStrips}
 use Rattle.solid_mesh.specs.Solids.{solid_part, edge_halves}
-use Rattle.solid_mesh.proofs.Facts.{closed, in_range}
+use Rattle.solid_mesh.proofs.Facts.{closed}
 use Rattle.drawn_strips.specs.Strips.{IsBorderStrip}
 use Rattle.view_lines.specs.Merged.{AreMergedWith}
 use Rattle.view_lines.proofs.CountedEdges.{beyond_cut_chained}

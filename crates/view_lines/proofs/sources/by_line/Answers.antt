@@ -1,4 +1,4 @@
-use Rattle.std.proofs.Common.{inl, inr, List, [], map}
+use Rattle.std.proofs.Common.{inl, [], map}
 use Rattle.lattice.specs.Points.{of_dir}
 use Rattle.view_lines.specs.inner.Sources.{origins}
 use Rattle.view_lines.proofs.PlacedSources.{none_placed, placed_by_line}

@@ -1,4 +1,4 @@
-use Rattle.std.proofs.Common.{ℕ, ◌<◌, inl, List, Contains, ◌++◌, length, map, take, sym, subst, append-nil}
+use Rattle.std.proofs.Common.{◌<◌, inl, List, Contains, ◌++◌, length, map, take, sym, subst, append-nil}
 use Rattle.std.proofs.lemmas.List.{take_all}
 use Rattle.std.proofs.lemmas.List.Elements.{All-contains, Contains-get_or}
 use Rattle.edge_pick.specs.Edges.{OfEdge}
