@@ -9,22 +9,15 @@ import sys
 import tempfile
 from fractions import Fraction
 
+import part_text
+
 GREATEST = 1048576  # units from the origin, on each axis
-
-
-def coordinates(part):
-    """The corners of the part's text, as fractions of a millimetre."""
-    lines = [line.split("#")[0].split() for line in open(part, encoding="latin-1")]
-    words = [word for line in lines for word in line]
-    if words[:1] and words[0].lower() == "solid":
-        return [line[1:4] for line in lines if line[:1] and line[0].lower() == "vertex"]
-    return [words[4 + 3 * k:7 + 3 * k] for k in range(int(words[1]))]
 
 
 def moves(part, decimals):
     """How far the part is to be moved along each axis so that its middle is at the origin, in mm, or None where it is too large."""
     told = []
-    for axis in zip(*([Fraction(word) for word in corner] for corner in coordinates(part))):
+    for axis in zip(*([Fraction(word) for word in corner] for corner in part_text.read(part)[0])):
         low, high = min(axis), max(axis)
         if (high - low) / 2 * 10**decimals > GREATEST - 1:
             return None
@@ -60,4 +53,7 @@ if not os.path.isfile(sys.argv[1]):
     sys.exit("%s is no file" % sys.argv[1])
 built = os.path.join(os.path.dirname(os.path.realpath(__file__)), "..", "crates")
 programs = sys.argv[2:] + [os.path.join(built, name, "out", name) for name in ("draw_cli", "mend_cli")][len(sys.argv) - 2:]
+for program in programs:
+    if not os.access(program, os.X_OK):
+        sys.exit("%s is no program: build it, or name it" % program)
 main(sys.argv[1], *programs)

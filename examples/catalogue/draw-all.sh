@@ -14,6 +14,8 @@ program=$(realpath -e "$1") || exit 2
 job=$(realpath -e "$2") || exit 2
 parts=$3 sheets=$4
 shift 4
+case $parts in -*) parts=./$parts ;; esac
+case $sheets in -*) sheets=./$sheets ;; esac
 if [ ! -d "$parts" ]; then
     echo "draw-all.sh: $parts is no folder" >&2
     exit 1
@@ -21,7 +23,7 @@ fi
 command -v parallel >/dev/null || { echo "draw-all.sh: GNU parallel is needed, Debian's package parallel" >&2; exit 2; }
 mkdir -p "$sheets" || exit 2
 find "$parts" -maxdepth 1 -type f \( -iname '*.off' -o -iname '*.stl' -o -iname '*.ast' \) -print0 | sort -z |
-    parallel --null --keep-order "$@" "$here/draw-one.sh" "$program" "$job" "$sheets" >"$sheets/report.tsv"
+    parallel --null --quote --keep-order "$@" "$here/draw-one.sh" "$program" "$job" "$sheets" >"$sheets/report.tsv"
 "$here/index.sh" "$sheets"
 if [ ! -s "$sheets/report.tsv" ]; then
     echo "draw-all.sh: no part was drawn of $parts" >&2
