@@ -145,7 +145,9 @@ def job(number):
     if kind == 0:
         view = 'cut = "%s"\nat = %d\nfrom = "high"\n' % ("xyz"[number("axis", 0, 2)], number("at", -SIDE // 2, SIDE // 2))
     else:
-        toward = [number("toward" + axis, -3, 3) for axis in "xyz"]
+        # along an axis what stands side by side may be one behind the other
+        along = number("axis", 0, 2) if kind == 1 else None
+        toward = [number("toward" + axis, -3, 3) if along is None else int(k == along) for k, axis in enumerate("xyz")]
         view = "toward = [%d, %d, %d]\n" % tuple(toward if any(toward) else (0, 0, 1))
     return 'sheet = "A0"\nscale = "fit"\n[[view]]\n' + view
 
