@@ -8,10 +8,10 @@ use std::rt::Files;
 use std::{fs, io};
 
 // How many new files that killed runs left beside one are passed over.
-const LEFT_BEHIND: u32 = 1000;
+const LEFT_BEHIND: u32 = 10_000;
 
-/// Keeps bytes under a name, unless the file of that name was fetched, or is the one that the standard output goes to, which the
-/// answer `false` tells: nothing was written then.
+/// Keeps bytes under a name, unless the file of that name was fetched, or is the one that the standard output goes to. In the second
+/// case the answer is `false`, and nothing was written.
 pub(crate) fn keep_file<R: Files>(
     alloc: Global,
     rt: &R,
@@ -19,30 +19,30 @@ pub(crate) fn keep_file<R: Files>(
     name: &str,
     bytes: &[u8],
 ) -> io::Result<bool> {
+    // asked before any file is opened: a file that is opened while the standard output is closed may get its number
+    let output = standard_output(rt);
     match OpenOptions::new().write(true).open(rt, name) {
-        Ok(file) => keep_over(alloc, rt, fetched, name, file, bytes),
+        Ok(file) => keep_over(alloc, rt, fetched, output, name, file, bytes),
         Err(e) if e.kind() == ErrorKind::NotFound => {
             keep_new(alloc, rt, name, bytes)?;
             Ok(true)
         }
         // such a file may be open and yet not be opened by its name: a pipe that another user made
-        Err(_) if names_standard_output(rt, name) => Ok(false),
+        Err(_) if leads_to(rt, name, output) => Ok(false),
         Err(e) => Err(e),
     }
 }
 
-// The name is one of the file that the standard output goes to.
-fn names_standard_output<R: Files>(rt: &R, name: &str) -> bool {
-    match fs::metadata(rt, name) {
-        Ok(found) => is_standard_output(rt, &found),
-        Err(_) => false,
-    }
+// The file that the standard output goes to, unless that is closed.
+fn standard_output<R: Files>(rt: &R) -> Option<FileId> {
+    let found = fs::metadata(rt, "/dev/stdout").ok()?;
+    Some(id_of(&found))
 }
 
-// It is the file that the standard output goes to.
-fn is_standard_output<R: Files>(rt: &R, old: &Metadata) -> bool {
-    match fs::metadata(rt, "/dev/stdout") {
-        Ok(out) => id_of(&out) == id_of(old),
+// The name leads to this file.
+fn leads_to<R: Files>(rt: &R, name: &str, file: Option<FileId>) -> bool {
+    match fs::metadata(rt, name) {
+        Ok(found) => file == Some(id_of(&found)),
         Err(_) => false,
     }
 }
@@ -52,15 +52,17 @@ fn keep_over<R: Files>(
     alloc: Global,
     rt: &R,
     fetched: &[FileId],
+    output: Option<FileId>,
     name: &str,
     file: R::File,
     bytes: &[u8],
 ) -> io::Result<bool> {
     let old = file.metadata()?;
-    if old.is_file() && fetched.contains(&id_of(&old)) {
+    let id = id_of(&old);
+    if old.is_file() && fetched.contains(&id) {
         return Err(io::Error::from(ErrorKind::InvalidInput));
     }
-    if is_standard_output(rt, &old) {
+    if output == Some(id) {
         return Ok(false);
     }
     if old.is_file() && old.nlink() == 1 && replace_linked(alloc, rt, name, &old, bytes)? {
@@ -133,7 +135,8 @@ fn replace<R: Files>(
     done
 }
 
-// A new file of this mode beside one, and its name, unless the folder refuses it or the name finds no memory.
+// A new file of this mode beside one, and its name, unless the folder refuses it or the name finds no memory. After too many that are
+// left behind it is an error: the file itself is no place to try.
 fn new_beside<R: Files>(
     alloc: Global,
     rt: &R,
@@ -153,7 +156,7 @@ fn new_beside<R: Files>(
             Err(e) => return Err(e),
         }
     }
-    Ok(None)
+    Err(io::Error::from(ErrorKind::AlreadyExists))
 }
 
 // Writes a new file whole before it takes the name of the old one, unless it can't be of the old one's owner, or can't take its name.
