@@ -1,18 +1,24 @@
 -- Which flip may be made.
-use Rattle.std.proofs.Common.{◌≡◌, ℕ, ◌<◌, ◌≤◌, ◌*◌, List, length, get_or, Some, refl, sym, ap, ◌∙◌, subst, arith, ⊎_elim, Vec, Global}
+use Rattle.std.proofs.Common.{◌≡◌, ◌≢◌, ℕ, ◌<◌, ◌≤◌, ◌*◌, List, length, map, get_or, Some, refl, sym, ap, ◌∙◌, subst, arith, ⊎_elim}
 use Rattle.std.specs.Prelude.{slice_get, pos, ◌*ℤ◌, ◌≤ℤ◌, ◌<ℤ◌}
 use Rattle.std.specs.List.{All}
-use Rattle.std.proofs.lemmas.Option.{slice_get_read, slice_get-get_or, same_Some, slice_get_within}
+use Rattle.std.proofs.lemmas.List.{length-map}
+use Rattle.std.proofs.lemmas.Option.{slice_get-get_or, same_Some, slice_get_within}
 use Rattle.lattice.specs.declared.points.Corner.{Corner}
 use Rattle.lattice.specs.declared.soup.Tri.{Tri}
 use Rattle.lattice.specs.Triangles.{IsBelow}
 use Rattle.flip_bounds.specs.declared.bounded.Bounded.{Bounded}
 use Rattle.flip_bounds.specs.Heights.{Placed, side_square}
-use Rattle.flip_bounds.specs.Flips.{tri, IsRound, IsRise, first_of, second_of}
+use Rattle.flip_bounds.specs.Flips.{tri, IsRound, IsRise, IsSideOf, IsSliverBeside, first_of, second_of}
 use Rattle.integers.proofs.Absolutes.{natural_positive, pos-product}
-use Rattle.flip_slivers.specs.declared.choices.Sliver.{Sliver}
-use Rattle.flip_slivers.specs.inner.Choices.{IsLaid, IsSliverAt, IsAcross, IsNewBound, IsChoice}
+use Rattle.flip_slivers.specs.declared.choices.Flip.{Flip}
+use Rattle.flip_slivers.specs.declared.measures.Measure.{Measure}
+use Rattle.flip_slivers.specs.inner.Choices.{IsChoice, IsCandidate}
+use Rattle.flip_slivers.specs.inner.Measures.{IsMeasure, AreMeasures}
+use Rattle.flip_slivers.specs.inner.Lists.{triangles_of}
 use Rattle.flip_slivers.proofs.HeightLemmas.{at_most_as}
+use Rattle.flip_slivers.proofs.ListLemmas.{tri_at}
+use Rattle.flip_slivers.proofs.OneHeight.{rise_back}
 
 -- ---- corner numbers
 pub round_below : (n : ℕ) (t u : Tri) → IsRound t u → IsBelow n t → IsBelow n u
@@ -32,76 +38,79 @@ turned_at surface i d u within round given at =
     let P : Bounded → Type 0 = λ y. IsRound y.tri u in
     subst P (same_Some (get_or surface i d) given (sym (slice_get-get_or surface i d within) ∙ at)) round
 
+-- the turned triangle at a place
+pub turned_below : (n : ℕ) (surface : List Bounded) (i : ℕ) (u : Tri) → i < length surface → All (λ y. IsBelow n y.tri) surface
+    → ((given : Bounded) → slice_get surface i ≡ Some given → IsRound given.tri u) → IsBelow n u
+turned_below n surface i u within all turned = round_below n (get_or surface i nothing).tri u (turned (get_or surface i nothing) (slice_get-get_or surface i nothing within)) (all i nothing within)
+  where
+    nothing : Bounded
+    nothing = record { tri = record { a = 0; b = 0; c = 0 }; bound = 0 }
+
 -- ---- slivers
-pub same_side : (corners : List Corner) (t : Tri) (p : Placed corners t) (a b : Corner) → t.a < length corners → t.b < length corners → a ≡ get_or corners t.a a → b ≡ get_or corners t.b b
-    → side_square a b ≡ side_square p.a p.b
-same_side corners t p a b first second is also =
-    ap (λ (k : Corner). side_square k b) (same_Some a p.a (sym (slice_get_read corners (length corners) t.a a refl first is) ∙ p.at_a))
-    ∙ ap (side_square p.a) (same_Some b p.b (sym (slice_get_read corners (length corners) t.b b refl second also) ∙ p.at_b))
+pub same_side : (corners : List Corner) (t : Tri) (p : Placed corners t) (a b : Corner) → slice_get corners t.a ≡ Some a → slice_get corners t.b ≡ Some b → side_square a b ≡ side_square p.a p.b
+same_side corners t p a b at_a at_b =
+    ap (λ (k : Corner). side_square k b) (same_Some a p.a (sym at_a ∙ p.at_a)) ∙ ap (side_square p.a) (same_Some b p.b (sym at_b ∙ p.at_b))
 
 pub low_as : (area side : ℕ) → area ≤ 4 * side → pos area ≤ℤ (pos 4 *ℤ pos side)
 low_as area side h = at_most_as area (4 * side) (pos area) (pos 4 *ℤ pos side) refl (pos-product 4 side) h
 
-pub long_as : (side : ℕ) → (side ≡ 0 → ⊥) → pos 0 <ℤ pos side
-long_as side some = natural_positive side (omega arith)
+pub long_as : (side : ℕ) → 0 < side → pos 0 <ℤ pos side
+long_as side some = natural_positive side some
+
+pub measured_within : (corners : List Corner) (surface : List Bounded) (measures : List Measure) (i : ℕ) → AreMeasures corners (triangles_of surface) measures → i < length surface → i < length measures
+measured_within corners surface measures i are within = let e : length (map (λ (x : Bounded). x.tri) surface) ≡ length surface = length-map surface (λ (x : Bounded). x.tri) in omega (arith, are.for_each)
+
+-- the measure of the triangle at a place
+pub measure_at : (corners : List Corner) (surface : List Bounded) (measures : List Measure) (i : ℕ) (x : Bounded) (d : Measure) → AreMeasures corners (triangles_of surface) measures → slice_get surface i ≡ Some x
+    → IsMeasure corners x.tri (get_or measures i d)
+measure_at corners surface measures i x d are at =
+    are.each i x.tri (get_or measures i d) (tri_at surface i x at) (slice_get-get_or measures i d (measured_within corners surface measures i are (slice_get_within surface i x at)))
 
 -- ---- a choice from its parts
-pub choice : (corners : List Corner) (most : ℕ) (surface : List Bounded) (s : Sliver) (other d bound : ℕ) (e : Bounded) → other < length surface
-    → IsSliverAt corners surface s → IsAcross surface s other d
-    → IsNewBound most (get_or surface s.place e).bound (get_or surface other e).bound s.rise bound
-    → IsRise corners (get_or surface s.place e).tri (get_or surface other e).tri (first_of s.tri.a s.tri.b s.tri.c d) (second_of s.tri.a s.tri.b s.tri.c d)
-    → IsChoice corners most surface (record { sliver = s.place; neighbour = other; a = s.tri.a; b = s.tri.b; c = s.tri.c; d = d; bound = bound })
-choice corners most surface s other d bound e within sliver across new rises =
-    let there : s.place < length surface = slice_get_within surface s.place sliver.given sliver.at in
-    let first : get_or surface s.place e ≡ sliver.given = same_Some _ _ (sym (slice_get-get_or surface s.place e there) ∙ sliver.at) in
-    let second : get_or surface other e ≡ across.neighbour = same_Some _ _ (sym (slice_get-get_or surface other e within) ∙ across.at) in
-    record {
-      different = across.different;
-      sliver = sliver.given;
-      neighbour = across.neighbour;
-      at_sliver = sliver.at;
-      at_neighbour = across.at;
-      area = sliver.area;
-      side = sliver.side;
-      is_sliver = record {
-        turned = sliver.turned;
-        beside = across.beside;
-        height = sliver.height;
-        on_longest = sliver.on_longest;
-        long = sliver.long;
-        low = sliver.low;
-      };
-      no_side = across.no_side;
-      no_side_back = across.no_side_back;
-      rises =
-          let P : Bounded → Type 0 = λ x. IsRise corners x.tri across.neighbour.tri (first_of s.tri.a s.tri.b s.tri.c d) (second_of s.tri.a s.tri.b s.tri.c d) in
-          let Q : Bounded → Type 0 = λ y. IsRise corners (get_or surface s.place e).tri y.tri (first_of s.tri.a s.tri.b s.tri.c d) (second_of s.tri.a s.tri.b s.tri.c d) in
-          subst P first (subst Q second rises);
-      rise = s.rise;
-      is_rise = sliver.is_rise;
-      new_bound =
-          let P : Bounded → Type 0 = λ x. IsNewBound most x.bound across.neighbour.bound s.rise bound in
-          let Q : Bounded → Type 0 = λ y. IsNewBound most (get_or surface s.place e).bound y.bound s.rise bound in
-          subst P first (subst Q second new);
-    }
+pub candidate_choice : (corners : List Corner) (most : ℕ) (surface : List Bounded) (place : ℕ) (t : Tri) (other d : ℕ) (f : Flip) → IsCandidate corners most surface place t other d f → place ≢ other
+    → ((y : Bounded) → slice_get surface other ≡ Some y → IsRound y.tri (tri t.b t.a d)) → ¬ IsSideOf surface t.c d → ¬ IsSideOf surface d t.c
+    → ((x y : Bounded) → slice_get surface place ≡ Some x → slice_get surface other ≡ Some y → IsRise corners x.tri y.tri (first_of t.a t.b t.c d) (second_of t.a t.b t.c d)) → IsChoice corners most surface f
+candidate_choice corners most surface place t other d f x differ beside no_side no_side_back rises =
+    let C : Flip → Type 0 = λ g. IsChoice corners most surface g in
+    let R : ℕ → Type 0 = λ n. slice_get surface n ≡ Some x.is_sliver.given in
+    let at : slice_get surface place ≡ Some x.is_sliver.given = subst R x.at x.is_sliver.at in
+    subst C (sym x.is) (record {
+      different = differ;
+      sliver = x.is_sliver.given;
+      neighbour = x.neighbour;
+      at_sliver = at;
+      at_neighbour = x.at_neighbour;
+      area = x.is_sliver.area;
+      side = x.is_sliver.side;
+      is_sliver =
+          let P : Tri → Type 0 = λ u. IsRound x.neighbour.tri (tri u.b u.a d) → IsSliverBeside corners x.is_sliver.given.tri x.neighbour.tri u.a u.b u.c d x.is_sliver.area x.is_sliver.side in
+          subst P x.turned (λ b. record {
+            turned = x.is_sliver.turned;
+            beside = b;
+            height = x.is_sliver.height;
+            on_longest = x.is_sliver.on_longest;
+            long = x.is_sliver.long;
+            low = x.is_sliver.low;
+          }) (beside x.neighbour x.at_neighbour);
+      no_side = no_side;
+      no_side_back = no_side_back;
+      rises = rises x.is_sliver.given x.neighbour at x.at_neighbour;
+      rise = x.sliver.rise;
+      is_rise = x.is_sliver.is_rise;
+      new_bound = x.new_bound;
+    })
 
--- ---- numbers below the number of corners
-pub sliver_below : (corners : List Corner) (surface : List Bounded) (around : List (Vec ℕ Global)) (s : Sliver) → IsLaid corners surface around → IsSliverAt corners surface s → IsBelow (length corners) s.tri
-sliver_below corners surface around s laid sliver =
-    round_below (length corners) sliver.given.tri s.tri sliver.turned (below_at (length corners) surface s.place sliver.given laid.in_range sliver.at)
+-- what is said of a candidate whose sliver is the second of two triangles beside each other, by what is said of the two
+pub candidate_back : (corners : List Corner) (most : ℕ) (surface : List Bounded) (place : ℕ) (t : Tri) (other d : ℕ) (f : Flip) → IsCandidate corners most surface other (tri t.b t.a d) place t.c f → place ≢ other
+    → ((x : Bounded) → slice_get surface place ≡ Some x → IsRound x.tri t) → ¬ IsSideOf surface t.c d → ¬ IsSideOf surface d t.c
+    → ((x y : Bounded) → slice_get surface place ≡ Some x → slice_get surface other ≡ Some y → IsRise corners x.tri y.tri (first_of t.a t.b t.c d) (second_of t.a t.b t.c d)) → IsChoice corners most surface f
+candidate_back corners most surface place t other d f x differ turned no_side no_side_back rises =
+    candidate_choice corners most surface other (tri t.b t.a d) place t.c f x (λ e. differ (sym e)) turned no_side_back no_side
+    (λ y x at_y at_x. rise_back corners x.tri y.tri t.a t.b t.c d (rises x y at_x at_y))
 
-pub across_below : (n : ℕ) (surface : List Bounded) (s : Sliver) (other d : ℕ) → All (λ y. IsBelow n y.tri) surface → IsAcross surface s other d → d < n
-across_below n surface s other d all across =
-    (round_below n across.neighbour.tri (tri s.tri.b s.tri.a d) across.beside (below_at n surface other across.neighbour all across.at)).c
-
-pub third_below : (n : ℕ) (surface : List Bounded) (other : ℕ) (e : Bounded) (m k d : ℕ) → other < length surface → All (λ y. IsBelow n y.tri) surface → IsRound (get_or surface other e).tri (tri m k d) → d < n
-third_below n surface other e m k d within all round = (round_below n (get_or surface other e).tri (tri m k d) round (all other e within)).c
-
-pub around_in_range : (corners : List Corner) (surface : List Bounded) (around : List (Vec ℕ Global)) → IsLaid corners surface around → All (λ y. IsBelow (length around) y.tri) surface
-around_in_range corners surface around laid =
-    let P : ℕ → Type 0 = λ n. All (λ (y : Bounded). IsBelow n y.tri) surface in
-    subst P (sym laid.for_each) laid.in_range
-
--- the turned triangle at a place
-pub turned_below : (n : ℕ) (surface : List Bounded) (i : ℕ) (e : Bounded) (u : Tri) → i < length surface → All (λ y. IsBelow n y.tri) surface → IsRound (get_or surface i e).tri u → IsBelow n u
-turned_below n surface i e u within all round = round_below n (get_or surface i e).tri u round (all i e within)
+-- the measure that is read at a place
+pub measure_read : (corners : List Corner) (surface : List Bounded) (measures : List Measure) (i : ℕ) (x : Bounded) (m : Measure) → AreMeasures corners (triangles_of surface) measures → slice_get surface i ≡ Some x
+    → m ≡ get_or measures i m → IsMeasure corners x.tri m
+measure_read corners surface measures i x m are at is =
+    let P : Measure → Type 0 = λ k. IsMeasure corners x.tri k in
+    subst P (sym is) (measure_at corners surface measures i x m are at)

@@ -1,9 +1,11 @@
-pub mod AroundLemmas
 pub mod ChoiceLemmas
 pub mod HeightLemmas
+pub mod ListLemmas
 pub mod MakingLemmas
+pub mod MeasureLemmas
 pub mod OneHeight
 pub mod PairLemmas
 pub mod Potential
+pub mod QueueLemmas
 pub mod SettledLemmas
 pub mod SettlingLemmas

@@ -1,23 +1,24 @@
 -- What a flip that is made leaves.
-use Rattle.std.proofs.Common.{◌≡◌, ℕ, suc, ◌+◌, ◌<◌, List, [], ◌∷◌, ◌++◌, length, get_or, set, Some, refl, arith, sym, ap, ◌∙◌, subst, inl, inr, ◌⊎◌, ⊎_elim, Vec, Global, add-one, add-suc, add-zero}
-use Rattle.std.specs.Prelude.{slice_get, Contains}
+use Rattle.std.proofs.Common.{◌≡◌, ◌≢◌, ℕ, ◌+◌, ◌<◌, List, length, get_or, set, Some, refl, arith, sym, ap, ◌∙◌, subst, inl, inr, ◌⊎◌, ⊎_elim, Vec, Global, Bool, add-one}
+use Rattle.std.specs.Prelude.{slice_get, Contains, Option, IfSome}
 use Rattle.std.specs.List.{All}
 use Rattle.std.proofs.lemmas.Bool.{cases_eq}
-use Rattle.std.proofs.lemmas.List.{length-append, length-map, length-set}
-use Rattle.std.proofs.lemmas.List.Elements.{All-pop, All-set}
-use Rattle.std.proofs.lemmas.Option.{slice_get_within, same_Some}
+use Rattle.std.proofs.lemmas.List.{length-map, length-set, map-set}
+use Rattle.std.proofs.lemmas.List.Elements.{All-set, Contains-get_or}
+use Rattle.std.proofs.lemmas.Option.{slice_get_within, slice_get-get_or, same_Some, get_or_from_slice_get}
 use Rattle.lattice.specs.declared.points.Corner.{Corner}
 use Rattle.lattice.specs.declared.soup.Tri.{Tri}
 use Rattle.lattice.specs.Triangles.{IsBelow}
-use Rattle.geometry.specs.Parts.{IsCornerOf}
 use Rattle.flip_bounds.specs.declared.bounded.Bounded.{Bounded}
-use Rattle.flip_bounds.specs.Flips.{tri, IsRound, IsFlip, AreFlips, none, more, first_of, second_of}
-use Rattle.flip_bounds.proofs.Changed.{set_same, set_other, map_place, map_place_back}
+use Rattle.flip_bounds.specs.Flips.{tri, IsRound, HasSide, IsSideOf, IsFlip, AreFlips, more, first_of, second_of}
+use Rattle.flip_bounds.proofs.Changed.{set_same, set_other}
 use Rattle.flip_slivers.specs.declared.choices.Flip.{Flip}
-use Rattle.flip_slivers.specs.inner.Around.{IsAround, IsGrown, lists_of, listed_at, triangles_of}
-use Rattle.flip_slivers.specs.inner.Choices.{IsLaid, IsChoice, IsSettledAt, IsWithin, flipped}
-use Rattle.flip_slivers.proofs.AroundLemmas.{items_of}
+use Rattle.flip_slivers.specs.declared.measures.Measure.{Measure}
+use Rattle.flip_slivers.specs.inner.Lists.{HasTriAt, IsLess, IsListed, IsMore, lists_of, triangles_of}
+use Rattle.flip_slivers.specs.inner.Measures.{AreMeasures, IsMeasure}
+use Rattle.flip_slivers.specs.inner.Choices.{AreIdle, IsChoice, IsFuller, IsLaid, IsQueue, IsReady, Waits, flipped}
 use Rattle.flip_slivers.proofs.ChoiceLemmas.{round_below, below_at}
+use Rattle.flip_slivers.proofs.ListLemmas.{relisted, tri_at}
 use Rattle.flip_slivers.proofs.Potential.{potential, flip_falls}
 
 -- ---- flips in a row
@@ -54,198 +55,232 @@ one_more corners most n first old new f flips x e =
     let Q : ℕ → Type 0 = λ k. AreFlips corners most k first (flipped old f) in
     subst P (sym e) (subst Q (sym (add-one n)) (more n first old (flipped old f) flips (choice_flip corners most old f x)))
 
-pub flips_join : (corners : List Corner) (most n m : ℕ) (s t u : List Bounded) → AreFlips corners most n s t → AreFlips corners most m t u → AreFlips corners most (n + m) s u
-flips_join corners most n _ s _ _ first (none t) = let Q : ℕ → Type 0 = λ k. AreFlips corners most k s t in subst Q (sym (add-zero n)) first
-flips_join corners most n _ s _ _ first (more m t u v flips x) =
-    let Q : ℕ → Type 0 = λ k. AreFlips corners most k s v in
-    subst Q (sym (add-suc n m)) (more (n + m) s u v (flips_join corners most n m s t u first flips) x)
-
--- no flips leave the surface as it is
-pub no_flips : (corners : List Corner) (most n : ℕ) (old new : List Bounded) → AreFlips corners most n old new → n ≡ 0 → new ≡ old
-no_flips corners most _ _ _ (none s) e = refl
-no_flips corners most _ _ _ (more n s t u flips x) e = absurd (some n e)
-  where
-    some : (n : ℕ) → suc n ≡ 0 → ⊥
-    some n e = omega arith
-
--- ---- lists around corners after a flip
-pub round_corner : (t u : Tri) (k : ℕ) → IsRound t u → IsCornerOf u k → IsCornerOf t k
-round_corner t u k round has = let P : Tri → Type 0 = λ v. IsCornerOf v k in ⊎_elim
-    (λ e. first (subst P e has)) (⊎_elim (λ e. second (subst P e has)) (λ e. third (subst P e has))) round
-  where
-    first : IsCornerOf (tri t.a t.b t.c) k → IsCornerOf t k
-    first h = h
-
-    second : IsCornerOf (tri t.b t.c t.a) k → IsCornerOf t k
-    second = ⊎_elim (λ h. inr (inl h)) (⊎_elim (λ h. inr (inr h)) (λ h. inl h))
-
-    third : IsCornerOf (tri t.c t.a t.b) k → IsCornerOf t k
-    third = ⊎_elim (λ h. inr (inr h)) (⊎_elim (λ h. inl h) (λ h. inr (inl h)))
-
 flipped_length : (surface : List Bounded) (f : Flip) → length (flipped surface f) ≡ length surface
 flipped_length surface f =
     length-set (set surface f.sliver (record { tri = first_of f.a f.b f.c f.d; bound = f.bound })) f.neighbour (record { tri = second_of f.a f.b f.c f.d; bound = f.bound })
     ∙ length-set surface f.sliver (record { tri = first_of f.a f.b f.c f.d; bound = f.bound })
 
--- the triangle at a place after a flip: one of the two new ones, or what stood there
-pub flipped_at : (corners : List Corner) (most : ℕ) (surface : List Bounded) (f : Flip) (i : ℕ) (x : Bounded) → IsChoice corners most surface f → slice_get (flipped surface f) i ≡ Some x
-    → ((i ≡ f.neighbour) × (x.tri ≡ second_of f.a f.b f.c f.d)) ⊎ ((i ≡ f.sliver) × (x.tri ≡ first_of f.a f.b f.c f.d)) ⊎ (slice_get surface i ≡ Some x)
-flipped_at corners most surface f i x choice at = elim (cases_eq i f.neighbour) [
-  | inl e ↦ inl (e, ap (λ (y : Bounded). y.tri) (same_Some x second (sym at ∙ ap (slice_get (flipped surface f)) e ∙ there)))
-  | inr d ↦ elim (cases_eq i f.sliver) [
-    | inl e ↦ inr (inl (e, ap (λ (y : Bounded). y.tri) (same_Some x first (sym at ∙ set_other (set surface f.sliver first) f.neighbour i second d ∙ ap (slice_get (set surface f.sliver first)) e ∙ here))))
-    | inr n ↦ inr (inr (sym (set_other (set surface f.sliver first) f.neighbour i second d ∙ set_other surface f.sliver i first n) ∙ at))
+-- ---- another triangle at a place
+measures_put : (corners : List Corner) (triangles : List Tri) (measures : List Measure) (place : ℕ) (t : Tri) (m : Measure) → AreMeasures corners triangles measures → IsMeasure corners t m
+    → AreMeasures corners (set triangles place t) (set measures place m)
+measures_put corners triangles measures place t m are here = record {
+  for_each = length-set measures place m ∙ are.for_each ∙ sym (length-set triangles place t);
+  each = λ i u k at there. elim (cases_eq i place) [
+    | inl e ↦
+        let within : place < length (set triangles place t) = let P : ℕ → Type 0 = λ n. n < length (set triangles place t) in subst P e (slice_get_within (set triangles place t) i u at) in
+        let inside : place < length triangles = omega (arith, length-set triangles place t) in
+        let also : place < length measures = omega (arith, are.for_each) in
+        let first : t ≡ u = same_Some t u (sym (set_same triangles place (get_or triangles place t) t (slice_get-get_or triangles place t inside)) ∙ ap (slice_get (set triangles place t)) (sym e) ∙ at) in
+        let second : m ≡ k = same_Some m k (sym (set_same measures place (get_or measures place m) m (slice_get-get_or measures place m also)) ∙ ap (slice_get (set measures place m)) (sym e) ∙ there) in
+        let P : Tri → Type 0 = λ v. IsMeasure corners v m in
+        let Q : Measure → Type 0 = λ n. IsMeasure corners u n in
+        subst Q second (subst P first here)
+    | inr d ↦ are.each i u k (sym (set_other triangles place i t d) ∙ at) (sym (set_other measures place i m d) ∙ there)
+  ];
+}
+
+pub put_laid : (corners : List Corner) (surface : List Bounded) (measures : List Measure) (lists without_it with_it : List (Vec ℕ Global)) (place : ℕ) (old new : Bounded) (m : Measure)
+    → IsLaid corners surface measures lists → slice_get surface place ≡ Some old → IsLess (lists_of lists) (lists_of without_it) place → IsMore (lists_of without_it) (lists_of with_it) new.tri place
+    → IsMeasure corners new.tri m → IsBelow (length corners) new.tri → IsLaid corners (set surface place new) (set measures place m) with_it
+put_laid corners surface measures lists without_it with_it place old new m laid at less_than more_than here below =
+    let same : triangles_of (set surface place new) ≡ set (triangles_of surface) place new.tri = map-set (λ (x : Bounded). x.tri) surface place new in
+    let L : List Tri → Type 0 = λ ts. IsListed ts (lists_of with_it) in
+    let M : List Tri → Type 0 = λ ts. AreMeasures corners ts (set measures place m) in
+    record {
+      count = sym (length-map with_it vector) ∙ more_than.long ∙ less_than.long ∙ length-map lists vector ∙ laid.count;
+      listed = subst L (sym same) (relisted (triangles_of surface) (lists_of lists) (lists_of without_it) (lists_of with_it) place old.tri new.tri (tri_at surface place old at) laid.listed less_than more_than);
+      measured = subst M (sym same) (measures_put corners (triangles_of surface) measures place new.tri m laid.measured here);
+      in_range = All-set (λ (x : Bounded). IsBelow (length corners) x.tri) surface place new below laid.in_range;
+    }
+  where
+    vector : Vec ℕ Global → List ℕ
+    vector list = list.items
+
+-- ---- the corners of the two new triangles
+pub first_below : (corners : List Corner) (most : ℕ) (surface : List Bounded) (f : Flip) → All (λ x. IsBelow (length corners) x.tri) surface → IsChoice corners most surface f → IsBelow (length corners) (first_of f.a f.b f.c f.d)
+first_below corners most surface f all x =
+    let sliver = round_below (length corners) x.sliver.tri (tri f.a f.b f.c) x.is_sliver.turned (below_at (length corners) surface f.sliver x.sliver all x.at_sliver) in
+    let neighbour = round_below (length corners) x.neighbour.tri (tri f.b f.a f.d) x.is_sliver.beside (below_at (length corners) surface f.neighbour x.neighbour all x.at_neighbour) in
+    record { a = sliver.a; b = neighbour.c; c = sliver.c }
+
+pub second_below : (corners : List Corner) (most : ℕ) (surface : List Bounded) (f : Flip) → All (λ x. IsBelow (length corners) x.tri) surface → IsChoice corners most surface f → IsBelow (length corners) (second_of f.a f.b f.c f.d)
+second_below corners most surface f all x =
+    let sliver = round_below (length corners) x.sliver.tri (tri f.a f.b f.c) x.is_sliver.turned (below_at (length corners) surface f.sliver x.sliver all x.at_sliver) in
+    let neighbour = round_below (length corners) x.neighbour.tri (tri f.b f.a f.d) x.is_sliver.beside (below_at (length corners) surface f.neighbour x.neighbour all x.at_neighbour) in
+    record { a = neighbour.c; b = sliver.b; c = sliver.c }
+
+-- ---- what a flip leaves where it was
+abbrev first_new : Flip → Bounded
+first_new f = record { tri = first_of f.a f.b f.c f.d; bound = f.bound }
+
+abbrev second_new : Flip → Bounded
+second_new f = record { tri = second_of f.a f.b f.c f.d; bound = f.bound }
+
+pub flipped_elsewhere : (surface : List Bounded) (f : Flip) (i : ℕ) → i ≢ f.sliver → i ≢ f.neighbour → slice_get (flipped surface f) i ≡ slice_get surface i
+flipped_elsewhere surface f i first second = set_other (set surface f.sliver (first_new f)) f.neighbour i (second_new f) second ∙ set_other surface f.sliver i (first_new f) first
+
+flipped_sliver : (corners : List Corner) (most : ℕ) (surface : List Bounded) (f : Flip) → IsChoice corners most surface f → slice_get (flipped surface f) f.sliver ≡ Some (first_new f)
+flipped_sliver corners most surface f x =
+    set_other (set surface f.sliver (first_new f)) f.neighbour f.sliver (second_new f) x.different ∙ set_same surface f.sliver x.sliver (first_new f) x.at_sliver
+
+flipped_neighbour : (corners : List Corner) (most : ℕ) (surface : List Bounded) (f : Flip) → IsChoice corners most surface f → slice_get (flipped surface f) f.neighbour ≡ Some (second_new f)
+flipped_neighbour corners most surface f x =
+    set_same (set surface f.sliver (first_new f)) f.neighbour x.neighbour (second_new f) (set_other surface f.sliver f.neighbour (first_new f) (λ e. x.different (sym e)) ∙ x.at_neighbour)
+
+-- the triangle at a place has the side
+side_of_place : (surface : List Bounded) (i m n : ℕ) (x : Bounded) → slice_get surface i ≡ Some x → HasSide x.tri m n → IsSideOf surface m n
+side_of_place surface i m n x at has =
+    let within : i < length surface = slice_get_within surface i x at in
+    let C : Bounded → Type 0 = λ y. Contains surface y in
+    (x, subst C (get_or_from_slice_get surface i x x at) (Contains-get_or surface i x within), has)
+
+round_side : (t u : Tri) (m n : ℕ) → IsRound t u → HasSide t m n → HasSide u m n
+round_side t u m n round has = let P : Tri → Type 0 = λ v. HasSide v m n in ⊎_elim
+    (λ e. subst P (sym e) has)
+    (⊎_elim (λ e. subst P (sym e) (second has)) (λ e. subst P (sym e) (third has))) round
+  where
+    second : HasSide t m n → HasSide (tri t.b t.c t.a) m n
+    second = ⊎_elim (λ h. inr (inr h)) (⊎_elim (λ h. inl h) (λ h. inr (inl h)))
+
+    third : HasSide t m n → HasSide (tri t.c t.a t.b) m n
+    third = ⊎_elim (λ h. inr (inl h)) (⊎_elim (λ h. inr (inr h)) (λ h. inl h))
+
+-- each side but the one that was exchanged is one still
+pub side_kept : (corners : List Corner) (most : ℕ) (surface : List Bounded) (f : Flip) (m n : ℕ) → IsChoice corners most surface f → IsSideOf surface m n
+    → ¬ ((m ≡ f.a) × (n ≡ f.b)) → ¬ ((m ≡ f.b) × (n ≡ f.a)) → IsSideOf (flipped surface f) m n
+side_kept corners most surface f m n x (y, (i, below, is), has) not_there not_back =
+    let at : slice_get surface i ≡ Some y = slice_get-get_or surface i y below ∙ ap Some is in
+    elim (cases_eq i f.sliver) [
+      | inl e ↦
+          let P : Bounded → Type 0 = λ z. HasSide z.tri m n in
+          of_sliver (round_side x.sliver.tri (tri f.a f.b f.c) m n x.is_sliver.turned (subst P (same_Some y x.sliver (sym at ∙ ap (slice_get surface) e ∙ x.at_sliver)) has))
+      | inr first ↦ elim (cases_eq i f.neighbour) [
+        | inl e ↦
+            let P : Bounded → Type 0 = λ z. HasSide z.tri m n in
+            of_neighbour (round_side x.neighbour.tri (tri f.b f.a f.d) m n x.is_sliver.beside (subst P (same_Some y x.neighbour (sym at ∙ ap (slice_get surface) e ∙ x.at_neighbour)) has))
+        | inr second ↦ side_of_place (flipped surface f) i m n y (flipped_elsewhere surface f i first second ∙ at) has
+      ]
+    ]
+  where
+    in_first : HasSide (first_of f.a f.b f.c f.d) m n → IsSideOf (flipped surface f) m n
+    in_first h = side_of_place (flipped surface f) f.sliver m n (first_new f) (flipped_sliver corners most surface f x) h
+
+    in_second : HasSide (second_of f.a f.b f.c f.d) m n → IsSideOf (flipped surface f) m n
+    in_second h = side_of_place (flipped surface f) f.neighbour m n (second_new f) (flipped_neighbour corners most surface f x) h
+
+    of_sliver : HasSide (tri f.a f.b f.c) m n → IsSideOf (flipped surface f) m n
+    of_sliver = ⊎_elim (λ h. absurd (not_there (sym h.0, sym h.1))) (⊎_elim (λ h. in_second (inr (inl h))) (λ h. in_first (inr (inr h))))
+
+    of_neighbour : HasSide (tri f.b f.a f.d) m n → IsSideOf (flipped surface f) m n
+    of_neighbour = ⊎_elim (λ h. absurd (not_back (sym h.0, sym h.1))) (⊎_elim (λ h. in_first (inl h)) (λ h. in_second (inl h)))
+
+-- ---- which flips may be made then
+pair_cases : (m n p q : ℕ) → ((m ≡ p) × (n ≡ q)) ⊎ (¬ ((m ≡ p) × (n ≡ q)))
+pair_cases m n p q = elim (cases_eq m p) [
+  | inl e ↦ elim (cases_eq n q) [
+    | inl f ↦ inl (e, f)
+    | inr d ↦ inr (λ h. d h.1)
   ]
+  | inr d ↦ inr (λ h. d h.0)
 ]
-  where
-    first : Bounded
-    first = record { tri = first_of f.a f.b f.c f.d; bound = f.bound }
 
-    second : Bounded
-    second = record { tri = second_of f.a f.b f.c f.d; bound = f.bound }
-
-    here : slice_get (set surface f.sliver (record { tri = first_of f.a f.b f.c f.d; bound = f.bound })) f.sliver ≡ Some (record { tri = first_of f.a f.b f.c f.d; bound = f.bound })
-    here = set_same surface f.sliver choice.sliver (record { tri = first_of f.a f.b f.c f.d; bound = f.bound }) choice.at_sliver
-
-    there : slice_get (flipped surface f) f.neighbour ≡ Some (record { tri = second_of f.a f.b f.c f.d; bound = f.bound })
-    there = set_same (set surface f.sliver (record { tri = first_of f.a f.b f.c f.d; bound = f.bound })) f.neighbour choice.neighbour (record { tri = second_of f.a f.b f.c f.d; bound = f.bound })
-        (set_other surface f.sliver f.neighbour (record { tri = first_of f.a f.b f.c f.d; bound = f.bound }) (λ e. choice.different (sym e)) ∙ choice.at_neighbour)
-
-pub made_listed : (corners : List Corner) (most : ℕ) (surface : List Bounded) (f : Flip) (old middle new : List (List ℕ)) → IsChoice corners most surface f → IsAround (triangles_of surface) old
-    → IsGrown old middle f.d f.sliver → IsGrown middle new f.c f.neighbour → IsAround (triangles_of (flipped surface f)) new
-made_listed corners most surface f old middle new choice around first second = record {
-  within =
-      let P : ℕ → Type 0 = λ n. (m : ℕ) → All (λ i. i < n) (listed_at new m) in
-      subst P (sym same) (second.within (length (triangles_of surface)) (below f.neighbour choice.neighbour choice.at_neighbour)
-      (first.within (length (triangles_of surface)) (below f.sliver choice.sliver choice.at_sliver) around.within));
-  holds = holds;
-}
-  where
-    same : length (triangles_of (flipped surface f)) ≡ length (triangles_of surface)
-    same = length-map (flipped surface f) (λ (x : Bounded). x.tri) ∙ flipped_length surface f ∙ sym (length-map surface (λ (x : Bounded). x.tri))
-
-    below : (i : ℕ) (x : Bounded) → slice_get surface i ≡ Some x → i < length (triangles_of surface)
-    below i x at = slice_get_within (triangles_of surface) i x.tri (map_place (λ (y : Bounded). y.tri) surface i x at)
-
-    kept : (corner i : ℕ) (x : Bounded) → slice_get surface i ≡ Some x → IsCornerOf x.tri corner → Contains (listed_at new corner) i
-    kept corner i x at has = second.kept corner i (first.kept corner i (around.holds i corner x.tri (map_place (λ (y : Bounded). y.tri) surface i x at) has))
-
-    of_sliver : (corner : ℕ) → IsCornerOf (tri f.a f.b f.c) corner → Contains (listed_at new corner) f.sliver
-    of_sliver corner has = kept corner f.sliver choice.sliver choice.at_sliver (round_corner choice.sliver.tri (tri f.a f.b f.c) corner choice.is_sliver.turned has)
-
-    of_neighbour : (corner : ℕ) → IsCornerOf (tri f.b f.a f.d) corner → Contains (listed_at new corner) f.neighbour
-    of_neighbour corner has = kept corner f.neighbour choice.neighbour choice.at_neighbour (round_corner choice.neighbour.tri (tri f.b f.a f.d) corner choice.is_sliver.beside has)
-
-    in_first : (corner : ℕ) → IsCornerOf (first_of f.a f.b f.c f.d) corner → Contains (listed_at new corner) f.sliver
-    in_first corner = ⊎_elim (λ e. of_sliver corner (inl e)) (⊎_elim
-        (λ e. let P : ℕ → Type 0 = λ k. Contains (listed_at new k) f.sliver in subst P e (second.kept f.d f.sliver first.added))
-        (λ e. of_sliver corner (inr (inr e))))
-
-    in_second : (corner : ℕ) → IsCornerOf (second_of f.a f.b f.c f.d) corner → Contains (listed_at new corner) f.neighbour
-    in_second corner = ⊎_elim (λ e. of_neighbour corner (inr (inr e))) (⊎_elim (λ e. of_neighbour corner (inl e))
-        (λ e. let P : ℕ → Type 0 = λ k. Contains (listed_at new k) f.neighbour in subst P e second.added))
-
-    holds : (i corner : ℕ) (t : Tri) → slice_get (triangles_of (flipped surface f)) i ≡ Some t → IsCornerOf t corner → Contains (listed_at new corner) i
-    holds i corner t at has =
-        let back = map_place_back (λ (y : Bounded). y.tri) (flipped surface f) i t at in
-        let x : Bounded = back.0 in
-        let corner_of : IsCornerOf x.tri corner = let P : Tri → Type 0 = λ v. IsCornerOf v corner in subst P (sym back.2) has in
-        let P : ℕ → Type 0 = λ k. Contains (listed_at new corner) k in
-        let Q : Tri → Type 0 = λ v. IsCornerOf v corner in
-        ⊎_elim (λ h. subst P (sym h.0) (in_second corner (subst Q h.1 corner_of)))
-        (⊎_elim (λ h. subst P (sym h.0) (in_first corner (subst Q h.1 corner_of))) (λ h. kept corner i x h corner_of))
-        (flipped_at corners most surface f i x choice back.1)
-
-pub made_laid : (corners : List Corner) (most : ℕ) (surface : List Bounded) (f : Flip) (old middle new : List (Vec ℕ Global)) → IsLaid corners surface old → IsChoice corners most surface f
-    → IsGrown (lists_of old) (lists_of middle) f.d f.sliver → IsGrown (lists_of middle) (lists_of new) f.c f.neighbour → IsLaid corners (flipped surface f) new
-made_laid corners most surface f old middle new laid choice first second = record {
-  for_each =
-      sym (length-map new items_of) ∙ second.long ∙ first.long ∙ length-map old items_of ∙ laid.for_each;
-  listed = made_listed corners most surface f (lists_of old) (lists_of middle) (lists_of new) choice laid.listed first second;
-  in_range =
-      let sliver = round_below (length corners) choice.sliver.tri (tri f.a f.b f.c) choice.is_sliver.turned (below_at (length corners) surface f.sliver choice.sliver laid.in_range choice.at_sliver) in
-      let neighbour = round_below (length corners) choice.neighbour.tri (tri f.b f.a f.d) choice.is_sliver.beside (below_at (length corners) surface f.neighbour choice.neighbour laid.in_range choice.at_neighbour) in
-      All-set (λ (x : Bounded). IsBelow (length corners) x.tri) _ f.neighbour _ (record { a = neighbour.c; b = sliver.b; c = sliver.c })
-      (All-set (λ (x : Bounded). IsBelow (length corners) x.tri) surface f.sliver _ (record { a = sliver.a; b = neighbour.c; c = sliver.c }) laid.in_range);
+-- one of triangles that aren't the two, and that the side in its place didn't keep from it, might be made before
+was_choice : (corners : List Corner) (most : ℕ) (surface : List Bounded) (made f : Flip) → IsChoice corners most surface made → IsChoice corners most (flipped surface made) f
+    → slice_get (flipped surface made) f.sliver ≡ slice_get surface f.sliver → slice_get (flipped surface made) f.neighbour ≡ slice_get surface f.neighbour
+    → ¬ ((f.c ≡ made.a) × (f.d ≡ made.b)) → ¬ ((f.c ≡ made.b) × (f.d ≡ made.a)) → IsChoice corners most surface f
+was_choice corners most surface made f before x same also not_there not_back = record {
+  different = x.different;
+  sliver = x.sliver;
+  neighbour = x.neighbour;
+  at_sliver = sym same ∙ x.at_sliver;
+  at_neighbour = sym also ∙ x.at_neighbour;
+  area = x.area;
+  side = x.side;
+  is_sliver = x.is_sliver;
+  no_side = λ s. x.no_side (side_kept corners most surface made f.c f.d before s not_there not_back);
+  no_side_back = λ s. x.no_side_back (side_kept corners most surface made f.d f.c before s (λ h. not_back (h.1, h.0)) (λ h. not_there (h.1, h.0)));
+  rises = x.rises;
+  rise = x.rise;
+  is_rise = x.is_rise;
+  new_bound = x.new_bound;
 }
 
--- ---- steps of the loops
-pub step_flips : (corners : List Corner) (most n m : ℕ) (first old seen new : List Bounded) (f : Flip) → AreFlips corners most n first old → seen ≡ old → IsChoice corners most seen f → new ≡ flipped old f → m ≡ n + 1
-    → AreFlips corners most m first new
-step_flips corners most n m first old seen new f flips same choice e counted =
+pub still_idle : (corners : List Corner) (most : ℕ) (surface new : List Bounded) (made : Flip) (waits after : List Bool) → IsChoice corners most surface made → new ≡ flipped surface made → AreIdle corners most surface waits
+    → ((i : ℕ) → Waits waits i → Waits after i) → Waits after made.sliver → Waits after made.neighbour
+    → ((i j m n : ℕ) → ¬ IsSideOf new made.a made.b → ¬ IsSideOf new made.b made.a → HasTriAt new i m n made.a → HasTriAt new j n m made.b → Waits after i ⊎ Waits after j)
+    → AreIdle corners most new after
+still_idle corners most surface new made waits after before is idle kept first second woken f x =
+    elim (cases_eq f.sliver made.sliver) [
+      | inl e ↦ inl (subst W (sym e) first)
+      | inr a ↦ elim (cases_eq f.sliver made.neighbour) [
+        | inl e ↦ inl (subst W (sym e) second)
+        | inr b ↦ elim (cases_eq f.neighbour made.sliver) [
+          | inl e ↦ inr (subst W (sym e) first)
+          | inr c ↦ elim (cases_eq f.neighbour made.neighbour) [
+            | inl e ↦ inr (subst W (sym e) second)
+            | inr d ↦ elsewhere a b c d
+          ]
+        ]
+      ]
+    ]
+  where
+    W : ℕ → Type 0
+    W i = Waits after i
+
+    C : List Bounded → Type 0
+    C s = IsChoice corners most s f
+
+    elsewhere : f.sliver ≢ made.sliver → f.sliver ≢ made.neighbour → f.neighbour ≢ made.sliver → f.neighbour ≢ made.neighbour → Waits after f.sliver ⊎ Waits after f.neighbour
+    elsewhere a b c d = elim (pair_cases f.c f.d made.a made.b) [
+      | inl h ↦
+          woken f.sliver f.neighbour f.a f.b
+          (λ s. x.no_side (side_as f.c f.d made.a made.b (sym h.0) (sym h.1) s)) (λ s. x.no_side_back (side_as f.d f.c made.b made.a (sym h.1) (sym h.0) s))
+          (x.sliver, x.at_sliver, third_as x.sliver.tri f.a f.b f.c made.a h.0 x.is_sliver.turned) (x.neighbour, x.at_neighbour, third_as x.neighbour.tri f.b f.a f.d made.b h.1 x.is_sliver.beside)
+      | inr not_there ↦ elim (pair_cases f.c f.d made.b made.a) [
+        | inl h ↦ ⊎_elim (λ w. inr w) (λ w. inl w)
+            (woken f.neighbour f.sliver f.b f.a
+            (λ s. x.no_side_back (side_as f.d f.c made.a made.b (sym h.1) (sym h.0) s)) (λ s. x.no_side (side_as f.c f.d made.b made.a (sym h.0) (sym h.1) s))
+            (x.neighbour, x.at_neighbour, third_as x.neighbour.tri f.b f.a f.d made.a h.1 x.is_sliver.beside) (x.sliver, x.at_sliver, third_as x.sliver.tri f.a f.b f.c made.b h.0 x.is_sliver.turned))
+        | inr not_back ↦ ⊎_elim (λ w. inl (kept f.sliver w)) (λ w. inr (kept f.neighbour w))
+            (idle f (was_choice corners most surface made f before (subst C is x) (flipped_elsewhere surface made f.sliver a b) (flipped_elsewhere surface made f.neighbour c d) not_there not_back))
+      ]
+    ]
+      where
+        side_as : (m n p q : ℕ) → p ≡ m → q ≡ n → IsSideOf new p q → IsSideOf new m n
+        side_as m n p q e g s = let P : ℕ → Type 0 = λ k. IsSideOf new k q in let Q : ℕ → Type 0 = λ k. IsSideOf new m k in subst Q g (subst P e s)
+
+        third_as : (t : Tri) (m n p q : ℕ) → p ≡ q → IsRound t (tri m n p) → IsRound t (tri m n q)
+        third_as t m n p q e r = let P : ℕ → Type 0 = λ k. IsRound t (tri m n k) in subst P e r
+
+-- ---- a step
+pub choice_read : (corners : List Corner) (most : ℕ) (seen surface : List Bounded) (found : Option Flip) (f : Flip) → seen ≡ surface → IfSome found (IsChoice corners most seen) → found ≡ Some f → IsChoice corners most surface f
+choice_read corners most seen surface found f read some is =
+    let O : Option Flip → Type 0 = λ o. IfSome o (IsChoice corners most seen) in
     let P : List Bounded → Type 0 = λ s. IsChoice corners most s f in
-    let Q : ℕ → Type 0 = λ k. AreFlips corners most k first new in
-    subst Q (sym counted) (one_more corners most n first old new f flips (subst P same choice) e)
+    subst P read (subst O is some)
 
-pub same_flips : (corners : List Corner) (most n m : ℕ) (first old new : List Bounded) → AreFlips corners most n first old → new ≡ old → m ≡ n → AreFlips corners most m first new
-same_flips corners most n m first old new flips e counted =
-    let P : List Bounded → Type 0 = λ s. AreFlips corners most m first s in
-    let Q : ℕ → Type 0 = λ k. AreFlips corners most k first old in
-    subst P (sym e) (subst Q (sym counted) flips)
+-- a triangle has a mark
+pub marked : (surface seen : List Bounded) (i : ℕ) (x : Bounded) (waits : List Bool) (places : List ℕ) → slice_get surface i ≡ Some x → seen ≡ surface → IsQueue (length seen) waits places → i < length waits
+marked surface seen i x waits places at read q = let within : i < length surface = slice_get_within surface i x at in let same : length seen ≡ length surface = ap length read in omega (arith, q.for_each)
 
-pub same_laid : (corners : List Corner) (surface other : List Bounded) (around also : List (Vec ℕ Global)) → surface ≡ other → around ≡ also → IsLaid corners surface around → IsLaid corners other also
-same_laid corners surface other around also e f laid =
-    let P : List Bounded → Type 0 = λ s. IsLaid corners s also in
-    let Q : List (Vec ℕ Global) → Type 0 = λ a. IsLaid corners surface a in
-    subst P e (subst Q f laid)
+pub same_count : (surface new seen : List Bounded) (f : Flip) → new ≡ flipped surface f → seen ≡ surface → length seen ≡ length new
+same_count surface new seen f made read = ap length read ∙ sym (flipped_length surface f) ∙ ap length (sym made)
 
--- ---- numbers within the lists
-pub place_within : (surface : List Bounded) (i n : ℕ) (x : Bounded) → slice_get surface i ≡ Some x → length surface ≡ n → i < n
-place_within surface i n x at e = let P : ℕ → Type 0 = λ k. i < k in subst P e (slice_get_within surface i x at)
+pub step_ready : (corners : List Corner) (most : ℕ) (surface new seen read : List Bounded) (measures : List Measure) (lists : List (Vec ℕ Global)) (f : Flip) (w first second last : List Bool) (p q r s : List ℕ)
+    → IsChoice corners most surface f → new ≡ flipped surface f → IsLaid corners new measures lists → seen ≡ surface → read ≡ new → IsQueue (length seen) w p → AreIdle corners most seen w
+    → IsFuller w first p q → Waits first f.neighbour → IsFuller first second q r → Waits second f.sliver → IsFuller second last r s
+    → ((i j m n : ℕ) → ¬ IsSideOf read f.a f.b → ¬ IsSideOf read f.b f.a → HasTriAt read i m n f.a → HasTriAt read j n m f.b → Waits last i ⊎ Waits last j) → IsReady corners most new measures lists last s
+step_ready corners most surface new seen read measures lists f w first second last p q r s choice made laid seen_is read_is queue idle one neighbour two sliver three woken = record {
+  laid = laid;
+  queue = let P : ℕ → Type 0 = λ n. IsQueue n last s in subst P (same_count surface new seen f made seen_is) (three.queue (length seen) (two.queue (length seen) (one.queue (length seen) queue)));
+  idle =
+      let I : List Bounded → Type 0 = λ t. AreIdle corners most t w in
+      let R : List Bounded → Type 0 = λ t. (i j m n : ℕ) → ¬ IsSideOf t f.a f.b → ¬ IsSideOf t f.b f.a → HasTriAt t i m n f.a → HasTriAt t j n m f.b → Waits last i ⊎ Waits last j in
+      still_idle corners most surface new f w last choice made (subst I seen_is idle) (λ i h. three.kept i (two.kept i (one.kept i h))) (three.kept f.sliver sliver) (three.kept f.neighbour (two.kept f.neighbour neighbour))
+      (subst R read_is woken);
+}
 
-pub choice_within : (corners : List Corner) (most : ℕ) (surface seen : List Bounded) (around lists : List (Vec ℕ Global)) (f : Flip) → seen ≡ surface → lists ≡ around → IsLaid corners surface around → IsChoice corners most seen f
-    → IsWithin seen lists f
-choice_within corners most surface seen around lists f read also laid choice =
-    let P : List Bounded → Type 0 = λ s. IsLaid corners s lists in
-    let Q : List (Vec ℕ Global) → Type 0 = λ a. IsLaid corners surface a in
-    within seen lists f (subst P (sym read) (subst Q (sym also) laid)) choice
-  where
-    within : (surface : List Bounded) (around : List (Vec ℕ Global)) (f : Flip) → IsLaid corners surface around → IsChoice corners most surface f → IsWithin surface around f
-    within surface around f laid choice =
-        let P : ℕ → Type 0 = λ n. IsBelow n (tri f.a f.b f.c) in
-        let Q : ℕ → Type 0 = λ n. f.d < n in
-        let sliver = subst P (sym laid.for_each) (round_below (length corners) choice.sliver.tri (tri f.a f.b f.c) choice.is_sliver.turned (below_at (length corners) surface f.sliver choice.sliver laid.in_range choice.at_sliver)) in
-        record {
-          sliver = slice_get_within surface f.sliver choice.sliver choice.at_sliver;
-          neighbour = slice_get_within surface f.neighbour choice.neighbour choice.at_neighbour;
-          a = sliver.a;
-          b = sliver.b;
-          c = sliver.c;
-          d = subst Q (sym laid.for_each) (round_below (length corners) choice.neighbour.tri (tri f.b f.a f.d) choice.is_sliver.beside (below_at (length corners) surface f.neighbour choice.neighbour laid.in_range choice.at_neighbour)).c;
-        }
-
-pub same_choice : (corners : List Corner) (most : ℕ) (seen old : List Bounded) (f : Flip) → seen ≡ old → IsChoice corners most seen f → IsChoice corners most old f
-same_choice corners most seen old f e = let P : List Bounded → Type 0 = λ s. IsChoice corners most s f in subst P e
-
--- ---- places that are to be looked at
-pub popped : (P : ℕ → Type 0) (xs ys : List ℕ) (x : ℕ) → xs ≡ ys ++ x ∷ [] → All P xs → All P ys × P x
-popped P xs ys x e all = All-pop P xs ys (Some x) e all
-
-pub popped_length : (xs ys : List ℕ) (x : ℕ) → xs ≡ ys ++ x ∷ [] → length xs ≡ length ys + 1
-popped_length xs ys x e = ap length e ∙ length-append ys (x ∷ [])
-
--- the only one
-pub popped_only : (xs ys : List ℕ) (x y : ℕ) → xs ≡ y ∷ [] → xs ≡ ys ++ x ∷ [] → x ≡ y
-popped_only xs [] x y only e = ap (λ (zs : List ℕ). get_or zs 0 0) (sym e ∙ only)
-popped_only xs (z ∷ ys) x y only e =
-    let one : length xs ≡ 1 = ap length only in
-    let more : length xs ≡ length (z ∷ ys) + 1 = popped_length xs (z ∷ ys) x e in
-    absurd (omega arith)
-
--- the place was the first, or that is settled
-pub now_settled : (corners : List Corner) (most : ℕ) (surface seen : List Bounded) (place next : ℕ) (places left : List ℕ) → seen ≡ surface → places ≡ left ++ next ∷ [] → IsSettledAt corners most seen next
-    → (places ≡ place ∷ []) ⊎ IsSettledAt corners most surface place → IsSettledAt corners most surface place
-now_settled corners most surface seen place next places left read e here =
-    let P : List Bounded → Type 0 = λ s. IsSettledAt corners most s next in
-    let Q : ℕ → Type 0 = λ k. IsSettledAt corners most surface k in
-    ⊎_elim (λ only. subst Q (popped_only places left next place only e) (subst P read here)) (λ before. before)
-
-pub still_within : (surface seen new : List Bounded) (f : Flip) (places : List ℕ) → seen ≡ surface → new ≡ flipped surface f → All (λ i. i < length seen) places → All (λ i. i < length new) places
-still_within surface seen new f places read made =
-    let P : ℕ → Type 0 = λ n. All (λ i. i < n) places in
-    subst P (ap length read ∙ sym (ap length made ∙ flipped_length surface f))
-
-pub choice_falls : (corners : List Corner) (most : ℕ) (surface seen new : List Bounded) (f : Flip) → seen ≡ surface → IsChoice corners most seen f → new ≡ flipped surface f → potential corners most new < potential corners most surface
-choice_falls corners most surface seen new f read choice made =
+pub made_falls : (corners : List Corner) (most : ℕ) (surface new : List Bounded) (f : Flip) → IsChoice corners most surface f → new ≡ flipped surface f → potential corners most new < potential corners most surface
+made_falls corners most surface new f choice made =
     let P : List Bounded → Type 0 = λ s. potential corners most s < potential corners most surface in
-    subst P (sym made) (flip_falls corners most surface (flipped surface f) (choice_flip corners most surface f (same_choice corners most seen surface f read choice)))
+    subst P (sym made) (flip_falls corners most surface (flipped surface f) (choice_flip corners most surface f choice))

@@ -14,6 +14,7 @@ use Rattle.lattice.specs.Points.{difference}
 use Rattle.lattice.specs.Triple.{Triple, dot, cross}
 use Rattle.geometry.specs.Faces.{normal}
 use Rattle.flip_bounds.specs.Heights.{HasHeight, IsLongest, IsLower, IsRoundedUp, side_square, area_square}
+use Rattle.flip_bounds.specs.Flips.{tri, IsRound, IsRise, first_of, second_of}
 use Rattle.flip_bounds.proofs.Lengths.{square_not_negative}
 
 -- ---- one height
@@ -131,3 +132,44 @@ turned_normal a b c = squares (normal b c a) (normal a b c)
       where
         triple : (s t : Triple) → s.x ≡ t.x → s.y ≡ t.y → s.z ≡ t.z → s ≡ t
         triple s t x y z = ap (λ (v : ℤ). record { x = v; y = s.y; z = s.z }) x ∙ ap (λ (v : ℤ). record { x = t.x; y = v; z = s.z }) y ∙ ap (λ (v : ℤ). record { x = t.x; y = t.y; z = v }) z
+
+turned_longest : (a b c : Corner) (l : ℤ) → IsLongest a b c l → IsLongest b c a l
+turned_longest a b c l x = record {
+  one = ⊎_elim (λ e. inr (inr e)) (⊎_elim (λ e. inl e) (λ e. inr (inl e))) x.one;
+  first = x.second;
+  second = x.third;
+  third = x.first;
+}
+
+turned_height : (corners : List Corner) (t : Tri) (area side : ℤ) → HasHeight corners t area side → HasHeight corners (tri t.b t.c t.a) area side
+turned_height corners t area side h = record {
+  placed = record { a = h.placed.b; b = h.placed.c; c = h.placed.a; at_a = h.placed.at_b; at_b = h.placed.at_c; at_c = h.placed.at_a };
+  is_area = h.is_area ∙ sym (turned_normal h.placed.a h.placed.b h.placed.c);
+  is_side = turned_longest h.placed.a h.placed.b h.placed.c side h.is_side;
+}
+
+pub round_height : (corners : List Corner) (t u : Tri) (area side : ℤ) → IsRound t u → HasHeight corners t area side → HasHeight corners u area side
+round_height corners t u area side round h = let P : Tri → Type 0 = λ v. HasHeight corners v area side in ⊎_elim
+    (λ e. subst P (sym e) h)
+    (⊎_elim
+    (λ e. subst P (sym e) (turned_height corners t area side h))
+    (λ e. subst P (sym e) (turned_height corners (tri t.b t.c t.a) area side (turned_height corners t area side h)))) round
+
+-- lower than a triangle, and than it is from another corner on
+lower_round : (corners : List Corner) (s u v : Tri) → IsRound u v → IsLower corners s u → IsLower corners s v
+lower_round corners s u v round x = record {
+  area = x.area;
+  side = x.side;
+  other_area = x.other_area;
+  other_side = x.other_side;
+  height = x.height;
+  other_height = round_height corners u v x.other_area x.other_side round x.other_height;
+  less = x.less;
+}
+
+-- the two triangles on the other diagonal are the same, whichever of the first two is the sliver
+pub rise_back : (corners : List Corner) (s t : Tri) (a b c d : ℕ) → IsRise corners s t (first_of a b c d) (second_of a b c d) → IsRise corners t s (first_of b a d c) (second_of b a d c)
+rise_back corners s t a b c d = ⊎_elim (λ h. inr (over s h)) (λ h. inl (over t h))
+  where
+    over : (r : Tri) → IsLower corners r (first_of a b c d) × IsLower corners r (second_of a b c d) → IsLower corners r (first_of b a d c) × IsLower corners r (second_of b a d c)
+    over r h = (lower_round corners r (second_of a b c d) (first_of b a d c) (inr (inl refl)) h.1, lower_round corners r (first_of a b c d) (second_of b a d c) (inr (inr refl)) h.0)

@@ -4,16 +4,15 @@ use Rattle.std.specs.Prelude.{slice_get, Contains}
 use Rattle.std.specs.List.{All}
 use Rattle.std.specs.Option.{is_some}
 use Rattle.std.proofs.lemmas.Bool.{cases_eq, false≢true}
-use Rattle.std.proofs.lemmas.List.{drop_more, drop_all, length-set, get_or-replicate, length-replicate, get_or_default, append-nil}
+use Rattle.std.proofs.lemmas.List.{drop_more, drop_all, length-set, get_or-replicate, length-replicate, append-nil}
 use Rattle.std.proofs.lemmas.Option.{slice_get_within, slice_get_read, get_or_from_slice_get, same_Some, slice_get-get_or, none-some}
 use Rattle.lattice.specs.declared.soup.Tri.{Tri}
-use Rattle.geometry.specs.Parts.{IsCornerOf}
-use Rattle.flip_bounds.specs.Flips.{tri}
+use Rattle.flip_bounds.specs.Flips.{tri, HasSide}
 use Rattle.flip_bounds.proofs.Changed.{set_same, set_other}
 use Rattle.flip_slivers.specs.Pairs.{AreOpposite, AreOppositeAt, IsWithoutPairs, alone}
-use Rattle.flip_slivers.specs.inner.Around.{IsAround, listed_at}
+use Rattle.flip_slivers.specs.inner.Lists.{IsListed, list_number, listed_at}
 use Rattle.flip_slivers.specs.inner.Partners.{ArePartners, IsFreePartner, IsAlone}
-use Rattle.flip_slivers.proofs.MakingLemmas.{round_corner}
+use Rattle.flip_slivers.proofs.ListLemmas.{nowhere}
 
 -- ---- opposite triangles
 pub opposite_back : (t u : Tri) → AreOpposite t u → AreOpposite u t
@@ -130,34 +129,30 @@ more_alone triangles old new i fewer before here k below at = elim (cases_eq k i
   | inr d ↦ let earlier : k < i = omega arith in still_alone triangles old new k fewer (before k earlier (fewer k at))
 ]
 
--- ---- an opposite triangle is around either end of a side
-opposite_corner : (t u : Tri) (k : ℕ) → AreOpposite t u → IsCornerOf t k → IsCornerOf u k
-opposite_corner t u k opposite has = round_corner u (tri t.a t.c t.b) k opposite (swapped has)
-  where
-    swapped : IsCornerOf t k → IsCornerOf (tri t.a t.c t.b) k
-    swapped = ⊎_elim (λ h. inl h) (⊎_elim (λ h. inr (inr h)) (λ h. inr (inl h)))
+-- ---- an opposite triangle has the first side the other way round
+opposite_side : (t u : Tri) → AreOpposite t u → HasSide u t.b t.a
+opposite_side t u = ⊎_elim
+    (λ e. inr (inr (sym (ap (λ (v : Tri). v.c) e), sym (ap (λ (v : Tri). v.a) e))))
+    (⊎_elim
+    (λ e. inl (sym (ap (λ (v : Tri). v.c) e), sym (ap (λ (v : Tri). v.a) e)))
+    (λ e. inr (inl (sym (ap (λ (v : Tri). v.c) e), sym (ap (λ (v : Tri). v.a) e)))))
 
-pub opposite_listed : (triangles : List Tri) (lists : List (List ℕ)) (places : List ℕ) (i j : ℕ) (t : Tri) → IsAround triangles lists → slice_get triangles i ≡ Some t
-    → (places ≡ listed_at lists t.a) ⊎ (places ≡ listed_at lists t.b) → AreOppositeAt triangles i j → Contains places j
-opposite_listed triangles lists places i j t around at which o =
+pub opposite_listed : (triangles : List Tri) (lists : List (List ℕ)) (i j : ℕ) (t : Tri) → IsListed triangles lists → slice_get triangles i ≡ Some t → AreOppositeAt triangles i j
+    → Contains (listed_at lists (list_number t.b t.a)) j
+opposite_listed triangles lists i j t listed at o =
     let same : o.first ≡ t = same_Some o.first t (sym o.at_first ∙ at) in
     let P : Tri → Type 0 = λ v. AreOpposite v o.second in
-    let opposite : AreOpposite t o.second = subst P same o.opposite in
-    let C : List ℕ → Type 0 = λ xs. Contains xs j in
-    ⊎_elim (λ e. subst C (sym e) (around.holds j t.a o.second o.at_second (opposite_corner t o.second t.a opposite (inl refl))))
-    (λ e. subst C (sym e) (around.holds j t.b o.second o.at_second (opposite_corner t o.second t.b opposite (inr (inl refl))))) which
+    listed.holds j t.b t.a o.second o.at_second (inl (opposite_side t o.second (subst P same o.opposite)))
 
-pub none_free : (triangles : List Tri) (partners : List (Option ℕ)) (lists : List (List ℕ)) (places : List ℕ) (i : ℕ) (t : Tri) → IsAround triangles lists → slice_get triangles i ≡ Some t
-    → (places ≡ listed_at lists t.a) ⊎ (places ≡ listed_at lists t.b) → ((q : ℕ) → q < length places → IsFreePartner triangles partners i (get_or places q 0) → ⊥) → IsAlone triangles partners i
-none_free triangles partners lists places i t around at which none j free =
-    let listed = opposite_listed triangles lists places i j t around at which free.opposite in
-    let P : ℕ → Type 0 = λ k. IsFreePartner triangles partners i k in
-    none listed.0 listed.1 (subst P (sym (get_or_default places listed.0 0 j listed.1 ∙ listed.2)) free)
+pub none_free : (triangles : List Tri) (partners : List (Option ℕ)) (lists : List (List ℕ)) (places : List ℕ) (i : ℕ) (t : Tri) → IsListed triangles lists → slice_get triangles i ≡ Some t
+    → places ≡ listed_at lists (list_number t.b t.a) → ((q : ℕ) → q < length places → IsFreePartner triangles partners i (get_or places q 0) → ⊥) → IsAlone triangles partners i
+none_free triangles partners lists places i t listed at e none j free =
+    nowhere (λ k. IsFreePartner triangles partners i k) places (listed_at lists (list_number t.b t.a)) j e none (opposite_listed triangles lists i j t listed at free.opposite) free
 
-pub listed_within : (triangles : List Tri) (lists : List (List ℕ)) (places : List ℕ) (m k : ℕ) → IsAround triangles lists → (places ≡ listed_at lists m) ⊎ (places ≡ listed_at lists k) → All (λ i. i < length triangles) places
-listed_within triangles lists places m k around which =
+pub listed_within : (triangles : List Tri) (lists : List (List ℕ)) (k : ℕ) (places : List ℕ) → IsListed triangles lists → places ≡ listed_at lists k → All (λ i. i < length triangles) places
+listed_within triangles lists k places listed e =
     let Q : List ℕ → Type 0 = λ xs. All (λ i. i < length triangles) xs in
-    ⊎_elim (λ e. subst Q (sym e) (around.within m)) (λ e. subst Q (sym e) (around.within k)) which
+    subst Q (sym e) (listed.within k)
 
 -- ---- the triangles that are left
 pub alone_kept : (triangles : List Tri) (partners : List (Option ℕ)) (i : ℕ) (d : Tri) (left whole : List Tri) → i < length triangles → i < length partners → get_or partners i None ≡ None

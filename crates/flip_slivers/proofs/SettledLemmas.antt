@@ -1,21 +1,20 @@
 -- Where no flip may be made.
-use Rattle.std.proofs.Common.{◌≡◌, ◌≢◌, ℕ, ◌+◌, ◌<◌, ◌≤◌, ◌*◌, List, length, get_or, Some, refl, sym, ap, ◌∙◌, subst, arith, inl, inr, ◌⊎◌, ⊎_elim, below_more}
+use Rattle.std.proofs.Common.{◌≡◌, ◌≢◌, ℕ, ◌<◌, ◌≤◌, ◌*◌, List, length, get_or, Some, refl, sym, ap, ◌∙◌, subst, arith, ◌⊎◌, ⊎_elim, Bool}
 use Rattle.std.specs.Prelude.{slice_get, Contains, pos, ℤ, ◌+ℤ◌, ◌*ℤ◌, ◌<ℤ◌, ◌≤ℤ◌, ◌-ℤ◌}
 use Rattle.std.proofs.lemmas.Int.{ints}
 use Rattle.std.proofs.lemmas.List.{get_or_default}
-use Rattle.std.proofs.lemmas.Option.{same_Some, slice_get_within, get_or_from_slice_get}
+use Rattle.std.proofs.lemmas.Option.{same_Some}
 use Rattle.lattice.specs.declared.points.Corner.{Corner}
 use Rattle.lattice.specs.declared.soup.Tri.{Tri}
 use Rattle.flip_bounds.specs.declared.bounded.Bounded.{Bounded}
 use Rattle.flip_bounds.specs.Heights.{HasHeight, IsRoundedUp, side_square}
-use Rattle.flip_bounds.specs.Flips.{tri, IsRound, HasSide, IsSideOf, IsFlip, AreFlips, IsRise, first_of, second_of}
+use Rattle.flip_bounds.specs.Flips.{tri, IsRound, HasSide, IsSideOf, IsFlip, IsRise, first_of, second_of}
 use Rattle.flip_slivers.specs.declared.choices.Flip.{Flip}
 use Rattle.flip_slivers.specs.declared.choices.Sliver.{Sliver}
-use Rattle.flip_slivers.specs.inner.Around.{IsAround, listed_at, triangles_of}
-use Rattle.flip_slivers.specs.inner.Choices.{IsSliverAt, IsAcross, IsNewBound, IsChoice, AreSettled, IsSettledAt, IsSettledOn, IsSettledBeside}
-use Rattle.flip_slivers.proofs.AroundLemmas.{tri_at, side_of_round}
-use Rattle.flip_slivers.proofs.MakingLemmas.{round_corner, no_flips}
-use Rattle.flip_slivers.proofs.OneHeight.{one_height, rounded_once}
+use Rattle.flip_slivers.specs.inner.Choices.{IsSliverAt, IsNewBound, IsChoice, AreSettled, IsIdleAt, IsIdleOn, IsIdleBeside, Waits}
+use Rattle.flip_slivers.specs.inner.Lists.{IsListed, HasSideAt, list_number, listed_at, triangles_of}
+use Rattle.flip_slivers.proofs.ListLemmas.{side_of_round, place_listed}
+use Rattle.flip_slivers.proofs.OneHeight.{one_height, rounded_once, rise_back}
 
 -- ---- the third corner beside a side is one
 pub third_once : (t : Tri) (m n d e : ℕ) → m ≢ n → IsRound t (tri m n d) → IsRound t (tri m n e) → d ≡ e
@@ -112,17 +111,6 @@ choice_sliver corners most surface f x = record {
   is_rise = x.is_rise;
 }
 
-abbrev pub choice_across : (corners : List Corner) (most : ℕ) (surface : List Bounded) (f : Flip) (s : Sliver) (other : ℕ) → f.sliver ≡ s.place → tri f.a f.b f.c ≡ s.tri → f.neighbour ≡ other → IsChoice corners most surface f
-    → IsAcross surface s other f.d
-choice_across corners most surface f s other place turned there x = record {
-  different = λ e. x.different (place ∙ e ∙ sym there);
-  neighbour = x.neighbour;
-  at = ap (slice_get surface) (sym there) ∙ x.at_neighbour;
-  beside = let P : Tri → Type 0 = λ t. IsRound x.neighbour.tri (tri t.b t.a f.d) in subst P turned x.is_sliver.beside;
-  no_side = let P : Tri → Type 0 = λ t. IsSideOf surface t.c f.d → ⊥ in subst P turned x.no_side;
-  no_side_back = let P : Tri → Type 0 = λ t. IsSideOf surface f.d t.c → ⊥ in subst P turned x.no_side_back;
-}
-
 -- the rise of the sliver
 pub choice_rise : (corners : List Corner) (most : ℕ) (surface : List Bounded) (f : Flip) (s : Sliver) → tri f.a f.b f.c ≡ s.tri → (x : IsChoice corners most surface f) → IsSliverAt corners surface s → x.rise ≡ s.rise
 choice_rise corners most surface f s turned x sliver =
@@ -132,85 +120,153 @@ choice_rise corners most surface f s turned x sliver =
     let S : ℤ → Type 0 = λ z. IsRoundedUp x.rise sliver.area z in
     rounded_once x.rise s.rise sliver.area sliver.side (subst S same.1 (subst A same.0 x.is_rise)) sliver.is_rise
 
-pub choice_bound : (corners : List Corner) (most : ℕ) (surface : List Bounded) (f : Flip) (s : Sliver) (other : ℕ) (e : Bounded) → f.sliver ≡ s.place → tri f.a f.b f.c ≡ s.tri → f.neighbour ≡ other
-    → IsChoice corners most surface f → IsSliverAt corners surface s → IsNewBound most (get_or surface s.place e).bound (get_or surface other e).bound s.rise f.bound
-choice_bound corners most surface f s other e place turned there x sliver =
-    let first : x.sliver ≡ get_or surface s.place e = sym (get_or_from_slice_get surface s.place x.sliver e (ap (slice_get surface) (sym place) ∙ x.at_sliver)) in
-    let second : x.neighbour ≡ get_or surface other e = sym (get_or_from_slice_get surface other x.neighbour e (ap (slice_get surface) (sym there) ∙ x.at_neighbour)) in
-    let P : Bounded → Type 0 = λ y. IsNewBound most y.bound x.neighbour.bound x.rise f.bound in
-    let Q : Bounded → Type 0 = λ y. IsNewBound most (get_or surface s.place e).bound y.bound x.rise f.bound in
-    let R : ℕ → Type 0 = λ r. IsNewBound most (get_or surface s.place e).bound (get_or surface other e).bound r f.bound in
-    subst R (choice_rise corners most surface f s turned x sliver) (subst Q second (subst P first x.new_bound))
+-- ---- what a choice says of the two triangles that are looked at
+pub choice_bound : (corners : List Corner) (most : ℕ) (surface : List Bounded) (f : Flip) (s : Sliver) (x y : Bounded) → slice_get surface f.sliver ≡ Some x → slice_get surface f.neighbour ≡ Some y → tri f.a f.b f.c ≡ s.tri
+    → IsChoice corners most surface f → IsSliverAt corners surface s → IsNewBound most x.bound y.bound s.rise f.bound
+choice_bound corners most surface f s x y at_x at_y turned choice sliver =
+    let first : choice.sliver ≡ x = same_Some choice.sliver x (sym choice.at_sliver ∙ at_x) in
+    let second : choice.neighbour ≡ y = same_Some choice.neighbour y (sym choice.at_neighbour ∙ at_y) in
+    let P : Bounded → Type 0 = λ z. IsNewBound most z.bound choice.neighbour.bound choice.rise f.bound in
+    let Q : Bounded → Type 0 = λ z. IsNewBound most x.bound z.bound choice.rise f.bound in
+    let R : ℕ → Type 0 = λ r. IsNewBound most x.bound y.bound r f.bound in
+    subst R (choice_rise corners most surface f s turned choice sliver) (subst Q second (subst P first choice.new_bound))
 
-pub choice_rises : (corners : List Corner) (most : ℕ) (surface : List Bounded) (f : Flip) (s : Sliver) (other d : ℕ) (e : Bounded) → f.sliver ≡ s.place → tri f.a f.b f.c ≡ s.tri → f.neighbour ≡ other
-    → IsChoice corners most surface f → s.tri.b ≢ s.tri.a → IsAcross surface s other d
-    → IsRise corners (get_or surface s.place e).tri (get_or surface other e).tri (first_of s.tri.a s.tri.b s.tri.c d) (second_of s.tri.a s.tri.b s.tri.c d)
-choice_rises corners most surface f s other d e place turned there x differ across =
-    let first : x.sliver ≡ get_or surface s.place e = sym (get_or_from_slice_get surface s.place x.sliver e (ap (slice_get surface) (sym place) ∙ x.at_sliver)) in
-    let second : x.neighbour ≡ get_or surface other e = sym (get_or_from_slice_get surface other x.neighbour e (ap (slice_get surface) (sym there) ∙ x.at_neighbour)) in
-    let mine = choice_across corners most surface f s other place turned there x in
-    let one : across.neighbour ≡ x.neighbour = same_Some across.neighbour x.neighbour (sym across.at ∙ mine.at) in
-    let B : Bounded → Type 0 = λ y. IsRound y.tri (tri s.tri.b s.tri.a d) in
-    let third : f.d ≡ d = third_once x.neighbour.tri s.tri.b s.tri.a f.d d differ mine.beside (subst B one across.beside) in
-    let P : Bounded → Type 0 = λ y. IsRise corners y.tri x.neighbour.tri (first_of f.a f.b f.c f.d) (second_of f.a f.b f.c f.d) in
-    let Q : Bounded → Type 0 = λ y. IsRise corners (get_or surface s.place e).tri y.tri (first_of f.a f.b f.c f.d) (second_of f.a f.b f.c f.d) in
-    let R : Tri → Type 0 = λ t. IsRise corners (get_or surface s.place e).tri (get_or surface other e).tri (first_of t.a t.b t.c f.d) (second_of t.a t.b t.c f.d) in
-    let S : ℕ → Type 0 = λ k. IsRise corners (get_or surface s.place e).tri (get_or surface other e).tri (first_of s.tri.a s.tri.b s.tri.c k) (second_of s.tri.a s.tri.b s.tri.c k) in
-    subst S third (subst R turned (subst Q second (subst P first x.rises)))
+-- the first side of a flip's sliver has two ends
+pub choice_differ : (corners : List Corner) (most : ℕ) (surface : List Bounded) (f : Flip) → IsChoice corners most surface f → f.b ≢ f.a
+choice_differ corners most surface f x = ends_differ corners surface (record { place = f.sliver; tri = tri f.a f.b f.c; rise = x.rise }) (choice_sliver corners most surface f x)
 
--- the neighbour is listed at either end of the sliver's first side
-pub choice_listed : (corners : List Corner) (most : ℕ) (surface : List Bounded) (f : Flip) (lists : List (List ℕ)) (places : List ℕ) (t : Tri) → IsAround (triangles_of surface) lists → tri f.a f.b f.c ≡ t
-    → (places ≡ listed_at lists t.a) ⊎ (places ≡ listed_at lists t.b) → IsChoice corners most surface f → Contains places f.neighbour
-choice_listed corners most surface f lists places t around turned which x =
-    let at = tri_at surface f.neighbour x.neighbour x.at_neighbour in
-    let P : List ℕ → Type 0 = λ xs. Contains xs f.neighbour in
-    ⊎_elim
-    (λ e. subst P (sym e) (around.holds f.neighbour t.a x.neighbour.tri at (round_corner x.neighbour.tri (tri f.b f.a f.d) t.a x.is_sliver.beside (inr (inl (ap (λ (u : Tri). u.a) turned))))))
-    (λ e. subst P (sym e) (around.holds f.neighbour t.b x.neighbour.tri at (round_corner x.neighbour.tri (tri f.b f.a f.d) t.b x.is_sliver.beside (inl (ap (λ (u : Tri). u.b) turned))))) which
+pub choice_rises : (corners : List Corner) (most : ℕ) (surface : List Bounded) (f : Flip) (x y : Bounded) → slice_get surface f.sliver ≡ Some x → slice_get surface f.neighbour ≡ Some y
+    → IsChoice corners most surface f → IsRise corners x.tri y.tri (first_of f.a f.b f.c f.d) (second_of f.a f.b f.c f.d)
+choice_rises corners most surface f x y at_x at_y choice =
+    let first : choice.sliver ≡ x = same_Some choice.sliver x (sym choice.at_sliver ∙ at_x) in
+    let second : choice.neighbour ≡ y = same_Some choice.neighbour y (sym choice.at_neighbour ∙ at_y) in
+    let P : Bounded → Type 0 = λ z. IsRise corners z.tri choice.neighbour.tri (first_of f.a f.b f.c f.d) (second_of f.a f.b f.c f.d) in
+    let Q : Bounded → Type 0 = λ z. IsRise corners x.tri z.tri (first_of f.a f.b f.c f.d) (second_of f.a f.b f.c f.d) in
+    subst Q second (subst P first choice.rises)
 
-pub none_listed_on : (corners : List Corner) (most : ℕ) (surface : List Bounded) (lists : List (List ℕ)) (places : List ℕ) (place : ℕ) (t : Tri) → IsAround (triangles_of surface) lists
-    → (places ≡ listed_at lists t.a) ⊎ (places ≡ listed_at lists t.b) → ((q : ℕ) → q < length places → IsSettledBeside corners most surface place t (get_or places q 0)) → IsSettledOn corners most surface place t
-none_listed_on corners most surface lists places place t around which none f there turned x =
-    let listed = choice_listed corners most surface f lists places t around turned which x in
-    none listed.0 listed.1 f there turned (sym (get_or_default places listed.0 0 f.neighbour listed.1 ∙ listed.2)) x
+-- ---- two triangles beside each other, of which either is the sliver of a flip
+-- what the flip asks of the two, with `t` the first one, turned, and d the third corner of the other
+pub record Allows (corners : List Corner) (surface : List Bounded) (x y : Bounded) (t : Tri) (d : ℕ) : Type 0 where
+  pub no_side : ¬ IsSideOf surface t.c d
+  pub no_side_back : ¬ IsSideOf surface d t.c
+  pub rises : IsRise corners x.tri y.tri (first_of t.a t.b t.c d) (second_of t.a t.b t.c d)
 
--- no sliver on that side
-pub no_sliver_on : (corners : List Corner) (most : ℕ) (surface : List Bounded) (place : ℕ) (t : Tri) → ((s : Sliver) → s.place ≡ place → s.tri ≡ t → IsSliverAt corners surface s → ⊥) → IsSettledOn corners most surface place t
-no_sliver_on corners most surface place t none f there turned x = none (record { place = f.sliver; tri = tri f.a f.b f.c; rise = x.rise }) there turned (choice_sliver corners most surface f x)
+neighbour_there : (corners : List Corner) (most : ℕ) (surface : List Bounded) (f : Flip) (y : Bounded) → slice_get surface f.neighbour ≡ Some y → IsChoice corners most surface f → IsRound y.tri (tri f.b f.a f.d)
+neighbour_there corners most surface f y at x = let P : Bounded → Type 0 = λ z. IsRound z.tri (tri f.b f.a f.d) in subst P (same_Some x.neighbour y (sym x.at_neighbour ∙ at)) x.is_sliver.beside
+
+sliver_there : (corners : List Corner) (most : ℕ) (surface : List Bounded) (f : Flip) (y : Bounded) → slice_get surface f.sliver ≡ Some y → IsChoice corners most surface f → IsRound y.tri (tri f.a f.b f.c)
+sliver_there corners most surface f y at x = let P : Bounded → Type 0 = λ z. IsRound z.tri (tri f.a f.b f.c) in subst P (same_Some x.sliver y (sym x.at_sliver ∙ at)) x.is_sliver.turned
+
+-- the other one has the side
+pub side_if_sliver : (corners : List Corner) (most : ℕ) (surface : List Bounded) (f : Flip) (t : Tri) (y : Bounded) → tri f.a f.b f.c ≡ t → slice_get surface f.neighbour ≡ Some y → IsChoice corners most surface f → HasSide y.tri t.b t.a
+side_if_sliver corners most surface f t y turned at x =
+    let P : Tri → Type 0 = λ u. HasSide y.tri u.b u.a in
+    subst P turned (side_of_round y.tri f.b f.a f.d (neighbour_there corners most surface f y at x))
+
+pub side_if_neighbour : (corners : List Corner) (most : ℕ) (surface : List Bounded) (f : Flip) (t : Tri) (y : Bounded) → tri f.b f.a f.d ≡ t → slice_get surface f.sliver ≡ Some y → IsChoice corners most surface f → HasSide y.tri t.b t.a
+side_if_neighbour corners most surface f t y turned at x =
+    let P : Tri → Type 0 = λ u. HasSide y.tri u.b u.a in
+    subst P turned (side_of_round y.tri f.a f.b f.c (sliver_there corners most surface f y at x))
+
+pub allows_if_sliver : (corners : List Corner) (most : ℕ) (surface : List Bounded) (f : Flip) (t : Tri) (d : ℕ) (x y : Bounded) → tri f.a f.b f.c ≡ t → slice_get surface f.sliver ≡ Some x → slice_get surface f.neighbour ≡ Some y
+    → IsRound y.tri (tri t.b t.a d) → IsChoice corners most surface f → Allows corners surface x y t d
+allows_if_sliver corners most surface f t d x y turned at_x at_y beside choice =
+    let P : Tri → Type 0 = λ u. IsRound y.tri (tri u.b u.a d) → Allows corners surface x y u d in
+    subst P turned from beside
+  where
+    from : IsRound y.tri (tri f.b f.a d) → Allows corners surface x y (tri f.a f.b f.c) d
+    from b =
+        let third : f.d ≡ d = third_once y.tri f.b f.a f.d d (choice_differ corners most surface f choice) (neighbour_there corners most surface f y at_y choice) b in
+        let Q : ℕ → Type 0 = λ k. Allows corners surface x y (tri f.a f.b f.c) k in
+        subst Q third (record {
+          no_side = choice.no_side;
+          no_side_back = choice.no_side_back;
+          rises = choice_rises corners most surface f x y at_x at_y choice;
+        })
+
+pub allows_if_neighbour : (corners : List Corner) (most : ℕ) (surface : List Bounded) (f : Flip) (t : Tri) (d : ℕ) (x y : Bounded) → tri f.b f.a f.d ≡ t → slice_get surface f.neighbour ≡ Some x → slice_get surface f.sliver ≡ Some y
+    → IsRound y.tri (tri t.b t.a d) → IsChoice corners most surface f → Allows corners surface x y t d
+allows_if_neighbour corners most surface f t d x y turned at_x at_y beside choice =
+    let P : Tri → Type 0 = λ u. IsRound y.tri (tri u.b u.a d) → Allows corners surface x y u d in
+    subst P turned from beside
+  where
+    from : IsRound y.tri (tri f.a f.b d) → Allows corners surface x y (tri f.b f.a f.d) d
+    from b =
+        let third : f.c ≡ d = third_once y.tri f.a f.b f.c d (λ e. choice_differ corners most surface f choice (sym e)) (sliver_there corners most surface f y at_y choice) b in
+        let Q : ℕ → Type 0 = λ k. Allows corners surface x y (tri f.b f.a f.d) k in
+        subst Q third (record {
+          no_side = choice.no_side_back;
+          no_side_back = choice.no_side;
+          rises = rise_back corners y.tri x.tri f.a f.b f.c f.d (choice_rises corners most surface f y x at_y at_x choice);
+        })
+
+-- no flip of two triangles that one isn't allowed of
+pub idle_beside : (corners : List Corner) (most : ℕ) (surface : List Bounded) (place : ℕ) (t : Tri) (other d : ℕ) (x y : Bounded) → slice_get surface place ≡ Some x → slice_get surface other ≡ Some y
+    → IsRound y.tri (tri t.b t.a d) → ¬ Allows corners surface x y t d → IsIdleBeside corners most surface place t other
+idle_beside corners most surface place t other d x y at_x at_y beside none = record {
+  as_sliver = λ f here turned there choice.
+      none (allows_if_sliver corners most surface f t d x y turned (ap (slice_get surface) here ∙ at_x) (ap (slice_get surface) there ∙ at_y) beside choice);
+  as_neighbour = λ f here turned there choice.
+      none (allows_if_neighbour corners most surface f t d x y turned (ap (slice_get surface) here ∙ at_x) (ap (slice_get surface) there ∙ at_y) beside choice);
+}
+
+-- nor where the other one hasn't the side
+pub idle_without_side : (corners : List Corner) (most : ℕ) (surface : List Bounded) (place : ℕ) (t : Tri) (other : ℕ) (y : Bounded) → slice_get surface other ≡ Some y → ¬ HasSide y.tri t.b t.a
+    → IsIdleBeside corners most surface place t other
+idle_without_side corners most surface place t other y at none = record {
+  as_sliver = λ f here turned there choice. none (side_if_sliver corners most surface f t y turned (ap (slice_get surface) there ∙ at) choice);
+  as_neighbour = λ f here turned there choice. none (side_if_neighbour corners most surface f t y turned (ap (slice_get surface) there ∙ at) choice);
+}
+
+-- nor of one with itself
+pub idle_with_itself : (corners : List Corner) (most : ℕ) (surface : List Bounded) (place : ℕ) (t : Tri) (other : ℕ) → other ≡ place → IsIdleBeside corners most surface place t other
+idle_with_itself corners most surface place t other same = record {
+  as_sliver = λ f here turned there choice. choice.different (here ∙ sym same ∙ sym there);
+  as_neighbour = λ f here turned there choice. choice.different (there ∙ same ∙ sym here);
+}
+
+-- ---- all across a side, and all of a triangle
+pub idle_on : (corners : List Corner) (most : ℕ) (surface : List Bounded) (waits : List Bool) (lists : List (List ℕ)) (places : List ℕ) (place : ℕ) (t : Tri) → IsListed (triangles_of surface) lists
+    → places ≡ listed_at lists (list_number t.b t.a)
+    → ((q : ℕ) → q < length places → Waits waits (get_or places q 0) ⊎ IsIdleBeside corners most surface place t (get_or places q 0)) → IsIdleOn corners most surface waits place t
+idle_on corners most surface waits lists places place t listed is each = record {
+  as_sliver = λ f here turned choice.
+      found f.neighbour (choice.neighbour, choice.at_neighbour, side_if_sliver corners most surface f t choice.neighbour turned choice.at_neighbour choice)
+      (λ idle. idle.as_sliver f here turned refl choice);
+  as_neighbour = λ f here turned choice.
+      found f.sliver (choice.sliver, choice.at_sliver, side_if_neighbour corners most surface f t choice.sliver turned choice.at_sliver choice)
+      (λ idle. idle.as_neighbour f here turned refl choice);
+}
+  where
+    found : (other : ℕ) → HasSideAt surface other t.b t.a → (IsIdleBeside corners most surface place t other → ⊥) → Waits waits other
+    found other has none =
+        let C : List ℕ → Type 0 = λ xs. Contains xs other in
+        let there = subst C (sym is) (place_listed surface lists other t.b t.a listed has) in
+        let e : get_or places there.0 0 ≡ other = get_or_default places there.0 0 other there.1 ∙ there.2 in
+        let W : ℕ → Type 0 = λ k. Waits waits k in
+        let I : ℕ → Type 0 = λ k. IsIdleBeside corners most surface place t k in
+        ⊎_elim (λ w. subst W e w) (λ idle. absurd (none (subst I e idle))) (each there.0 there.1)
 
 -- the three ways to turn a triangle
-pub all_turns : (corners : List Corner) (most : ℕ) (surface : List Bounded) (place : ℕ) (e : Bounded) → (let t = (get_or surface place e).tri in
-    IsSettledOn corners most surface place t → IsSettledOn corners most surface place (tri t.b t.c t.a) → IsSettledOn corners most surface place (tri t.c t.a t.b) → IsSettledAt corners most surface place)
-all_turns corners most surface place e first second third f there x =
-    let given : x.sliver ≡ get_or surface place e = sym (get_or_from_slice_get surface place x.sliver e (ap (slice_get surface) (sym there) ∙ x.at_sliver)) in
-    let P : Bounded → Type 0 = λ y. IsRound y.tri (tri f.a f.b f.c) in
-    ⊎_elim (λ h. first f there h x) (⊎_elim (λ h. second f there h x) (λ h. third f there h x)) (subst P given x.is_sliver.turned)
+pub idle_at : (corners : List Corner) (most : ℕ) (surface : List Bounded) (waits : List Bool) (place : ℕ) (x : Bounded) → slice_get surface place ≡ Some x
+    → IsIdleOn corners most surface waits place x.tri → IsIdleOn corners most surface waits place (tri x.tri.b x.tri.c x.tri.a) → IsIdleOn corners most surface waits place (tri x.tri.c x.tri.a x.tri.b)
+    → IsIdleAt corners most surface waits place
+idle_at corners most surface waits place x at first second third = record {
+  as_sliver = λ f here choice.
+      ⊎_elim (λ e. first.as_sliver f here e choice) (⊎_elim (λ e. second.as_sliver f here e choice) (λ e. third.as_sliver f here e choice))
+      (sliver_there corners most surface f x (ap (slice_get surface) here ∙ at) choice);
+  as_neighbour = λ f here choice.
+      ⊎_elim (λ e. first.as_neighbour f here e choice) (⊎_elim (λ e. second.as_neighbour f here e choice) (λ e. third.as_neighbour f here e choice))
+      (neighbour_there corners most surface f x (ap (slice_get surface) here ∙ at) choice);
+}
 
--- ---- across the side
--- the neighbour is the triangle that is read
-across_read : (surface : List Bounded) (s : Sliver) (other d : ℕ) (e : Bounded) → other < length surface → IsAcross surface s other d → IsRound (get_or surface other e).tri (tri s.tri.b s.tri.a d)
-across_read surface s other d e within across =
-    let P : Bounded → Type 0 = λ y. IsRound y.tri (tri s.tri.b s.tri.a d) in
-    subst P (sym (get_or_from_slice_get surface other across.neighbour e across.at)) across.beside
+-- ---- flips that aren't found
+-- no flip of a triangle that isn't a sliver on that side
+pub no_sliver_choice : (corners : List Corner) (most : ℕ) (surface : List Bounded) (place : ℕ) (t : Tri) → ((s : Sliver) → s.place ≡ place → s.tri ≡ t → IsSliverAt corners surface s → ⊥)
+    → (f : Flip) → f.sliver ≡ place → tri f.a f.b f.c ≡ t → IsChoice corners most surface f → ⊥
+no_sliver_choice corners most surface place t none f there turned x = none (record { place = f.sliver; tri = tri f.a f.b f.c; rise = x.rise }) there turned (choice_sliver corners most surface f x)
 
-pub across_has : (surface : List Bounded) (s : Sliver) (other d : ℕ) (e : Bounded) → other < length surface → IsAcross surface s other d → HasSide (get_or surface other e).tri s.tri.b s.tri.a
-across_has surface s other d e within across = side_of_round (get_or surface other e).tri s.tri.b s.tri.a d (across_read surface s other d e within across)
-
-pub across_no_side : (surface : List Bounded) (s : Sliver) (other d k : ℕ) (e : Bounded) → other < length surface → s.tri.b ≢ s.tri.a → IsRound (get_or surface other e).tri (tri s.tri.b s.tri.a d) → IsAcross surface s other k
-    → IsSideOf surface s.tri.c d → ⊥
-across_no_side surface s other d k e within differ round across =
-    let same : k ≡ d = third_once (get_or surface other e).tri s.tri.b s.tri.a k d differ (across_read surface s other k e within across) round in
-    let P : ℕ → Type 0 = λ n. IsSideOf surface s.tri.c n → ⊥ in
-    subst P same across.no_side
-
-pub across_no_side_back : (surface : List Bounded) (s : Sliver) (other d k : ℕ) (e : Bounded) → other < length surface → s.tri.b ≢ s.tri.a → IsRound (get_or surface other e).tri (tri s.tri.b s.tri.a d) → IsAcross surface s other k
-    → IsSideOf surface d s.tri.c → ⊥
-across_no_side_back surface s other d k e within differ round across =
-    let same : k ≡ d = third_once (get_or surface other e).tri s.tri.b s.tri.a k d differ (across_read surface s other k e within across) round in
-    let P : ℕ → Type 0 = λ n. IsSideOf surface n s.tri.c → ⊥ in
-    subst P same across.no_side_back
-
--- ---- a pass
+-- ---- no flip is left
 pub flip_choice : (corners : List Corner) (most : ℕ) (old new : List Bounded) → AreSettled corners most old → IsFlip corners most old new → ⊥
 flip_choice corners most old new none x = none (record { sliver = x.i; neighbour = x.j; a = x.a; b = x.b; c = x.c; d = x.d; bound = x.bound }) (record {
   different = x.different;
@@ -229,15 +285,19 @@ flip_choice corners most old new none x = none (record { sliver = x.i; neighbour
   new_bound = record { is_bound = x.is_bound; within = x.within };
 })
 
--- the place is settled too, if no flip was made
-pub more_settled : (corners : List Corner) (most : ℕ) (old new : List Bounded) (n made place : ℕ) → AreFlips corners most made old new → (n ≡ 0 → (k : ℕ) → k < place → IsSettledAt corners most old k)
-    → (made ≡ 0 → IsSettledAt corners most new place) → n + made ≡ 0 → (k : ℕ) → k < place + 1 → IsSettledAt corners most new k
-more_settled corners most old new n made place flips before here sum k below =
-    let nothing : made ≡ 0 = omega arith in
-    let P : List Bounded → Type 0 = λ s. (i : ℕ) → i < place → IsSettledAt corners most s i in
-    below_more (λ i. IsSettledAt corners most new i) place (subst P (sym (no_flips corners most made old new flips nothing)) (before (omega arith))) (here nothing) k below
-
-pub all_settled : (corners : List Corner) (most : ℕ) (surface : List Bounded) (place : ℕ) → length surface ≤ place → ((k : ℕ) → k < place → IsSettledAt corners most surface k) → AreSettled corners most surface
-all_settled corners most surface place all each f x =
-    let within : f.sliver < length surface = slice_get_within surface f.sliver x.sliver x.at_sliver in
-    each f.sliver (omega arith) f refl x
+-- neither of two triangles beside each other is the sliver of a flip of the two
+pub idle_of_two : (corners : List Corner) (most : ℕ) (surface : List Bounded) (place : ℕ) (t : Tri) (other d : ℕ) → ((y : Bounded) → slice_get surface other ≡ Some y → IsRound y.tri (tri t.b t.a d))
+    → ((f : Flip) → f.sliver ≡ place → tri f.a f.b f.c ≡ t → f.neighbour ≡ other → ¬ IsChoice corners most surface f)
+    → ((f : Flip) → f.sliver ≡ other → tri f.a f.b f.c ≡ tri t.b t.a d → f.neighbour ≡ place → ¬ IsChoice corners most surface f) → IsIdleBeside corners most surface place t other
+idle_of_two corners most surface place t other d beside first second = record {
+  as_sliver = first;
+  as_neighbour = λ f here turned there x. second f there (third_of_other f here turned there x) here x;
+}
+  where
+    third_of_other : (f : Flip) → f.neighbour ≡ place → tri f.b f.a f.d ≡ t → f.sliver ≡ other → IsChoice corners most surface f → tri f.a f.b f.c ≡ tri t.b t.a d
+    third_of_other f here turned there x =
+        let y = x.sliver in
+        let T : Tri → Type 0 = λ u. IsRound y.tri (tri u.b u.a d) in
+        let round : IsRound y.tri (tri f.a f.b d) = subst T (sym turned) (beside y (sym (ap (slice_get surface) there) ∙ x.at_sliver)) in
+        let third : f.c ≡ d = third_once y.tri f.a f.b f.c d (λ e. choice_differ corners most surface f x (sym e)) x.is_sliver.turned round in
+        ap (λ (u : Tri). tri u.b u.a f.c) turned ∙ ap (tri t.b t.a) third

@@ -1,8 +1,9 @@
 -- From the given triangles to those that are left.
-use Rattle.std.proofs.Common.{◌≡◌, ℕ, ◌<◌, ◌≤◌, ◌+◌, List, [], ◌∷◌, length, map, get_or, refl, sym, ap, ◌∙◌, subst, arith, inl, inr, ◌⊎◌, ⊎_elim, Vec, Global}
+use Rattle.std.proofs.Common.{◌≡◌, ℕ, ◌<◌, ◌≤◌, ◌+◌, List, [], ◌∷◌, length, map, get_or, refl, sym, ap, ◌∙◌, subst, arith, inl, inr, ◌⊎◌, ⊎_elim, Vec, Global, Bool}
 use Rattle.std.specs.Prelude.{Contains}
 use Rattle.std.specs.List.{All}
 use Rattle.std.proofs.lemmas.List.{length-map, get_or_default}
+use Rattle.std.proofs.lemmas.Option.{slice_get_within}
 use Rattle.std.proofs.lemmas.Bool.{cases_eq}
 use Rattle.std.proofs.lemmas.List.Elements.{All-map, Contains-get_or}
 use Rattle.lattice.specs.declared.points.Corner.{Corner}
@@ -14,21 +15,37 @@ use Rattle.flip_bounds.specs.Near.{AreNearSurfaces}
 use Rattle.flip_bounds.specs.Flips.{AreFlips, unmoved, IsGreatestBound}
 use Rattle.flip_bounds.proofs.FlipsNear.{flips_near, flips_within, flips_count, flips_in_range}
 use Rattle.flip_slivers.specs.Flipped.{IsFlipped}
-use Rattle.flip_slivers.specs.inner.Around.{IsAround, lists_of, triangles_of}
-use Rattle.flip_slivers.specs.inner.Choices.{IsLaid, AreSettled}
+use Rattle.flip_slivers.specs.declared.measures.Measure.{Measure}
+use Rattle.flip_slivers.specs.inner.Lists.{IsListed, lists_of, triangles_of}
+use Rattle.flip_slivers.specs.inner.Measures.{AreMeasures}
+use Rattle.flip_slivers.specs.inner.Choices.{IsLaid, IsQueue, IsReady, AreSettled, Waits}
 use Rattle.flip_slivers.proofs.SettledLemmas.{flip_choice}
 
 pub unmoved_back : (triangles : List Tri) → triangles_of (map unmoved triangles) ≡ triangles
 unmoved_back [] = refl
 unmoved_back (t ∷ triangles) = ap (λ (ts : List Tri). t ∷ ts) (unmoved_back triangles)
 
-pub start_laid : (corners : List Corner) (triangles : List Tri) (surface : List Bounded) (around : List (Vec ℕ Global)) → surface ≡ map unmoved triangles → length around ≡ length corners
-    → IsAround triangles (lists_of around) → All (IsBelow (length corners)) triangles → IsLaid corners surface around
-start_laid corners triangles surface around start long listed in_range = record {
-  for_each = long;
-  listed = let P : List Tri → Type 0 = λ ts. IsAround ts (lists_of around) in subst P (sym (ap triangles_of start ∙ unmoved_back triangles)) listed;
-  in_range = let P : List Bounded → Type 0 = λ s. All (λ (x : Bounded). IsBelow (length corners) x.tri) s in
-      subst P (sym start) (All-map (λ (x : Bounded). IsBelow (length corners) x.tri) unmoved triangles in_range);
+pub start_laid : (corners : List Corner) (triangles : List Tri) (surface : List Bounded) (measures : List Measure) (lists : List (Vec ℕ Global)) → surface ≡ map unmoved triangles → length lists ≡ 65536
+    → AreMeasures corners triangles measures → IsListed triangles (lists_of lists) → All (IsBelow (length corners)) triangles → IsLaid corners surface measures lists
+start_laid corners triangles surface measures lists start count measured listed in_range =
+    let same : triangles ≡ triangles_of surface = sym (ap triangles_of start ∙ unmoved_back triangles) in
+    let L : List Tri → Type 0 = λ ts. IsListed ts (lists_of lists) in
+    let M : List Tri → Type 0 = λ ts. AreMeasures corners ts measures in
+    record {
+      count = count;
+      listed = subst L same listed;
+      measured = subst M same measured;
+      in_range = let P : List Bounded → Type 0 = λ s. All (λ (x : Bounded). IsBelow (length corners) x.tri) s in
+          subst P (sym start) (All-map (λ (x : Bounded). IsBelow (length corners) x.tri) unmoved triangles in_range);
+    }
+
+-- all wait, so none is settled yet
+pub start_ready : (corners : List Corner) (most : ℕ) (surface : List Bounded) (measures : List Measure) (lists : List (Vec ℕ Global)) (waits : List Bool) (places : List ℕ) (count : ℕ) → count ≡ length surface
+    → IsLaid corners surface measures lists → IsQueue count waits places → ((i : ℕ) → i < count → Waits waits i) → IsReady corners most surface measures lists waits places
+start_ready corners most surface measures lists waits places count same laid queue all = record {
+  laid = laid;
+  queue = let P : ℕ → Type 0 = λ n. IsQueue n waits places in subst P same queue;
+  idle = λ f x. inl (all f.sliver (let within : f.sliver < length surface = slice_get_within surface f.sliver x.sliver x.at_sliver in omega (arith, same)));
 }
 
 -- what `flip_slivers` promises, of the last surface

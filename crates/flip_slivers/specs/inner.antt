@@ -1,4 +1,5 @@
 -- What only this crate's own functions cite.
-pub mod Around
 pub mod Choices
+pub mod Lists
+pub mod Measures
 pub mod Partners

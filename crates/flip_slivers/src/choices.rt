@@ -1,13 +1,12 @@
 // Which flip is made next.
-ghost use Rattle.std.specs.Prelude.{◌≡◌, ◌≢◌, ℕ, ◌*◌, ◌<◌, ◌≤◌, length, slice_get, Some, IfSome, IsNone};
-ghost use Rattle.std.specs.List.{All};
+ghost use Rattle.std.specs.Prelude.{◌≡◌, ◌⊎◌, ℕ, ◌<◌, ◌≤◌, ◌↔◌, length, slice_get, Some, IfSome, IsNone, IsTrue};
 ghost use Rattle.lattice.specs.Triangles.{IsBelow};
-ghost use Rattle.flip_bounds.specs.Flips.{IsRound};
-ghost use Rattle.flip_slivers.specs.inner.Around.{IsAround, lists_of, triangles_of};
-ghost use Rattle.flip_slivers.specs.inner.Choices.{IsLaid, IsSliverAt, IsChoice, IsAcross, IsNewBound, IsSettledAt, IsSettledOn, IsSettledBeside};
+ghost use Rattle.flip_bounds.specs.Flips.{tri, IsRound, IsRise, first_of, second_of};
+ghost use Rattle.flip_slivers.specs.inner.Choices.{IsLaid, IsSliverAt, IsChoice, IsCandidate, IsNewBound, IsIdleAt, IsIdleOn, IsIdleBeside};
 
-use crate::around::{is_side, shorter, third_of};
-use crate::heights::{height_at, is_low, rise_of, rises, side_between};
+use crate::heights::{is_sliver, side_between};
+use crate::lists::{is_side, listed, third_of};
+use crate::measures::{Measure, rises};
 use flip_bounds::Bounded;
 use lattice::{Corner, Tri};
 
@@ -31,172 +30,190 @@ pub(crate) struct Sliver {
     pub rise: u32,
 }
 
-/// The first flip of the triangle at a place, if there is one.
-pub(crate) fn flip_at(
-    corners: &[Corner],
-    surface: &[Bounded],
-    around: &[Vec<u32>],
-    most: u32,
-    place: u32,
-) -> Option<Flip>
-    requires laid { IsLaid corners.now surface.now around.now }
-    requires most { most ≤ 102400 }
-    requires place { place < length surface.now }
-    ensures some { IfSome result (IsChoice corners.now most surface.now) }
-    ensures none { IsNone result → IsSettledAt corners.now most surface.now place }
-{
-    let Tri { a, b, c } = surface[place as usize].tri;
-    if let Some(flip) = flip_on(corners, surface, around, most, place, &Tri { a, b, c }) {
-        return Some(flip);
-    }
-    if let Some(flip) = flip_on(
-        corners,
-        surface,
-        around,
-        most,
-        place,
-        &Tri { a: b, b: c, c: a },
-    ) {
-        return Some(flip);
-    }
-    flip_on(
-        corners,
-        surface,
-        around,
-        most,
-        place,
-        &Tri { a: c, b: a, c: b },
-    )
+/// The triangles with their bounds, what is measured of them, their lists, and the corners and the limit.
+#[derive(Clone, Copy)]
+pub(crate) struct Scene<'a> {
+    pub corners: &'a [Corner],
+    pub surface: &'a [Bounded],
+    pub measures: &'a [Measure],
+    pub lists: &'a [Vec<u32>],
+    pub most: u32,
 }
 
-/// The first flip of the triangle at a place on the first side of `t`, which is that triangle from some corner on.
-fn flip_on(
-    corners: &[Corner],
-    surface: &[Bounded],
-    around: &[Vec<u32>],
-    most: u32,
-    place: u32,
-    t: &Tri,
-) -> Option<Flip>
-    requires laid { IsLaid corners.now surface.now around.now }
-    requires most { most ≤ 102400 }
-    requires place { place < length surface.now }
-    requires below { IsBelow (length corners.now) t.now }
-    requires turned { (given : Bounded) → slice_get surface.now place ≡ Some given → IsRound given.tri t.now }
-    ensures some { IfSome result (IsChoice corners.now most surface.now) }
-    ensures none { IsNone result → IsSettledOn corners.now most surface.now place t.now }
+/// The first flip of the triangle at a place and one that doesn't wait, if there is one.
+pub(crate) fn flip_at(scene: &Scene, waits: &[bool], place: u32) -> Option<Flip>
+    requires laid { IsLaid scene.now.corners.now scene.now.surface.now scene.now.measures.now scene.now.lists.now }
+    requires waits { length waits.now ≡ length scene.now.surface.now }
+    requires most { scene.now.most ≤ 102400 }
+    requires place { place < length scene.now.surface.now }
+    ensures some { IfSome result (IsChoice scene.now.corners.now scene.now.most scene.now.surface.now) }
+    ensures none { IsNone result → IsIdleAt scene.now.corners.now scene.now.most scene.now.surface.now waits.now place }
 {
-    let Some(sliver) = sliver_at(corners, surface, place, t) else {
-        return None;
-    };
-    let places = shorter(around, t.a, t.b);
+    let Tri { a, b, c } = scene.surface[place as usize].tri;
+    if let Some(flip) = flip_on(scene, waits, place, &Tri { a, b, c }) {
+        return Some(flip);
+    }
+    if let Some(flip) = flip_on(scene, waits, place, &Tri { a: b, b: c, c: a }) {
+        return Some(flip);
+    }
+    flip_on(scene, waits, place, &Tri { a: c, b: a, c: b })
+}
+
+/// The first flip across the first side of `t`, which is the triangle at a place from some corner on, and with a triangle that doesn't
+/// wait.
+fn flip_on(scene: &Scene, waits: &[bool], place: u32, t: &Tri) -> Option<Flip>
+    requires laid { IsLaid scene.now.corners.now scene.now.surface.now scene.now.measures.now scene.now.lists.now }
+    requires waits { length waits.now ≡ length scene.now.surface.now }
+    requires most { scene.now.most ≤ 102400 }
+    requires place { place < length scene.now.surface.now }
+    requires turned { (given : Bounded) → slice_get scene.now.surface.now place ≡ Some given → IsRound given.tri t.now }
+    ensures some { IfSome result (IsChoice scene.now.corners.now scene.now.most scene.now.surface.now) }
+    ensures none { IsNone result → IsIdleOn scene.now.corners.now scene.now.most scene.now.surface.now waits.now place t.now }
+{
+    let places = listed(scene.lists, t.b, t.a);
     for other in places {
-        if let Some(flip) = flip_beside(corners, surface, around, most, &sliver, *other) {
-            return Some(flip);
+        if !waits[*other as usize] {
+            if let Some(flip) = flip_beside(scene, place, t, *other) {
+                return Some(flip);
+            }
         }
     }
     None
 }
 
-/// The triangle at a place as a sliver, if it is one and the first side of `t` is a longest one.
-fn sliver_at(corners: &[Corner], surface: &[Bounded], place: u32, t: &Tri) -> Option<Sliver>
-    requires place { place < length surface.now }
-    requires below { IsBelow (length corners.now) t.now }
-    requires turned { (given : Bounded) → slice_get surface.now place ≡ Some given → IsRound given.tri t.now }
-    ensures sliver { IfSome result (IsSliverAt corners.now surface.now) }
-    ensures place { IfSome result (λ s. s.place ≡ place) }
-    ensures turned { IfSome result (λ s. s.tri ≡ t.now) }
-    ensures small { IfSome result (λ s. s.rise ≤ 4096) }
-    ensures none { IsNone result → (s : Sliver) → s.place ≡ place → s.tri ≡ t.now → ¬ IsSliverAt corners.now surface.now s }
+/// The flip of the triangles at two places across the first side of `t`, which is the first of them from some corner on. Either may be
+/// the sliver.
+fn flip_beside(scene: &Scene, place: u32, t: &Tri, other: u32) -> Option<Flip>
+    requires laid { IsLaid scene.now.corners.now scene.now.surface.now scene.now.measures.now scene.now.lists.now }
+    requires most { scene.now.most ≤ 102400 }
+    requires place { place < length scene.now.surface.now }
+    requires turned { (given : Bounded) → slice_get scene.now.surface.now place ≡ Some given → IsRound given.tri t.now }
+    requires other { other < length scene.now.surface.now }
+    ensures some { IfSome result (IsChoice scene.now.corners.now scene.now.most scene.now.surface.now) }
+    ensures none { IsNone result → IsIdleBeside scene.now.corners.now scene.now.most scene.now.surface.now place t.now other }
 {
-    let height = height_at(corners, t);
-    let first = side_between(&corners[t.a as usize], &corners[t.b as usize]);
-    if height.side == 0 {
+    if other == place {
         return None;
     }
-    if first != height.side {
+    let Some(d) = third_of(&scene.surface[other as usize].tri, t.b, t.a) else {
+        return None;
+    };
+    let Some(flip) = candidate_of_two(scene, place, t, other, d) else {
+        return None;
+    };
+    if !may_rise(scene, place, t, other, d) {
         return None;
     }
-    if !is_low(&height) {
+    if is_side(scene.surface, scene.lists, t.c, d) {
         return None;
     }
-    Some(Sliver {
-        place,
-        tri: *t,
-        rise: rise_of(&height),
-    })
+    if is_side(scene.surface, scene.lists, d, t.c) {
+        return None;
+    }
+    Some(flip)
 }
 
-/// The flip of a sliver and the triangle at another place, if it may be made.
-fn flip_beside(
-    corners: &[Corner],
-    surface: &[Bounded],
-    around: &[Vec<u32>],
-    most: u32,
-    sliver: &Sliver,
-    other: u32,
-) -> Option<Flip>
-    requires laid { IsLaid corners.now surface.now around.now }
-    requires most { most ≤ 102400 }
-    requires sliver { IsSliverAt corners.now surface.now sliver.now }
-    requires small { sliver.now.rise ≤ 4096 }
-    requires other { other < length surface.now }
-    ensures some { IfSome result (IsChoice corners.now most surface.now) }
-    ensures none { IsNone result → IsSettledBeside corners.now most surface.now sliver.now.place sliver.now.tri other }
+/// The lesser height of the triangles at two places rises by a flip across the first side of `t`; d is the second one's third corner.
+fn may_rise(scene: &Scene, place: u32, t: &Tri, other: u32, d: u32) -> bool
+    requires laid { IsLaid scene.now.corners.now scene.now.surface.now scene.now.measures.now scene.now.lists.now }
+    requires place { place < length scene.now.surface.now }
+    requires other { other < length scene.now.surface.now }
+    requires below { IsBelow (length scene.now.corners.now) t.now }
+    requires third { d < length scene.now.corners.now }
+    ensures { (x y : Bounded) → slice_get scene.now.surface.now place ≡ Some x → slice_get scene.now.surface.now other ≡ Some y →
+        (IsTrue result ↔ IsRise scene.now.corners.now x.tri y.tri (first_of t.now.a t.now.b t.now.c d) (second_of t.now.a t.now.b t.now.c d)) }
 {
-    let Tri { a, b, c } = sliver.tri;
-    let Some(d) = corner_across(surface, around, sliver, other) else {
-        return None;
-    };
-    let (given, neighbour) = (surface[sliver.place as usize], surface[other as usize]);
-    let Some(bound) = bound_of(most, given.bound, neighbour.bound, sliver.rise) else {
-        return None;
-    };
+    let Tri { a, b, c } = *t;
     let (first, second) = (Tri { a, b: d, c }, Tri { a: d, b, c });
-    if !rises(corners, &given.tri, &neighbour.tri, &first, &second) {
-        return None;
+    rises(
+        scene.corners,
+        &scene.measures[place as usize],
+        &scene.measures[other as usize],
+        &first,
+        &second,
+    )
+}
+
+/// The flip of two triangles beside each other, as far as slivers and the limit go: that of the first one, or else of the second.
+fn candidate_of_two(scene: &Scene, place: u32, t: &Tri, other: u32, d: u32) -> Option<Flip>
+    requires laid { IsLaid scene.now.corners.now scene.now.surface.now scene.now.measures.now scene.now.lists.now }
+    requires most { scene.now.most ≤ 102400 }
+    requires place { place < length scene.now.surface.now }
+    requires turned { (given : Bounded) → slice_get scene.now.surface.now place ≡ Some given → IsRound given.tri t.now }
+    requires other { other < length scene.now.surface.now }
+    requires beside { (given : Bounded) → slice_get scene.now.surface.now other ≡ Some given → IsRound given.tri (tri t.now.b t.now.a d) }
+    ensures some { IfSome result (λ f. IsCandidate scene.now.corners.now scene.now.most scene.now.surface.now place t.now other d f
+        ⊎ IsCandidate scene.now.corners.now scene.now.most scene.now.surface.now other (tri t.now.b t.now.a d) place t.now.c f) }
+    ensures none { IsNone result → IsIdleBeside scene.now.corners.now scene.now.most scene.now.surface.now place t.now other }
+{
+    if let Some(flip) = candidate(scene, place, t, other, d) {
+        return Some(flip);
     }
+    let back = Tri {
+        a: t.b,
+        b: t.a,
+        c: d,
+    };
+    candidate(scene, other, &back, place, t.c)
+}
+
+/// The flip of a sliver across the first side of `t`, which is that sliver from some corner on, as far as the sliver and the limit go; d
+/// is the neighbour's third corner.
+fn candidate(scene: &Scene, place: u32, t: &Tri, other: u32, d: u32) -> Option<Flip>
+    requires laid { IsLaid scene.now.corners.now scene.now.surface.now scene.now.measures.now scene.now.lists.now }
+    requires most { scene.now.most ≤ 102400 }
+    requires place { place < length scene.now.surface.now }
+    requires turned { (given : Bounded) → slice_get scene.now.surface.now place ≡ Some given → IsRound given.tri t.now }
+    requires other { other < length scene.now.surface.now }
+    ensures some { IfSome result (IsCandidate scene.now.corners.now scene.now.most scene.now.surface.now place t.now other d) }
+    ensures none { IsNone result → (f : Flip) → f.sliver ≡ place → tri f.a f.b f.c ≡ t.now → f.neighbour ≡ other →
+        ¬ IsChoice scene.now.corners.now scene.now.most scene.now.surface.now f }
+{
+    let Some(sliver) = sliver_at(scene, place, t) else {
+        return None;
+    };
+    let (first, second) = (
+        scene.surface[place as usize].bound,
+        scene.surface[other as usize].bound,
+    );
+    let Some(bound) = bound_of(scene.most, first, second, sliver.rise) else {
+        return None;
+    };
     Some(Flip {
-        sliver: sliver.place,
+        sliver: place,
         neighbour: other,
-        a,
-        b,
-        c,
+        a: t.a,
+        b: t.b,
+        c: t.c,
         d,
         bound,
     })
 }
 
-/// The third corner of the triangle at the other place, if that is beside the sliver's first side, and if no side goes between that
-/// corner and the sliver's third one.
-fn corner_across(
-    surface: &[Bounded],
-    around: &[Vec<u32>],
-    sliver: &Sliver,
-    other: u32,
-) -> Option<u32>
-    requires around { IsAround (triangles_of surface.now) (lists_of around.now) }
-    requires in_range { All (λ x. IsBelow (length around.now) x.tri) surface.now }
-    requires third { sliver.now.tri.c < length around.now }
-    requires other { other < length surface.now }
-    requires differ { sliver.now.tri.b ≢ sliver.now.tri.a }
-    ensures some { IfSome result (IsAcross surface.now sliver.now other) }
-    ensures none { IsNone result → (d : ℕ) → ¬ IsAcross surface.now sliver.now other d }
+/// The triangle at a place as a sliver, if it is one and the first side of `t` is a longest one.
+fn sliver_at(scene: &Scene, place: u32, t: &Tri) -> Option<Sliver>
+    requires laid { IsLaid scene.now.corners.now scene.now.surface.now scene.now.measures.now scene.now.lists.now }
+    requires place { place < length scene.now.surface.now }
+    requires turned { (given : Bounded) → slice_get scene.now.surface.now place ≡ Some given → IsRound given.tri t.now }
+    ensures sliver { IfSome result (IsSliverAt scene.now.corners.now scene.now.surface.now) }
+    ensures place { IfSome result (λ s. s.place ≡ place) }
+    ensures turned { IfSome result (λ s. s.tri ≡ t.now) }
+    ensures small { IfSome result (λ s. s.rise ≤ 4096) }
+    ensures none { IsNone result → (s : Sliver) → s.place ≡ place → s.tri ≡ t.now → ¬ IsSliverAt scene.now.corners.now scene.now.surface.now s }
 {
-    let Tri { a, b, c } = sliver.tri;
-    let Some(d) = third_of(&surface[other as usize].tri, b, a) else {
-        return None;
-    };
-    if other == sliver.place {
+    let measure = &scene.measures[place as usize];
+    if !is_sliver(&measure.height) {
         return None;
     }
-    if is_side(surface, around, c, d) {
+    let first = side_between(&scene.corners[t.a as usize], &scene.corners[t.b as usize]);
+    if first != measure.height.side {
         return None;
     }
-    if is_side(surface, around, d, c) {
-        return None;
-    }
-    Some(d)
+    Some(Sliver {
+        place,
+        tri: *t,
+        rise: measure.rise,
+    })
 }
 
 /// The bound of both triangles after a flip, if it is within the limit.

@@ -1,8 +1,7 @@
 // The least heights of triangles: which is lower, and how far a flip moves points.
 ghost use Rattle.std.specs.Prelude.{◌≡◌, ◌+◌, ◌*◌, ◌<◌, ◌≤◌, ◌^◌, ◌↔◌, length, IsTrue, pos, ◌*ℤ◌, ◌<ℤ◌};
 ghost use Rattle.lattice.specs.Triangles.{IsBelow};
-ghost use Rattle.flip_bounds.specs.Heights.{HasHeight, IsLongest, IsLower, IsRoundedUp, side_square, area_square};
-ghost use Rattle.flip_bounds.specs.Flips.{IsRise};
+ghost use Rattle.flip_bounds.specs.Heights.{HasHeight, IsLongest, IsRoundedUp, side_square, area_square};
 
 use exact_frac::{Frac, isqrt};
 use lattice::{Corner, Tri, Vector, cross};
@@ -60,45 +59,28 @@ fn area_between(a: &Corner, b: &Corner, c: &Corner) -> u128
     normal.dot(&normal).unsigned_abs()
 }
 
-/// The lesser height of s and t is less than those of u and v.
-pub(crate) fn rises(corners: &[Corner], s: &Tri, t: &Tri, u: &Tri, v: &Tri) -> bool
-    requires first { IsBelow (length corners.now) s.now }
-    requires second { IsBelow (length corners.now) t.now }
-    requires third { IsBelow (length corners.now) u.now }
-    requires fourth { IsBelow (length corners.now) v.now }
-    ensures { IsTrue result ↔ IsRise corners.now s.now t.now u.now v.now }
-{
-    is_below_both(corners, s, u, v) || is_below_both(corners, t, u, v)
-}
-
-/// The least height of the first triangle is less than those of the other two.
-fn is_below_both(corners: &[Corner], t: &Tri, u: &Tri, v: &Tri) -> bool
-    requires first { IsBelow (length corners.now) t.now }
-    requires second { IsBelow (length corners.now) u.now }
-    requires third { IsBelow (length corners.now) v.now }
-    ensures { IsTrue result ↔ (IsLower corners.now t.now u.now × IsLower corners.now t.now v.now) }
-{
-    is_lower(corners, t, u) && is_lower(corners, t, v)
-}
-
-/// The least height of the first triangle is less than that of the second.
-fn is_lower(corners: &[Corner], t: &Tri, u: &Tri) -> bool
-    requires first { IsBelow (length corners.now) t.now }
-    requires second { IsBelow (length corners.now) u.now }
-    ensures { IsTrue result ↔ IsLower corners.now t.now u.now }
-{
-    is_less(&height_at(corners, t), &height_at(corners, u))
-}
-
 /// The first height is less.
-fn is_less(h: &Height, k: &Height) -> bool
+pub(crate) fn is_less(h: &Height, k: &Height) -> bool
     requires { k.now.side ≡ 0 → k.now.area ≡ 0 }
     ensures { IsTrue result ↔ (pos h.now.area *ℤ pos k.now.side) <ℤ (pos k.now.area *ℤ pos h.now.side) }
 {
     if h.side == 0 || k.side == 0 {
         return false;
     }
+    if is_low(h) && is_low(k) {
+        return h.area * k.side < k.area * h.side;
+    }
     ratio_of(h).cmp(&ratio_of(k)) == Ordering::Less
+}
+
+/// The first height is less than either of the others.
+pub(crate) fn is_below_both(h: &Height, k: &Height, l: &Height) -> bool
+    requires one { k.now.side ≡ 0 → k.now.area ≡ 0 }
+    requires other { l.now.side ≡ 0 → l.now.area ≡ 0 }
+    ensures { IsTrue result ↔ (((pos h.now.area *ℤ pos k.now.side) <ℤ (pos k.now.area *ℤ pos h.now.side))
+        × ((pos h.now.area *ℤ pos l.now.side) <ℤ (pos l.now.area *ℤ pos h.now.side))) }
+{
+    is_less(h, k) && is_less(h, l)
 }
 
 /// The square of the height as a fraction.
@@ -113,8 +95,15 @@ fn ratio_of(h: &Height) -> Frac
     }
 }
 
+/// The height is that of a sliver.
+pub(crate) fn is_sliver(h: &Height) -> bool
+    ensures { IsTrue result ↔ ((0 < h.now.side) × (h.now.area ≤ 4 * h.now.side)) }
+{
+    h.side > 0 && is_low(h)
+}
+
 /// The height is at most 2 units.
-pub(crate) fn is_low(h: &Height) -> bool
+fn is_low(h: &Height) -> bool
     ensures { IsTrue result ↔ (h.now.area ≤ 4 * h.now.side) }
 {
     h.area <= 4 * h.side

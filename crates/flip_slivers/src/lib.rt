@@ -5,11 +5,13 @@
 //! makes flips until none is left, within a limit; `without_pairs` drops triangles that lie on each other, turned opposite.
 #![tactic(auto)]
 
-mod around;
 mod choices;
 mod heights;
+mod lists;
 mod making;
+mod measures;
 mod pairs;
+mod queue;
 mod settling;
 #[cfg(test)]
 mod tests;

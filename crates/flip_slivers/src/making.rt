@@ -1,167 +1,115 @@
 // Flips that are made, one after the other.
-ghost use Rattle.std.specs.Prelude.{◌≡◌, ℕ, ◌+◌, ◌*◌, ◌<◌, ◌≤◌, length, OnOk, IfOk};
-ghost use Rattle.std.specs.List.{All};
+ghost use Rattle.std.specs.Prelude.{◌≡◌, ℕ, ◌<◌, ◌≤◌, length, slice_set, true, false, OnOk, IfOk};
+ghost use Rattle.lattice.specs.Triangles.{IsBelow};
 ghost use Rattle.flip_bounds.specs.Flips.{AreFlips};
-ghost use Rattle.flip_slivers.specs.inner.Around.{IsAround, lists_of, triangles_of};
-ghost use Rattle.flip_slivers.specs.inner.Choices.{IsChoice, IsLaid, IsWithin, AreSettled, IsSettledAt, flipped};
+ghost use Rattle.flip_slivers.specs.inner.Choices.{IsChoice, IsLaid, IsReady, AreSettled, flipped};
 
-use crate::around::{add, place_with};
-use crate::choices::{Flip, flip_at};
+use crate::choices::{Flip, Scene};
+use crate::lists::{add_all, take_out_all};
+use crate::measures::{Measure, measure_of};
+use crate::queue::{Queue, next_flip, wait, wake};
 use flip_bounds::Bounded;
 use lattice::{Corner, Tri};
-use std::alloc::{AllocError, Global};
+use std::alloc::AllocError;
+
+/// The triangles with their bounds, what is measured of them, and their lists.
+#[derive(Drop)]
+pub(crate) struct Mesh {
+    pub surface: Vec<Bounded>,
+    pub measures: Vec<Measure>,
+    pub lists: Vec<Vec<u32>>,
+}
+
+/// Puts another triangle at a place.
+fn put(corners: &[Corner], mesh: &mut Mesh, place: u32, new: Bounded) -> Result<(), AllocError>
+    requires laid { IsLaid corners.now mesh.old.surface.items mesh.old.measures.items mesh.old.lists.items }
+    requires place { place < length mesh.old.surface.items }
+    requires below { IsBelow (length corners.now) new.tri }
+    ensures put { OnOk result (mesh.new.surface.items ≡ slice_set mesh.old.surface.items place new) }
+    ensures laid { OnOk result (IsLaid corners.now mesh.new.surface.items mesh.new.measures.items mesh.new.lists.items) }
+{
+    let old = mesh.surface[place as usize].tri;
+    take_out_all(&mut mesh.lists, &old, place);
+    add_all(&mut mesh.lists, &new.tri, place)?;
+    mesh.measures[place as usize] = measure_of(corners, &new.tri);
+    mesh.surface[place as usize] = new;
+    Ok(())
+}
 
 /// Makes a flip.
-fn make(
-    corners: &[Corner],
-    surface: &mut Vec<Bounded>,
-    around: &mut Vec<Vec<u32>>,
-    most: u32,
-    flip: &Flip,
-) -> Result<(), AllocError>
-    requires laid { IsLaid corners.now surface.old.items around.old.items }
-    requires choice { IsChoice corners.now most surface.old.items flip.now }
-    ensures made { OnOk result (surface.new.items ≡ flipped surface.old.items flip.now) }
-    ensures laid { OnOk result (IsLaid corners.now surface.new.items around.new.items) }
+fn make(corners: &[Corner], mesh: &mut Mesh, most: u32, flip: &Flip) -> Result<(), AllocError>
+    requires laid { IsLaid corners.now mesh.old.surface.items mesh.old.measures.items mesh.old.lists.items }
+    requires choice { IsChoice corners.now most mesh.old.surface.items flip.now }
+    ensures made { OnOk result (mesh.new.surface.items ≡ flipped mesh.old.surface.items flip.now) }
+    ensures laid { OnOk result (IsLaid corners.now mesh.new.surface.items mesh.new.measures.items mesh.new.lists.items) }
 {
-    let bound = flip.bound;
-    surface[flip.sliver as usize] = Bounded {
-        tri: Tri {
-            a: flip.a,
-            b: flip.d,
-            c: flip.c,
-        },
+    let Flip {
+        a,
+        b,
+        c,
+        d,
+        bound,
+        ..
+    } = *flip;
+    let first = Bounded {
+        tri: Tri { a, b: d, c },
         bound,
     };
-    surface[flip.neighbour as usize] = Bounded {
-        tri: Tri {
-            a: flip.d,
-            b: flip.b,
-            c: flip.c,
-        },
+    let second = Bounded {
+        tri: Tri { a: d, b, c },
         bound,
     };
-    add(around, flip.d, flip.sliver)?;
-    add(around, flip.c, flip.neighbour)?;
-    Ok(())
+    put(corners, mesh, flip.sliver, first)?;
+    put(corners, mesh, flip.neighbour, second)
 }
 
-/// Adds the place of the triangle that has the directed side from m to n, if there is one.
-fn push_across(
-    surface: &[Bounded],
-    around: &[Vec<u32>],
-    m: u32,
-    n: u32,
-    places: &mut Vec<u32>,
-) -> Result<(), AllocError>
-    requires around { IsAround (triangles_of surface.now) (lists_of around.now) }
-    requires first { m < length around.now }
-    requires second { n < length around.now }
-    ensures within { OnOk result (All (λ i. i < length surface.now) places.old.items → All (λ i. i < length surface.now) places.new.items) }
-    ensures few { OnOk result (length places.new.items ≤ length places.old.items + 1) }
-{
-    if let Some(place) = place_with(surface, around, m, n) {
-        places.push(place)?;
-    }
-    Ok(())
-}
-
-/// Adds the places of the two triangles of a flip, and of those beside them.
-fn push_near(
-    surface: &[Bounded],
-    around: &[Vec<u32>],
-    flip: &Flip,
-    places: &mut Vec<u32>,
-) -> Result<(), AllocError>
-    requires around { IsAround (triangles_of surface.now) (lists_of around.now) }
-    requires flip { IsWithin surface.now around.now flip.now }
-    ensures within { OnOk result (All (λ i. i < length surface.now) places.old.items → All (λ i. i < length surface.now) places.new.items) }
-    ensures few { OnOk result (length places.new.items ≤ length places.old.items + 6) }
-{
-    push_across(surface, around, flip.c, flip.b, places)?;
-    push_across(surface, around, flip.b, flip.d, places)?;
-    push_across(surface, around, flip.a, flip.c, places)?;
-    push_across(surface, around, flip.d, flip.a, places)?;
-    places.push(flip.neighbour)?;
-    places.push(flip.sliver)?;
-    Ok(())
-}
-
-/// Tries a flip of the triangle at a place, and after each flip again of its two triangles and of those beside them, and tells how many
-/// were made.
-fn flips_from(
-    alloc: Global,
+/// Makes the next flip, if there is one, and lets wait its two triangles, and those that the side in its place kept from being flipped.
+fn step(
     corners: &[Corner],
-    surface: &mut Vec<Bounded>,
-    around: &mut Vec<Vec<u32>>,
+    mesh: &mut Mesh,
+    queue: &mut Queue,
     most: u32,
-    place: u32,
-) -> Result<u64, AllocError>
-    requires few { length surface.old.items ≤ 20000 }
-    requires laid { IsLaid corners.now surface.old.items around.old.items }
+) -> Result<bool, AllocError>
+    requires ready { IsReady corners.now most mesh.old.surface.items mesh.old.measures.items mesh.old.lists.items queue.old.waits.items queue.old.places.items }
     requires most { most ≤ 102400 }
-    requires place { place < length surface.old.items }
-    ensures flips { IfOk result (λ flips. AreFlips corners.now most flips surface.old.items surface.new.items) }
-    ensures settled { IfOk result (λ flips. flips ≡ 0 → IsSettledAt corners.now most surface.new.items place) }
-    ensures laid { OnOk result (IsLaid corners.now surface.new.items around.new.items) }
+    ensures made { IfOk result (λ made. made ≡ true → (f : Flip) × IsChoice corners.now most mesh.old.surface.items f × (mesh.new.surface.items ≡ flipped mesh.old.surface.items f)) }
+    ensures none { IfOk result (λ made. made ≡ false → AreSettled corners.now most mesh.new.surface.items × (mesh.new.surface.items ≡ mesh.old.surface.items)) }
+    ensures ready { OnOk result (IsReady corners.now most mesh.new.surface.items mesh.new.measures.items mesh.new.lists.items queue.new.waits.items queue.new.places.items) }
 {
-    let mut places = Vec::new(alloc);
-    places.push(place)?;
-    let mut flips = 0;
-    while let Some(next) = places.pop() {
-        if let Some(flip) = flip_at(corners, surface, around, most, next) {
-            push_near(surface, around, &flip, &mut places)?;
-            make(corners, surface, around, most, &flip)?;
-            flips += 1;
-        }
-    }
-    Ok(flips)
+    let scene = Scene {
+        corners,
+        surface: &mesh.surface,
+        measures: &mesh.measures,
+        lists: &mesh.lists,
+        most,
+    };
+    let Some(flip) = next_flip(&scene, queue)? else {
+        return Ok(false);
+    };
+    make(corners, mesh, most, &flip)?;
+    wait(queue, flip.neighbour)?;
+    wait(queue, flip.sliver)?;
+    wake(&mesh.surface, &mesh.lists, queue, flip.a, flip.b)?;
+    Ok(true)
 }
 
-/// Tries flips from each triangle in turn, and tells how many were made.
-fn pass(
-    alloc: Global,
-    corners: &[Corner],
-    surface: &mut Vec<Bounded>,
-    around: &mut Vec<Vec<u32>>,
-    most: u32,
-) -> Result<u64, AllocError>
-    requires few { length surface.old.items ≤ 20000 }
-    requires laid { IsLaid corners.now surface.old.items around.old.items }
-    requires most { most ≤ 102400 }
-    ensures flips { IfOk result (λ flips. AreFlips corners.now most flips surface.old.items surface.new.items) }
-    ensures settled { IfOk result (λ flips. flips ≡ 0 → AreSettled corners.now most surface.new.items) }
-    ensures laid { OnOk result (IsLaid corners.now surface.new.items around.new.items) }
-{
-    let mut flips = 0;
-    for place in 0..surface.len() as u32 {
-        flips += flips_from(alloc, corners, surface, around, most, place)?;
-    }
-    Ok(flips)
-}
-
-/// Passes until one makes no flip, and tells how many flips were made. There are at most 102401 flips for each triangle: each takes at
-/// least 1 of what the triangles have left of the limit, or leaves a flat triangle less. Where each side is made once, as on a closed
-/// surface, a further pass begins with a flip whose new side was there in the pass before, until another flip took it away.
+/// Makes flips until none is left, and tells how many. There are at most 102401 for each triangle: each takes at least 1 of what the
+/// triangles have left of the limit, or leaves a flat triangle less.
 pub(crate) fn flip_all(
-    alloc: Global,
     corners: &[Corner],
-    surface: &mut Vec<Bounded>,
-    around: &mut Vec<Vec<u32>>,
+    mesh: &mut Mesh,
+    queue: &mut Queue,
     most: u32,
 ) -> Result<u64, AllocError>
-    requires few { length surface.old.items ≤ 20000 }
-    requires laid { IsLaid corners.now surface.old.items around.old.items }
+    requires few { length mesh.old.surface.items ≤ 20000 }
+    requires ready { IsReady corners.now most mesh.old.surface.items mesh.old.measures.items mesh.old.lists.items queue.old.waits.items queue.old.places.items }
     requires most { most ≤ 102400 }
-    ensures flips { IfOk result (λ flips. AreFlips corners.now most flips surface.old.items surface.new.items) }
-    ensures settled { OnOk result (AreSettled corners.now most surface.new.items) }
+    ensures flips { IfOk result (λ flips. AreFlips corners.now most flips mesh.old.surface.items mesh.new.surface.items) }
+    ensures settled { OnOk result (AreSettled corners.now most mesh.new.surface.items) }
 {
     let mut flips = 0;
-    loop {
-        let made = pass(alloc, corners, surface, around, most)?;
-        if made == 0 {
-            return Ok(flips);
-        }
-        flips += made;
+    while step(corners, mesh, queue, most)? {
+        flips += 1;
     }
+    Ok(flips)
 }

@@ -3,16 +3,16 @@ ghost use Rattle.std.specs.Prelude.{◌≡◌, ℕ, ◌<◌, ◌≤◌, ◌↔�
 ghost use Rattle.std.specs.List.{All};
 ghost use Rattle.lattice.specs.Triangles.{IsBelow};
 ghost use Rattle.flip_slivers.specs.Pairs.{AreOpposite, IsWithoutPairs, alone};
-ghost use Rattle.flip_slivers.specs.inner.Around.{IsAround, lists_of};
+ghost use Rattle.flip_slivers.specs.inner.Lists.{IsListed, lists_of};
 ghost use Rattle.flip_slivers.specs.inner.Partners.{ArePartners, IsFreePartner, IsAlone};
 
-use crate::around::{list_around, shorter};
+use crate::lists::{list_all, listed};
 use exact_frac::OutOfMemory;
 use lattice::Tri;
 use std::alloc::{AllocError, Global};
 
 /// The triangles without those that come in pairs on the same corners, turned opposite: such a pair bounds nothing. `corners` is the
-/// number of corners. Each triangle is compared with those around one of its corners.
+/// number of corners. Each triangle is compared with those that have its first side the other way round.
 pub fn without_pairs(
     alloc: Global,
     triangles: &[Tri],
@@ -23,27 +23,21 @@ pub fn without_pairs(
     requires in_range { All (IsBelow corners) triangles.now }
     ensures { IfOk result (λ left. IsWithoutPairs triangles.now left.items) }
 {
-    let partners = find_partners(alloc, triangles, corners)?;
+    let partners = find_partners(alloc, triangles)?;
     let left = left_alone(alloc, triangles, &partners)?;
     Ok(left)
 }
 
 /// For each triangle the place of its partner, if it has one.
-fn find_partners(
-    alloc: Global,
-    triangles: &[Tri],
-    corners: u32,
-) -> Result<Vec<Option<u32>>, AllocError>
-    requires few_corners { corners ≤ 60000 }
-    requires few_triangles { length triangles.now ≤ 20000 }
-    requires in_range { All (IsBelow corners) triangles.now }
+fn find_partners(alloc: Global, triangles: &[Tri]) -> Result<Vec<Option<u32>>, AllocError>
+    requires { length triangles.now ≤ 20000 }
     ensures partners { IfOk result (λ partners. ArePartners triangles.now partners.items) }
     ensures others { IfOk result (λ partners. (i : ℕ) → slice_get partners.items i ≡ Some None → IsAlone triangles.now partners.items i) }
 {
-    let around = list_around(alloc, corners as usize, triangles)?;
+    let lists = list_all(alloc, triangles)?;
     let mut partners = no_partners(alloc, triangles.len())?;
     for place in 0..triangles.len() as u32 {
-        pair_up(triangles, &around, &mut partners, place);
+        pair_up(triangles, &lists, &mut partners, place);
     }
     Ok(partners)
 }
@@ -60,10 +54,10 @@ fn no_partners(alloc: Global, count: usize) -> Result<Vec<Option<u32>>, AllocErr
 }
 
 /// Makes the triangle at a place and an opposite one partners, if both have none yet.
-fn pair_up(triangles: &[Tri], around: &[Vec<u32>], partners: &mut Vec<Option<u32>>, place: u32)
+fn pair_up(triangles: &[Tri], lists: &[Vec<u32>], partners: &mut Vec<Option<u32>>, place: u32)
     requires partners { ArePartners triangles.now partners.old.items }
-    requires around { IsAround triangles.now (lists_of around.now) }
-    requires in_range { All (IsBelow (length around.now)) triangles.now }
+    requires count { length lists.now ≡ 65536 }
+    requires listed { IsListed triangles.now (lists_of lists.now) }
     requires place { place < length triangles.now }
     ensures partners { ArePartners triangles.now partners.new.items }
     ensures alone { slice_get partners.new.items place ≡ Some None → IsAlone triangles.now partners.new.items place }
@@ -72,7 +66,7 @@ fn pair_up(triangles: &[Tri], around: &[Vec<u32>], partners: &mut Vec<Option<u32
     if partners[place as usize].is_some() {
         return;
     }
-    if let Some(other) = partner_of(triangles, around, partners, place) {
+    if let Some(other) = partner_of(triangles, lists, partners, place) {
         partners[place as usize] = Some(other);
         partners[other as usize] = Some(place);
     }
@@ -81,19 +75,19 @@ fn pair_up(triangles: &[Tri], around: &[Vec<u32>], partners: &mut Vec<Option<u32
 /// The place of an opposite triangle that has no partner yet, if there is one.
 fn partner_of(
     triangles: &[Tri],
-    around: &[Vec<u32>],
+    lists: &[Vec<u32>],
     partners: &[Option<u32>],
     place: u32,
 ) -> Option<u32>
     requires for_each { length partners.now ≡ length triangles.now }
-    requires around { IsAround triangles.now (lists_of around.now) }
-    requires in_range { All (IsBelow (length around.now)) triangles.now }
+    requires count { length lists.now ≡ 65536 }
+    requires listed { IsListed triangles.now (lists_of lists.now) }
     requires place { place < length triangles.now }
     ensures some { IfSome result (IsFreePartner triangles.now partners.now place) }
     ensures none { IsNone result → IsAlone triangles.now partners.now place }
 {
     let t = triangles[place as usize];
-    let places = shorter(around, t.a, t.b);
+    let places = listed(lists, t.b, t.a);
     for other in places {
         if is_free_partner(triangles, partners, place, *other) {
             return Some(*other);

@@ -6,10 +6,13 @@ ghost use Rattle.geometry.specs.Parts.{part_with};
 ghost use Rattle.flip_bounds.specs.Near.{AreNearSurfaces};
 ghost use Rattle.flip_bounds.specs.Flips.{IsGreatestBound, unmoved};
 ghost use Rattle.flip_slivers.specs.Flipped.{IsFlipped};
-ghost use Rattle.flip_slivers.specs.inner.Around.{triangles_of};
+ghost use Rattle.flip_slivers.specs.inner.Choices.{IsLaid};
+ghost use Rattle.flip_slivers.specs.inner.Lists.{triangles_of};
 
-use crate::around::list_around;
-use crate::making::flip_all;
+use crate::lists::list_all;
+use crate::making::{Mesh, flip_all};
+use crate::measures::measure_all;
+use crate::queue::all_waiting;
 use exact_frac::OutOfMemory;
 use flip_bounds::Bounded;
 use lattice::{Corner, Tri};
@@ -27,12 +30,10 @@ pub struct Flipped {
 /// most 2 units, the side there and a neighbour are taken, and the side is exchanged for the other diagonal of the two, if that is no
 /// side yet, if the lesser height of the two rises, and if no point moves more than `limit` units from the given surface.
 ///
-/// The surface needn't be closed. A pass tries each triangle once, and after each flip again its two triangles and those beside them,
-/// six at most; passes go on until one flips none, mostly the second. What is beside a side is found among the triangles that are listed
-/// at one of its ends, at that where they are fewer: once for each longest side of a sliver, twice more for the diagonal in its place, and
-/// four times for a flip. These lists only grow, by two places at each flip: a triangle stays listed at a corner that it left. So around
-/// corners with few triangles time grows with the triangles and the flips, and memory too; with many around both ends of a side time
-/// grows at worst with the product of triangles and flips.
+/// The surface needn't be closed. Two triangles beside each other are compared once, and again only if a flip changed one of them, or
+/// took away the side that their own flip would have made. So time grows with the triangles and the flips, and with the pairs at each side:
+/// where k triangles have a side in one direction and l in the other, k times l, at most 100 million for 20,000 triangles. Memory grows
+/// with the triangles.
 pub fn flip_slivers(
     alloc: Global,
     corners: &[Corner],
@@ -49,13 +50,27 @@ pub fn flip_slivers(
     ensures near { IfOk result (λ f. AreNearSurfaces f.moved (part_with corners.now triangles.now) (part_with corners.now f.triangles.items)) }
     ensures within { IfOk result (λ f. f.moved ≤ 1024 * limit) }
 {
-    let mut surface = start_of(alloc, triangles)?;
-    let mut around = list_around(alloc, corners.len(), triangles)?;
-    let flips = flip_all(alloc, corners, &mut surface, &mut around, 1024 * limit)?;
+    let mut mesh = mesh_of(alloc, corners, triangles)?;
+    let mut queue = all_waiting(alloc, triangles.len() as u32)?;
+    let flips = flip_all(corners, &mut mesh, &mut queue, 1024 * limit)?;
     Ok(Flipped {
-        triangles: bare(alloc, &surface)?,
+        triangles: bare(alloc, &mesh.surface)?,
         flips,
-        moved: greatest(&surface),
+        moved: greatest(&mesh.surface),
+    })
+}
+
+/// The triangles with a bound of 0 each, measured and listed.
+fn mesh_of(alloc: Global, corners: &[Corner], triangles: &[Tri]) -> Result<Mesh, AllocError>
+    requires few_triangles { length triangles.now ≤ 20000 }
+    requires in_range { All (IsBelow (length corners.now)) triangles.now }
+    ensures start { IfOk result (λ mesh. mesh.surface.items ≡ map unmoved triangles.now) }
+    ensures laid { IfOk result (λ mesh. IsLaid corners.now mesh.surface.items mesh.measures.items mesh.lists.items) }
+{
+    Ok(Mesh {
+        surface: start_of(alloc, triangles)?,
+        measures: measure_all(alloc, corners, triangles)?,
+        lists: list_all(alloc, triangles)?,
     })
 }
 

@@ -1,5 +1,5 @@
 -- The flip that is chosen, and the sliver that it takes.
-use Rattle.std.specs.Prelude.{◌≡◌, ◌≢◌, ℕ, ◌+◌, ◌<◌, ◌≤◌, max, ℤ, pos, ◌*ℤ◌, ◌<ℤ◌, ◌≤ℤ◌, List, length, Some, slice_get, slice_set}
+use Rattle.std.specs.Prelude.{◌≡◌, ◌≢◌, ◌⊎◌, ℕ, ◌+◌, ◌<◌, ◌≤◌, max, ℤ, pos, ◌*ℤ◌, ◌<ℤ◌, ◌≤ℤ◌, Bool, true, List, length, Contains, Some, slice_get, slice_set}
 use Rattle.std.proofs.Common.{Vec, Global}
 use Rattle.std.specs.List.{All}
 use Rattle.lattice.specs.Triangles.{IsBelow}
@@ -8,14 +8,17 @@ use Rattle.lattice.specs.declared.soup.Tri.{Tri}
 use Rattle.flip_bounds.specs.declared.bounded.Bounded.{Bounded}
 use Rattle.flip_bounds.specs.Heights.{HasHeight, IsRoundedUp, side_square}
 use Rattle.flip_bounds.specs.Flips.{tri, IsRound, IsSliverBeside, IsSideOf, IsRise, first_of, second_of}
-use Rattle.flip_slivers.specs.inner.Around.{IsAround, lists_of, triangles_of}
+use Rattle.flip_slivers.specs.inner.Lists.{IsListed, lists_of, triangles_of}
+use Rattle.flip_slivers.specs.inner.Measures.{AreMeasures}
+use Rattle.flip_slivers.specs.declared.measures.Measure.{Measure}
 use Rattle.flip_slivers.specs.declared.choices.Flip.{Flip}
 use Rattle.flip_slivers.specs.declared.choices.Sliver.{Sliver}
 
--- the surface with its lists around the corners
-pub record IsLaid (corners : List Corner) (surface : List Bounded) (around : List (Vec ℕ Global)) : Type 0 where
-  pub for_each : length around ≡ length corners
-  pub listed : IsAround (triangles_of surface) (lists_of around)
+-- the surface with its measures and lists
+pub record IsLaid (corners : List Corner) (surface : List Bounded) (measures : List Measure) (lists : List (Vec ℕ Global)) : Type 0 where
+  pub count : length lists ≡ 65536
+  pub listed : IsListed (triangles_of surface) (lists_of lists)
+  pub measured : AreMeasures corners (triangles_of surface) measures
   pub in_range : All (λ x. IsBelow (length corners) x.tri) surface
 
 -- the triangle at the sliver's place, turned so that a longest side comes first: its height there is at most 2 units
@@ -30,15 +33,6 @@ pub record IsSliverAt (corners : List Corner) (surface : List Bounded) (s : Sliv
   pub long : pos 0 <ℤ side
   pub low : area ≤ℤ (pos 4 *ℤ side)
   pub is_rise : IsRoundedUp s.rise area side
-
--- the triangle at the other place is beside the sliver's first side, and its third corner d and that of the sliver have no side
-pub record IsAcross (surface : List Bounded) (s : Sliver) (other d : ℕ) : Type 0 where
-  pub different : s.place ≢ other
-  pub neighbour : Bounded
-  pub at : slice_get surface other ≡ Some neighbour
-  pub beside : IsRound neighbour.tri (tri s.tri.b s.tri.a d)
-  pub no_side : ¬ IsSideOf surface s.tri.c d
-  pub no_side_back : ¬ IsSideOf surface d s.tri.c
 
 -- the bound after a flip
 pub record IsNewBound (most first second rise bound : ℕ) : Type 0 where
@@ -68,27 +62,58 @@ pub record IsChoice (corners : List Corner) (most : ℕ) (surface : List Bounded
   pub is_rise : IsRoundedUp rise area side
   pub new_bound : IsNewBound most sliver.bound neighbour.bound rise f.bound
 
--- the flip's places are those of triangles, and its corners have lists
-pub record IsWithin (surface : List Bounded) (around : List (Vec ℕ Global)) (f : Flip) : Type 0 where
-  pub sliver : f.sliver < length surface
-  pub neighbour : f.neighbour < length surface
-  pub a : f.a < length around
-  pub b : f.b < length around
-  pub c : f.c < length around
-  pub d : f.d < length around
+-- what a flip of the sliver at a place and its neighbour at another takes, as far as the sliver and the limit go
+pub record IsCandidate (corners : List Corner) (most : ℕ) (surface : List Bounded) (place : ℕ) (t : Tri) (other d : ℕ) (f : Flip) : Type 0 where
+  pub is : f ≡ record { sliver = place; neighbour = other; a = t.a; b = t.b; c = t.c; d = d; bound = f.bound }
+  pub sliver : Sliver
+  pub is_sliver : IsSliverAt corners surface sliver
+  pub at : sliver.place ≡ place
+  pub turned : sliver.tri ≡ t
+  pub neighbour : Bounded
+  pub at_neighbour : slice_get surface other ≡ Some neighbour
+  pub new_bound : IsNewBound most is_sliver.given.bound neighbour.bound sliver.rise f.bound
 
 -- no flip may be made
 abbrev pub AreSettled : List Corner → ℕ → List Bounded → Type 0
 AreSettled corners most surface = (f : Flip) → ¬ IsChoice corners most surface f
 
--- none of the triangle at a place
-abbrev pub IsSettledAt : List Corner → ℕ → List Bounded → ℕ → Type 0
-IsSettledAt corners most surface place = (f : Flip) → f.sliver ≡ place → ¬ IsChoice corners most surface f
+-- the place waits to be looked at
+abbrev pub Waits : List Bool → ℕ → Type 0
+Waits waits i = slice_get waits i ≡ Some true
 
--- none on the first side of that triangle as it is turned
-abbrev pub IsSettledOn : List Corner → ℕ → List Bounded → ℕ → Tri → Type 0
-IsSettledOn corners most surface place t = (f : Flip) → f.sliver ≡ place → tri f.a f.b f.c ≡ t → ¬ IsChoice corners most surface f
+-- each flip that may be made is one of a triangle that waits
+abbrev pub AreIdle : List Corner → ℕ → List Bounded → List Bool → Type 0
+AreIdle corners most surface waits = (f : Flip) → IsChoice corners most surface f → Waits waits f.sliver ⊎ Waits waits f.neighbour
 
--- none with the triangle at the other place
-abbrev pub IsSettledBeside : List Corner → ℕ → List Bounded → ℕ → Tri → ℕ → Type 0
-IsSettledBeside corners most surface place t other = (f : Flip) → f.sliver ≡ place → tri f.a f.b f.c ≡ t → f.neighbour ≡ other → ¬ IsChoice corners most surface f
+-- each flip of the triangle at a place is one with a triangle that waits
+pub record IsIdleAt (corners : List Corner) (most : ℕ) (surface : List Bounded) (waits : List Bool) (place : ℕ) : Type 0 where
+  pub as_sliver : (f : Flip) → f.sliver ≡ place → IsChoice corners most surface f → Waits waits f.neighbour
+  pub as_neighbour : (f : Flip) → f.neighbour ≡ place → IsChoice corners most surface f → Waits waits f.sliver
+
+-- so is each across the first side of that triangle as it is turned
+pub record IsIdleOn (corners : List Corner) (most : ℕ) (surface : List Bounded) (waits : List Bool) (place : ℕ) (t : Tri) : Type 0 where
+  pub as_sliver : (f : Flip) → f.sliver ≡ place → tri f.a f.b f.c ≡ t → IsChoice corners most surface f → Waits waits f.neighbour
+  pub as_neighbour : (f : Flip) → f.neighbour ≡ place → tri f.b f.a f.d ≡ t → IsChoice corners most surface f → Waits waits f.sliver
+
+-- there is none across that side with the triangle at the other place
+pub record IsIdleBeside (corners : List Corner) (most : ℕ) (surface : List Bounded) (place : ℕ) (t : Tri) (other : ℕ) : Type 0 where
+  pub as_sliver : (f : Flip) → f.sliver ≡ place → tri f.a f.b f.c ≡ t → f.neighbour ≡ other → ¬ IsChoice corners most surface f
+  pub as_neighbour : (f : Flip) → f.neighbour ≡ place → tri f.b f.a f.d ≡ t → f.sliver ≡ other → ¬ IsChoice corners most surface f
+
+-- the places that wait are queued, with a mark for each triangle
+pub record IsQueue (count : ℕ) (waits : List Bool) (places : List ℕ) : Type 0 where
+  pub for_each : length waits ≡ count
+  pub within : All (λ i. i < count) places
+  pub queued : (i : ℕ) → Waits waits i → Contains places i
+
+-- more places wait, and are queued
+pub record IsFuller (old_waits new_waits : List Bool) (old new : List ℕ) : Type 0 where
+  pub count : length new_waits ≡ length old_waits
+  pub kept : (i : ℕ) → Waits old_waits i → Waits new_waits i
+  pub queue : (count : ℕ) → IsQueue count old_waits old → IsQueue count new_waits new
+
+-- the mesh is laid out, and each flip that may be made is one of a triangle that is queued
+pub record IsReady (corners : List Corner) (most : ℕ) (surface : List Bounded) (measures : List Measure) (lists : List (Vec ℕ Global)) (waits : List Bool) (places : List ℕ) : Type 0 where
+  pub laid : IsLaid corners surface measures lists
+  pub queue : IsQueue (length surface) waits places
+  pub idle : AreIdle corners most surface waits

@@ -1,59 +1,59 @@
-use Rattle.std.proofs.Common.{ℕ, ◌<◌, length, refl, sym, subst}
-use Rattle.flip_slivers.proofs.ChoiceLemmas.{choice, sliver_below, across_below, around_in_range}
-use Rattle.std.proofs.lemmas.Option.{slice_get_within}
+use Rattle.std.proofs.Common.{length, refl, sym, ⊎_elim}
 use Rattle.std.proofs.lemmas.Bool.{false≢true}
-use Rattle.flip_slivers.proofs.SettledLemmas.{ends_differ, choice_across, choice_bound, choice_rises}
+use Rattle.std.proofs.lemmas.Option.{slice_get-get_or}
+use Rattle.flip_bounds.specs.declared.bounded.Bounded.{Bounded}
+use Rattle.flip_bounds.specs.Flips.{tri}
+use Rattle.flip_slivers.proofs.ChoiceLemmas.{turned_at, turned_below, candidate_choice, candidate_back}
+use Rattle.flip_slivers.proofs.SettledLemmas.{idle_beside, idle_without_side, idle_with_itself}
 use Rattle.flip_slivers.proofs.choices.flip_beside.Goals as goal
 
-pub corner_across-requires : goal.corner_across-requires
-corner_across-requires c =
-    let laid = c.requires.laid in
-    let below = sliver_below c.args.corners.now c.args.surface.now c.args.around.now c.args.sliver.now laid c.requires.sliver in
-    record {
-      around = laid.listed;
-      in_range = around_in_range c.args.corners.now c.args.surface.now c.args.around.now laid;
-      third = let P : ℕ → Type 0 = λ n. c.args.sliver.now.tri.c < n in subst P (sym laid.for_each) below.c;
-      other = c.requires.other;
-      differ = ends_differ c.args.corners.now c.args.surface.now c.args.sliver.now c.requires.sliver;
-    }
+abbrev nothing : Bounded
+nothing = record { tri = record { a = 0; b = 0; c = 0 }; bound = 0 }
 
-pub rises-requires : goal.rises-requires
-rises-requires c =
-    let laid = c.requires.laid in
-    let below = sliver_below c.args.corners.now c.args.surface.now c.args.around.now c.args.sliver.now laid c.requires.sliver in
-    let across = across_below (length c.args.corners.now) c.args.surface.now c.args.sliver.now c.args.other c.in-Some.d laid.in_range c.in-Some.ensures.some in
-    record {
-      first = laid.in_range c.args.sliver.now.place _ (slice_get_within c.args.surface.now c.args.sliver.now.place c.requires.sliver.given c.requires.sliver.at);
-      second = laid.in_range c.args.other _ c.requires.other;
-      third = record { a = below.a; b = across; c = below.c };
-      fourth = record { a = across; b = below.b; c = below.c };
-    }
+pub returns-then-other-place-clause-none : goal.returns-then-other-place-clause-none
+returns-then-other-place-clause-none c _ = idle_with_itself c.args.scene.now.corners.now c.args.scene.now.most c.args.scene.now.surface.now c.args.place c.args.t.now c.args.other c.if-other-place.true
 
-pub returns : goal.returns
-returns c = record {
-  some = choice c.args.corners.now c.args.most c.args.surface.now c.args.sliver.now c.args.other c.in-Some.d c.in-Some-bound_of.bound _ c.requires.other c.requires.sliver c.in-Some.ensures.some
-      c.in-Some-bound_of.ensures.some (c.if-not-rises.ensures.0 refl);
-  none = λ e. absurd (false≢true (sym e));
-}
+pub returns-in_default-clause-none : goal.returns-in_default-clause-none
+returns-in_default-clause-none c _ =
+    idle_without_side c.args.scene.now.corners.now c.args.scene.now.most c.args.scene.now.surface.now c.args.place c.args.t.now c.args.other _ (slice_get-get_or c.args.scene.now.surface.now c.args.other nothing c.requires.other)
+    (c.in_default.ensures.none refl)
 
-pub returns-in_default : goal.returns-in_default
-returns-in_default c = record {
-  some = tt;
-  none = λ _ f place turned there x. c.in_default.ensures.none refl f.d (choice_across c.args.corners.now c.args.most c.args.surface.now f c.args.sliver.now c.args.other place turned there x);
-}
+pub candidate_of_two-requires-clause-beside : goal.candidate_of_two-requires-clause-beside
+candidate_of_two-requires-clause-beside c = turned_at c.args.scene.now.surface.now c.args.other nothing (tri c.args.t.now.b c.args.t.now.a c.in-Some.d) c.requires.other c.in-Some.ensures.some
 
-pub returns-in_default-bound_of : goal.returns-in_default-bound_of
-returns-in_default-bound_of c = record {
-  some = tt;
-  none = λ _ f place turned there x.
-      c.in_default-bound_of.ensures.none refl f.bound (choice_bound c.args.corners.now c.args.most c.args.surface.now f c.args.sliver.now c.args.other _ place turned there x c.requires.sliver);
-}
+pub may_rise-requires-clause-below : goal.may_rise-requires-clause-below
+may_rise-requires-clause-below c = turned_below (length c.args.scene.now.corners.now) c.args.scene.now.surface.now c.args.place c.args.t.now c.requires.place c.requires.laid.in_range c.requires.turned
 
-pub returns-then-not-rises : goal.returns-then-not-rises
-returns-then-not-rises c = record {
-  some = tt;
-  none = λ _ f place turned there x.
-      false≢true (c.if-not-rises.ensures.1
-      (choice_rises c.args.corners.now c.args.most c.args.surface.now f c.args.sliver.now c.args.other c.in-Some.d _ place turned there x
-      (ends_differ c.args.corners.now c.args.surface.now c.args.sliver.now c.requires.sliver) c.in-Some.ensures.some));
-}
+pub may_rise-requires-clause-third : goal.may_rise-requires-clause-third
+may_rise-requires-clause-third c =
+    (turned_below (length c.args.scene.now.corners.now) c.args.scene.now.surface.now c.args.other (tri c.args.t.now.b c.args.t.now.a c.in-Some.d) c.requires.other c.requires.laid.in_range
+    (turned_at c.args.scene.now.surface.now c.args.other nothing (tri c.args.t.now.b c.args.t.now.a c.in-Some.d) c.requires.other c.in-Some.ensures.some)).c
+
+pub returns-then-not-may_rise-clause-none : goal.returns-then-not-may_rise-clause-none
+returns-then-not-may_rise-clause-none c _ =
+    let at_x = slice_get-get_or c.args.scene.now.surface.now c.args.place nothing c.requires.place in
+    let at_y = slice_get-get_or c.args.scene.now.surface.now c.args.other nothing c.requires.other in
+    idle_beside c.args.scene.now.corners.now c.args.scene.now.most c.args.scene.now.surface.now c.args.place c.args.t.now c.args.other c.in-Some.d _ _ at_x at_y c.in-Some.ensures.some
+    (λ allows. false≢true ((c.if-not-may_rise.ensures _ _ at_x at_y).1 allows.rises))
+
+pub returns-then-is_side-clause-none : goal.returns-then-is_side-clause-none
+returns-then-is_side-clause-none c _ =
+    idle_beside c.args.scene.now.corners.now c.args.scene.now.most c.args.scene.now.surface.now c.args.place c.args.t.now c.args.other c.in-Some.d _ _
+    (slice_get-get_or c.args.scene.now.surface.now c.args.place nothing c.requires.place) (slice_get-get_or c.args.scene.now.surface.now c.args.other nothing c.requires.other) c.in-Some.ensures.some
+    (λ allows. allows.no_side (c.if-is_side.ensures.0 refl))
+
+pub returns-then-is_side-2-clause-none : goal.returns-then-is_side-2-clause-none
+returns-then-is_side-2-clause-none c _ =
+    idle_beside c.args.scene.now.corners.now c.args.scene.now.most c.args.scene.now.surface.now c.args.place c.args.t.now c.args.other c.in-Some.d _ _
+    (slice_get-get_or c.args.scene.now.surface.now c.args.place nothing c.requires.place) (slice_get-get_or c.args.scene.now.surface.now c.args.other nothing c.requires.other) c.in-Some.ensures.some
+    (λ allows. allows.no_side_back (c.if-is_side-2.ensures.0 refl))
+
+pub returns-clause-some : goal.returns-clause-some
+returns-clause-some c =
+    let beside = turned_at c.args.scene.now.surface.now c.args.other nothing (tri c.args.t.now.b c.args.t.now.a c.in-Some.d) c.requires.other c.in-Some.ensures.some in
+    ⊎_elim
+    (λ x. candidate_choice c.args.scene.now.corners.now c.args.scene.now.most c.args.scene.now.surface.now c.args.place c.args.t.now c.args.other c.in-Some.d _ x (λ e. c.if-other-place.false (sym e)) beside
+    (λ s. false≢true (c.if-is_side.ensures.1 s)) (λ s. false≢true (c.if-is_side-2.ensures.1 s)) (λ x y at_x at_y. (c.if-not-may_rise.ensures x y at_x at_y).0 refl))
+    (λ x. candidate_back c.args.scene.now.corners.now c.args.scene.now.most c.args.scene.now.surface.now c.args.place c.args.t.now c.args.other c.in-Some.d _ x (λ e. c.if-other-place.false (sym e)) c.requires.turned
+    (λ s. false≢true (c.if-is_side.ensures.1 s)) (λ s. false≢true (c.if-is_side-2.ensures.1 s)) (λ x y at_x at_y. (c.if-not-may_rise.ensures x y at_x at_y).0 refl))
+    c.in-Some-candidate_of_two.ensures.some

@@ -1,9 +1,7 @@
-use Rattle.std.proofs.Common.{◌≡◌, ℕ, ◌<◌, length, List, None, sym, subst, arith}
+use Rattle.std.proofs.Common.{ℕ, ◌<◌, length, List, None, sym, ap, ◌∙◌, subst, arith}
 use Rattle.std.proofs.lemmas.Option.{slice_get_within}
-use Rattle.std.specs.List.{All}
-use Rattle.lattice.specs.Triangles.{IsBelow}
 use Rattle.std.proofs.Common.{Vec, Global}
-use Rattle.flip_slivers.specs.inner.Around.{lists_of, IsAround}
+use Rattle.flip_slivers.specs.inner.Lists.{lists_of, IsListed}
 use Rattle.flip_slivers.proofs.PairLemmas.{none_paired, more_alone}
 use Rattle.flip_slivers.proofs.pairs.find_partners.Goals as goal
 
@@ -21,13 +19,11 @@ loop-place-preserved c = record {
 
 pub pair_up-requires : goal.pair_up-requires
 pair_up-requires c =
-    let A : List (Vec ℕ Global) → Type 0 = λ a. IsAround c.args.triangles.now (lists_of a) in
-    let R : ℕ → Type 0 = λ n. All (IsBelow n) c.args.triangles.now in
-    let long : length c.deref.result.now ≡ c.args.corners = omega (arith, c.deref.ensures.len, c.in_ok-around.ensures.for_each) in
+    let P : List (Vec ℕ Global) → Type 0 = λ a. IsListed c.args.triangles.now (lists_of a) in
     record {
       partners = c.loop-place.invariant.partners;
-      around = subst A (sym c.deref.ensures.value) c.in_ok-around.ensures.around;
-      in_range = subst R (sym long) c.requires.in_range;
+      count = ap length c.deref.ensures.value ∙ c.in_ok-lists.ensures.count;
+      listed = subst P (sym c.deref.ensures.value) c.in_ok-lists.ensures.listed;
       place = c.loop-place-test.true;
     }
 

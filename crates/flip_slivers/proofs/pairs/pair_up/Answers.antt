@@ -6,8 +6,8 @@ use Rattle.flip_slivers.proofs.pairs.pair_up.Goals as goal
 pub partner_of-requires : goal.partner_of-requires
 partner_of-requires c = record {
   for_each = omega (arith, c.deref.ensures.len, c.args.partners.now.ok.0, c.requires.partners.for_each);
-  around = c.requires.around;
-  in_range = c.requires.in_range;
+  count = c.requires.count;
+  listed = c.requires.listed;
   place = c.requires.place;
 }
 

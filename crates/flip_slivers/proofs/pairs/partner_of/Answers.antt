@@ -1,7 +1,7 @@
 use Rattle.std.proofs.Common.{below_more, arith}
 use Rattle.std.proofs.lemmas.Bool.{false鈮rue}
 use Rattle.std.proofs.lemmas.Option.{slice_get-get_or}
-use Rattle.flip_slivers.specs.inner.Around.{lists_of}
+use Rattle.flip_slivers.specs.inner.Lists.{lists_of}
 use Rattle.flip_slivers.proofs.PairLemmas.{none_free, listed_within}
 use Rattle.flip_slivers.proofs.pairs.partner_of.Goals as goal
 
@@ -9,7 +9,7 @@ pub is_free_partner-requires : goal.is_free_partner-requires
 is_free_partner-requires c = record {
   for_each = c.requires.for_each;
   place = c.requires.place;
-  other = listed_within c.args.triangles.now (lists_of c.args.around.now) c.shorter-places.result.now _ _ c.requires.around c.shorter-places.ensures c.loop-other.other-index 0 c.loop-other-test.true;
+  other = listed_within c.args.triangles.now (lists_of c.args.lists.now) _ c.listed-places.result.now c.requires.listed c.listed-places.ensures c.loop-other.other-index 0 c.loop-other-test.true;
 }
 
 pub loop-other-preserved : goal.loop-other-preserved
@@ -18,6 +18,6 @@ loop-other-preserved c = below_more _ _ c.loop-other.invariant (位 free. false鈮
 pub returns : goal.returns
 returns c = record {
   some = tt;
-  none = 位 _. none_free c.args.triangles.now c.args.partners.now (lists_of c.args.around.now) c.shorter-places.result.now c.args.place _ c.requires.around
-      (slice_get-get_or c.args.triangles.now c.args.place (record { a = 0; b = 0; c = 0 }) c.requires.place) c.shorter-places.ensures (位 q below. c.loop-other.invariant q (omega arith));
+  none = 位 _. none_free c.args.triangles.now c.args.partners.now (lists_of c.args.lists.now) c.listed-places.result.now c.args.place _ c.requires.listed
+      (slice_get-get_or c.args.triangles.now c.args.place (record { a = 0; b = 0; c = 0 }) c.requires.place) c.listed-places.ensures (位 q below. c.loop-other.invariant q (omega arith));
 }

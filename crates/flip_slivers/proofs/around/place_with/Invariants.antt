@@ -1,6 +1,0 @@
-use Rattle.std.proofs.Common.{ℕ, ◌<◌, get_or}
-use Rattle.flip_slivers.specs.inner.Around.{HasSideAt}
-use Rattle.flip_slivers.proofs.around.place_with.Given as goal
-
-abbrev pub invariant-loop-place : goal.invariant-loop-place
-invariant-loop-place l = (k : ℕ) → k < l.place-index → HasSideAt l.surface (get_or l.places k 0) l.m l.n → ⊥
