@@ -2,15 +2,23 @@
 """Adds up how long the visible, hidden, chain and hatch lines of each view are, in mm of the part as it is seen.
 Usage: lengths.py LIST; LIST is what `sheet --list` writes. A line as it is seen is as long as its piece of the view at 1:1."""
 import math
-import sys
+import re
 from fractions import Fraction
+
+import one_line
 
 NAMED = {"front": (0, -1, 0), "back": (0, 1, 0), "left": (-1, 0, 0), "right": (1, 0, 0), "above": (0, 0, 1), "below": (0, 0, -1)}
 MARKS = ("solid", "dashed", "chain", "hatch")
+PLACE = "( -?[0-9]{1,9}){2}"
+SHOWN = "%s|toward( -?[0-9]){3}|cut [xyz] -?[0-9]{1,7} (high|low) [A-M]" % "|".join(NAMED)
+VIEW = re.compile("view [0-9]{1,2} (%s)%s\n" % (SHOWN, PLACE))
+STROKE = re.compile("[0-9]{1,2} (%s)( -?[0-9]{1,32}(/[1-9][0-9]{0,21})?){4}%s\n" % ("|".join(MARKS), PLACE * 2))
+DECIMALS = re.compile("decimals [0-6]\n")
+UNUSED = re.compile("(scale|page) [0-9: ]+\n")
 
 
 def direction(shown):
-    """The direction from the part to the viewer, of the words that tell what a view shows."""
+    """The direction from the part to the viewer, of the words that say what a view shows."""
     if shown[0] == "toward":
         return tuple(int(word) for word in shown[1:4])
     if shown[0] == "cut":
@@ -26,26 +34,29 @@ def squares(toward):
     return right, right * (a * a + b * b + c * c)
 
 
-def main(name):
+def main(*names):
+    if len(names) != 1:
+        raise one_line.Fault("usage: lengths.py LIST")
     unit, views, sums = 1, {}, {}
-    with open(name, encoding="ascii", errors="replace") as lines:
-        if next(lines, "") != "sheet list 1\n":
-            sys.exit("%s isn't what sheet --list writes" % name)
-        for words in map(str.split, lines):
-            if words[0] == "decimals":
+    with open(names[0], encoding="latin-1") as lines:
+        # a line of a list is shorter than 1000; that of a file without line ends isn't
+        if lines.readline(1000) != "sheet list 1\n":
+            raise one_line.Fault("%s: not what sheet --list writes" % names[0])
+        for count, line in enumerate(iter(lambda: lines.readline(1000), ""), 2):
+            words = line.split()
+            if DECIMALS.fullmatch(line):
                 unit = 10 ** -int(words[1])
-            elif words[0] == "view":
-                number, shown = int(words[1]), words[2:-2]
-                views[number] = (" ".join(shown), squares(direction(shown)))
-                sums[number] = dict.fromkeys(MARKS, 0)
-            elif words[0].isdigit():
+            elif VIEW.fullmatch(line) and any(direction(words[2:-2])):
+                views[words[1]] = (" ".join(words[2:-2]), squares(direction(words[2:-2])))
+                sums[words[1]] = dict.fromkeys(MARKS, 0)
+            elif STROKE.fullmatch(line) and words[0] in views:
                 u1, v1, u2, v2 = map(Fraction, words[2:6])
-                right, up = views[int(words[0])][1]
-                sums[int(words[0])][words[1]] += unit * math.sqrt((u2 - u1) ** 2 / right + (v2 - v1) ** 2 / up)
-    for number, (shown, _) in sorted(views.items()):
-        print("view %d %s:" % (number, shown), ", ".join("%s %.3f" % (mark, sums[number][mark]) for mark in MARKS))
+                right, up = views[words[0]][1]
+                sums[words[0]][words[1]] += unit * math.sqrt((u2 - u1) ** 2 / right + (v2 - v1) ** 2 / up)
+            elif not UNUSED.fullmatch(line):
+                raise one_line.Fault("%s: line %d: not as sheet --list writes it" % (names[0], count))
+    for number, (shown, _) in views.items():
+        yield "view %s %s: %s" % (number, shown, ", ".join("%s %.3f" % (mark, sums[number][mark]) for mark in MARKS))
 
 
-if len(sys.argv) != 2:
-    sys.exit(__doc__)
-main(sys.argv[1])
+one_line.run(main)
