@@ -1,32 +1,33 @@
 -- Squares of sides and areas, and the height that they give.
-use Rattle.std.proofs.Common.{◌≡◌, ℕ, ◌+◌, ◌*◌, ◌<◌, ◌≤◌, ◌^◌, sym, ap, ◌∙◌, subst, arith, unsigned_abs}
-use Rattle.std.specs.Prelude.{ℤ, pos, ◌*ℤ◌, ◌<ℤ◌, ◌≤ℤ◌}
+use Rattle.std.proofs.Common.{◌≡◌, ℕ, ◌+◌, ◌*◌, ◌<◌, ◌≤◌, ◌^◌, ap, ◌∙◌, subst, arith, unsigned_abs}
+use Rattle.std.specs.Prelude.{ℤ, pos, negsuc, ◌+ℤ◌, ◌*ℤ◌, ◌<ℤ◌, ◌≤ℤ◌}
 use Rattle.std.proofs.Math.Nat.{mul-le-mul_right, mul-lt-mul_of_pos_right}
 use Rattle.std.proofs.Common.{lt_of_le_of_lt, le_of_lt}
 use Rattle.std.proofs.lemmas.Nat.{mul-le, mul-lt}
 use Rattle.flip_bounds.specs.Heights.{IsRoundedUp}
-use Rattle.integers.proofs.Absolutes.{abs_of_not_negative, pos-product}
-use Rattle.flip_bounds.proofs.Lengths.{square_not_negative}
-use Rattle.std.specs.Int.{w128}
+use Rattle.integers.proofs.Absolutes.{pos-product, pos-sum_of_three}
 use Rattle.std.proofs.lemmas.Int.{ints, to_z-of_z, fits_signed_from_abs}
-use Rattle.std.proofs.Common.{to_z, of_z, lt_of_lt_of_le, lit≤}
-use Rattle.integers.proofs.Worth.{known, times, plus, below_of}
+use Rattle.std.specs.Int.{w64}
+use Rattle.std.proofs.Common.{to_z, of_z, lt_of_lt_of_le, lit<}
 use Rattle.lattice.specs.Triple.{Triple, dot}
 
--- a square as a natural number
-pub square_counted : (d : ℤ) (s t : Triple) → d ≡ dot s s → s ≡ t → pos (unsigned_abs d) ≡ dot t t
-square_counted d s t is same =
-    ap (λ (z : ℤ). pos (unsigned_abs z)) is ∙ abs_of_not_negative (dot s s) (square_not_negative s) ∙ ap (λ (v : Triple). dot v v) same
+-- a square by its size
+abs_square : (x : ℤ) → pos (unsigned_abs x * unsigned_abs x) ≡ x *ℤ x
+abs_square (pos n) = pos-product n n
+abs_square (negsuc n) = omega (arith, ints)
 
-pub square_small : (d : ℤ) (s : Triple) → d ≡ dot s s → unsigned_abs s.x ≤ 2 ^ 21 → unsigned_abs s.y ≤ 2 ^ 21 → unsigned_abs s.z ≤ 2 ^ 21 → unsigned_abs d < 2 ^ 44
-square_small d s is x y z =
-    let reads = plus (plus (times (known s.x (2 ^ 21) x) (known s.x (2 ^ 21) x)) (times (known s.y (2 ^ 21) y) (known s.y (2 ^ 21) y))) (times (known s.z (2 ^ 21) z) (known s.z (2 ^ 21) z)) in
-    let P : ℤ → Type 0 = λ v. unsigned_abs v < 2 ^ 44 in
-    subst P (sym is) (below_of (2 ^ 44) reads tt)
+-- a number of `i64` and what is read of it
+pub part_read : (x : ℤ) (k : ℕ) → unsigned_abs x ≤ 2 ^ 43 → k ≡ unsigned_abs (to_z w64 (of_z w64 x)) * unsigned_abs (to_z w64 (of_z w64 x)) → k ≡ unsigned_abs x * unsigned_abs x
+part_read x k small is = is ∙ ap (λ (z : ℤ). unsigned_abs z * unsigned_abs z) (to_z-of_z w64 x (fits_signed_from_abs w64 x (lt_of_le_of_lt small (lit< tt))))
 
--- a number of `i128` without its sign
-pub size_read : (d : ℤ) (n : ℕ) → n ≡ unsigned_abs (to_z w128 (of_z w128 d)) → unsigned_abs d < 2 ^ 88 → n ≡ unsigned_abs d
-size_read d n is small = is ∙ ap unsigned_abs (to_z-of_z w128 d (fits_signed_from_abs w128 d (lt_of_lt_of_le small (lit≤ tt))))
+-- the square of a length by its three parts
+pub square_of_parts : (s : Triple) (k m n : ℕ) → k ≡ unsigned_abs s.x * unsigned_abs s.x → m ≡ unsigned_abs s.y * unsigned_abs s.y → n ≡ unsigned_abs s.z * unsigned_abs s.z → pos (k + m + n) ≡ dot s s
+square_of_parts s k m n x y z =
+    pos-sum_of_three k m n
+    ∙ sums (ap pos x ∙ abs_square s.x) (ap pos y ∙ abs_square s.y) (ap pos z ∙ abs_square s.z)
+  where
+    sums : {a b c d e f : ℤ} → a ≡ d → b ≡ e → c ≡ f → (a +ℤ b) +ℤ c ≡ (d +ℤ e) +ℤ f
+    sums p q r = cc
 
 -- ---- rounding up
 cubed : (r side : ℕ) → pos ((r * r) * side) ≡ (pos r *ℤ pos r) *ℤ pos side

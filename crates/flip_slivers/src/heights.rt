@@ -1,5 +1,5 @@
 // The least heights of triangles: which is lower, and how far a flip moves points.
-ghost use Rattle.std.specs.Prelude.{◌≡◌, ◌+◌, ◌*◌, ◌<◌, ◌≤◌, ◌^◌, ◌↔◌, length, IsTrue, pos, ◌*ℤ◌, ◌<ℤ◌};
+ghost use Rattle.std.specs.Prelude.{◌≡◌, ◌+◌, ◌*◌, ◌<◌, ◌≤◌, ◌^◌, ◌↔◌, length, IsTrue, pos, unsigned_abs, ◌*ℤ◌, ◌<ℤ◌};
 ghost use Rattle.lattice.specs.Triangles.{IsBelow};
 ghost use Rattle.flip_bounds.specs.Heights.{HasHeight, IsLongest, IsRoundedUp, side_square, area_square};
 
@@ -11,7 +11,7 @@ use std::cmp::Ordering;
 #[derive(Clone, Copy, Debug)]
 pub(crate) struct Height {
     pub area: u128,
-    pub side: u128,
+    pub side: u64,
     ghost area_in_range: { area < 2 ^ 88 },
     ghost side_in_range: { side < 2 ^ 44 },
 }
@@ -42,12 +42,22 @@ fn height_of(a: &Corner, b: &Corner, c: &Corner) -> Height
 }
 
 /// The square of the side from a to b.
-pub(crate) fn side_between(a: &Corner, b: &Corner) -> u128
+pub(crate) fn side_between(a: &Corner, b: &Corner) -> u64
     ensures value { pos result ≡ side_square a.now b.now }
     ensures size { result < 2 ^ 44 }
 {
     let way = Vector::between(a, b);
-    way.dot(&way).unsigned_abs()
+    side_part(way.x) + side_part(way.y) + side_part(way.z)
+}
+
+/// The square of one component of a side.
+fn side_part(x: i64) -> u64
+    requires { unsigned_abs x ≤ 2 ^ 21 }
+    ensures value { result ≡ unsigned_abs x * unsigned_abs x }
+    ensures size { result ≤ 2 ^ 42 }
+{
+    let size = x.unsigned_abs();
+    size * size
 }
 
 /// The square of twice the triangle's area.
@@ -56,7 +66,17 @@ fn area_between(a: &Corner, b: &Corner, c: &Corner) -> u128
     ensures size { result < 2 ^ 88 }
 {
     let normal = cross(&Vector::between(a, b), &Vector::between(a, c));
-    normal.dot(&normal).unsigned_abs()
+    area_part(normal.x) + area_part(normal.y) + area_part(normal.z)
+}
+
+/// The square of one component of a normal.
+fn area_part(x: i64) -> u128
+    requires { unsigned_abs x ≤ 2 ^ 43 }
+    ensures value { result ≡ unsigned_abs x * unsigned_abs x }
+    ensures size { result ≤ 2 ^ 86 }
+{
+    let size = u128::from(x.unsigned_abs());
+    size * size
 }
 
 /// The first height is less.
@@ -68,9 +88,17 @@ pub(crate) fn is_less(h: &Height, k: &Height) -> bool
         return false;
     }
     if is_low(h) && is_low(k) {
-        return h.area * k.side < k.area * h.side;
+        return product(h.area, k.side) < product(k.area, h.side);
     }
     ratio_of(h).cmp(&ratio_of(k)) == Ordering::Less
+}
+
+/// The product of the square of a low triangle's doubled area with that of a side: one multiplication of words.
+fn product(area: u128, side: u64) -> u128
+    requires { area < 2 ^ 46 }
+    ensures { result ≡ area * side }
+{
+    u128::from(area as u64) * u128::from(side)
 }
 
 /// The first height is less than either of the others.
@@ -91,7 +119,7 @@ fn ratio_of(h: &Height) -> Frac
 {
     Frac {
         num: h.area as i128,
-        den: h.side as i128,
+        den: i128::from(h.side),
     }
 }
 
@@ -106,7 +134,7 @@ pub(crate) fn is_sliver(h: &Height) -> bool
 fn is_low(h: &Height) -> bool
     ensures { IsTrue result ↔ (h.now.area ≤ 4 * h.now.side) }
 {
-    h.area <= 4 * h.side
+    h.area <= u128::from(4 * h.side)
 }
 
 /// The height in 1024ths of a unit, rounded up.
@@ -117,8 +145,9 @@ pub(crate) fn rise_of(h: &Height) -> u32
     ensures small { result ≤ 4096 }
 {
     let scaled = h.area * 1_048_576;
-    let root = whole_root(scaled, h.side);
-    if u128::from(root) * u128::from(root) * h.side < scaled {
+    let side = u128::from(h.side);
+    let root = whole_root(scaled, side);
+    if u128::from(root) * u128::from(root) * side < scaled {
         root + 1
     } else {
         root

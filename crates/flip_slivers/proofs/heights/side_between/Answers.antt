@@ -1,19 +1,13 @@
-use Rattle.std.proofs.Common.{ℕ, ◌<◌, ◌^◌, ap, ◌∙◌, subst, sym, lt_of_lt_of_le, lit≤}
-use Rattle.std.specs.Prelude.{pos}
-use Rattle.flip_slivers.proofs.HeightLemmas.{square_counted, square_small, size_read}
-use Rattle.lattice.specs.Points.{of_vector, difference}
+use Rattle.std.proofs.Common.{ap, ◌∙◌, le_trans, lit≤}
+use Rattle.lattice.specs.Points.{of_vector}
+use Rattle.lattice.specs.Triple.{Triple, dot}
+use Rattle.flip_slivers.proofs.HeightLemmas.{part_read, square_of_parts}
 use Rattle.flip_slivers.proofs.heights.side_between.Goals as goal
 
 pub returns-clause-value : goal.returns-clause-value
 returns-clause-value c =
     let way = c.between-way.result in
-    let small = square_small c.dot.result (of_vector way) c.dot.ensures.value way.x_in_range way.y_in_range way.z_in_range in
-    ap pos (size_read c.dot.result c.unsigned_abs.result c.unsigned_abs.ensures.value (lt_of_lt_of_le small (lit≤ tt)))
-    ∙ square_counted c.dot.result (of_vector way) (difference c.args.a.now c.args.b.now) c.dot.ensures.value c.between-way.ensures
-
-pub returns-clause-size : goal.returns-clause-size
-returns-clause-size c =
-    let way = c.between-way.result in
-    let small = square_small c.dot.result (of_vector way) c.dot.ensures.value way.x_in_range way.y_in_range way.z_in_range in
-    let P : ℕ → Type 0 = λ n. n < 2 ^ 44 in
-    subst P (sym (size_read c.dot.result c.unsigned_abs.result c.unsigned_abs.ensures.value (lt_of_lt_of_le small (lit≤ tt)))) small
+    square_of_parts (of_vector way) c.side_part.result c.side_part-2.result c.side_part-3.result
+    (part_read way.x c.side_part.result (le_trans way.x_in_range (lit≤ tt)) c.side_part.ensures.value) (part_read way.y c.side_part-2.result (le_trans way.y_in_range (lit≤ tt)) c.side_part-2.ensures.value)
+    (part_read way.z c.side_part-3.result (le_trans way.z_in_range (lit≤ tt)) c.side_part-3.ensures.value)
+    ∙ ap (λ (s : Triple). dot s s) c.between-way.ensures
