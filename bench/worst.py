@@ -2,13 +2,16 @@
 """Looks for parts that are slow to draw: worst.py PROGRAM MINUTES [SEED] [FOLDER]. Parts of each family below are made with random
 numbers, drawn in one view or cut, and the slowest of a family is changed a little again and again. Prints each new worst with its
 processor seconds and MB; its part and job are kept in FOLDER, `worst` where it isn't given. All parts are within the limits of `draw`;
-one that is refused counts too, since the check takes its time as well. A run has at most 4 GB."""
+one that is refused counts too, since the check takes its time as well. A run has at most 4 GB. If PROGRAM is `mend`, the families are
+those of worst_mend.py, and the job file has the words of the run."""
 import os
 import random
 import resource
 import subprocess
 import sys
 import time
+
+import worst_mend
 
 TRIANGLES = 20000
 SIDE = 500000
@@ -152,10 +155,10 @@ def job(number):
     return 'sheet = "A0"\nscale = "fit"\n[[view]]\n' + view
 
 
-def measured(program, part, file):
+def measured(program, part, words):
     start = os.path.join(os.path.dirname(part), "usage.txt")
-    words = ["/usr/bin/time", "--quiet", "--format", "%U %S %M", "--output", start]
-    subprocess.run(words + [program, "--job", file, "--out", os.path.join(os.path.dirname(part), "view.svg"), "--", part],
+    timed = ["/usr/bin/time", "--quiet", "--format", "%U %S %M", "--output", start]
+    subprocess.run(timed + [program, *words, "--out", os.path.join(os.path.dirname(part), "view.svg"), "--", part],
                    stdout=subprocess.DEVNULL, stderr=subprocess.DEVNULL)
     user, system, memory = open(start).read().split()[-3:]
     return float(user) + float(system), int(memory) / 1024
@@ -166,11 +169,13 @@ def main(program, minutes, seed, folder):
     # a run that takes more ends by want of memory, or by a signal, and counts with what it took
     resource.setrlimit(resource.RLIMIT_AS, (4 << 30, 4 << 30))
     choice = random.Random(seed)
+    mends = "mend" in os.path.basename(program)
+    families = worst_mend.FAMILIES if mends else FAMILIES
     worst = {}
     end = time.monotonic() + 60 * minutes
     tries = 0
     while time.monotonic() < end:
-        family = choice.choice(FAMILIES)
+        family = choice.choice(families)
         old = worst.get(family, (0, 0, {}))[2] if choice.random() < .7 else {}
         numbers = {}
 
@@ -187,9 +192,10 @@ def main(program, minutes, seed, folder):
 
         part, told = os.path.join(folder, "part.off"), os.path.join(folder, "job.toml")
         write(family(number), part)
+        text = " ".join(worst_mend.words(number)) if mends else job(number)
         with open(told, "w") as it:
-            it.write(job(number))
-        seconds, memory = measured(program, part, told)
+            it.write(text)
+        seconds, memory = measured(program, part, text.split() if mends else ["--job", told])
         tries += 1
         if seconds > worst.get(family, (0,))[0]:
             worst[family] = (seconds, memory, numbers)
