@@ -12,12 +12,14 @@ def pages(number, at=0):
     copies = max(1, number("copies", -20, 20))
     rough = random.Random(number("seed", 0, 999))
     high = number("high", 1, 3)
+    # pages on one side of the edge alone aren't flipped, so that each pair is compared
+    low = min(high, number("low", -3, 3))
     end = number("end", 100000, FAR)
     a, b = (-end, at, 0), (end, at, number("slant", -2, 2))
     faces = []
     for i in range(n):
         if i % copies == 0:
-            c, d = ((rough.randint(-end, end), at + rough.randint(-high, high), rough.randint(-high, high)) for _ in range(2))
+            c, d = ((rough.randint(-end, end), at + rough.randint(low, high), rough.randint(low, high)) for _ in range(2))
         faces += [(a, b, c), (b, a, d)]
     return faces
 
