@@ -79,16 +79,25 @@ fn area_part(x: i64) -> u128
     size * size
 }
 
-/// The first height is less.
+/// The first height is less. Low ones, as slivers have them, are compared by two multiplications of words.
 pub(crate) fn is_less(h: &Height, k: &Height) -> bool
+    requires { k.now.side ≡ 0 → k.now.area ≡ 0 }
+    ensures { IsTrue result ↔ (pos h.now.area *ℤ pos k.now.side) <ℤ (pos k.now.area *ℤ pos h.now.side) }
+{
+    if is_low(h) && is_low(k) {
+        return product(h.area, k.side) < product(k.area, h.side);
+    }
+    is_less_by_ratio(h, k)
+}
+
+/// The same of any heights.
+#[inline(never)]
+fn is_less_by_ratio(h: &Height, k: &Height) -> bool
     requires { k.now.side ≡ 0 → k.now.area ≡ 0 }
     ensures { IsTrue result ↔ (pos h.now.area *ℤ pos k.now.side) <ℤ (pos k.now.area *ℤ pos h.now.side) }
 {
     if h.side == 0 || k.side == 0 {
         return false;
-    }
-    if is_low(h) && is_low(k) {
-        return product(h.area, k.side) < product(k.area, h.side);
     }
     ratio_of(h).cmp(&ratio_of(k)) == Ordering::Less
 }

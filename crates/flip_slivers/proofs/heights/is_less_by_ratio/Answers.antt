@@ -1,8 +1,8 @@
 use Rattle.std.proofs.Common.{inl, inr}
 use Rattle.std.proofs.lemmas.Bool.{false≢true}
 use Rattle.flip_slivers.proofs.OneHeight.{less_sides}
-use Rattle.flip_slivers.proofs.heights.is_less.Goals as goal
-use Rattle.flip_slivers.proofs.heights.is_less.Goals.{then-h-eq0-via-then-h-eq0, then-h-eq0-via-else-h-eq0+then-k-eq0}
+use Rattle.flip_slivers.proofs.heights.is_less_by_ratio.Goals as goal
+use Rattle.flip_slivers.proofs.heights.is_less_by_ratio.Goals.{then-h-eq0-via-then-h-eq0, then-h-eq0-via-else-h-eq0+then-k-eq0}
 
 pub returns-then-h-eq0 : goal.returns-then-h-eq0
 returns-then-h-eq0 c = (
