@@ -10,10 +10,10 @@ use Rattle.lattice.specs.Triple.{Triple, dot}
 use Rattle.lattice.specs.Points.{point_of, of_corner, difference}
 use Rattle.lattice.proofs.Vectors.{letters, dots}
 use Rattle.geometry.specs.Faces.{facing_of}
-use Rattle.hiding.specs.inner.Values.{side_of, depth_of}
-use Rattle.hiding.proofs.Names.{ways}
-use Rattle.hiding.proofs.Values.{facing-turned}
-use Rattle.hiding.proofs.Weights.{sides-sum, weigh_x, weigh_y, weigh_z}
+use Rattle.hiding_laws.specs.Values.{side_of, depth_of}
+use Rattle.lattice.proofs.PointLetters.{ways}
+use Rattle.hiding_laws.proofs.Values.{facing-turned}
+use Rattle.hiding_laws.proofs.Weights.{sides-sum, weigh_x, weigh_y, weigh_z}
 use Rattle.cross_find.specs.Ends.{HidesFrom, IsNotBelow, IsApart, AreBeside}
 use Rattle.cross_find.proofs.Fronts.{from_turned, side_next}
 

@@ -8,9 +8,9 @@ use Rattle.lattice.proofs.Vectors.{Letters, letters, dots, crosses}
 use Rattle.geometry.specs.Faces.{difference}
 use Rattle.geometry.specs.Parts.{Part, Edge}
 use Rattle.geometry.specs.Views.{face_sign}
-use Rattle.counting.specs.Counts.{Side, orientation_of}
-use Rattle.counting.specs.Shares.{mark, change_of, denominator_of, numerator_of, height_numerator_of, PassesNearer, IsCrossedAt}
-use Rattle.hiding.proofs.Names.{ways}
+use Rattle.geometry.specs.Counts.{Side, orientation_of}
+use Rattle.geometry.specs.Shares.{mark, change_of, denominator_of, numerator_of, height_numerator_of, PassesNearer, IsCrossedAt}
+use Rattle.lattice.proofs.PointLetters.{ways}
 use Rattle.exact_frac.specs.declared.Frac.{Frac}
 use Rattle.cross_find.specs.Lines.{PassesBy, IsCrossedBy}
 

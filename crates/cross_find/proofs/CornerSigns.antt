@@ -3,10 +3,10 @@ use Rattle.std.proofs.Common.{◌≡◌, ◌⊎◌, inl, inr, ◌<◌, ◌≤◌
 use Rattle.std.specs.Prelude.{ℤ, pos, ◌+ℤ◌, ◌-ℤ◌, ◌*ℤ◌, ◌<ℤ◌, ◌≤ℤ◌, ◌↔◌, IsTrue}
 use Rattle.std.specs.Int.{w128}
 use Rattle.integers.proofs.Worth.{Reads, below, pass, times, minus, known}
-use Rattle.counting.specs.Counts.{Side, to_left, to_right}
-use Rattle.counting.specs.Turns.{Way, turn_from, product_of}
-use Rattle.face_counts.specs.inner.Perturbations.{perturbation_between, perturbation_of}
-use Rattle.face_counts.specs.inner.CornerTests.{PassesBetween}
+use Rattle.geometry.specs.Counts.{Side, to_left, to_right}
+use Rattle.geometry.specs.Turns.{Way, turn_from, product_of}
+use Rattle.hiding_laws.specs.inner.Perturbations.{perturbation_between, perturbation_of}
+use Rattle.hiding_laws.specs.inner.CornerTests.{PassesBetween}
 
 -- a number below 2^64 passes
 pub wide : (x : ℤ) → unsigned_abs x < 2 ^ 64 → to_z w128 (of_z w128 x) ≡ x

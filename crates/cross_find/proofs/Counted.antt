@@ -5,8 +5,8 @@ use Rattle.lattice.specs.declared.points.Corner.{Corner}
 use Rattle.lattice.specs.Triple.{Triple}
 use Rattle.geometry.specs.Faces.{facing_of}
 use Rattle.geometry.specs.Parts.{Part, Edge, Face}
-use Rattle.counting.specs.Counts.{Side, to_left, to_right, orientation_of, ReachesTo}
-use Rattle.counting.specs.Covers.{HidesNext, IsCountedNext, IsOneWhere}
+use Rattle.geometry.specs.Counts.{Side, to_left, to_right, orientation_of, ReachesTo}
+use Rattle.geometry.specs.Covers.{HidesNext, IsCountedNext, IsOneWhere}
 use Rattle.cross_find.specs.Ends.{HidesAt}
 
 module _ (d : Triple) {s : Part} (e : Edge s) (f : Face s) where

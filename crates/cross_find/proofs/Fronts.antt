@@ -7,9 +7,9 @@ use Rattle.lattice.specs.declared.points.Corner.{Corner}
 use Rattle.lattice.specs.Triple.{Triple}
 use Rattle.lattice.specs.Points.{point_of}
 use Rattle.geometry.specs.Faces.{FaceHides, facing_of, share_point}
-use Rattle.hiding.specs.inner.Values.{value_at, side_of, depth_of, IsBehind}
-use Rattle.hiding.proofs.Values.{side-share, depth-share}
-use Rattle.hiding.proofs.Hiding.{hides-front, hides-turned}
+use Rattle.hiding_laws.specs.Values.{value_at, side_of, depth_of, IsBehind}
+use Rattle.hiding_laws.proofs.Values.{side-share, depth-share}
+use Rattle.hiding_laws.proofs.Hiding.{hides-front, hides-turned}
 use Rattle.cross_find.specs.Ends.{HoldsNext, HidesFrom, IsNotBelow, IsAbove}
 use Rattle.cross_find.proofs.Next.{next_map, next_both, above_next, not_below_next, above_of_next, not_below_of_next}
 

@@ -5,7 +5,7 @@ use Rattle.std.proofs.lemmas.Int.{ints, by_lt_z}
 use Rattle.integers.proofs.Comparisons.{not_negative_of_positive, gap_of_at_most, sum_not_negative, at_most_of_gap, less_of_gap, sum_positive_last, one_less_not_negative, negative_of_negation, zero_between, less_not_at_most, sum_positive_first}
 use Rattle.integers.proofs.Ring.{Expr, var, con, ◌⊕◌, ◌⊖◌, ◌⊗◌, ring, gap_of_less}
 use Rattle.integers.proofs.Signs.{mul_nonneg, mul_pos, pos_of_mul}
-use Rattle.hiding.specs.inner.Values.{value_at}
+use Rattle.hiding_laws.specs.Values.{value_at}
 use Rattle.cross_find.specs.Ends.{HoldsNext, IsNotBelow, IsAbove}
 
 -- ---- two at once: below the product of the two shares

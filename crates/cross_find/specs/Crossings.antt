@@ -2,8 +2,8 @@
 use Rattle.std.specs.Prelude.{◌≡◌, Option, Some, None}
 use Rattle.lattice.specs.Triple.{Triple}
 use Rattle.geometry.specs.Parts.{Part, Edge}
-use Rattle.counting.specs.Counts.{to_left, to_right}
-use Rattle.counting.specs.Shares.{Changes, IsCrossedAt, change_of}
+use Rattle.geometry.specs.Counts.{to_left, to_right}
+use Rattle.geometry.specs.Shares.{Changes, IsCrossedAt, change_of}
 use Rattle.cross_find.specs.declared.meter.Crossing.{Crossing}
 
 -- where the two cross, and what the outline changes of the two counts there

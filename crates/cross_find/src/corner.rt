@@ -1,9 +1,9 @@
 // Whether a turn about a corner passes an end of an outline, by the signs of numbers.
 ghost use Rattle.std.specs.Prelude.{◌≡◌, ◌⊎◌, ◌↔◌, ◌<◌, ◌≤◌, ◌^◌, pos, ◌+ℤ◌, ◌-ℤ◌, ◌*ℤ◌, ◌<ℤ◌, ◌≤ℤ◌, unsigned_abs, IsTrue};
 ghost use Rattle.lattice.specs.Points.{of_dir};
-ghost use Rattle.counting.specs.Turns.{turn_from, product_of, way_to};
-ghost use Rattle.face_counts.specs.inner.Perturbations.{perturbation_of, IsLeft, TwoAreLeft};
-ghost use Rattle.face_counts.specs.inner.CornerTests.{PassesBetween};
+ghost use Rattle.geometry.specs.Turns.{turn_from, product_of, way_to};
+ghost use Rattle.hiding_laws.specs.inner.Perturbations.{perturbation_of, IsLeft, TwoAreLeft};
+ghost use Rattle.hiding_laws.specs.inner.CornerTests.{PassesBetween};
 ghost use Rattle.cross_find.specs.inner.Ways.{way_of, side_of};
 
 use crate::ways::Way;

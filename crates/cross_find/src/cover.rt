@@ -4,10 +4,10 @@ ghost use Rattle.lattice.specs.Triple.{IsWithin, dot};
 ghost use Rattle.lattice.specs.Points.{of_dir, of_vector, point_of, difference};
 ghost use Rattle.geometry.specs.Faces.{facing_of};
 ghost use Rattle.geometry.specs.Parts.{Edge, Face, IsNumbered};
-ghost use Rattle.hiding.specs.inner.Values.{side_of, depth_of};
+ghost use Rattle.hiding_laws.specs.Values.{side_of, depth_of};
 ghost use Rattle.solid_mesh.specs.Solids.{solid_part, edge_halves};
-ghost use Rattle.counting.specs.Counts.{to_left, to_right};
-ghost use Rattle.counting.specs.Covers.{IsCountedNext, IsOneWhere};
+ghost use Rattle.geometry.specs.Counts.{to_left, to_right};
+ghost use Rattle.geometry.specs.Covers.{IsCountedNext, IsOneWhere};
 ghost use Rattle.cross_find.specs.Ends.{HidesAt, HidesFrom, IsAbove, IsApart, AreBeside};
 
 use crate::edges::{ends, orientation_of};

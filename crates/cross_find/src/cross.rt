@@ -7,8 +7,8 @@ ghost use Rattle.geometry.specs.Parts.{Edge, IsNumbered};
 ghost use Rattle.geometry.specs.Places.{IsPlace};
 ghost use Rattle.geometry.specs.Views.{face_sign};
 ghost use Rattle.solid_mesh.specs.Solids.{solid_part, edge_halves};
-ghost use Rattle.counting.specs.Counts.{to_left, to_right, orientation_of};
-ghost use Rattle.counting.specs.Shares.{mark};
+ghost use Rattle.geometry.specs.Counts.{to_left, to_right, orientation_of};
+ghost use Rattle.geometry.specs.Shares.{mark};
 ghost use Rattle.cross_find.specs.Lines.{PassesBy, IsInner, IsInnerForward, IsCrossedBy};
 ghost use Rattle.cross_find.specs.Crossings.{IsAcross};
 
@@ -38,9 +38,9 @@ struct TwoLines {
 
 /// What is changed of the count to the left, and of the count to the right.
 #[derive(Clone, Copy)]
-struct CountChanges {
-    left: i8,
-    right: i8,
+pub struct CountChanges {
+    pub left: i8,
+    pub right: i8,
     ghost left_small: { unsigned_abs left ≤ 4 },
     ghost right_small: { unsigned_abs right ≤ 4 },
 }
@@ -72,7 +72,11 @@ pub fn cross_test(
     let Some(at) = passing(d, &a, &b, &p, &q, &sides) else {
         return None;
     };
-    let CountChanges { left, right } = changes(solid, d, outline, &sides);
+    let CountChanges { left, right } = count_changes(
+        turn_of(solid, d, outline),
+        sides.from,
+        sides.to,
+    );
     if left == 0 && right == 0 {
         return None;
     }
@@ -190,21 +194,6 @@ fn is_nearer(denominator: i128, height_numerator: i128) -> bool
     (denominator > 0 && height_numerator > 0) || (denominator < 0 && height_numerator < 0)
 }
 
-/// What an outline, whose ends are seen at these sides of an edge's line, changes of the two counts along the edge.
-fn changes(solid: &Solid, d: &Dir, outline: u32, sides: &Sides) -> CountChanges
-    requires { outline < length (edge_halves solid.now) }
-    ensures left { (o : Edge (solid_part solid.now)) → IsNumbered (edge_halves solid.now) outline o →
-        result.left ≡ (face_sign (of_dir d.now) o.left -ℤ face_sign (of_dir d.now) o.right) *ℤ (mark to_left sides.now.from -ℤ mark to_left sides.now.to) }
-    ensures right { (o : Edge (solid_part solid.now)) → IsNumbered (edge_halves solid.now) outline o →
-        result.right ≡ (face_sign (of_dir d.now) o.left -ℤ face_sign (of_dir d.now) o.right) *ℤ (mark to_right sides.now.from -ℤ mark to_right sides.now.to) }
-{
-    let turn = turn_of(solid, d, outline);
-    CountChanges {
-        left: times(turn, left_mark(sides.from), left_mark(sides.to)),
-        right: times(turn, right_mark(sides.from), right_mark(sides.to)),
-    }
-}
-
 /// The sign of the face to the left of an edge, less that of the face to its right.
 pub fn turn_of(solid: &Solid, d: &Dir, edge: u32) -> i8
     requires { edge < length (edge_halves solid.now) }
@@ -241,4 +230,16 @@ pub fn times(turn: i8, from: i8, to: i8) -> i8
     ensures size { unsigned_abs result ≤ 4 }
 {
     turn * (from - to)
+}
+
+/// So many times what the way from one end to another, which are seen at these sides of an edge's line, changes of either mark.
+pub fn count_changes(turn: i8, from: i128, to: i128) -> CountChanges
+    requires { unsigned_abs turn ≤ 2 }
+    ensures left { result.left ≡ turn *ℤ (mark to_left from -ℤ mark to_left to) }
+    ensures right { result.right ≡ turn *ℤ (mark to_right from -ℤ mark to_right to) }
+{
+    CountChanges {
+        left: times(turn, left_mark(from), left_mark(to)),
+        right: times(turn, right_mark(from), right_mark(to)),
+    }
 }

@@ -3,7 +3,7 @@ ghost use Rattle.std.specs.Prelude.{◌≡◌, ◌<◌, ◌^◌, length, unsigne
 ghost use Rattle.lattice.specs.Points.{of_dir};
 ghost use Rattle.geometry.specs.Parts.{Edge, IsNumbered};
 ghost use Rattle.solid_mesh.specs.Solids.{solid_part, edge_halves};
-ghost use Rattle.counting.specs.Counts.{orientation_of};
+ghost use Rattle.geometry.specs.Counts.{orientation_of};
 
 use lattice::{Corner, Dir, Vector, view_cross};
 use solid_mesh::Solid;

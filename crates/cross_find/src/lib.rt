@@ -55,7 +55,10 @@ mod turns;
 mod ways;
 
 pub use cover::{TriangleCorners, any_above, any_below, corners_of, cover_test, hides_at};
-pub use cross::{Sides, cross_test, left_mark, passing, right_mark, sides_of, times, turn_of};
+pub use cross::{
+    CountChanges, Sides, count_changes, cross_test, left_mark, passing, right_mark, sides_of,
+    times, turn_of,
+};
 pub use edges::{ends, orientation_of};
 pub use meter::{Crossing, End, Meter, Turn};
 pub use sight::Sight;

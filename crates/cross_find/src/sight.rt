@@ -3,9 +3,9 @@ ghost use Rattle.std.specs.Prelude.{◌≡◌, ◌<◌, ◌+◌, ◌^◌, length
 ghost use Rattle.geometry.specs.Parts as parts;
 ghost use Rattle.geometry.specs.Parts.{Face, IsNumbered};
 ghost use Rattle.geometry.specs.Views.{IsEndOn, IsOutline};
-ghost use Rattle.counting.specs.Covers.{IsCountedNext, IsOneWhere};
-ghost use Rattle.counting.specs.Counts.{to_left, to_right};
-ghost use Rattle.counting.specs.Turns.{number_at, HasTurnedAt};
+ghost use Rattle.geometry.specs.Covers.{IsCountedNext, IsOneWhere};
+ghost use Rattle.geometry.specs.Counts.{to_left, to_right};
+ghost use Rattle.geometry.specs.Turns.{number_at, HasTurnedAt};
 ghost use Rattle.solid_mesh.specs.Solids.{HasNumbers, AreTrianglesAt};
 ghost use Rattle.cross_find.specs.Sights.{SightState, IsSeen, with_test};
 ghost use Rattle.cross_find.specs.Crossings.{IsAcross};

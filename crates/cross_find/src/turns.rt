@@ -3,11 +3,11 @@ ghost use Rattle.std.specs.Prelude.{◌≡◌, ◌+◌, ◌<◌, ◌≤◌, ◌^
 ghost use Rattle.lattice.specs.Points.{of_dir};
 ghost use Rattle.geometry.specs.Parts.{Edge, IsNumbered};
 ghost use Rattle.solid_mesh.specs.Solids.{solid_part, edge_halves};
-ghost use Rattle.counting.specs.Counts.{to_left, to_right};
-ghost use Rattle.face_counts.specs.inner.Tallies.{IsTally};
-ghost use Rattle.counting.specs.Turns.{way_to, way_from, corner_at, number_at, side_from, HasTurnedAt};
-ghost use Rattle.face_counts.specs.inner.Perturbations.{TwoAreLeft};
-ghost use Rattle.face_counts.specs.inner.CornerTests.{rise_to, IsOver};
+ghost use Rattle.geometry.specs.Counts.{to_left, to_right};
+ghost use Rattle.hiding_laws.specs.inner.Tallies.{IsTally};
+ghost use Rattle.geometry.specs.Turns.{way_to, way_from, corner_at, number_at, side_from, HasTurnedAt};
+ghost use Rattle.hiding_laws.specs.inner.Perturbations.{TwoAreLeft};
+ghost use Rattle.hiding_laws.specs.inner.CornerTests.{rise_to, IsOver};
 ghost use Rattle.cross_find.specs.inner.Ways.{way_of, side_of, IsShare};
 
 use crate::corner::{are_in_line, passes, passes_between, way_to};

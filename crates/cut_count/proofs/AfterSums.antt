@@ -9,14 +9,14 @@ use Rattle.integers.proofs.Lists.{Contains-later}
 use Rattle.integers.proofs.Orders.{lt_z_of_less, lt_z_of_at_most}
 use Rattle.exact_frac.specs.declared.Frac.{Frac}
 use Rattle.exact_frac.specs.Frac.{order_of}
-use Rattle.counting.specs.Counts.{Side}
-use Rattle.face_counts.specs.inner.Sums.{total}
-use Rattle.face_counts.proofs.SumsBelow.{keep}
+use Rattle.geometry.specs.Counts.{Side}
+use Rattle.hiding_laws.specs.Sums.{total}
+use Rattle.hiding_laws.proofs.SumsBelow.{keep}
 use Rattle.cross_find.specs.declared.meter.Crossing.{Crossing}
-use Rattle.section_parity.proofs.Xors.{xor, xor-none, xor-twice, xor-assoc, xor-across, odd_in}
+use Rattle.cut_plane.proofs.Xors.{xor, xor-none, xor-twice, xor-assoc, xor-across, odd_in}
 use Rattle.span_count.specs.Carries.{change_before}
-use Rattle.rest_counts.proofs.SectionSums.{worth, both, section_sums, front_of_sorted}
-use Rattle.cut_count.specs.declared.found.Found.{Found}
+use Rattle.cut_count_laws.proofs.SectionSums.{worth, both, section_sums, front_of_sorted}
+use Rattle.cut_count.specs.declared.found.CrossingBorder.{CrossingBorder}
 use Rattle.cut_count.specs.inner.Walks.{odd_turns, AreSectionCrossings}
 use Rattle.cut_count.proofs.SectionTotals.{section_before, section_whole}
 use Rattle.cut_count.proofs.WalkLaws.{share_to, turns_to, change_to, odd_to}
@@ -91,20 +91,20 @@ module _ {A : Type 0} (before after : A → Bool) where
       ∙ xor-across (both (before x) (flips x)) (both (after x) (flips x)) (odd_in (λ x. both (before x) (flips x)) xs) (odd_in (λ x. both (after x) (flips x)) xs)
 
 -- ---- the borders as crossings
-abbrev own_to : Side → Found → ℤ
+abbrev own_to : Side → CrossingBorder → ℤ
 own_to k x = (share_to k x).own
 
-odd_turns_is : (turns : Found → Bool) (xs : List Found) → odd_turns turns xs ≡ odd_in turns xs
+odd_turns_is : (turns : CrossingBorder → Bool) (xs : List CrossingBorder) → odd_turns turns xs ≡ odd_in turns xs
 odd_turns_is turns [] = refl
 odd_turns_is turns (x ∷ xs) = ap (xor (turns x)) (odd_turns_is turns xs)
 
-module _ (k : Side) (n m : ℤ) (there : pos 0 <ℤ m) (left right odd : Bool) (xs : List Found) (ys : List Crossing) (sorted : IsSortedByKey (λ (x : Found). x.at) order_of xs)
+module _ (k : Side) (n m : ℤ) (there : pos 0 <ℤ m) (left right odd : Bool) (xs : List CrossingBorder) (ys : List Crossing) (sorted : IsSortedByKey (λ (x : CrossingBorder). x.at) order_of xs)
     (crossings : AreSectionCrossings left right xs ys) (first : odd_to k left right ≡ xor odd (odd_turns (turns_to k) xs))
-    (apart : (x : Found) → Contains xs x → ((own_to k x ≡ pos 0) × (turns_to k x ≡ false)) ⊎ (x.at.num *ℤ m ≢ n *ℤ x.at.den)) where
-  abbrev before : Found → Bool
+    (apart : (x : CrossingBorder) → Contains xs x → ((own_to k x ≡ pos 0) × (turns_to k x ≡ false)) ⊎ (x.at.num *ℤ m ≢ n *ℤ x.at.den)) where
+  abbrev before : CrossingBorder → Bool
   before x = is_before n m x.at
 
-  abbrev after : Found → Bool
+  abbrev after : CrossingBorder → Bool
   after x = is_after n m x.at
 
   abbrev start : Bool
@@ -116,7 +116,7 @@ module _ (k : Side) (n m : ℤ) (there : pos 0 <ℤ m) (left right odd : Bool) (
   abbrev turned_after : Bool
   turned_after = odd_in (λ x. both (after x) (turns_to k x)) xs
 
-  once : (x : Found) → ((own_to k x ≡ pos 0) × (turns_to k x ≡ false)) ⊎ (x.at.num *ℤ m ≢ n *ℤ x.at.den) → IsKeptOnce before after (own_to k x) x × IsOddOnce before after (turns_to k x) x
+  once : (x : CrossingBorder) → ((own_to k x ≡ pos 0) × (turns_to k x ≡ false)) ⊎ (x.at.num *ℤ m ≢ n *ℤ x.at.den) → IsKeptOnce before after (own_to k x) x × IsOddOnce before after (turns_to k x) x
   once x (inl (nil, keeps)) =
       let none = none_once before after x in
       (ap (λ z. keep (before x) z +ℤ keep (after x) z) nil ∙ none.0 ∙ sym nil, ap (λ b. xor (both (before x) b) (both (after x) b)) keeps ∙ none.1 ∙ sym keeps)
@@ -153,7 +153,7 @@ module _ (k : Side) (n m : ℤ) (there : pos 0 <ℤ m) (left right odd : Bool) (
   before_is =
       section_before k left right xs ys crossings n m
       ∙ ap (λ z. total (λ x. keep (before x) (own_to k x)) xs +ℤ z)
-      (section_sums (turns_to k) before start xs (front_of_sorted (λ (x : Found). x.at) n m there xs sorted) ∙ ap (λ b. worth b -ℤ worth start) at_place)
+      (section_sums (turns_to k) before start xs (front_of_sorted (λ (x : CrossingBorder). x.at) n m there xs sorted) ∙ ap (λ b. worth b -ℤ worth start) at_place)
 
   -- what the borders change in all is what they change before the place, what the faces change after it, and the section
   pub section_total : total (change_to k) ys ≡ total (change_before (change_to k) n m) ys +ℤ (total (λ x. keep (after x) (own_to k x)) xs +ℤ (worth odd -ℤ worth (xor odd turned_after)))

@@ -11,17 +11,17 @@ use Rattle.lattice.specs.Cuts.{Plane, toward_of}
 use Rattle.lattice.proofs.SightLines.{right_axis-is}
 use Rattle.geometry.specs.Faces.{share_point}
 use Rattle.geometry.specs.Parts.{Part, Edge, IsClosed}
-use Rattle.hiding.specs.inner.Values.{side_of}
-use Rattle.counting.specs.Counts.{Side}
-use Rattle.counting.specs.Shares.{mark}
+use Rattle.hiding_laws.specs.Values.{side_of}
+use Rattle.geometry.specs.Counts.{Side}
+use Rattle.geometry.specs.Shares.{mark}
 use Rattle.cut_plane.specs.declared.segments.Segment.{Segment}
 use Rattle.cut_plane.specs.Loops.{AreBorders}
-use Rattle.section_parity.proofs.Sights.{Sight, sight_of, turn_of}
-use Rattle.section_parity.proofs.Xors.{odd_in, is_odd, odd_decides, odd_count}
-use Rattle.rest_counts.specs.BorderShares.{way_turn}
-use Rattle.rest_counts.proofs.Laws.{HasCornersInRange}
-use Rattle.rest_counts.proofs.Rays.{border_ahead}
-use Rattle.rest_counts.proofs.SectionSegments.{segment_ahead, odd_ahead}
+use Rattle.cut_plane.proofs.Sights.{Sight, sight_of, turn_of}
+use Rattle.cut_plane.proofs.Xors.{odd_in, is_odd, odd_decides, odd_count}
+use Rattle.cut_count_laws.specs.BorderShares.{way_turn}
+use Rattle.cut_count_laws.proofs.Laws.{HasCornersInRange}
+use Rattle.cut_count_laws.proofs.Rays.{border_ahead}
+use Rattle.cut_count_laws.proofs.SectionSegments.{segment_ahead, odd_ahead}
 use Rattle.cut_count.specs.inner.Borders.{IsAhead}
 use Rattle.cut_count.specs.inner.Walks.{IsOddAhead}
 use Rattle.cut_count.proofs.BehindEnds.{signs, mark_at, corner_turn, counts_decides}

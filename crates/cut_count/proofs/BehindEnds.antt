@@ -19,34 +19,29 @@ use Rattle.lattice.proofs.SightLines.{right_axis-is}
 use Rattle.lattice.proofs.Vectors.{letters, dots}
 use Rattle.geometry.specs.Faces.{difference, share_point}
 use Rattle.geometry.specs.Parts.{Part, Edge}
-use Rattle.hiding.specs.inner.Values.{offset, side_of}
-use Rattle.counting.specs.Counts.{Side, to_left, to_right}
-use Rattle.counting.specs.Shares.{mark}
+use Rattle.hiding_laws.specs.Values.{offset, side_of}
+use Rattle.geometry.specs.Counts.{Side, to_left, to_right}
+use Rattle.geometry.specs.Shares.{mark}
 use Rattle.cut_plane.specs.declared.segments.Segment.{Segment}
 use Rattle.cut_plane.specs.Loops.{AreBorders}
-use Rattle.section_parity.proofs.Planes.{turns}
-use Rattle.section_parity.proofs.Sights.{Sight, sight_of, turn_of, counts, corner_at}
-use Rattle.section_parity.proofs.Steps.{seen_det}
-use Rattle.section_parity.proofs.Tested.{less_of}
-use Rattle.section_parity.proofs.Xors.{odd_in, is_odd, odd_decides, odd_count}
-use Rattle.rest_counts.specs.BorderShares.{way_turn}
-use Rattle.rest_counts.proofs.CutLaws.{is_behind, border_behind}
-use Rattle.rest_counts.proofs.Laws.{HasCornersInRange}
-use Rattle.rest_counts.proofs.Rays.{is_marked, is_ahead, of_border}
-use Rattle.rest_counts.proofs.SectionChanges.{of_ends, of_uncrossed}
-use Rattle.rest_counts.proofs.SectionSegments.{odd_of_segments}
-use Rattle.rest_counts.proofs.SectionSums.{worth}
-use Rattle.rest_counts.proofs.Wedges.{same_sign}
+use Rattle.cut_plane.proofs.Planes.{turns}
+use Rattle.cut_plane.proofs.Sights.{Sight, sight_of, turn_of, counts, corner_at}
+use Rattle.cut_plane.proofs.Steps.{seen_det}
+use Rattle.cut_plane.proofs.Tested.{less_of}
+use Rattle.cut_plane.proofs.Xors.{odd_in, is_odd, odd_decides, odd_count}
+use Rattle.cut_count_laws.specs.BorderShares.{way_turn}
+use Rattle.cut_count_laws.proofs.CutLaws.{is_behind, border_behind}
+use Rattle.cut_count_laws.proofs.Laws.{HasCornersInRange}
+use Rattle.cut_count_laws.proofs.Rays.{is_marked, is_ahead, of_border}
+use Rattle.cut_count_laws.proofs.SectionChanges.{of_ends, of_uncrossed}
+use Rattle.cut_count_laws.proofs.SectionSegments.{odd_of_segments}
+use Rattle.cut_count_laws.proofs.SectionSums.{worth}
+use Rattle.cut_count_laws.proofs.Wedges.{same_sign}
 use Rattle.cut_count.specs.inner.Borders.{IsAhead, ahead_turn}
 use Rattle.cut_count.specs.inner.Walks.{IsOddAhead}
+use Rattle.cut_count_laws.proofs.BorderPlaces.{mark-is}
 
 -- ---- marks and turns as they are seen
-mark_is : (k : Side) (z : ℤ) → mark k z ≡ worth (is_marked k z)
-mark_is to_left (pos zero) = refl
-mark_is to_left (pos (suc n)) = sym (ap worth (lt_z_of_less (pos 0) (pos (suc n)) (omega (arith, ints))))
-mark_is to_left (negsuc n) = refl
-mark_is to_right (pos n) = sym (ap (λ v. worth (cond v false true)) (lt_z_of_at_most (pos n) (pos 0) (natural_not_negative n)))
-mark_is to_right (negsuc n) = refl
 
 pub signs : (w x y : ℤ) → pos 0 <ℤ w → x ≡ w *ℤ y → (lt_z (pos 0) x ≡ lt_z (pos 0) y) × (lt_z x (pos 0) ≡ lt_z y (pos 0))
 signs w x y there e = same_sign (pos 1) x w y (omega (arith, ints)) there (ring (x ∷ []) (con (pos 1) ⊗ var 0) (var 0) refl ∙ e)
@@ -80,7 +75,7 @@ module _ (d : Triple) (a b : Corner) where
       ∙ seen_det d (right_axis d) (difference a b) (offset a x) (right_axis-is d).level
 
   pub mark_at : (k : Side) (x : Point) → mark k (side_of d a b x) ≡ worth (is_marked k (turn_of A B (sight_of d x)))
-  mark_at k x = mark_is k (side_of d a b x) ∙ sym (ap worth (marked_alike k scale _ _ (right_axis-is d).square (side_turn x)))
+  mark_at k x = mark-is k (side_of d a b x) ∙ sym (ap worth (marked_alike k scale _ _ (right_axis-is d).square (side_turn x)))
 
   -- a corner is to the left of the way from p to q as it is seen
   pub corner_turn : (p q : Point) (k : Corner) → turn_of (sight_of d p) (sight_of d q) (sight_of d (point_of k)) ≡ scale *ℤ way_turn d p q k

@@ -12,17 +12,17 @@ use Rattle.lattice.specs.Cuts.{Plane, toward_of, IsBeyond}
 use Rattle.geometry.specs.Cuts.{border, IsBorderOf, IsSeenOverInCut}
 use Rattle.geometry.specs.Faces.{difference, normal, share_point, IsPointOfFace}
 use Rattle.geometry.specs.Parts.{Part, Face, Edge}
-use Rattle.hiding.specs.inner.Values.{side_of, value_at}
-use Rattle.hiding.specs.inner.CutValues.{below_of}
-use Rattle.hiding.proofs.CutPlanes.{below-beyond, below-share}
-use Rattle.counting.specs.Counts.{Side, to_left, to_right}
-use Rattle.counting.specs.Shares.{mark}
+use Rattle.hiding_laws.specs.Values.{side_of, value_at}
+use Rattle.hiding_laws.specs.CutValues.{below_of}
+use Rattle.hiding_laws.proofs.CutPlanes.{below-beyond, below-share}
+use Rattle.geometry.specs.Counts.{Side, to_left, to_right}
+use Rattle.geometry.specs.Shares.{mark}
 use Rattle.cut_plane.specs.declared.segments.Segment.{Segment}
 use Rattle.cut_plane.specs.Loops.{IsSegmentOf}
 use Rattle.cut_plane.proofs.FaceCorners.{HaveSame, have_same}
-use Rattle.section_parity.specs.Crossings.{CrossesAt, IsCrossingOf}
-use Rattle.rest_counts.specs.BorderShares.{HasSectionLeft, IsTurnedBy, IsBorderTaken, border_change_of}
-use Rattle.rest_counts.proofs.FaceBorders.{one_first, one_second}
+use Rattle.cut_plane.specs.Crossings.{CrossesAt, IsCrossingOf}
+use Rattle.cut_count_laws.specs.BorderShares.{HasSectionLeft, IsTurnedBy, IsBorderTaken, border_change_of}
+use Rattle.cut_count_laws.proofs.FaceBorders.{one_first, one_second}
 use Rattle.cut_count.specs.Crossings.{BorderChanges}
 use Rattle.cut_count.specs.inner.Borders.{IsInnerBeyond}
 use Rattle.cut_count.proofs.BorderTurns.{one_turned, turned_back, segment_border}

@@ -17,17 +17,17 @@ use Rattle.geometry.specs.Parts.{Part, Face, Edge}
 use Rattle.geometry.specs.Places.{IsPlace, IsEarlier}
 use Rattle.geometry.specs.Views.{face_sign}
 use Rattle.geometry.proofs.PlaceOrder.{between_value, between_inner, between_last}
-use Rattle.hiding.specs.inner.Values.{side_of}
-use Rattle.counting.specs.Counts.{Side, to_left, to_right}
-use Rattle.counting.specs.Shares.{mark}
+use Rattle.hiding_laws.specs.Values.{side_of}
+use Rattle.geometry.specs.Counts.{Side, to_left, to_right}
+use Rattle.geometry.specs.Shares.{mark}
 use Rattle.cross_find.proofs.Signs.{sign_small}
 use Rattle.cut_plane.specs.declared.segments.Segment.{Segment}
 use Rattle.cut_plane.specs.Loops.{IsSegmentOf, IsBorderLine}
 use Rattle.cut_plane.proofs.FaceCorners.{have_same}
-use Rattle.section_parity.specs.Crossings.{IsShort, IsCrossingOf}
-use Rattle.span_slow.specs.Beyond.{IsStretch}
-use Rattle.rest_counts.specs.CutEnds.{mark_change}
-use Rattle.rest_counts.proofs.FaceBorders.{border_at}
+use Rattle.cut_plane.specs.Crossings.{IsShort, IsCrossingOf}
+use Rattle.cut_plane.specs.Beyond.{IsStretch}
+use Rattle.cut_count_laws.specs.CutEnds.{mark_change}
+use Rattle.cut_count_laws.proofs.FaceBorders.{border_at}
 use Rattle.cut_count.specs.declared.found.Share.{Share}
 use Rattle.cut_count.specs.inner.Borders.{IsAhead, ahead_turn, IsShareOf, IsFoundOr}
 

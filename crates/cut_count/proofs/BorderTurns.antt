@@ -22,13 +22,13 @@ use Rattle.cut_plane.specs.Loops.{IsSegmentOf, AreBorders}
 use Rattle.cut_plane.specs.Sides.{IsRightOf}
 use Rattle.cut_plane.proofs.FaceCorners.{HaveSame, have_same}
 use Rattle.cut_plane.proofs.RightOf.{left_of_right, right_of_left}
-use Rattle.hiding.specs.inner.Values.{offset}
-use Rattle.rest_counts.specs.BorderShares.{way_turn, IsFaceCorner, IsTurnedBy}
-use Rattle.rest_counts.specs.BorderShares.IsTurnedBy.{edge_on, on_right, on_left}
-use Rattle.rest_counts.proofs.FaceBorders.{border_at}
-use Rattle.rest_counts.proofs.Rests.{AreInOrder}
-use Rattle.rest_counts.proofs.FaceBorder.{Lies, lies, only_one, only_two}
-use Rattle.rest_counts.proofs.FaceBorder.Lies.{all_beyond, all_before, one_before, one_beyond}
+use Rattle.hiding_laws.specs.Values.{offset}
+use Rattle.cut_count_laws.specs.BorderShares.{way_turn, IsFaceCorner, IsTurnedBy}
+use Rattle.cut_count_laws.specs.BorderShares.IsTurnedBy.{edge_on, on_right, on_left}
+use Rattle.cut_count_laws.proofs.FaceBorders.{border_at}
+use Rattle.cut_count_laws.proofs.Rests.{AreInOrder}
+use Rattle.cut_count_laws.proofs.FaceBorder.{Lies, lies, only_one, only_two}
+use Rattle.cut_count_laws.proofs.FaceBorder.Lies.{all_beyond, all_before, one_before, one_beyond}
 
 -- ---- ways from a corner to a sum of two, of which one is the corner
 first_part : (a b i j w : ℤ) → w ≡ i +ℤ j → ((i *ℤ a) +ℤ (j *ℤ b)) -ℤ (w *ℤ a) ≡ j *ℤ (b -ℤ a)

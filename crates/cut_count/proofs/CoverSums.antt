@@ -7,9 +7,9 @@ use Rattle.std.proofs.lemmas.List.Sums.{sum_by_push}
 use Rattle.integers.proofs.Lists.{slice_get_push}
 use Rattle.lattice.specs.Cuts.{Plane}
 use Rattle.geometry.specs.Parts.{Part, Face, Edge, IsNumbered}
-use Rattle.counting.specs.Counts.{Side, to_left, to_right}
-use Rattle.counting.specs.Covers.{IsOneWhere}
-use Rattle.rest_counts.specs.CutCovers.{IsCutCoveredNext}
+use Rattle.geometry.specs.Counts.{Side, to_left, to_right}
+use Rattle.geometry.specs.Covers.{IsOneWhere}
+use Rattle.cut_count_laws.specs.CutCovers.{IsCutCoveredNext}
 use Rattle.cut_count.specs.inner.Walks.{AreCoverCounts}
 
 module _ (c : Plane) (s : Part) (halves : List ℕ) (edge : ℕ) (at_b : Bool) where

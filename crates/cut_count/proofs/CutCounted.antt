@@ -15,18 +15,19 @@ use Rattle.geometry.specs.Cuts.IsCount.{nothing, counted, skipped}
 use Rattle.geometry.specs.Faces.{facing_of, IsPointOfFace}
 use Rattle.geometry.specs.Parts.{Part, Face, Edge}
 use Rattle.geometry.proofs.Listed.{same_element}
-use Rattle.hiding.specs.inner.CutValues.{HidesInCut, under_of}
-use Rattle.hiding.proofs.CutFronts.{hides-in-cut}
-use Rattle.hiding.proofs.Decisions.{same_or, less_or, either_or, alike_or}
-use Rattle.hiding.proofs.Hiding.{front_or}
-use Rattle.hiding.proofs.Values.{facing-turned}
-use Rattle.counting.specs.Counts.{Side, to_left, to_right, StandsOn, ReachesTo}
-use Rattle.counting.specs.Covers.{IsOneWhere}
-use Rattle.section_parity.proofs.Sections.{face_of, section_decides}
+use Rattle.hiding_laws.specs.CutValues.{HidesInCut, under_of}
+use Rattle.hiding_laws.proofs.CutFronts.{hides-in-cut}
+use Rattle.hiding_laws.proofs.Decisions.{same_or, less_or, either_or, alike_or}
+use Rattle.hiding_laws.proofs.Hiding.{front_or}
+use Rattle.hiding_laws.proofs.Values.{facing-turned}
+use Rattle.geometry.specs.Counts.{Side, to_left, to_right, StandsOn, ReachesTo}
+use Rattle.geometry.specs.Covers.{IsOneWhere}
+use Rattle.cut_plane.proofs.Sections.{face_of, section_decides}
 use Rattle.span_count.proofs.Lists.{count_few}
-use Rattle.span_slow.proofs.CutReads.{cut_hides_by_corners}
-use Rattle.rest_counts.specs.CutCounts.{IsCutCounted, HasCutCounted, AreCutCounted}
-use Rattle.rest_counts.proofs.Laws.{HasCornersInRange}
+use Rattle.hiding_laws.proofs.CutCorners.{cut_hides_by_corners}
+use Rattle.cut_count_laws.specs.CutCounts.{IsCutCounted, HasCutCounted, AreCutCounted}
+use Rattle.cut_count_laws.proofs.Laws.{HasCornersInRange}
+use Rattle.cut_count_laws.proofs.AddsDecided.{both_or}
 
 -- ---- counts of a list
 module _ {A : Type 0} (P : A → Type 0) where
@@ -39,11 +40,6 @@ module _ {A : Type 0} (P : A → Type 0) where
         | inl p ↦ (suc rest.0, counted x xs rest.0 p rest.1)
         | inr p ↦ (rest.0, skipped x xs rest.0 p rest.1)
       ]
-
-both_or : (P Q : Type 0) → P ⊎ ¬ P → Q ⊎ ¬ Q → (P × Q) ⊎ ¬ (P × Q)
-both_or P Q (inl p) (inl q) = inl (p, q)
-both_or P Q (inl p) (inr n) = inr (λ h. n h.1)
-both_or P Q (inr n) q = inr (λ h. n h.0)
 
 -- ---- a face at a point
 module _ (c : Plane) (p : Point) (point : IsPoint p) where

@@ -12,11 +12,11 @@ use Rattle.geometry.specs.Faces.{share_point}
 use Rattle.geometry.specs.Parts.{Part, Edge}
 use Rattle.geometry.specs.Views.{face_sign}
 use Rattle.geometry.proofs.Borders.{side_of_corner, over_beyond, over_before}
-use Rattle.hiding.specs.inner.Values.{side_of}
-use Rattle.counting.specs.Counts.{Side}
-use Rattle.counting.specs.Shares.{mark, PassesNearer, IsCrossedAt, denominator_of, numerator_of}
-use Rattle.rest_counts.specs.CutEnds.{cut_end, IsCrossedBeyond}
-use Rattle.rest_counts.specs.CutShares.{cut_change_of}
+use Rattle.hiding_laws.specs.Values.{side_of}
+use Rattle.geometry.specs.Counts.{Side}
+use Rattle.geometry.specs.Shares.{mark, PassesNearer, IsCrossedAt, denominator_of, numerator_of}
+use Rattle.cut_count_laws.specs.CutEnds.{cut_end, IsCrossedBeyond}
+use Rattle.cut_count_laws.specs.CutShares.{cut_change_of}
 use Rattle.cut_count.proofs.EdgeHeights.{beyond_too}
 
 -- ---- the place at which an outline passes nearer

@@ -5,7 +5,7 @@ use Rattle.std.proofs.lemmas.Option.{slice_get-get_or}
 use Rattle.lattice.specs.Cuts.{Plane, toward_of}
 use Rattle.geometry.specs.Parts.{Part, Edge, IsNumbered}
 use Rattle.geometry.specs.Views.{IsEndOn}
-use Rattle.hiding.proofs.CutPlanes.{cut-somewhere}
+use Rattle.hiding_laws.proofs.CutPlanes.{cut-somewhere}
 use Rattle.solid_mesh.specs.declared.solid.Solid.{Solid}
 use Rattle.solid_mesh.specs.Solids.{solid_part, edge_halves}
 use Rattle.solid_mesh.proofs.Facts.{few_corners, few_triangles, in_range, sound, edges_are}
@@ -15,7 +15,7 @@ use Rattle.span_count.specs.Finders.{IsPickedIn, IsFinder}
 use Rattle.span_count.specs.declared.span.EdgeSpans.{EdgeSpans}
 use Rattle.span_count.proofs.Lists.{front_get, all_zip_push}
 use Rattle.span_count.proofs.Listings as listings
-use Rattle.rest_counts.proofs.PartMarks.{changes_of_cut}
+use Rattle.cut_count_laws.proofs.PartMarks.{changes_of_cut}
 use Rattle.cut_count.specs.CutSpans.{AreCutCountSpans, IsCutEntry}
 use Rattle.cut_count.specs.inner.Walks.{AreListedInCut}
 

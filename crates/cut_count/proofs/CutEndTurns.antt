@@ -6,11 +6,11 @@ use Rattle.lattice.specs.declared.points.Corner.{Corner}
 use Rattle.lattice.specs.Points.{point_of}
 use Rattle.lattice.specs.Cuts.{Plane, toward_of}
 use Rattle.geometry.specs.Cuts.{over_of, crossing_of}
-use Rattle.hiding.specs.inner.Values.{side_of}
-use Rattle.hiding.proofs.CornerValues.{side_at}
-use Rattle.counting.specs.Counts.{orientation_of}
-use Rattle.rest_counts.specs.CutEnds.{cut_end}
-use Rattle.rest_counts.proofs.PartMarks.{side-sum}
+use Rattle.hiding_laws.specs.Values.{side_of}
+use Rattle.hiding_laws.proofs.CornerValues.{side_at}
+use Rattle.geometry.specs.Counts.{orientation_of}
+use Rattle.cut_count_laws.specs.CutEnds.{cut_end}
+use Rattle.cut_count_laws.proofs.PartMarks.{side-sum}
 use Rattle.cut_count.specs.declared.placed.Placed.{Placed}
 use Rattle.cut_count.specs.inner.Rests.{end_turn}
 

@@ -2,10 +2,10 @@
 use Rattle.std.proofs.Common.{◌≡◌, ℕ, ◌<◌, ◌≤◌, Bool, List, Some, slice_get, sym, subst}
 use Rattle.lattice.specs.Cuts.{Plane, toward_of}
 use Rattle.geometry.specs.Parts.{Part, Face, Edge, IsNumbered}
-use Rattle.counting.specs.Counts.{Side}
-use Rattle.counting.specs.Covers.{HidesNext}
-use Rattle.counting.specs.Turns.{corner_at, number_at}
-use Rattle.rest_counts.specs.CutCovers.{RestHidesNext, IsCutCoveredNext}
+use Rattle.geometry.specs.Counts.{Side}
+use Rattle.geometry.specs.Covers.{HidesNext}
+use Rattle.geometry.specs.Turns.{corner_at, number_at}
+use Rattle.cut_count_laws.specs.CutCovers.{RestHidesNext, IsCutCoveredNext}
 use Rattle.span_count.specs.Finders.{AreAllNear}
 use Rattle.span_count.proofs.NearTriangles.{never_next, corner_there}
 

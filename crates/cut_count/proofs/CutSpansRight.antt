@@ -20,30 +20,29 @@ use Rattle.geometry.specs.Parts.{Part, Edge, IsNumbered}
 use Rattle.geometry.specs.Places.{IsSame, IsBetween, point_at}
 use Rattle.geometry.specs.Sound.{IsSound}
 use Rattle.geometry.proofs.Borders.{side_of_corner, over_before, over_beyond, not_both_sides}
-use Rattle.geometry.proofs.PlaceOrder.{between_inner, between_last, most_less, less_most, IsNotLater, not_later_self, not_later_not_later, earlier_not_later}
+use Rattle.geometry.proofs.PlaceOrder.{between_inner, between_last, most_less, less_most, IsNotLater, not_later_self, not_later_not_later, earlier_not_later, mediant_between}
 use Rattle.geometry.proofs.SamePlaces.{same, same_back, same_not_later}
-use Rattle.hiding.specs.inner.Values.{value_at}
-use Rattle.hiding.specs.inner.CutValues.{below_of}
-use Rattle.hiding.proofs.CutPlanes.{below-beyond, below-share}
-use Rattle.counting.specs.Counts.{Side, to_left, to_right}
-use Rattle.counting.specs.Turns.{corner_at}
-use Rattle.face_counts.specs.inner.Sums.{total}
+use Rattle.hiding_laws.specs.Values.{value_at}
+use Rattle.hiding_laws.specs.CutValues.{below_of}
+use Rattle.hiding_laws.proofs.CutPlanes.{below-beyond, below-share}
+use Rattle.geometry.specs.Counts.{Side, to_left, to_right}
+use Rattle.geometry.specs.Turns.{corner_at}
+use Rattle.hiding_laws.specs.Sums.{total}
 use Rattle.cross_find.specs.declared.meter.Crossing.{Crossing}
 use Rattle.cut_plane.specs.declared.segments.Segment.{Segment}
 use Rattle.cut_plane.specs.Loops.{IsSegmentOf}
-use Rattle.section_parity.proofs.Xors.{xor}
+use Rattle.cut_plane.proofs.Xors.{xor}
 use Rattle.span_count.specs.declared.span.CountSpan.{CountSpan}
 use Rattle.span_count.specs.Carries.{change_before, IsCarried, IsCrossingEnd, AreCarried}
 use Rattle.span_count.specs.CountSpans.{Follow}
 use Rattle.span_count.proofs.Lists.{zip_some}
 use Rattle.span_count.proofs.Sums.{total_permuted}
-use Rattle.span_slow.specs.Beyond.{IsStretch, IsPartEnd, IsPartBeyond}
-use Rattle.span_slow.proofs.Crossed.{mediant_between}
-use Rattle.rest_counts.specs.CutCounts.{AreCutCounted}
-use Rattle.rest_counts.proofs.CutEndsApart.{outline_apart, border_apart, part_end_apart}
-use Rattle.rest_counts.proofs.HiddenInCut.{hidden_in_cut}
-use Rattle.rest_counts.proofs.Laws.{HasCornersInRange, IsValid}
-use Rattle.cut_count.specs.declared.found.Found.{Found}
+use Rattle.cut_plane.specs.Beyond.{IsStretch, IsPartEnd, IsPartBeyond}
+use Rattle.cut_count_laws.specs.CutCounts.{AreCutCounted}
+use Rattle.cut_count_laws.proofs.CutEndsApart.{outline_apart, border_apart, part_end_apart}
+use Rattle.cut_count_laws.proofs.HiddenInCut.{hidden_in_cut}
+use Rattle.cut_count_laws.proofs.Laws.{HasCornersInRange, IsValid}
+use Rattle.cut_count.specs.declared.found.CrossingBorder.{CrossingBorder}
 use Rattle.cut_count.specs.Crossings.{IsCutCrossing}
 use Rattle.cut_count.specs.CutSpans.{IsRightInCut, AreCutCountSpans}
 use Rattle.cut_count.specs.inner.Borders.{IsFound}
@@ -136,7 +135,7 @@ module _ (c : Plane) {s : Part} (e : Edge s) (part : Interval Frac) (beyond : Is
 
 -- ---- crossings of the section
 -- each is at the place of a border that was found
-section_found : (left right : Bool) (found : List Found) (crossings : List Crossing) → AreSectionCrossings left right found crossings → (x : Crossing) → Contains crossings x → (y : Found) × Contains found y × (x.at ≡ y.at)
+section_found : (left right : Bool) (found : List CrossingBorder) (crossings : List Crossing) → AreSectionCrossings left right found crossings → (x : Crossing) → Contains crossings x → (y : CrossingBorder) × Contains found y × (x.at ≡ y.at)
 section_found left right [] [] h x there = absurd (omega (arith, there.1))
 section_found left right [] (z ∷ zs) h x there = absurd h
 section_found left right (y ∷ ys) [] h x there = absurd h
@@ -147,7 +146,7 @@ section_found left right (y ∷ ys) (z ∷ zs) (at, _, _, rest) x (suc k, short,
 
 -- ---- a walk
 module _ (c : Plane) (s : Part) (sound : IsSound s) (in_range : HasCornersInRange s) (few : length s.triangles ≤ 20000) (halves : List ℕ) (edge_there : (i : ℕ) → i < length halves → (o : Edge s) × IsNumbered halves i o)
-    (edge : ℕ) (e : Edge s) (part : Interval Frac) (segments : List Segment) (at_b left right : Bool) (found : List Found) (section outlines sorted : List Crossing)
+    (edge : ℕ) (e : Edge s) (part : Interval Frac) (segments : List Segment) (at_b left right : Bool) (found : List CrossingBorder) (section outlines sorted : List Crossing)
     (has : HasWalked at_b c s halves edge e part segments (cond at_b (xor left (odd_turns turn_left found)) left) (cond at_b (xor right (odd_turns turn_right found)) right) found section outlines)
     (moved : IsPermutation (section ++ outlines) sorted) (end_there : IsBeyond c (point_of (corner_at e at_b))) where
   -- ---- no span ends at an ordinary point
@@ -161,10 +160,10 @@ module _ (c : Plane) (s : Part) (sound : IsSound s) (in_range : HasCornersInRang
   places : IsStretch part
   places = stretch c e part has.beyond
 
-  border_there : (y : Found) → Contains found y → ¬ IsOrdinaryInCut c s (point_at e y.at)
+  border_there : (y : CrossingBorder) → Contains found y → ¬ IsOrdinaryInCut c s (point_at e y.at)
   border_there y there =
       let (x, listed, answer) = zip_some (IsBorderAnswer c e part) segments has.are_found.answers has.are_found.each y
-      (subst (λ (ys : List Found). Contains ys y) has.are_found.all (Contains-permutation found has.listed y (IsPermutation-sym has.listed found has.same) there)) in
+      (subst (λ (ys : List CrossingBorder). Contains ys y) has.are_found.all (Contains-permutation found has.listed y (IsPermutation-sym has.listed found has.same) there)) in
       let of_face : IsSegmentOf c s x = All-contains (IsSegmentOf c s) segments x has.borders.each listed in
       let is : IsFound c e of_face.face part _ _ y = answer of_face.face of_face.number in
       let (after, before, beyond) = inner c e part has.beyond y.at.num y.at.den y.at.positive (is.after, is.before) in

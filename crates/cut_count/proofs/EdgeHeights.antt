@@ -1,18 +1,18 @@
 -- Where the points of an edge are beyond the plane of a cut, by the heights of its corners.
-use Rattle.std.proofs.Common.{◌≡◌, [], ◌∷◌, refl, sym, subst}
+use Rattle.std.proofs.Common.{◌≡◌, [], ◌∷◌, refl, sym, subst, ◌∙◌}
 use Rattle.std.specs.Prelude.{ℤ, pos, ◌-ℤ◌, ◌*ℤ◌, ◌<ℤ◌, ◌↔◌}
 use Rattle.std.proofs.lemmas.Int.{ints}
 use Rattle.std.proofs.Common.{arith}
 use Rattle.integers.proofs.Comparisons.{negation_positive, negative_of_negation}
-use Rattle.integers.proofs.Ring.{Expr, var, con, ◌⊕◌, ◌⊖◌, ◌⊗◌, ring, by_one}
+use Rattle.integers.proofs.Ring.{Expr, var, con, ◌⊕◌, ◌⊖◌, ◌⊗◌, ring, by_one, same_of_gap}
 use Rattle.integers.proofs.Signs.{mul_neg, pos_of_mul}
 use Rattle.lattice.specs.declared.points.Corner.{Corner}
 use Rattle.lattice.specs.Points.{height_of}
-use Rattle.lattice.specs.Cuts.{Plane, toward_of, plane_height, IsBeyond}
+use Rattle.lattice.specs.Cuts.{Plane, toward_of, plane_height, IsBeyond, IsOnPlane}
 use Rattle.lattice.proofs.Vectors.{letters, dots}
 use Rattle.geometry.specs.Cuts.{over_of}
 use Rattle.geometry.specs.Faces.{share_point}
-use Rattle.hiding.specs.inner.Values.{value_at}
+use Rattle.hiding_laws.specs.Values.{value_at}
 
 -- a value that is linear along an edge has one sign at all that stand for one place
 same_sign : (f g n m n' m' : ℤ) → pos 0 <ℤ m → pos 0 <ℤ m' → n *ℤ m' ≡ n' *ℤ m → value_at f g n m <ℤ pos 0 → value_at f g n' m' <ℤ pos 0
@@ -53,6 +53,10 @@ module _ (c : Plane) (p q : Corner) where
 
       above : (x y : ℤ) → (x -ℤ y) <ℤ pos 0 → x <ℤ y
       above x y h = omega (arith, ints)
+
+  -- it is on the plane where the value is 0
+  pub on_at : (n m : ℤ) → value_at (over_of c p) (over_of c q) n m ≡ pos 0 → IsOnPlane c (share_point p q n m)
+  on_at n m h = same_of_gap (pos 2 *ℤ height_of (toward_of c) (share_point p q n m)) (plane_height c *ℤ m) (rise_share n m ∙ h)
 
   -- what stands for one place is beyond the plane together
   pub beyond_too : (n m n' m' : ℤ) → pos 0 <ℤ m → pos 0 <ℤ m' → n *ℤ m' ≡ n' *ℤ m → IsBeyond c (share_point p q n m) → IsBeyond c (share_point p q n' m')

@@ -11,22 +11,22 @@ use Rattle.lattice.specs.Cuts.{Plane, toward_of}
 use Rattle.geometry.specs.Faces.{facing_of}
 use Rattle.geometry.specs.Parts.{Part, Edge, IsNumbered}
 use Rattle.geometry.specs.Views.{sign_of}
-use Rattle.counting.specs.Counts.{Side, to_left, to_right}
-use Rattle.counting.specs.Covers.{IsOneWhere}
-use Rattle.counting.specs.Shares.{mark}
-use Rattle.face_counts.specs.inner.Sums.{total}
-use Rattle.face_counts.proofs.MeshCounts.{face_of}
+use Rattle.geometry.specs.Counts.{Side, to_left, to_right}
+use Rattle.geometry.specs.Covers.{IsOneWhere}
+use Rattle.geometry.specs.Shares.{mark}
+use Rattle.hiding_laws.specs.Sums.{total}
+use Rattle.hiding_laws.proofs.MeshCounts.{face_of}
 use Rattle.cut_plane.specs.declared.segments.Segment.{Segment}
 use Rattle.cut_plane.specs.Loops.{IsSegmentOf, AreBorders, triangles_of}
 use Rattle.edge_pick.proofs.Lists.{few_of}
 use Rattle.cross_find.specs.declared.meter.Crossing.{Crossing}
-use Rattle.section_parity.proofs.Xors.{xor}
+use Rattle.cut_plane.proofs.Xors.{xor}
 use Rattle.span_count.specs.Carries.{IsSmall}
 use Rattle.span_count.proofs.Lists.{zip_some}
-use Rattle.rest_counts.specs.CutShares.{cut_change_of}
-use Rattle.rest_counts.proofs.Laws.{HasCornersInRange}
+use Rattle.cut_count_laws.specs.CutShares.{cut_change_of}
+use Rattle.cut_count_laws.proofs.Laws.{HasCornersInRange}
 use Rattle.cut_count.specs.declared.found.Share.{Share}
-use Rattle.cut_count.specs.declared.found.Found.{Found}
+use Rattle.cut_count.specs.declared.found.CrossingBorder.{CrossingBorder}
 use Rattle.cut_count.specs.Crossings.{IsCutCrossing}
 use Rattle.cut_count.specs.inner.Walks.{AreCoverCounts, AreOutlineCrossings, AreSectionCrossings, IsOutlineAnswer, section_change}
 
@@ -104,7 +104,7 @@ share_byte share there z is = sum z share.own (section_change there share.turns)
     sum : (z x y : ℤ) → z ≡ x +ℤ y → (neg_ℤ (pos 2) ≤ℤ x) × (x ≤ℤ pos 2) → (neg_ℤ (pos 1) ≤ℤ y) × (y ≤ℤ pos 1) → IsByte z
     sum z x y e (a, b) (f, g) = (omega (arith, ints), omega (arith, ints))
 
-section_bytes : (left right : Bool) (found : List Found) (crossings : List Crossing) → AreSectionCrossings left right found crossings → (x : Crossing) → Contains crossings x → IsByte x.left × IsByte x.right
+section_bytes : (left right : Bool) (found : List CrossingBorder) (crossings : List Crossing) → AreSectionCrossings left right found crossings → (x : Crossing) → Contains crossings x → IsByte x.left × IsByte x.right
 section_bytes left right [] [] h x there = absurd (omega (arith, there.1))
 section_bytes left right [] (z ∷ zs) h x there = absurd h
 section_bytes left right (y ∷ ys) [] h x there = absurd h
@@ -147,7 +147,7 @@ cut_change_byte k c e o = product _ _ _ (difference _ _ (sign (facing_of (toward
     product s x y h (inr p) (inl q) = subst IsByte (λ i. s *ℤ (sym p i -ℤ sym q i)) (once s h)
     product s x y h (inr p) (inr q) = subst IsByte (λ i. s *ℤ (sym p i -ℤ sym q i)) (none s)
 
-module _ (c : Plane) (s : Part) (halves : List ℕ) (edge_there : (i : ℕ) → i < length halves → (o : Edge s) × IsNumbered halves i o) (e : Edge s) (left right : Bool) (found : List Found) (section outlines sorted : List Crossing)
+module _ (c : Plane) (s : Part) (halves : List ℕ) (edge_there : (i : ℕ) → i < length halves → (o : Edge s) × IsNumbered halves i o) (e : Edge s) (left right : Bool) (found : List CrossingBorder) (section outlines sorted : List Crossing)
     (numbers : List ℕ) (within : All (λ i. i < length halves) numbers) (by_section : AreSectionCrossings left right found section) (by_outlines : AreOutlineCrossings c e halves numbers outlines) (moved : IsPermutation (section ++ outlines) sorted) where
   outline_bytes : (x : Crossing) → Contains outlines x → IsByte x.left × IsByte x.right
   outline_bytes x there =

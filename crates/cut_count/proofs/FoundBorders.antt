@@ -29,23 +29,23 @@ use Rattle.geometry.specs.Views.{face_sign}
 use Rattle.geometry.proofs.Borders.{crossed_of_border}
 use Rattle.geometry.proofs.Listed.{same_element}
 use Rattle.geometry.proofs.PlaceOrder.{between_inner, between_last, less_less}
-use Rattle.hiding.proofs.Decisions.{same_or}
-use Rattle.counting.specs.Counts.{Side, to_left, to_right}
+use Rattle.hiding_laws.proofs.Decisions.{same_or}
+use Rattle.geometry.specs.Counts.{Side, to_left, to_right}
 use Rattle.cut_plane.specs.declared.segments.Segment.{Segment}
 use Rattle.cut_plane.specs.Loops.{IsSegmentOf, AreBorders, triangles_of}
 use Rattle.cut_plane.proofs.Lists.{pairs_first, pairs_rest, pairs_none}
-use Rattle.section_parity.specs.Crossings.{CrossesAt}
-use Rattle.span_slow.specs.Beyond.{IsStretch, IsWithinAny, IsPartBeyond}
-use Rattle.rest_counts.specs.CutEnds.{mark_change}
-use Rattle.rest_counts.proofs.CutPlaces.{beyond_between}
-use Rattle.rest_counts.proofs.CutWalks.{IsFoundBorder}
-use Rattle.rest_counts.proofs.CutWalks.IsFoundBorder.{turns_mark, keeps_mark}
-use Rattle.rest_counts.proofs.FaceBorders.{one_first, one_second, border_at}
-use Rattle.rest_counts.proofs.Rests.{HasBorderChange}
-use Rattle.rest_counts.proofs.Rests.HasBorderChange.{along}
-use Rattle.rest_counts.proofs.SectionChanges.{PassesBetween}
-use Rattle.rest_counts.proofs.TurnedCuts.{place_back}
-use Rattle.cut_count.specs.declared.found.Found.{Found}
+use Rattle.cut_plane.specs.Crossings.{CrossesAt}
+use Rattle.cut_plane.specs.Beyond.{IsStretch, IsWithinAny, IsPartBeyond}
+use Rattle.cut_count_laws.specs.CutEnds.{mark_change}
+use Rattle.cut_count_laws.proofs.CutPlaces.{beyond_between}
+use Rattle.cut_count_laws.proofs.CutWalks.{IsFoundBorder}
+use Rattle.cut_count_laws.proofs.CutWalks.IsFoundBorder.{turns_mark, keeps_mark}
+use Rattle.cut_count_laws.proofs.FaceBorders.{one_first, one_second, border_at}
+use Rattle.cut_count_laws.proofs.Rests.{HasBorderChange}
+use Rattle.cut_count_laws.proofs.Rests.HasBorderChange.{along}
+use Rattle.cut_count_laws.proofs.SectionChanges.{PassesBetween}
+use Rattle.cut_count_laws.proofs.TurnedCuts.{place_back}
+use Rattle.cut_count.specs.declared.found.CrossingBorder.{CrossingBorder}
 use Rattle.cut_count.specs.inner.Borders.{ChangesMark, IsFound}
 use Rattle.cut_count.specs.inner.Walks.{IsBorderAnswer, AreFound}
 use Rattle.cut_count.proofs.WalkLaws.{share_to, turns_to}
@@ -84,13 +84,13 @@ module _ (k : Side) (c : Plane) {s : Part} (e : Edge s) (part : Interval Frac) (
       by (inl z) = subst (IsFoundBorder k c e f at false) (sym (is ∙ nothing z)) (keeps_mark (subst (HasBorderChange k c e f) z (along p q border)))
       by (inr some) = absurd (false≢true (turns.1 some))
 
-  found_after : (x : Found) → IsFound c e f part p q x → pos 0 <ℤ x.at.num
+  found_after : (x : CrossingBorder) → IsFound c e f part p q x → pos 0 <ℤ x.at.num
   found_after x h = between_inner part.from part.to x.at.num x.at.den x.at.positive (h.after, h.before) stretch.from_place.least
 
-  found_before : (x : Found) → IsFound c e f part p q x → x.at.num <ℤ x.at.den
+  found_before : (x : CrossingBorder) → IsFound c e f part p q x → x.at.num <ℤ x.at.den
   found_before x h = between_last part.from part.to x.at.num x.at.den x.at.positive (h.after, h.before) stretch.to_place.most
 
-found_border : (k : Side) (c : Plane) {s : Part} (e : Edge s) (part : Interval Frac) → IsPartBeyond c e (part ∷ []) → (f : Face s) (p q : Point) → IsBorderOf c f p q → (x : Found) → IsFound c e f part p q x
+found_border : (k : Side) (c : Plane) {s : Part} (e : Edge s) (part : Interval Frac) → IsPartBeyond c e (part ∷ []) → (f : Face s) (p q : Point) → IsBorderOf c f p q → (x : CrossingBorder) → IsFound c e f part p q x
     → IsFoundBorder k c e f x.at (turns_to k x) (share_to k x).own
 found_border to_left c e part beyond f p q border x h =
     of_share to_left c e part beyond f p q border x.left.turns x.left.own x.at h.on_left.own h.on_left.turns (found_after to_left c e part beyond f p q border x h) (found_before to_left c e part beyond f p q border x h) h.crosses
@@ -99,26 +99,26 @@ found_border to_right c e part beyond f p q border x h =
 
 -- ---- numbers beside what is found
 -- the triangles of those segments whose border is found
-abbrev pairs_of : List Segment → List (Option Found) → List (ℕ × Found)
+abbrev pairs_of : List Segment → List (Option CrossingBorder) → List (ℕ × CrossingBorder)
 pairs_of [] ys = []
 pairs_of (x ∷ xs) [] = []
 pairs_of (x ∷ xs) (None ∷ ys) = pairs_of xs ys
 pairs_of (x ∷ xs) (Some y ∷ ys) = (x.tri, y) ∷ pairs_of xs ys
 
-abbrev number_of : ℕ × Found → ℕ
+abbrev number_of : ℕ × CrossingBorder → ℕ
 number_of z = z.0
 
-abbrev found_of : ℕ × Found → Found
+abbrev found_of : ℕ × CrossingBorder → CrossingBorder
 found_of z = z.1
 
 -- what holds of all triangles of the segments holds of these
-kept : (P : ℕ → Type 0) (xs : List Segment) (ys : List (Option Found)) → All P (triangles_of xs) → All P (map number_of (pairs_of xs ys))
+kept : (P : ℕ → Type 0) (xs : List Segment) (ys : List (Option CrossingBorder)) → All P (triangles_of xs) → All P (map number_of (pairs_of xs ys))
 kept P [] ys h = All-nil P
 kept P (x ∷ xs) [] h = All-nil P
 kept P (x ∷ xs) (None ∷ ys) h = kept P xs ys (All-tail P x.tri (triangles_of xs) h)
 kept P (x ∷ xs) (Some y ∷ ys) h = All-cons P x.tri (map number_of (pairs_of xs ys)) (All-head P x.tri (triangles_of xs) h) (kept P xs ys (All-tail P x.tri (triangles_of xs) h))
 
-kept_apart : (xs : List Segment) (ys : List (Option Found)) → AllPairs ◌≢◌ (triangles_of xs) → AllPairs ◌≢◌ (map number_of (pairs_of xs ys))
+kept_apart : (xs : List Segment) (ys : List (Option CrossingBorder)) → AllPairs ◌≢◌ (triangles_of xs) → AllPairs ◌≢◌ (map number_of (pairs_of xs ys))
 kept_apart [] ys h = pairs_none ◌≢◌
 kept_apart (x ∷ xs) [] h = pairs_none ◌≢◌
 kept_apart (x ∷ xs) (None ∷ ys) h = kept_apart xs ys (pairs_rest ◌≢◌ x.tri (triangles_of xs) h)
@@ -158,7 +158,7 @@ apart_permuted xs ys moved h =
 
 -- ---- all that are found
 -- triangles for the borders in their order, none twice, and among them each one whose border crosses within the edge's part beyond the plane and changes the mark
-pub record AreNumbered (k : Side) (c : Plane) {s : Part} (e : Edge s) (found : List Found) : Type 0 where
+pub record AreNumbered (k : Side) (c : Plane) {s : Part} (e : Edge s) (found : List CrossingBorder) : Type 0 where
   pub triangles : List ℕ
   pub within : All (λ i. i < length s.triangles) triangles
   pub once : AllPairs ◌≢◌ triangles
@@ -167,10 +167,10 @@ pub record AreNumbered (k : Side) (c : Plane) {s : Part} (e : Edge s) (found : L
   pub each : AllZip (λ i x. (f : Face s) → f.number ≡ i → IsFoundBorder k c e f x.at (turns_to k x) (share_to k x).own) triangles found
 
 module _ (k : Side) (c : Plane) {s : Part} (e : Edge s) (part : Interval Frac) (beyond : IsPartBeyond c e (part ∷ [])) where
-  IsListed : ℕ → Found → Type 0
+  IsListed : ℕ → CrossingBorder → Type 0
   IsListed i x = (f : Face s) → f.number ≡ i → IsFoundBorder k c e f x.at (turns_to k x) (share_to k x).own
 
-  each_listed : (xs : List Segment) (ys : List (Option Found)) → All (IsSegmentOf c s) xs → AllZip (IsBorderAnswer c e part) xs ys → All (λ z. IsListed z.0 z.1) (pairs_of xs ys)
+  each_listed : (xs : List Segment) (ys : List (Option CrossingBorder)) → All (IsSegmentOf c s) xs → AllZip (IsBorderAnswer c e part) xs ys → All (λ z. IsListed z.0 z.1) (pairs_of xs ys)
   unfolding IsListed
   each_listed [] ys segments h = All-nil (λ z. IsListed z.0 z.1)
   each_listed (x ∷ xs) [] segments h = absurd h
@@ -179,7 +179,7 @@ module _ (k : Side) (c : Plane) {s : Part} (e : Edge s) (part : Interval Frac) (
       (λ f is. found_border k c e part beyond f (of_spot x.a) (of_spot x.b) (border_of_number c x (All-head (IsSegmentOf c s) x xs segments) f is) y (h.0 f is))
       (each_listed xs ys (All-tail (IsSegmentOf c s) x xs segments) h.1)
 
-  all_found : (xs : List Segment) (ys : List (Option Found)) → AllZip (IsBorderAnswer c e part) xs ys → map found_of (pairs_of xs ys) ≡ filter_map (λ (y : Option Found). y) ys
+  all_found : (xs : List Segment) (ys : List (Option CrossingBorder)) → AllZip (IsBorderAnswer c e part) xs ys → map found_of (pairs_of xs ys) ≡ filter_map (λ (y : Option CrossingBorder). y) ys
   all_found [] [] h = refl
   all_found [] (y ∷ ys) h = absurd h
   all_found (x ∷ xs) [] h = absurd h
@@ -187,7 +187,7 @@ module _ (k : Side) (c : Plane) {s : Part} (e : Edge s) (part : Interval Frac) (
   all_found (x ∷ xs) (Some y ∷ ys) h = ap (λ zs. y ∷ zs) (all_found xs ys h.1)
 
   -- a segment that can't have been left out is among them
-  listed_of : (n : ℕ) (xs : List Segment) (ys : List (Option Found)) → All (IsSegmentOf c s) xs → AllZip (IsBorderAnswer c e part) xs ys → Contains (triangles_of xs) n
+  listed_of : (n : ℕ) (xs : List Segment) (ys : List (Option CrossingBorder)) → All (IsSegmentOf c s) xs → AllZip (IsBorderAnswer c e part) xs ys → Contains (triangles_of xs) n
       → ((x : Segment) → IsSegmentOf c s x → x.tri ≡ n → IsBorderAnswer c e part x None → ⊥) → Contains (map number_of (pairs_of xs ys)) n
   listed_of n [] ys segments h (i, less, is) never = absurd (omega (arith, less))
   listed_of n (x ∷ xs) [] segments h there never = absurd h
@@ -218,11 +218,11 @@ module _ (k : Side) (c : Plane) {s : Part} (e : Edge s) (part : Interval Frac) (
       (subst (λ (y : Point). ChangesMark c e p y) (one_second c f p q (of_spot x.a) (of_spot x.b) border border') (changes_mark k p q some)))
       crosses
 
-  module _ (segments : List Segment) (starts : List ℕ) (borders : AreBorders c s segments starts) (listed : List Found) (are_found : AreFound c e part segments listed) (found : List Found) (same : IsPermutation listed found) where
-    abbrev pairs : List (ℕ × Found)
+  module _ (segments : List Segment) (starts : List ℕ) (borders : AreBorders c s segments starts) (listed : List CrossingBorder) (are_found : AreFound c e part segments listed) (found : List CrossingBorder) (same : IsPermutation listed found) where
+    abbrev pairs : List (ℕ × CrossingBorder)
     pairs = pairs_of segments are_found.answers
 
-    moved_pairs : (zs : List (ℕ × Found)) × IsPermutation pairs zs × (map found_of zs ≡ found)
+    moved_pairs : (zs : List (ℕ × CrossingBorder)) × IsPermutation pairs zs × (map found_of zs ≡ found)
     moved_pairs = followed found_of pairs found
         (subst (λ ys. IsPermutation ys found) (are_found.all ∙ sym (all_found segments are_found.answers are_found.each)) same)
 
@@ -230,7 +230,7 @@ module _ (k : Side) (c : Plane) {s : Part} (e : Edge s) (part : Interval Frac) (
     unfolding IsListed
     numbered = by moved_pairs
       where
-        by : (zs : List (ℕ × Found)) × IsPermutation pairs zs × (map found_of zs ≡ found) → AreNumbered k c e found
+        by : (zs : List (ℕ × CrossingBorder)) × IsPermutation pairs zs × (map found_of zs ≡ found) → AreNumbered k c e found
         by (zs, moved, is) = record {
           triangles = map number_of zs;
           within = All-permutation (λ i. i < length s.triangles) (map number_of pairs) (map number_of zs) numbers
@@ -248,7 +248,7 @@ module _ (k : Side) (c : Plane) {s : Part} (e : Edge s) (part : Interval Frac) (
             numbers = IsPermutation-map number_of pairs zs moved
 
 -- ---- those before a place, and those after it
-module _ (k : Side) (c : Plane) {s : Part} (e : Edge s) (found : List Found) (all : AreNumbered k c e found) (f : Face s) (n m : ℤ) (after : pos 0 <ℤ n) (before : n <ℤ m) (beyond : IsBeyond c (share_point e.a e.b n m)) where
+module _ (k : Side) (c : Plane) {s : Part} (e : Edge s) (found : List CrossingBorder) (all : AreNumbered k c e found) (f : Face s) (n m : ℤ) (after : pos 0 <ℤ n) (before : n <ℤ m) (beyond : IsBeyond c (share_point e.a e.b n m)) where
   m_there : pos 0 <ℤ m
   m_there = more n m after before
     where

@@ -9,35 +9,35 @@ use Rattle.lattice.specs.Points.{of_spot}
 use Rattle.lattice.specs.Cuts.{Plane}
 use Rattle.geometry.specs.Cuts.{nothing}
 use Rattle.geometry.specs.Parts.{Part, Edge}
-use Rattle.counting.specs.Counts.{Side}
+use Rattle.geometry.specs.Counts.{Side}
 use Rattle.cut_plane.specs.declared.segments.Segment.{Segment}
 use Rattle.cut_plane.proofs.Counting.{count_push, count_pass}
 use Rattle.cut_plane.proofs.Lists.{not_true}
-use Rattle.section_parity.proofs.Xors.{xor, xor-none}
+use Rattle.cut_plane.proofs.Xors.{xor, xor-none}
 use Rattle.span_count.proofs.Lists.{all_zip_push}
 use Rattle.span_count.proofs.Sums.{some_push, none_push}
-use Rattle.cut_count.specs.declared.found.Found.{Found}
+use Rattle.cut_count.specs.declared.found.CrossingBorder.{CrossingBorder}
 use Rattle.cut_count.specs.inner.Borders.{IsAhead}
 use Rattle.cut_count.specs.inner.Walks.{IsBorderAnswer, AreFound, IsOddAhead}
 
 -- ---- those that are found
 module _ (c : Plane) {s : Part} (e : Edge s) (part : Interval Frac) where
-  pub found_first : (found : List Found) → found ≡ [] → AreFound c e part [] found
+  pub found_first : (found : List CrossingBorder) → found ≡ [] → AreFound c e part [] found
   found_first found none = record { answers = []; each = tt; all = none }
 
-  pub found_more : (segments : List Segment) (x : Segment) (found more : List Found) (y : Found) (answer : Option Found) → answer ≡ Some y → more ≡ found ++ y ∷ []
+  pub found_more : (segments : List Segment) (x : Segment) (found more : List CrossingBorder) (y : CrossingBorder) (answer : Option CrossingBorder) → answer ≡ Some y → more ≡ found ++ y ∷ []
       → IsBorderAnswer c e part x answer → AreFound c e part segments found → AreFound c e part (segments ++ x ∷ []) more
   found_more segments x found more y answer is grown here h = record {
     answers = h.answers ++ Some y ∷ [];
-    each = all_zip_push (IsBorderAnswer c e part) segments h.answers x (Some y) h.each (subst (λ (o : Option Found). IsBorderAnswer c e part x o) is here);
+    each = all_zip_push (IsBorderAnswer c e part) segments h.answers x (Some y) h.each (subst (λ (o : Option CrossingBorder). IsBorderAnswer c e part x o) is here);
     all = grown ∙ some_push h.answers found y h.all;
   }
 
-  pub found_same : (segments : List Segment) (x : Segment) (found more : List Found) (answer : Option Found) → answer ≡ None → more ≡ found
+  pub found_same : (segments : List Segment) (x : Segment) (found more : List CrossingBorder) (answer : Option CrossingBorder) → answer ≡ None → more ≡ found
       → IsBorderAnswer c e part x answer → AreFound c e part segments found → AreFound c e part (segments ++ x ∷ []) more
   found_same segments x found more answer is grown here h = record {
     answers = h.answers ++ None ∷ [];
-    each = all_zip_push (IsBorderAnswer c e part) segments h.answers x None h.each (subst (λ (o : Option Found). IsBorderAnswer c e part x o) is here);
+    each = all_zip_push (IsBorderAnswer c e part) segments h.answers x None h.each (subst (λ (o : Option CrossingBorder). IsBorderAnswer c e part x o) is here);
     all = grown ∙ none_push h.answers found h.all;
   }
 

@@ -1,6 +1,7 @@
 pub mod AfterSums
 pub mod AheadEnds
 pub mod BehindEnds
+pub mod BeyondParts
 pub mod BorderAcross
 pub mod BorderTests
 pub mod BorderTurns
@@ -27,6 +28,7 @@ pub mod SectionTotals
 pub mod SectionTurns
 pub mod SeenTurns
 pub mod SegmentEnds
+pub mod UnderHeights
 pub mod WalkLaws
 pub mod Walked
 pub mod WalkedBack

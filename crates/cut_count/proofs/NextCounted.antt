@@ -11,13 +11,13 @@ use Rattle.geometry.specs.Cuts.{over_of}
 use Rattle.geometry.specs.Faces.{facing_of}
 use Rattle.geometry.specs.Parts.{Part, Face, Edge}
 use Rattle.geometry.proofs.Borders.{over_beyond, over_before, side_of_corner}
-use Rattle.hiding.specs.inner.Values.{side_of}
-use Rattle.counting.specs.Counts.{Side, to_left, to_right, orientation_of}
-use Rattle.counting.specs.Covers.{IsOneWhere}
+use Rattle.hiding_laws.specs.Values.{side_of}
+use Rattle.geometry.specs.Counts.{Side, to_left, to_right, orientation_of}
+use Rattle.geometry.specs.Covers.{IsOneWhere}
 use Rattle.cross_find.specs.Ends.{HidesAt}
-use Rattle.rest_counts.specs.CutEnds.{cut_end, PointStandsOn}
-use Rattle.rest_counts.specs.CutCovers.{RestOfSideReaches, RestReachesTo, IsCutCoveredNext}
-use Rattle.rest_counts.proofs.RestCovers.{side_from, side_of_from}
+use Rattle.cut_count_laws.specs.CutEnds.{cut_end, PointStandsOn}
+use Rattle.cut_count_laws.specs.CutCovers.{RestOfSideReaches, RestReachesTo, IsCutCoveredNext}
+use Rattle.cut_count_laws.proofs.RestCovers.{side_from, side_of_from}
 use Rattle.cut_count.specs.declared.placed.Placed.{Placed}
 use Rattle.cut_count.specs.inner.Rests.{IsRestNextAt, IsTo, SideReaches, end_turn}
 use Rattle.cut_count.proofs.CutEndTurns.{end_seen}

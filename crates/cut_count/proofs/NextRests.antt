@@ -14,22 +14,22 @@ use Rattle.lattice.proofs.Vectors.{letters, dots}
 use Rattle.geometry.specs.Cuts.{over_of}
 use Rattle.geometry.specs.Faces.{facing_of, share_point, FaceHides}
 use Rattle.geometry.specs.Parts.{Part, Face, Edge}
-use Rattle.hiding.specs.inner.Values.{value_at, side_of, depth_of}
-use Rattle.hiding.specs.inner.CutValues.{below_of, under_of}
-use Rattle.hiding.proofs.CutFronts.{under-share}
-use Rattle.hiding.proofs.CutPlanes.{square-one}
-use Rattle.hiding.proofs.Names.{point_letters, offsets, normals}
-use Rattle.hiding.proofs.OnScreens.{seen, covers_of_hides}
-use Rattle.hiding.proofs.Screens.{Covers}
-use Rattle.hiding.proofs.ScreenScale.{area_scale, turn_scale}
-use Rattle.hiding.proofs.Values.{facing-turned}
-use Rattle.hiding.proofs.Weights.{sides-sum, weigh_x, weigh_y, weigh_z}
-use Rattle.face_counts.proofs.Seen.{on, scale, scale_pos}
+use Rattle.hiding_laws.specs.Values.{value_at, side_of, depth_of}
+use Rattle.hiding_laws.specs.CutValues.{below_of, under_of}
+use Rattle.hiding_laws.proofs.CutFronts.{under-share}
+use Rattle.hiding_laws.proofs.CutPlanes.{square-one}
+use Rattle.lattice.proofs.PointLetters.{point_letters, offsets, normals}
+use Rattle.hiding_laws.proofs.OnScreens.{seen, covers_of_hides}
+use Rattle.hiding_laws.proofs.Screens.{Covers}
+use Rattle.hiding_laws.proofs.ScreenScale.{area_scale, turn_scale}
+use Rattle.hiding_laws.proofs.Values.{facing-turned}
+use Rattle.hiding_laws.proofs.Weights.{sides-sum, weigh_x, weigh_y, weigh_z}
+use Rattle.hiding_laws.proofs.Seen.{on, scale, scale_pos}
 use Rattle.cross_find.specs.Ends.{HoldsNext, HidesFrom, HidesAt, IsNotBelow}
 use Rattle.cross_find.proofs.Next.{next_map, next_both, not_below_next, not_below_of_next}
-use Rattle.rest_counts.specs.CutCovers.{RestHides, RestHidesNext}
-use Rattle.rest_counts.proofs.CoverWeights.{first_turn, second_turn, third_turn}
-use Rattle.rest_counts.proofs.RestCovers.{over_sum, covers_of_rest, rest_of_covers}
+use Rattle.cut_count_laws.specs.CutCovers.{RestHides, RestHidesNext}
+use Rattle.cut_count_laws.proofs.CoverWeights.{first_turn, second_turn, third_turn}
+use Rattle.cut_count_laws.proofs.RestCovers.{over_sum, covers_of_rest, rest_of_covers}
 use Rattle.cut_count.specs.inner.Rests.{IsRestNext, IsRestNextAt}
 
 -- ---- heights above the plane, by the values of a face's three sides

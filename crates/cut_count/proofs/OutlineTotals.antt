@@ -12,20 +12,20 @@ use Rattle.lattice.specs.Cuts.{Plane, toward_of, plane_height, IsBeyond}
 use Rattle.geometry.specs.Faces.{share_point}
 use Rattle.geometry.specs.Parts.{Part, Edge, AreEdges, IsNumbered}
 use Rattle.geometry.proofs.PlaceOrder.{most_less}
-use Rattle.hiding.proofs.Decisions.{same_or, less_or, either_or}
-use Rattle.counting.specs.Counts.{Side, to_left, to_right}
-use Rattle.counting.specs.Shares.{PassesNearer, IsCrossedAt, denominator_of, numerator_of, height_numerator_of}
-use Rattle.face_counts.specs.inner.Sums.{total}
-use Rattle.face_counts.proofs.Changed.{IsCrossedBefore}
+use Rattle.hiding_laws.proofs.Decisions.{same_or, less_or, either_or}
+use Rattle.geometry.specs.Counts.{Side, to_left, to_right}
+use Rattle.geometry.specs.Shares.{PassesNearer, IsCrossedAt, denominator_of, numerator_of, height_numerator_of}
+use Rattle.hiding_laws.specs.Sums.{total}
+use Rattle.hiding_laws.proofs.Changed.{IsCrossedBefore}
 use Rattle.cross_find.specs.declared.meter.Crossing.{Crossing}
 use Rattle.span_count.specs.Carries.{change_before}
 use Rattle.span_count.proofs.CarriedCounts.{changed, unchanged}
 use Rattle.span_count.proofs.Sums.{of_option, total_of_options}
-use Rattle.rest_counts.specs.CutEnds.{IsCrossedBeyond}
-use Rattle.rest_counts.specs.CutShares.{cut_change_of, PassesInCut}
-use Rattle.rest_counts.proofs.CutLaws.{HasCutChanged, HasEachOutline}
-use Rattle.rest_counts.proofs.CutLaws.HasCutChanged.{passed, not_passed}
-use Rattle.rest_counts.proofs.TurnedCuts.{zip_same}
+use Rattle.cut_count_laws.specs.CutEnds.{IsCrossedBeyond}
+use Rattle.cut_count_laws.specs.CutShares.{cut_change_of, PassesInCut}
+use Rattle.cut_count_laws.proofs.CutLaws.{HasCutChanged, HasEachOutline}
+use Rattle.cut_count_laws.proofs.CutLaws.HasCutChanged.{passed, not_passed}
+use Rattle.cut_count_laws.proofs.TurnedCuts.{zip_same}
 use Rattle.cut_count.specs.Crossings.{IsCutCrossing, IsCutAcross}
 use Rattle.cut_count.specs.inner.Walks.{AreListedInCut, IsOutlineAnswer, AreOutlineCrossings}
 use Rattle.cut_count.proofs.WalkLaws.{change_to}

@@ -16,23 +16,23 @@ use Rattle.geometry.specs.Sound.{IsSound}
 use Rattle.geometry.proofs.BorderSteps.{ordinary_along_cut}
 use Rattle.geometry.proofs.PlaceOrder.{less_most}
 use Rattle.geometry.proofs.Shares.{one_place}
-use Rattle.hiding.proofs.CutPlanes.{cut-somewhere}
-use Rattle.hiding.proofs.Decisions.{same_or, less_or}
-use Rattle.counting.specs.Counts.{Side}
-use Rattle.counting.specs.Shares.{PassesNearer, IsCrossedAt, denominator_of, numerator_of}
-use Rattle.face_counts.specs.inner.Sums.{total}
-use Rattle.face_counts.proofs.EdgeNumbers.{half_of, half_of_within, half_at_number}
-use Rattle.face_counts.proofs.HalfFaces.{edge_of}
-use Rattle.face_counts.proofs.SumsBelow.{keep}
+use Rattle.hiding_laws.proofs.CutPlanes.{cut-somewhere}
+use Rattle.hiding_laws.proofs.Decisions.{same_or, less_or}
+use Rattle.geometry.specs.Counts.{Side}
+use Rattle.geometry.specs.Shares.{PassesNearer, IsCrossedAt, denominator_of, numerator_of}
+use Rattle.hiding_laws.specs.Sums.{total}
+use Rattle.hiding_laws.proofs.EdgeNumbers.{half_of, half_of_within, half_at_number}
+use Rattle.hiding_laws.proofs.HalfFaces.{edge_of}
+use Rattle.hiding_laws.proofs.SumsBelow.{keep}
 use Rattle.cross_find.specs.declared.meter.Crossing.{Crossing}
 use Rattle.span_count.specs.Carries.{change_before}
 use Rattle.span_count.proofs.Lists.{all_zip_weaker, zip_some}
 use Rattle.span_count.proofs.Sums.{of_option}
-use Rattle.rest_counts.specs.CutShares.{cut_change_of, PassesInCut}
-use Rattle.rest_counts.proofs.CutEndsApart.{outline_apart}
-use Rattle.rest_counts.proofs.CutLaws.{IsCrossedAfter, ChangesAfter, HasEachOutlineAfter}
-use Rattle.rest_counts.proofs.CutLaws.ChangesAfter.{to_come, not_to_come}
-use Rattle.rest_counts.proofs.Laws.{HasCornersInRange, IsValid}
+use Rattle.cut_count_laws.specs.CutShares.{cut_change_of, PassesInCut}
+use Rattle.cut_count_laws.proofs.CutEndsApart.{outline_apart}
+use Rattle.cut_count_laws.proofs.CutLaws.{IsCrossedAfter, ChangesAfter, HasEachOutlineAfter}
+use Rattle.cut_count_laws.proofs.CutLaws.ChangesAfter.{to_come, not_to_come}
+use Rattle.cut_count_laws.proofs.Laws.{HasCornersInRange, IsValid}
 use Rattle.cut_count.specs.Crossings.{IsCutCrossing, IsCutAcross}
 use Rattle.cut_count.specs.inner.Walks.{AreListedInCut, IsOutlineAnswer, AreOutlineCrossings}
 use Rattle.cut_count.proofs.AfterSums.{is_before, is_after, apart_tests, kept_once, total_split}

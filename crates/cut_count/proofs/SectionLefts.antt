@@ -14,7 +14,7 @@ use Rattle.lattice.specs.Cuts.{Plane, toward_of}
 use Rattle.geometry.specs.Cuts.{IsInSection}
 use Rattle.geometry.specs.Parts.{Part}
 use Rattle.cut_plane.proofs.Lists.{not_true}
-use Rattle.rest_counts.specs.BorderShares.{middle_of, HasGreaterLeft, HasSectionLeft}
+use Rattle.cut_count_laws.specs.BorderShares.{middle_of, HasGreaterLeft, HasSectionLeft}
 
 -- ---- the order of two ends
 pub less_of_lt : (x y : ℤ) (b : Bool) → b ≡ is_lt (int_cmp x y) → IsTrue b ↔ (x <ℤ y)

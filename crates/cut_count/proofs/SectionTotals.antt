@@ -3,14 +3,14 @@ use Rattle.std.proofs.Common.{◌≡◌, Bool, true, false, cond, List, [], ◌�
 use Rattle.std.specs.Prelude.{ℤ, pos, ◌+ℤ◌, ◌-ℤ◌, ◌*ℤ◌}
 use Rattle.std.specs.Int.Signed.{lt_z}
 use Rattle.std.proofs.lemmas.Int.{ints}
-use Rattle.counting.specs.Counts.{Side, to_left, to_right}
-use Rattle.face_counts.specs.inner.Sums.{total}
-use Rattle.face_counts.proofs.SumsBelow.{keep}
+use Rattle.geometry.specs.Counts.{Side, to_left, to_right}
+use Rattle.hiding_laws.specs.Sums.{total}
+use Rattle.hiding_laws.proofs.SumsBelow.{keep}
 use Rattle.cross_find.specs.declared.meter.Crossing.{Crossing}
-use Rattle.section_parity.proofs.Xors.{xor, xor-assoc, xor-none, odd_in}
+use Rattle.cut_plane.proofs.Xors.{xor, xor-assoc, xor-none, odd_in}
 use Rattle.span_count.specs.Carries.{change_before}
-use Rattle.rest_counts.proofs.SectionSums.{worth, step, step-is, steps, sum_before}
-use Rattle.cut_count.specs.declared.found.Found.{Found}
+use Rattle.cut_count_laws.proofs.SectionSums.{worth, step, step-is, steps, sum_before}
+use Rattle.cut_count.specs.declared.found.CrossingBorder.{CrossingBorder}
 use Rattle.cut_count.specs.inner.Walks.{section_change, AreSectionCrossings}
 use Rattle.cut_count.proofs.WalkLaws.{share_to, turns_to, change_to, odd_to}
 
@@ -20,16 +20,16 @@ change_is false true = refl
 change_is true true = refl
 
 -- ---- for one count
-module _ (own : Found → ℤ) (turns : Found → Bool) (change : Crossing → ℤ) where
+module _ (own : CrossingBorder → ℤ) (turns : CrossingBorder → Bool) (change : Crossing → ℤ) where
   -- the borders as crossings that change that count
-  abbrev Change : Bool → List Found → List Crossing → Type 0
+  abbrev Change : Bool → List CrossingBorder → List Crossing → Type 0
   Change there [] [] = Unit {0}
   Change there [] (y ∷ ys) = ⊥
   Change there (x ∷ xs) [] = ⊥
   Change there (x ∷ xs) (y ∷ ys) = (y.at ≡ x.at) × (change y ≡ own x +ℤ section_change there (turns x)) × Change (xor there (turns x)) xs ys
 
   -- all of them
-  whole_total : (there : Bool) (found : List Found) (section : List Crossing) → Change there found section → total change section ≡ total own found +ℤ (worth (xor there (odd_in turns found)) -ℤ worth there)
+  whole_total : (there : Bool) (found : List CrossingBorder) (section : List Crossing) → Change there found section → total change section ≡ total own found +ℤ (worth (xor there (odd_in turns found)) -ℤ worth there)
   whole_total there [] [] h = nothing (worth there) ∙ (λ i. pos 0 +ℤ (worth (sym (xor-none there) i) -ℤ worth there))
     where
       nothing : (z : ℤ) → pos 0 ≡ pos 0 +ℤ (z -ℤ z)
@@ -45,11 +45,11 @@ module _ (own : Found → ℤ) (turns : Found → Bool) (change : Crossing → �
       together y o z w v u t a p q r = omega (arith, ints)
 
   module _ (n m : ℤ) where
-    abbrev before : Found → Bool
+    abbrev before : CrossingBorder → Bool
     before x = lt_z (x.at.num *ℤ m) (n *ℤ x.at.den)
 
     -- those before the place
-    total_before : (there : Bool) (found : List Found) (section : List Crossing) → Change there found section
+    total_before : (there : Bool) (found : List CrossingBorder) (section : List Crossing) → Change there found section
         → total (change_before change n m) section ≡ total (λ x. keep (before x) (own x)) found +ℤ sum_before turns before found (steps turns there found)
     total_before there [] [] h = refl
     total_before there [] (y ∷ ys) h = absurd h
@@ -67,17 +67,17 @@ module _ (own : Found → ℤ) (turns : Found → Bool) (change : Crossing → �
         together y o z t a u p q = omega (arith, ints)
 
 -- ---- for either
-abbrev ChangeOf : Side → Bool → List Found → List Crossing → Type 0
+abbrev ChangeOf : Side → Bool → List CrossingBorder → List Crossing → Type 0
 ChangeOf k = Change (λ x. (share_to k x).own) (turns_to k) (change_to k)
 
-change_of : (k : Side) (left right : Bool) (found : List Found) (section : List Crossing) → AreSectionCrossings left right found section → ChangeOf k (odd_to k left right) found section
+change_of : (k : Side) (left right : Bool) (found : List CrossingBorder) (section : List Crossing) → AreSectionCrossings left right found section → ChangeOf k (odd_to k left right) found section
 change_of k left right [] [] h = tt
 change_of k left right [] (y ∷ ys) h = absurd h
 change_of k left right (x ∷ xs) [] h = absurd h
 change_of to_left left right (x ∷ xs) (y ∷ ys) (at, l, r, h) = (at, l, change_of to_left (xor left x.left.turns) (xor right x.right.turns) xs ys h)
 change_of to_right left right (x ∷ xs) (y ∷ ys) (at, l, r, h) = (at, r, change_of to_right (xor left x.left.turns) (xor right x.right.turns) xs ys h)
 
-module _ (k : Side) (left right : Bool) (found : List Found) (section : List Crossing) (are : AreSectionCrossings left right found section) where
+module _ (k : Side) (left right : Bool) (found : List CrossingBorder) (section : List Crossing) (are : AreSectionCrossings left right found section) where
   -- before the place n / m: by the borders' own shares, and by the section, which begins and ends in turn
   pub section_before : (n m : ℤ) → total (change_before (change_to k) n m) section
       ≡ total (λ x. keep (lt_z (x.at.num *ℤ m) (n *ℤ x.at.den)) (share_to k x).own) found

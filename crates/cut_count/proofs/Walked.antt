@@ -11,20 +11,20 @@ use Rattle.lattice.specs.Points.{point_of}
 use Rattle.geometry.specs.Faces.{share_point}
 use Rattle.geometry.specs.Parts.{Part, Edge}
 use Rattle.geometry.specs.Sound.{IsSound}
-use Rattle.counting.specs.Counts.{Side}
-use Rattle.face_counts.specs.inner.Sums.{total}
-use Rattle.face_counts.proofs.SumsBelow.{keep}
+use Rattle.geometry.specs.Counts.{Side}
+use Rattle.hiding_laws.specs.Sums.{total}
+use Rattle.hiding_laws.proofs.SumsBelow.{keep}
 use Rattle.cross_find.specs.declared.meter.Crossing.{Crossing}
 use Rattle.cut_plane.specs.declared.segments.Segment.{Segment}
-use Rattle.section_parity.proofs.Xors.{odd_in}
+use Rattle.cut_plane.proofs.Xors.{odd_in}
 use Rattle.span_count.specs.Carries.{change_before}
 use Rattle.span_count.proofs.Sums.{of_option, total_append}
-use Rattle.rest_counts.specs.CutCounts.{AreCutCounted}
-use Rattle.rest_counts.proofs.CutWalks.{count_walked}
-use Rattle.rest_counts.proofs.Laws.{HasCornersInRange, IsValid}
-use Rattle.rest_counts.proofs.Rays.{border_ahead}
-use Rattle.rest_counts.proofs.SectionSums.{worth, steps, sum_before, front_of_sorted}
-use Rattle.cut_count.specs.declared.found.Found.{Found}
+use Rattle.cut_count_laws.specs.CutCounts.{AreCutCounted}
+use Rattle.cut_count_laws.proofs.CutWalks.{count_walked}
+use Rattle.cut_count_laws.proofs.Laws.{HasCornersInRange, IsValid}
+use Rattle.cut_count_laws.proofs.Rays.{border_ahead}
+use Rattle.cut_count_laws.proofs.SectionSums.{worth, steps, sum_before, front_of_sorted}
+use Rattle.cut_count.specs.declared.found.CrossingBorder.{CrossingBorder}
 use Rattle.cut_count.specs.inner.Walks.{IsOddAhead, AreCoverCounts}
 use Rattle.cut_count.proofs.AheadEnds.{odd_from_start}
 use Rattle.cut_count.proofs.FoundBorders.{AreNumbered, numbered, listed_before}
@@ -36,7 +36,7 @@ worth_is : (b : Bool) → worth b ≡ cond b (pos 1) (pos 0)
 worth_is false = refl
 worth_is true = refl
 
-module _ (c : Plane) (s : Part) (sound : IsSound s) (in_range : HasCornersInRange s) (halves : List ℕ) (edge : ℕ) (e : Edge s) (part : Interval Frac) (segments : List Segment) (left right : Bool) (found : List Found) (section outlines : List Crossing)
+module _ (c : Plane) (s : Part) (sound : IsSound s) (in_range : HasCornersInRange s) (halves : List ℕ) (edge : ℕ) (e : Edge s) (part : Interval Frac) (segments : List Segment) (left right : Bool) (found : List CrossingBorder) (section outlines : List Crossing)
     (walk : HasWalked false c s halves edge e part segments left right found section outlines) (start : IsBeyond c (point_of e.a)) (k : Side) (is_odd : IsOddAhead k false (toward_of c) e.a e.b segments (odd_to k left right))
     (n m : ℤ) (valid : IsValid c e n m) where
   there : pos 0 <ℤ m
@@ -56,7 +56,7 @@ module _ (c : Plane) (s : Part) (sound : IsSound s) (in_range : HasCornersInRang
   abbrev by_outlines : ℤ
   by_outlines = total (of_option (change_before (change_to k) n m)) walk.by_outlines.answers
 
-  abbrev before : Found → Bool
+  abbrev before : CrossingBorder → Bool
   before x = lt_z (x.at.num *ℤ m) (n *ℤ x.at.den)
 
   abbrev by_faces : ℤ
@@ -79,7 +79,7 @@ module _ (c : Plane) (s : Part) (sound : IsSound s) (in_range : HasCornersInRang
       (each_outline c s halves walk.edges edge e walk.numbered walk.numbers walk.are_listed n m) (of_option (change_before (change_to k) n m)) walk.by_outlines.answers
       (outlines_changed k c e halves walk.numbers outlines walk.by_outlines n m there)
       listed.triangles listed.within listed.once (λ f x. listed_before k c e found listed f n m valid.after valid.before valid.beyond start x)
-      (λ x. x.at) (turns_to k) (λ x. (share_to k x).own) found listed.each (front_of_sorted (λ (x : Found). x.at) n m there found walk.sorted)
+      (λ x. x.at) (turns_to k) (λ x. (share_to k x).own) found listed.each (front_of_sorted (λ (x : CrossingBorder). x.at) n m there found walk.sorted)
       covers next all are)
       near_is (worth_is (odd_to k left right)) (ap worth same_start) changes
     where

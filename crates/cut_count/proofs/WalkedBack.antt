@@ -9,20 +9,20 @@ use Rattle.integers.proofs.Lists.{Contains-later, some_element}
 use Rattle.lattice.specs.Cuts.{Plane}
 use Rattle.geometry.specs.Parts.{Part, Face, Edge}
 use Rattle.geometry.proofs.Listed.{face_at}
-use Rattle.counting.specs.Counts.{Side, to_left, to_right}
-use Rattle.face_counts.specs.inner.Sums.{total}
-use Rattle.face_counts.proofs.SumsBelow.{keep}
-use Rattle.section_parity.proofs.Found.{crosses_same}
-use Rattle.section_parity.proofs.Xors.{xor, odd_in}
+use Rattle.geometry.specs.Counts.{Side, to_left, to_right}
+use Rattle.hiding_laws.specs.Sums.{total}
+use Rattle.hiding_laws.proofs.SumsBelow.{keep}
+use Rattle.cut_plane.proofs.FoundCrossings.{crosses_same}
+use Rattle.cut_plane.proofs.Xors.{xor, odd_in}
 use Rattle.span_count.specs.Carries.{change_before}
 use Rattle.span_count.proofs.Sums.{of_option, total_append}
-use Rattle.rest_counts.proofs.CutLaws.{border_behind}
-use Rattle.rest_counts.proofs.CutWalks.{IsFoundBorder}
-use Rattle.rest_counts.proofs.CutWalks.IsFoundBorder.{turns_mark, keeps_mark}
-use Rattle.rest_counts.proofs.Laws.{HasCornersInRange, IsValid}
-use Rattle.rest_counts.proofs.SectionSums.{worth, both}
-use Rattle.rest_counts.proofs.TurnedWalks.{count_walked_back}
-use Rattle.cut_count.specs.declared.found.Found.{Found}
+use Rattle.cut_count_laws.proofs.CutLaws.{border_behind}
+use Rattle.cut_count_laws.proofs.CutWalks.{IsFoundBorder}
+use Rattle.cut_count_laws.proofs.CutWalks.IsFoundBorder.{turns_mark, keeps_mark}
+use Rattle.cut_count_laws.proofs.Laws.{HasCornersInRange, IsValid}
+use Rattle.cut_count_laws.proofs.SectionSums.{worth, both}
+use Rattle.cut_count_laws.proofs.TurnedWalks.{count_walked_back}
+use Rattle.cut_count.specs.declared.found.CrossingBorder.{CrossingBorder}
 use Rattle.cut_count.specs.inner.Walks.{odd_turns, turn_left, turn_right}
 use Rattle.cut_count.proofs.AfterSums.{is_after, section_total}
 use Rattle.cut_count.proofs.BehindEnds.{odd_behind}
@@ -40,7 +40,7 @@ zip_at R (x ∷ xs) (z ∷ ys) h y (suc i, less, is) =
     let (w, there, r) = zip_at R xs ys h.1 y (i, omega arith, is) in
     (w, Contains-later x xs w there, r)
 
-first_is : (k : Side) (left right : Bool) (found : List Found)
+first_is : (k : Side) (left right : Bool) (found : List CrossingBorder)
     → odd_to k (xor left (odd_turns turn_left found)) (xor right (odd_turns turn_right found)) ≡ xor (odd_to k left right) (odd_turns (turns_to k) found)
 first_is to_left left right found = refl
 first_is to_right left right found = refl
@@ -49,13 +49,13 @@ worth_is : (b : Bool) → worth b ≡ cond b (pos 1) (pos 0)
 worth_is true = refl
 worth_is false = refl
 
-module _ (c : Plane) (s : Part) (in_range : HasCornersInRange s) (e : Edge s) (n m : ℤ) (valid : IsValid c e n m) (k : Side) (found : List Found) (all : AreNumbered k c e found) where
+module _ (c : Plane) (s : Part) (in_range : HasCornersInRange s) (e : Edge s) (n m : ℤ) (valid : IsValid c e n m) (k : Side) (found : List CrossingBorder) (all : AreNumbered k c e found) where
   -- a border that changes something is not at the place, since none is on its line of sight
-  apart_of : (f : Face s) (x : Found) (turns : Bool) (own : ℤ) → IsFoundBorder k c e f x.at turns own → ((own ≡ pos 0) × (turns ≡ false)) ⊎ (x.at.num *ℤ m ≢ n *ℤ x.at.den)
+  apart_of : (f : Face s) (x : CrossingBorder) (turns : Bool) (own : ℤ) → IsFoundBorder k c e f x.at turns own → ((own ≡ pos 0) × (turns ≡ false)) ⊎ (x.at.num *ℤ m ≢ n *ℤ x.at.den)
   apart_of f x true own (turns_mark change has some after before crosses) = inr (λ same. valid.free (f, (crosses_same c f e x.at.num x.at.den n m x.at.positive same crosses).passes))
   apart_of f x false own (keeps_mark has) = inl (refl, refl)
 
-  borders_apart : (x : Found) → Contains found x → (((share_to k x).own ≡ pos 0) × (turns_to k x ≡ false)) ⊎ (x.at.num *ℤ m ≢ n *ℤ x.at.den)
+  borders_apart : (x : CrossingBorder) → Contains found x → (((share_to k x).own ≡ pos 0) × (turns_to k x ≡ false)) ⊎ (x.at.num *ℤ m ≢ n *ℤ x.at.den)
   borders_apart x there =
       let (i, listed, told) = zip_at (λ i x. (f : Face s) → f.number ≡ i → IsFoundBorder k c e f x.at (turns_to k x) (share_to k x).own) all.triangles found all.each x there in
       let (t, at) = some_element s.triangles i (All-contains (λ i. i < length s.triangles) all.triangles i all.within listed) in
@@ -69,7 +69,7 @@ walked_back c s sound in_range halves edge e part segments left right found sect
     (of_option (change_after k c e n m there)) walked.by_outlines.answers
     (all_change_after c s sound in_range halves walked.edges edge e walked.numbered walked.numbers walked.are_listed outlines walked.by_outlines n m valid k)
     borders.triangles borders.within borders.once (λ f between. listed_after k c e found borders f n m valid.after valid.before valid.beyond finish between)
-    (λ (x : Found). x.at) (turns_to k) (λ (x : Found). (share_to k x).own) found borders.each covers next all are
+    (λ (x : CrossingBorder). x.at) (turns_to k) (λ (x : CrossingBorder). (share_to k x).own) found borders.each covers next all are
     ∙ (λ i. (((pos (sum covers) +ℤ worth (finish_is i)) -ℤ total (of_option (change_after k c e n m there)) walked.by_outlines.answers) -ℤ total (λ x. keep (is_after n m x.at) (share_to k x).own) found)
     +ℤ (worth (xor (finish_is i) turned_after) -ℤ worth (finish_is i)))
     ∙ together near (pos (sum covers)) (worth odd) (cond odd (pos 1) (pos 0)) (worth (xor odd turned_after))

@@ -3,11 +3,11 @@ use Rattle.std.specs.Prelude.{◌≡◌, ◌≢◌, ◌⊎◌, ℤ, pos, Option,
 use Rattle.lattice.specs.Points.{Point}
 use Rattle.lattice.specs.Cuts.{Plane, toward_of}
 use Rattle.geometry.specs.Parts.{Part, Face, Edge}
-use Rattle.counting.specs.Counts.{to_left, to_right}
-use Rattle.counting.specs.Shares.{IsCrossedAt}
+use Rattle.geometry.specs.Counts.{to_left, to_right}
+use Rattle.geometry.specs.Shares.{IsCrossedAt}
 use Rattle.cross_find.specs.declared.meter.Crossing.{Crossing}
-use Rattle.rest_counts.specs.CutShares.{cut_change_of, CutChanges}
-use Rattle.rest_counts.specs.BorderShares.{IsTurnedBy, IsBorderTaken, border_change_of, IsBorderCrossedAt}
+use Rattle.cut_count_laws.specs.CutShares.{cut_change_of, CutChanges}
+use Rattle.cut_count_laws.specs.BorderShares.{IsTurnedBy, IsBorderTaken, border_change_of, IsBorderCrossedAt}
 
 -- ---- an outline
 -- where the two cross, and what is left of the outline changes of the two counts there

@@ -7,12 +7,12 @@ use Rattle.geometry.specs.Cuts.{IsOrdinaryInCut}
 use Rattle.geometry.specs.Faces.{share_point}
 use Rattle.geometry.specs.Parts.{Part, Edge, IsNumbered}
 use Rattle.geometry.specs.Places.{IsBetween, HasNoEndAt}
-use Rattle.section_parity.specs.Diagonals.{IsUnderBorder}
+use Rattle.cut_plane.specs.Diagonals.{IsUnderBorder}
 use Rattle.span_count.specs.declared.span.CountSpan.{CountSpan}
 use Rattle.span_count.specs.declared.span.EdgeSpans.{EdgeSpans}
 use Rattle.span_count.specs.CountSpans.{Follow}
-use Rattle.span_slow.specs.Beyond.{IsPartBeyond}
-use Rattle.rest_counts.specs.CutCounts.{AreCutCountsAt}
+use Rattle.cut_plane.specs.Beyond.{IsPartBeyond}
+use Rattle.cut_count_laws.specs.CutCounts.{AreCutCountsAt}
 
 -- the spans follow one another over the part, if there is one
 abbrev pub CoverPart : List (Interval Frac) → List CountSpan → Type 0

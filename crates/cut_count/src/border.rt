@@ -7,32 +7,23 @@ ghost use Rattle.geometry.specs.Faces.{share_point};
 ghost use Rattle.geometry.specs.Parts.{Part, Face, Edge, IsNumbered, HasNoFlatTriangle};
 ghost use Rattle.geometry.specs.Places.{IsPlace};
 ghost use Rattle.solid_mesh.specs.Solids.{solid_part, edge_halves};
-ghost use Rattle.counting.specs.Counts.{to_left, to_right};
-ghost use Rattle.counting.specs.Shares.{mark};
 ghost use Rattle.cut_plane.specs.declared.segments.Segment.{Segment};
 ghost use Rattle.cut_plane.specs.Loops.{IsSegmentOf, AreBorders};
-ghost use Rattle.rest_counts.specs.BorderShares.{middle_of, HasGreaterLeft, HasSectionLeft, IsTurnedBy};
+ghost use Rattle.cut_count_laws.specs.BorderShares.{middle_of, HasGreaterLeft, HasSectionLeft, IsTurnedBy};
 ghost use Rattle.cut_count.specs.Crossings.{IsBorderAcross};
 ghost use Rattle.cut_count.specs.inner.Borders.{IsSmallEnd, IsInnerBeyond};
 
 use crate::rests::is_beyond_at;
 use crate::sights::{SeenEdge, corner_side, side};
-use cross_find::{Crossing, Meter, TriangleCorners, corners_of, left_mark, right_mark, times};
-use cut_plane::{Section, Segment, inside, is_right_of, over};
+use cross_find::{
+    CountChanges, Crossing, Meter, TriangleCorners, corners_of, count_changes, left_mark,
+    right_mark,
+};
+use cut_plane::{Section, Segment, crossing, inside, is_right_of, over};
 use exact_frac::Frac;
 use lattice::{Corner, Cut, Dir, Spot, across, upward};
-use section_parity::crossing;
 use solid_mesh::Solid;
 use std::cmp::Ordering;
-
-/// What is changed of the count to the left, and of the count to the right.
-#[derive(Clone, Copy)]
-struct CountChanges {
-    left: i8,
-    right: i8,
-    ghost left_small: { unsigned_abs left ≤ 4 },
-    ghost right_small: { unsigned_abs right ≤ 4 },
-}
 
 /// Where a border passes over an inner place of an edge that is beyond the plane, and what it changes of the two counts there; none where
 /// it changes neither. The face of the border ends there, and the section begins or ends. The orientation of the triangle plays no part. Takes no memory, and constant time but
@@ -68,9 +59,9 @@ pub fn border_cross(
     }
     let turned = turned_by(solid, &section.cut, &x);
     let CountChanges { left, right } = if section_is_left(section, &x) {
-        changes(1 - turned, from, to)
+        count_changes(1 - turned, from, to)
     } else {
-        changes(1 + turned, to, from)
+        count_changes(1 + turned, to, from)
     };
     if left == 0 && right == 0 {
         return None;
@@ -84,18 +75,6 @@ fn is_inner_beyond(seen: &SeenEdge, at: &Frac) -> bool
     ensures { IsTrue result ↔ IsInnerBeyond (plane_of seen.now.cut) seen.now.at.a seen.now.at.b at.now }
 {
     at.num > 0 && at.num < at.den && is_beyond_at(&seen.cut, &seen.at.a, &seen.at.b, at)
-}
-
-/// So many times what the way from one end to another, which are seen at these sides of an edge's line, changes of either mark.
-fn changes(times_so: i8, from: i128, to: i128) -> CountChanges
-    requires { unsigned_abs times_so ≤ 2 }
-    ensures left { result.left ≡ times_so *ℤ (mark to_left from -ℤ mark to_left to) }
-    ensures right { result.right ≡ times_so *ℤ (mark to_right from -ℤ mark to_right to) }
-{
-    CountChanges {
-        left: times(times_so, left_mark(from), left_mark(to)),
-        right: times(times_so, right_mark(from), right_mark(to)),
-    }
 }
 
 /// 1 where what the plane leaves of the segment's triangle is seen to the right of the segment, -1 where it is seen to the left, 0 where

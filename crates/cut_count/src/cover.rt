@@ -4,24 +4,24 @@ ghost use Rattle.lattice.specs.Cuts.{plane_of, toward_of, IsBeyond};
 ghost use Rattle.lattice.specs.Points.{of_dir, point_of};
 ghost use Rattle.geometry.specs.Faces.{facing_of};
 ghost use Rattle.geometry.specs.Parts.{Edge, Face, IsNumbered};
-ghost use Rattle.hiding.specs.inner.CutValues.{under_of};
+ghost use Rattle.hiding_laws.specs.CutValues.{under_of};
 ghost use Rattle.solid_mesh.specs.Solids.{solid_part, edge_halves};
-ghost use Rattle.counting.specs.Counts.{to_left, to_right, orientation_of};
-ghost use Rattle.counting.specs.Covers.{IsOneWhere};
-ghost use Rattle.counting.specs.Turns.{corner_at};
+ghost use Rattle.geometry.specs.Counts.{to_left, to_right, orientation_of};
+ghost use Rattle.geometry.specs.Covers.{IsOneWhere};
+ghost use Rattle.geometry.specs.Turns.{corner_at};
 ghost use Rattle.cross_find.specs.Ends.{IsNotBelow};
-ghost use Rattle.rest_counts.specs.CutCovers.{IsCutCoveredNext};
+ghost use Rattle.cut_count_laws.specs.CutCovers.{IsCutCoveredNext};
 ghost use Rattle.cut_count.specs.inner.Rests.{IsRestNext, IsRestNextAt, SideReaches};
 
 use crate::placed::Placed;
 use crate::rests::end_turn;
+use crate::under::under_at;
 use cross_find::{
     End, Meter, TriangleCorners, any_above, any_below, corners_of, ends, hides_at, orientation_of,
 };
 use cut_plane::{Section, over};
 use lattice::{Corner, Cut, Dir};
 use solid_mesh::Solid;
-use span_slow::under_at;
 
 /// Whether a triangle is counted to the left, and to the right, next to an end of an edge that is beyond the plane, in the view of a
 /// cut: 1 or 0. It is counted by its part that is beyond the plane or on it, so one without a corner beyond the plane never is. Takes

@@ -5,25 +5,15 @@ ghost use Rattle.geometry.specs.Cuts.{over_of};
 ghost use Rattle.geometry.specs.Parts.{Edge, IsNumbered};
 ghost use Rattle.geometry.specs.Views.{face_sign};
 ghost use Rattle.solid_mesh.specs.Solids.{solid_part, edge_halves};
-ghost use Rattle.counting.specs.Counts.{to_left, to_right, orientation_of};
-ghost use Rattle.counting.specs.Shares.{mark};
+ghost use Rattle.geometry.specs.Counts.{orientation_of};
 ghost use Rattle.cut_plane.specs.Loops.{AreBorders};
 ghost use Rattle.cut_count.specs.Crossings.{IsCutAcross};
 
 use crate::placed::Placed;
 use crate::rests::{end_turn, is_beyond_at};
-use cross_find::{Crossing, Meter, ends, left_mark, passing, right_mark, sides_of, times, turn_of};
+use cross_find::{CountChanges, Crossing, Meter, count_changes, ends, passing, sides_of, turn_of};
 use cut_plane::{Section, over};
 use solid_mesh::Solid;
-
-/// What is changed of the count to the left, and of the count to the right.
-#[derive(Clone, Copy)]
-struct CountChanges {
-    left: i8,
-    right: i8,
-    ghost left_small: { unsigned_abs left ≤ 4 },
-    ghost right_small: { unsigned_abs right ≤ 4 },
-}
 
 /// Where what the plane leaves of an outline passes nearer over an inner place of an edge that is beyond the plane, and what it changes of
 /// the two counts there; none where it changes neither. An end of the outline that isn't beyond the plane is replaced by the place at
@@ -61,7 +51,7 @@ pub fn cut_cross(
         over: q_over,
         turn: sides.to,
     };
-    let CountChanges { left, right } = changes(
+    let CountChanges { left, right } = count_changes(
         turn_of(solid, &d, outline),
         end_turn(&from, &to),
         end_turn(&to, &from),
@@ -74,16 +64,4 @@ pub fn cut_cross(
         return None;
     }
     Some(Crossing { at, left, right })
-}
-
-/// What an outline with this turn from face to face changes of the two counts, by where its two ends are seen.
-fn changes(turn: i8, from: i128, to: i128) -> CountChanges
-    requires { unsigned_abs turn ≤ 2 }
-    ensures left { result.left ≡ turn *ℤ (mark to_left from -ℤ mark to_left to) }
-    ensures right { result.right ≡ turn *ℤ (mark to_right from -ℤ mark to_right to) }
-{
-    CountChanges {
-        left: times(turn, left_mark(from), left_mark(to)),
-        right: times(turn, right_mark(from), right_mark(to)),
-    }
 }

@@ -14,7 +14,7 @@ pub(crate) struct Share {
 
 /// A border that crosses an edge within its part beyond the plane: where, and what it changes of either count.
 #[derive(Clone, Copy)]
-pub(crate) struct Found {
+pub(crate) struct CrossingBorder {
     pub(crate) at: Frac,
     pub(crate) left: Share,
     pub(crate) right: Share,

@@ -34,6 +34,7 @@ ghost use Rattle.span_count.specs.Finders.{IsFinder, IsPickedIn};
 ghost use Rattle.cut_count.specs.Bounds.{IsCutBound};
 ghost use Rattle.cut_count.specs.CutSpans.{IsCutEntry};
 
+mod beyond;
 mod border;
 mod cover;
 mod cross;
@@ -43,6 +44,7 @@ mod placed;
 mod rests;
 mod sights;
 mod start;
+mod under;
 mod walk;
 
 use crate::walk::edge_spans;

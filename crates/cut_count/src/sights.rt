@@ -5,13 +5,13 @@ ghost use Rattle.lattice.specs.Points.{of_spot};
 ghost use Rattle.lattice.specs.Cuts.{plane_of, toward_of};
 ghost use Rattle.geometry.specs.Faces.{difference};
 ghost use Rattle.geometry.specs.Parts.{Edge, IsNumbered};
-ghost use Rattle.hiding.specs.inner.Values.{offset, side_of};
+ghost use Rattle.hiding_laws.specs.Values.{offset, side_of};
 ghost use Rattle.solid_mesh.specs.Solids.{solid_part, edge_halves};
-ghost use Rattle.rest_counts.specs.BorderShares.{way_turn};
+ghost use Rattle.cut_count_laws.specs.BorderShares.{way_turn};
 
 use cross_find::ends;
+use cut_plane::EdgeAt;
 use lattice::{Axis, Corner, Cut, Spot, Vector};
-use section_parity::EdgeAt;
 use solid_mesh::Solid;
 
 /// A way in the view: across and upward.
@@ -51,7 +51,7 @@ impl SeenEdge {
 }
 
 /// The way from one corner to another.
-fn step(cut: &Cut, a: &Corner, b: &Corner) -> Way
+pub(crate) fn step(cut: &Cut, a: &Corner, b: &Corner) -> Way
     ensures across { result.across ≡ dot (right_axis (toward_of (plane_of cut.now))) (difference a.now b.now) }
     ensures upward { result.upward ≡ dot (up_axis (toward_of (plane_of cut.now))) (difference a.now b.now) }
 {
@@ -111,7 +111,7 @@ fn short_of(x: i128, w: i128, k: i32) -> i64
 }
 
 /// Positive where the way `y` is to the left of `x`.
-fn turn(x: &Way, y: &Way) -> i128
+pub(crate) fn turn(x: &Way, y: &Way) -> i128
     ensures value { result ≡ (x.now.across *ℤ y.now.upward) -ℤ (x.now.upward *ℤ y.now.across) }
     ensures size { unsigned_abs result ≤ 2 ^ 93 }
 {

@@ -5,26 +5,25 @@ ghost use Rattle.lattice.specs.Cuts.{plane_of, toward_of, IsBeyond};
 ghost use Rattle.lattice.specs.Points.{of_spot, point_of};
 ghost use Rattle.geometry.specs.Parts.{Part, Face, Edge, IsNumbered};
 ghost use Rattle.geometry.specs.Places.{IsEarlier};
-ghost use Rattle.hiding.specs.inner.Values.{side_of};
+ghost use Rattle.hiding_laws.specs.Values.{side_of};
 ghost use Rattle.solid_mesh.specs.Solids.{solid_part, edge_halves};
-ghost use Rattle.counting.specs.Counts.{to_left, to_right};
-ghost use Rattle.counting.specs.Shares.{mark};
-ghost use Rattle.counting.specs.Turns.{corner_at, number_at};
+ghost use Rattle.geometry.specs.Counts.{to_left, to_right};
+ghost use Rattle.geometry.specs.Shares.{mark};
+ghost use Rattle.geometry.specs.Turns.{corner_at, number_at};
 ghost use Rattle.cut_plane.specs.Loops.{IsSegmentOf, AreBorders};
 ghost use Rattle.cut_count.specs.inner.Borders.{IsAhead, IsFoundOr, ahead_turn};
-ghost use Rattle.section_parity.proofs.Xors.{xor};
+ghost use Rattle.cut_plane.proofs.Xors.{xor};
 ghost use Rattle.span_count.specs.Finders.{AreAllNear};
-ghost use Rattle.span_slow.specs.Beyond.{IsStretch};
+ghost use Rattle.cut_plane.specs.Beyond.{IsStretch};
 ghost use Rattle.cut_count.specs.inner.Walks.{AreFound, IsOddAhead, AreCoverCounts};
 
 use crate::cover::cut_cover;
-use crate::found::{Found, Odds, Share};
+use crate::found::{CrossingBorder, Odds, Share};
 use crate::sights::{SeenEdge, corner_side, side};
 use cross_find::{End, Meter, left_mark, right_mark, times};
-use cut_plane::{Section, Segment};
+use cut_plane::{Section, Segment, crossing};
 use exact_frac::{Frac, OutOfMemory};
 use intervals::Interval;
-use section_parity::crossing;
 use solid_mesh::Solid;
 use span_count::{Finder, Sides, next_triangle};
 use std::alloc::Global;
@@ -33,13 +32,13 @@ use std::alloc::Global;
 /// it changes them.
 struct BorderTest {
     ahead: Odds,
-    found: Option<Found>,
+    found: Option<CrossingBorder>,
 }
 
 /// The borders that cross an edge within a part of it, and whether an odd number are ahead of an end of the edge, for either count.
 #[derive(Drop)]
 pub(crate) struct Borders {
-    pub(crate) found: Vec<Found>,
+    pub(crate) found: Vec<CrossingBorder>,
     pub(crate) odd: Odds,
 }
 
@@ -163,7 +162,7 @@ fn found_at(
     x: &Segment,
     from: i128,
     to: i128,
-) -> Option<Found>
+) -> Option<CrossingBorder>
     requires in_range { seen.now.at.number < length (edge_halves solid.now) }
     requires ends { (e : Edge (solid_part solid.now)) → IsNumbered (edge_halves solid.now) seen.now.at.number e → (e.a ≡ seen.now.at.a) × (e.b ≡ seen.now.at.b) }
     requires part { IsStretch part.now }
@@ -179,7 +178,7 @@ fn found_at(
         return None;
     }
     let sign = solid.sign(&seen.cut.dir(), x.tri);
-    Some(Found {
+    Some(CrossingBorder {
         at,
         left: share_of(sign, left_mark(from), left_mark(to)),
         right: share_of(sign, right_mark(from), right_mark(to)),

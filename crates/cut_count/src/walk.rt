@@ -8,11 +8,12 @@ ghost use Rattle.geometry.specs.Views.{IsEndOn};
 ghost use Rattle.solid_mesh.specs.Solids.{solid_part, edge_halves};
 ghost use Rattle.cut_plane.specs.Loops.{AreBorders};
 ghost use Rattle.cut_count.specs.CutSpans.{AreCutCountSpans};
-ghost use Rattle.section_parity.proofs.Xors.{xor};
+ghost use Rattle.cut_plane.proofs.Xors.{xor};
 ghost use Rattle.span_count.specs.Finders.{AreAllNear};
 ghost use Rattle.cut_count.specs.inner.Walks.{AreListedInCut, AreSectionCrossings, odd_turns, turn_left, turn_right, section_change};
 
-use crate::found::{Found, Odds, Share};
+use crate::beyond::part_beyond;
+use crate::found::{CrossingBorder, Odds, Share};
 use crate::outlines::add_outlines;
 use crate::sights::SeenEdge;
 use crate::start::{Borders, borders_along, cover_counts};
@@ -21,7 +22,6 @@ use cut_plane::{Section, over};
 use exact_frac::OutOfMemory;
 use solid_mesh::Solid;
 use span_count::{CountSpan, Finder, Sides, ascending, carried, change_over, first_counts_by};
-use span_slow::beyond_plane;
 use std::alloc::Global;
 
 /// The spans of an edge over its part beyond the plane: a test of each segment, of each triangle that the finder doesn't pass over at the
@@ -46,7 +46,7 @@ pub(crate) fn edge_spans<F: Finder>(
         × (meter.new.tests ≤ meter.old.tests + (length (solid_part solid.now).triangles + length (F.list_along finder.now edge) + length section.now.segments.items)) }
 {
     let seen = SeenEdge::new(solid, &section.cut, edge);
-    let Some(part) = beyond_plane(&section.cut, &seen.at.a, &seen.at.b) else {
+    let Some(part) = part_beyond(&section.cut, &seen.at.a, &seen.at.b) else {
         return Ok(Vec::new(alloc));
     };
     let at_b = over(&section.cut, &seen.at.a) > 0;
@@ -61,7 +61,7 @@ pub(crate) fn edge_spans<F: Finder>(
 }
 
 /// The borders in the order of their places.
-fn in_order(mut found: Vec<Found>) -> Result<Vec<Found>, OutOfMemory>
+fn in_order(mut found: Vec<CrossingBorder>) -> Result<Vec<CrossingBorder>, OutOfMemory>
     ensures same { IfOk result (λ sorted. IsPermutation found.items sorted.items) }
     ensures sorted { IfOk result (λ sorted. IsSortedByKey (λ x. x.at) order_of sorted.items) }
 {
@@ -81,7 +81,7 @@ fn ones(x: Odds) -> Sides
 }
 
 /// Whether the section is there before the first border that was found, by whether it is next to the end that is come from.
-fn first_odds(at_b: bool, odd: Odds, found: &[Found]) -> Odds
+fn first_odds(at_b: bool, odd: Odds, found: &[CrossingBorder]) -> Odds
     ensures left { result.left ≡ cond at_b (xor odd.left (odd_turns turn_left found.now)) odd.left }
     ensures right { result.right ≡ cond at_b (xor odd.right (odd_turns turn_right found.now)) odd.right }
 {
@@ -89,7 +89,7 @@ fn first_odds(at_b: bool, odd: Odds, found: &[Found]) -> Odds
 }
 
 /// Whether the section is there behind all borders.
-fn past_all(before: Odds, found: &[Found]) -> Odds
+fn past_all(before: Odds, found: &[CrossingBorder]) -> Odds
     ensures left { result.left ≡ xor before.left (odd_turns turn_left found.now) }
     ensures right { result.right ≡ xor before.right (odd_turns turn_right found.now) }
 {
@@ -101,7 +101,7 @@ fn past_all(before: Odds, found: &[Found]) -> Odds
 }
 
 /// Whether the section is there behind the border.
-fn past(before: Odds, border: &Found) -> Odds
+fn past(before: Odds, border: &CrossingBorder) -> Odds
     ensures left { result.left ≡ xor before.left border.now.left.turns }
     ensures right { result.right ≡ xor before.right border.now.right.turns }
 {
@@ -112,7 +112,11 @@ fn past(before: Odds, border: &Found) -> Odds
 }
 
 /// The borders as crossings: each changes the counts by its own share, and the section begins and ends in turn.
-fn with_section(alloc: Global, found: &[Found], before: Odds) -> Result<Vec<Crossing>, OutOfMemory>
+fn with_section(
+    alloc: Global,
+    found: &[CrossingBorder],
+    before: Odds,
+) -> Result<Vec<Crossing>, OutOfMemory>
     ensures crossings { IfOk result (λ crossings. AreSectionCrossings before.left before.right found.now crossings.items) }
     ensures few { IfOk result (λ crossings. length crossings.items ≡ length found.now) }
 {

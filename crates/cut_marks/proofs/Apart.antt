@@ -17,7 +17,7 @@ use Rattle.cut_marks.specs.Figures.{marks_in}
 use Rattle.cut_marks.specs.Marks.{IsMarked, AreMarked}
 use Rattle.cut_marks.specs.Marks.AreMarked.{none, more}
 use Rattle.cut_marks.specs.declared.areas.Area.{Area}
-use Rattle.cut_marks.specs.declared.figures.Mark.{Mark}
+use Rattle.cut_marks.specs.declared.figures.CutMark.{CutMark}
 use Rattle.cut_marks.specs.declared.views.ViewMarks.{ViewMarks}
 use Rattle.cut_marks.proofs.Placed.{told_apart}
 
@@ -47,13 +47,13 @@ clear a c e = either_way (either (are_separate a.left a.right c.left c.right) (a
     either_way (inl h) = across (either (int_lt a.right c.left) (int_lt c.right a.left) h)
     either_way (inr h) = down (either (int_lt a.bottom c.top) (int_lt c.bottom a.top) h)
 
-apart : (m n : Mark) → are_apart m n ≡ true → AreApart m n
+apart : (m n : CutMark) → are_apart m n ≡ true → AreApart m n
 apart m n e =
     All-weaker (λ a. list_all (is_clear a) (areas_of n) ≡ true) (λ a. All (IsClearOf a) (areas_of n))
     (λ a h. All-weaker (λ c. is_clear a c ≡ true) (IsClearOf a) (clear a) (areas_of n) (AllPass-from_list_all (is_clear a) (areas_of n) h))
     (areas_of m) (AllPass-from_list_all (λ a. list_all (is_clear a) (areas_of n)) (areas_of m) e)
 
-all_apart : (marks : List Mark) → none_touch marks ≡ true → AllPairs AreApart marks
+all_apart : (marks : List CutMark) → none_touch marks ≡ true → AllPairs AreApart marks
 all_apart [] e = λ i j d before within. absurd (omega arith)
 all_apart (m ∷ rest) e =
     let (here, later) = both (list_all (are_apart m) rest) (none_touch rest) e in

@@ -6,7 +6,8 @@ use Rattle.job_file.specs.declared.view.JobView.{JobView}
 use Rattle.lattice.specs.declared.cuts.Cut.{Cut}
 use Rattle.lattice.specs.declared.pieces.ViewSpec.{ViewSpec}
 use Rattle.lattice.specs.declared.pieces.ViewSpec.TheVariants.{Plain, Section}
-use Rattle.cut_marks.specs.Letters.{cuts_of, cuts_in}
+use Rattle.lattice.specs.ShownCuts.{cuts_of}
+use Rattle.job_file.specs.ShownCuts.{cuts_in}
 
 one_at_most : (spec : ViewSpec) → length (cuts_of spec) ≤ 1
 one_at_most (Plain d) = omega arith

@@ -12,22 +12,22 @@ use Rattle.lattice.specs.declared.pieces.ViewSpec.{ViewSpec}
 use Rattle.lattice.specs.declared.pieces.ViewSpec.TheVariants.{Plain, Section}
 use Rattle.geometry.specs.Parts.{Part}
 use Rattle.sheet_plan.specs.declared.sheet.Sheet.{Sheet}
-use Rattle.cut_marks.specs.Boxes.{IsViewBox}
+use Rattle.sheet_plan.specs.Boxes.{TakesBox, box_of}
 use Rattle.cut_marks.specs.Figures.{marks_in, mark_of, heading_over}
 use Rattle.cut_marks.specs.Lanes.{AreLaned}
 use Rattle.cut_marks.specs.Lanes.AreLaned.{none as none_laned, told, untold}
-use Rattle.cut_marks.specs.Letters.{cuts_in}
+use Rattle.job_file.specs.ShownCuts.{cuts_in}
 use Rattle.cut_marks.specs.Marks.{IsHeaded, ArePlainMarks, IsCutView, IsMarked, AreMarked}
 use Rattle.cut_marks.specs.Marks.AreMarked.{none as none_marked, more as more_marked}
 use Rattle.cut_marks.specs.Ranges.{IsPlaceInRange, IsEndInRange, IsMarkInRange, IsHeadingInRange}
 use Rattle.cut_marks.specs.Reach.{IsInReach, IsPointInReach, IsLetterInReach, IsEndInReach, IsMarkInReach, IsHeadingInReach, IsViewInReach, AreInReach, IsCrossed}
 use Rattle.cut_marks.specs.Traces.{AreTraces}
 use Rattle.cut_marks.specs.Traces.AreTraces.{none as no_traces, seen, unseen}
-use Rattle.cut_marks.specs.declared.boxes.ViewBox.{ViewBox}
+use Rattle.sheet_plan.specs.declared.boxes.ViewBox.{ViewBox}
 use Rattle.cut_marks.specs.declared.figures.Heading.{Heading}
-use Rattle.cut_marks.specs.declared.figures.Mark.{Mark}
+use Rattle.cut_marks.specs.declared.figures.CutMark.{CutMark}
 use Rattle.cut_marks.specs.declared.figures.MarkEnd.{MarkEnd}
-use Rattle.cut_marks.specs.declared.figures.Place.{Place}
+use Rattle.cut_marks.specs.declared.figures.SheetPoint.{SheetPoint}
 use Rattle.cut_marks.specs.declared.views.ViewMarks.{ViewMarks}
 use Rattle.cut_marks.specs.declared.ways.Laned.{Laned}
 use Rattle.cut_marks.specs.declared.ways.Trace.{Trace}
@@ -36,7 +36,7 @@ use Rattle.cut_marks.proofs.Placed.{placed_of}
 use Rattle.cut_marks.proofs.Reach.{mark_in_reach}
 
 -- ---- the marks of a plain view
-module _ (sheet : Sheet) (s : Part) (view : ℕ) (b : ViewBox) (is_box : IsViewBox sheet s.corners view b) where
+module _ (sheet : Sheet) (s : Part) (view : ℕ) (b : ViewBox) (is_box : TakesBox sheet s.corners view (box_of b)) where
   all_crossed : (cuts : List Cut) (traces : List Trace) → AreTraces sheet s view cuts traces → All (IsCrossed b) traces
   all_crossed _ _ no_traces = All-nil (IsCrossed b)
   all_crossed _ _ (seen cuts c traces t are n) = All-push (IsCrossed b) traces t (all_crossed cuts traces are) (crossed sheet s view (length cuts) c t b is_box n)
@@ -71,7 +71,7 @@ heading_in_reach sheet s view number c h is =
     subst (IsHeadingInReach is.box) (sym is.over) (over_middle is.box h.letter h.has_section (box_across sheet s.corners view is.box is.is_box) (box_down sheet s.corners view is.box is.is_box))
 
 -- ---- what is in reach is in range
-point_in_range : (b : ViewBox) (p : Place) (x x_end y y_end : ℤ) → x ≤ℤ p.x → p.x ≤ℤ x_end → y ≤ℤ p.y → p.y ≤ℤ y_end → IsInReach b x x_end y y_end → IsPlaceInRange p
+point_in_range : (b : ViewBox) (p : SheetPoint) (x x_end y y_end : ℤ) → x ≤ℤ p.x → p.x ≤ℤ x_end → y ≤ℤ p.y → p.y ≤ℤ y_end → IsInReach b x x_end y y_end → IsPlaceInRange p
 point_in_range b p x x_end y y_end l r t u h = record {
   x = within b.left b.right p.x x x_end b.left_in_range b.right_in_range h.left h.right l r;
   y = within b.top b.bottom p.y y y_end b.top_in_range b.bottom_in_range h.top h.bottom t u;
@@ -97,13 +97,13 @@ end_in_range b e h = record {
     more_than : (n : ℤ) (k : ℕ) → n ≤ℤ (n +ℤ pos k)
     more_than n k = omega (arith, ints)
 
-    at : (p : Place) → IsPointInReach b p → IsPlaceInRange p
+    at : (p : SheetPoint) → IsPointInReach b p → IsPlaceInRange p
     at p k = point_in_range b p p.x p.x p.y p.y (same p.x) (same p.x) (same p.y) (same p.y) k
 
-    around : (p : Place) → IsLetterInReach b p → IsPlaceInRange p
+    around : (p : SheetPoint) → IsLetterInReach b p → IsPlaceInRange p
     around p k = point_in_range b p (p.x -ℤ pos 150) (p.x +ℤ pos 150) (p.y -ℤ pos 275) (p.y +ℤ pos 25) (less p.x 150) (more_than p.x 150) (less p.y 275) (more_than p.y 25) k
 
-mark_in_range : (b : ViewBox) (m : Mark) → IsMarkInReach b m → IsMarkInRange m
+mark_in_range : (b : ViewBox) (m : CutMark) → IsMarkInReach b m → IsMarkInRange m
 mark_in_range b m h = record { first = end_in_range b m.first h.first; second = end_in_range b m.second h.second }
 
 heading_in_range : (b : ViewBox) (h : Heading) → IsHeadingInReach b h → IsHeadingInRange h
@@ -116,7 +116,7 @@ heading_in_range b h k = record {
     within a b n below above f g h i j k l m = omega (arith, ints)
 
 -- ---- so all marks of a plain view and the heading of a cut view are in range
-pub all_in_range : (b : ViewBox) (marks : List Mark) → All (IsMarkInReach b) marks → All IsMarkInRange marks
+pub all_in_range : (b : ViewBox) (marks : List CutMark) → All (IsMarkInReach b) marks → All IsMarkInRange marks
 all_in_range b marks h = All-weaker (IsMarkInReach b) IsMarkInRange (mark_in_range b) marks h
 
 pub headed_in_range : (sheet : Sheet) (s : Part) (view number : ℕ) (c : Cut) (h : Heading) → IsHeaded sheet s view number c h → IsHeadingInRange h

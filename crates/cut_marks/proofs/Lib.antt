@@ -1,13 +1,12 @@
 pub mod Apart
 pub mod Counted
 pub mod Crossed
-pub mod Firsts
 pub mod InBox
 pub mod InReach
 pub mod Placed
-pub mod Planned
 pub mod Reach
 pub mod Sides
 pub mod Sizes
 pub mod Upright
 pub mod Written
+pub mod Parts

@@ -7,7 +7,7 @@ use Rattle.cut_marks.specs.Areas.{none_touch}
 use Rattle.cut_marks.specs.Figures.{marks_in}
 use Rattle.cut_marks.specs.Lanes.{is_open, lettered, with_own, own_ways, ways_of, placed, AreLaned}
 use Rattle.cut_marks.specs.Lanes.AreLaned.{none, told, untold}
-use Rattle.cut_marks.specs.declared.boxes.ViewBox.{ViewBox}
+use Rattle.sheet_plan.specs.declared.boxes.ViewBox.{ViewBox}
 use Rattle.cut_marks.specs.declared.ways.Lane.{Lane}
 use Rattle.cut_marks.specs.declared.ways.Lane.TheVariants.{Inner, Outer}
 use Rattle.cut_marks.specs.declared.ways.Laned.{Laned}

@@ -2,12 +2,11 @@
 use Rattle.std.proofs.Common.{inl, inr, Bool, true, false, arith}
 use Rattle.std.specs.Prelude.{ℤ, pos, ◌+ℤ◌, ◌-ℤ◌, ◌≤ℤ◌, if◌then◌else◌}
 use Rattle.std.proofs.lemmas.Int.{ints}
-use Rattle.sheet_plan.specs.Boxes.{AreApart}
-use Rattle.cut_marks.specs.Boxes.{box_of}
+use Rattle.sheet_plan.specs.Boxes.{box_of, AreApart}
 use Rattle.cut_marks.specs.Figures.{out_of, other_of, upright_end, level_end, end_on, near_side, far_side, mark_of}
 use Rattle.cut_marks.specs.Reach.{IsInReach, IsEndInReach, IsMarkInReach, IsCrossed, AreClear}
 use Rattle.cut_marks.specs.Traces.{is_upright, is_forward}
-use Rattle.cut_marks.specs.declared.boxes.ViewBox.{ViewBox}
+use Rattle.sheet_plan.specs.declared.boxes.ViewBox.{ViewBox}
 use Rattle.cut_marks.specs.declared.ways.Lane.{Lane}
 use Rattle.cut_marks.specs.declared.ways.Lane.TheVariants.{Inner, Outer}
 use Rattle.cut_marks.specs.declared.ways.Laned.{Laned}

@@ -1,36 +1,37 @@
--- Which axis a direction is along, when corners are on both sides of a plane, and when they are spread along an axis.
-use Rattle.std.proofs.Common.{◌≡◌, ◌↔◌, Bool, IsTrue, List, ap, Contains, sym, subst, ◌∙◌, arith}
+-- When corners are on both sides of a plane, and when they are spread along an axis.
+use Rattle.std.proofs.Common.{◌≡◌, ◌↔◌, Bool, IsTrue, List, Contains, sym, subst, ◌∙◌, arith}
 use Rattle.std.specs.Prelude.{ℤ, pos, ◌<ℤ◌, ◌≤ℤ◌}
 use Rattle.std.proofs.lemmas.Int.{ints, by_lt_z}
+use Rattle.std.proofs.lemmas.List.Elements.{All-contains}
 use Rattle.integers.proofs.Logic.{↔-trans}
 use Rattle.lattice.specs.declared.points.Axis.{Axis}
 use Rattle.lattice.specs.declared.points.Axis.TheVariants.{X, Y, Z}
 use Rattle.lattice.specs.declared.points.Corner.{Corner}
 use Rattle.lattice.specs.Cuts.{Plane, toward_of, level_of, unit_of}
 use Rattle.lattice.specs.Points.{point_of, scaled}
-use Rattle.lattice.specs.Triple.{Triple, dot, negated}
+use Rattle.lattice.specs.Triple.{Triple, dot}
 use Rattle.lattice.proofs.CutSides.{corner_beyond, corner_before}
-use Rattle.geometry.specs.Traces.{coordinate_of, IsAlong}
-use Rattle.cut_marks.specs.Boxes.{IsFirstAlong}
-use Rattle.cut_marks.specs.Traces.{GoesThrough, IsSpread}
-use Rattle.cut_marks.proofs.Firsts.{least_first, most_last}
-
--- along an axis the two other numbers are 0
-pub not_along : (d : Triple) → ¬ ((d.y ≡ pos 0) × (d.z ≡ pos 0)) → ¬ ((d.x ≡ pos 0) × (d.z ≡ pos 0)) → ¬ ((d.x ≡ pos 0) × (d.y ≡ pos 0)) → (axis : Axis) → ¬ IsAlong axis d
-not_along d x y z X along = x (along.alone Y (λ e. cc), along.alone Z (λ e. cc))
-not_along d x y z Y along = y (along.alone X (λ e. cc), along.alone Z (λ e. cc))
-not_along d x y z Z along = z (along.alone X (λ e. cc), along.alone Y (λ e. cc))
+use Rattle.lattice.specs.Axes.{coordinate_of, IsAlong}
+use Rattle.sheet_plan.specs.Extents.{IsLeast, IsGreatest}
+use Rattle.geometry.specs.Traces.{GoesThrough}
+use Rattle.cut_marks.specs.Traces.{IsSpread}
 
 -- the lowest corner is beyond the plane, and the topmost before it
-pub amid : (c : Plane) (corners : List Corner) (first last : Corner) → IsFirstAlong (toward_of c) corners first → IsFirstAlong (negated (toward_of c)) corners last
-    → ((dot (toward_of c) (scaled (point_of first)) <ℤ level_of c) × (level_of c ≤ℤ dot (toward_of c) (scaled (point_of last)))) ↔ GoesThrough c corners
-amid c corners first last is_first is_last = (
-  λ (less, most). record { before = (last, is_last.listed, (corner_before c last).1 most); beyond = (first, is_first.listed, (corner_beyond c first).1 less) },
+amid : (c : Plane) (corners : List Corner) (lowest topmost : ℤ) → IsLeast (λ k. dot (toward_of c) (scaled (point_of k))) corners lowest → IsGreatest (λ k. dot (toward_of c) (scaled (point_of k))) corners topmost
+    → ((lowest <ℤ level_of c) × (level_of c ≤ℤ topmost)) ↔ GoesThrough c corners
+amid c corners lowest topmost is_lowest is_topmost = (
+  λ (less, most).
+      let (n, k, within, at, low) = is_lowest.reached in
+      let (m, l, inside, there, high) = is_topmost.reached in
+      record {
+        before = (l, (m, inside, there), (corner_before c l).1 (subst (λ (v : ℤ). level_of c ≤ℤ v) (sym high) most));
+        beyond = (k, (n, within, at), (corner_beyond c k).1 (subst (λ (v : ℤ). v <ℤ level_of c) (sym low) less));
+      },
   λ h.
       let (k, here, before) = h.before in
       let (l, too, beyond) = h.beyond in (
-        most_less _ _ _ (least_first (toward_of c) corners first l is_first too) ((corner_beyond c l).0 beyond),
-        most_most _ _ _ ((corner_before c k).0 before) (most_last (toward_of c) corners last k is_last here),
+        most_less _ _ _ (All-contains (λ x. lowest ≤ℤ dot (toward_of c) (scaled (point_of x))) corners l is_lowest.bound too) ((corner_beyond c l).0 beyond),
+        most_most _ _ _ ((corner_before c k).0 before) (All-contains (λ x. dot (toward_of c) (scaled (point_of x)) ≤ℤ topmost) corners k is_topmost.bound here),
       ),
 )
   where
@@ -45,24 +46,27 @@ unit_product X k = omega (arith, ints)
 unit_product Y k = omega (arith, ints)
 unit_product Z k = omega (arith, ints)
 
--- the first corner and the last one on an axis are apart where not all are at one place
-pub spread : (axis : Axis) (corners : List Corner) (first last : Corner) → IsFirstAlong (unit_of axis) corners first → IsFirstAlong (negated (unit_of axis)) corners last
-    → (dot (unit_of axis) (scaled (point_of first)) <ℤ dot (unit_of axis) (scaled (point_of last))) ↔ IsSpread axis corners
-spread axis corners first last is_first is_last = (
-  λ less. (first, last, is_first.listed, is_last.listed, λ e. less_other _ _ less (unit_product axis first ∙ e ∙ sym (unit_product axis last))),
+-- the least place on an axis is below the greatest where not all corners are at one place
+spread : (axis : Axis) (corners : List Corner) (least most : ℤ) → IsLeast (λ k. dot (unit_of axis) (scaled (point_of k))) corners least → IsGreatest (λ k. dot (unit_of axis) (scaled (point_of k))) corners most
+    → (least <ℤ most) ↔ IsSpread axis corners
+spread axis corners least most is_least is_most = (
+  λ less.
+      let (n, k, within, at, low) = is_least.reached in
+      let (m, l, inside, there, high) = is_most.reached in
+      (k, l, (n, within, at), (m, inside, there), λ e. less_other _ _ less (sym low ∙ unit_product axis k ∙ e ∙ sym (unit_product axis l) ∙ high)),
   λ (k, l, here, too, differ).
-      by_lt_z (value first) (value last) (λ h. h)
-      (λ h. absurd (differ (sym (unit_product axis k) ∙ squeezed (value first) (value last) (value k) (value l) h (low k here) (high k here) (low l too) (high l too) ∙ unit_product axis l))),
+      by_lt_z least most (λ h. h)
+      (λ h. absurd (differ (sym (unit_product axis k) ∙ squeezed least most (value k) (value l) h (lower k here) (upper k here) (lower l too) (upper l too) ∙ unit_product axis l))),
 )
   where
     value : Corner → ℤ
     value k = dot (unit_of axis) (scaled (point_of k))
 
-    low : (k : Corner) → Contains corners k → value first ≤ℤ value k
-    low k here = least_first (unit_of axis) corners first k is_first here
+    lower : (k : Corner) → Contains corners k → least ≤ℤ value k
+    lower k here = All-contains (λ x. least ≤ℤ dot (unit_of axis) (scaled (point_of x))) corners k is_least.bound here
 
-    high : (k : Corner) → Contains corners k → value k ≤ℤ value last
-    high k here = most_last (unit_of axis) corners last k is_last here
+    upper : (k : Corner) → Contains corners k → value k ≤ℤ most
+    upper k here = All-contains (λ x. dot (unit_of axis) (scaled (point_of x)) ≤ℤ most) corners k is_most.bound here
 
     squeezed : (m n a b : ℤ) → n ≤ℤ m → m ≤ℤ a → a ≤ℤ n → m ≤ℤ b → b ≤ℤ n → a ≡ b
     squeezed m n a b h e f g i = omega (arith, ints)
@@ -71,31 +75,16 @@ spread axis corners first last is_first is_last = (
     less_other m n h e = omega (arith, ints)
 
 -- ---- what the tests of the numbers say
-module _ (corners : List Corner) (first last : Corner) (s t u : Triple) (r : Bool) (t_is : t ≡ s) (u_is : u ≡ negated s) (is_first : IsFirstAlong t corners first) (is_last : IsFirstAlong u corners last) where
-  first_there : IsFirstAlong s corners first
-  first_there = subst (λ (x : Triple). IsFirstAlong x corners first) t_is is_first
+module _ (corners : List Corner) (t : Triple) (least most : ℤ) (r : Bool) (is_least : IsLeast (λ k. dot t (scaled (point_of k))) corners least) (is_most : IsGreatest (λ k. dot t (scaled (point_of k))) corners most) where
+  least_on : (s : Triple) → t ≡ s → IsLeast (λ k. dot s (scaled (point_of k))) corners least
+  least_on s is = subst (λ (x : Triple). IsLeast (λ k. dot x (scaled (point_of k))) corners least) is is_least
 
-  last_there : IsFirstAlong (negated s) corners last
-  last_there = subst (λ (x : Triple). IsFirstAlong x corners last) u_is is_last
+  most_on : (s : Triple) → t ≡ s → IsGreatest (λ k. dot s (scaled (point_of k))) corners most
+  most_on s is = subst (λ (x : Triple). IsGreatest (λ k. dot x (scaled (point_of k))) corners most) is is_most
 
-  worth : (k : Corner) (v : ℤ) → v ≡ dot t (scaled (point_of k)) → dot s (scaled (point_of k)) ≡ v
-  worth k v is = sym (is ∙ ap (λ (x : Triple). dot x (scaled (point_of k))) t_is)
+  pub told_through : (c : Plane) (level : ℤ) → t ≡ toward_of c → level ≡ level_of c → IsTrue r ↔ ((least <ℤ level) × (level ≤ℤ most)) → IsTrue r ↔ GoesThrough c corners
+  told_through c level toward level_is tells =
+      ↔-trans tells (subst (λ (v : ℤ). ((least <ℤ v) × (v ≤ℤ most)) ↔ GoesThrough c corners) (sym level_is) (amid c corners least most (least_on (toward_of c) toward) (most_on (toward_of c) toward)))
 
-  pub told_through : (c : Plane) (lowest level topmost : ℤ) → s ≡ toward_of c → level ≡ level_of c → lowest ≡ dot t (scaled (point_of first)) → topmost ≡ dot t (scaled (point_of last))
-      → IsTrue r ↔ ((lowest <ℤ level) × (level ≤ℤ topmost)) → IsTrue r ↔ GoesThrough c corners
-  told_through c lowest level topmost s_is level_is lowest_is topmost_is tells =
-      ↔-trans tells
-      (subst (λ (v : ℤ). ((v <ℤ level) × (level ≤ℤ topmost)) ↔ GoesThrough c corners) (worth first lowest lowest_is)
-      (subst (λ (v : ℤ). ((dot s (scaled (point_of first)) <ℤ level) × (level ≤ℤ v)) ↔ GoesThrough c corners) (worth last topmost topmost_is)
-      (subst (λ (v : ℤ). ((dot s (scaled (point_of first)) <ℤ v) × (v ≤ℤ dot s (scaled (point_of last)))) ↔ GoesThrough c corners) (sym level_is)
-      (subst (λ (x : Triple). ((dot x (scaled (point_of first)) <ℤ level_of c) × (level_of c ≤ℤ dot x (scaled (point_of last)))) ↔ GoesThrough c corners) (sym s_is)
-      (amid c corners first last (subst (λ (x : Triple). IsFirstAlong x corners first) s_is first_there) (subst (λ (x : Triple). IsFirstAlong (negated x) corners last) s_is last_there))))))
-
-  pub told_spread : (axis : Axis) (least most : ℤ) → s ≡ unit_of axis → least ≡ dot t (scaled (point_of first)) → most ≡ dot t (scaled (point_of last))
-      → IsTrue r ↔ (least <ℤ most) → IsTrue r ↔ IsSpread axis corners
-  told_spread axis least most s_is least_is most_is tells =
-      ↔-trans tells
-      (subst (λ (v : ℤ). (v <ℤ most) ↔ IsSpread axis corners) (worth first least least_is)
-      (subst (λ (v : ℤ). (dot s (scaled (point_of first)) <ℤ v) ↔ IsSpread axis corners) (worth last most most_is)
-      (subst (λ (x : Triple). (dot x (scaled (point_of first)) <ℤ dot x (scaled (point_of last))) ↔ IsSpread axis corners) (sym s_is)
-      (spread axis corners first last (subst (λ (x : Triple). IsFirstAlong x corners first) s_is first_there) (subst (λ (x : Triple). IsFirstAlong (negated x) corners last) s_is last_there)))))
+  pub told_spread : (axis : Axis) → t ≡ unit_of axis → IsTrue r ↔ (least <ℤ most) → IsTrue r ↔ IsSpread axis corners
+  told_spread axis unit tells = ↔-trans tells (spread axis corners least most (least_on (unit_of axis) unit) (most_on (unit_of axis) unit))

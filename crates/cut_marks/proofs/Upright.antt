@@ -7,10 +7,10 @@ use Rattle.lattice.specs.declared.points.Axis.{Axis}
 use Rattle.lattice.specs.declared.points.Axis.TheVariants.{X, Y, Z}
 use Rattle.lattice.specs.Cuts.{Plane, side_of, toward_of}
 use Rattle.lattice.specs.Triple.{Triple, dot, right_axis, up_axis}
-use Rattle.geometry.specs.Traces.{component_of, IsAlong}
+use Rattle.lattice.specs.Axes.{component_of, IsAlong}
 use Rattle.cut_marks.specs.Traces.{way_of, looks, is_upright}
 use Rattle.cut_marks.specs.declared.ways.Way.TheVariants.{Right, Left, Down, Up}
-use Rattle.cut_marks.proofs.InBox.{IsOnly, level_axis, upright_axis, level_only, upright_only, no_zero, turned, straight}
+use Rattle.lattice.proofs.AlongAxes.{IsOnly, level_axis, upright_axis, level_only, upright_only, no_zero, turned, straight}
 
 -- ---- ways
 upright_where : (across upward : ℤ) → across ≢ pos 0 → is_upright (way_of across upward) ≡ true
@@ -75,17 +75,17 @@ apart Y = λ e. cc
 apart Z = λ e. cc
 
 -- the trace is upright and the view's right axis has numbers on the cut's axis alone, or it is level and the up axis has
-pub data Runs (d : Triple) (c : Plane) : Type 0 where
-  upright : is_upright (looks d c) ≡ true → IsOnly c.axis (right_axis d) → Runs d c
-  level : is_upright (looks d c) ≡ false → IsOnly c.axis (up_axis d) → Runs d c
+pub data TraceRuns (d : Triple) (c : Plane) : Type 0 where
+  upright : is_upright (looks d c) ≡ true → IsOnly c.axis (right_axis d) → TraceRuns d c
+  level : is_upright (looks d c) ≡ false → IsOnly c.axis (up_axis d) → TraceRuns d c
 
-pub runs : (d : Triple) (c : Plane) (sight : Axis) → IsAlong sight d → sight ≢ c.axis → Runs d c
+pub runs : (d : Triple) (c : Plane) (sight : Axis) → IsAlong sight d → sight ≢ c.axis → TraceRuns d c
 runs d c sight along other = go (other_axis sight c.axis other)
   where
     product : dot (right_axis d) (toward_of c) ≡ (if c.from_high then component_of c.axis (right_axis d) else neg_ℤ (component_of c.axis (right_axis d)))
     product = side_product c.axis c.from_high (right_axis d)
 
-    go : (level_axis sight ≡ c.axis) ⊎ (upright_axis sight ≡ c.axis) → Runs d c
+    go : (level_axis sight ≡ c.axis) ⊎ (upright_axis sight ≡ c.axis) → TraceRuns d c
     go (inl e) = upright
         (upright_where (dot (right_axis d) (toward_of c)) (dot (up_axis d) (toward_of c)) (subst (λ (v : ℤ). v ≢ pos 0) (sym product) (signed_some c.from_high (component_of c.axis (right_axis d)) (subst (λ (a : Axis). component_of a (right_axis d) ≢ pos 0) e (level_there sight d along)))))
         (subst (λ (a : Axis). IsOnly a (right_axis d)) e (level_only sight d along))

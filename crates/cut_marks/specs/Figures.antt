@@ -2,11 +2,11 @@
 use Rattle.std.specs.Prelude.{ℕ, ℤ, pos, ◌+ℤ◌, ◌-ℤ◌, not, Bool, true, false, if◌then◌else◌, List, map}
 use Rattle.integers.specs.Floors.{floor_of}
 use Rattle.cut_marks.specs.Traces.{is_upright, is_forward}
-use Rattle.cut_marks.specs.declared.boxes.ViewBox.{ViewBox}
+use Rattle.sheet_plan.specs.declared.boxes.ViewBox.{ViewBox}
 use Rattle.cut_marks.specs.declared.figures.Heading.{Heading}
-use Rattle.cut_marks.specs.declared.figures.Mark.{Mark}
+use Rattle.cut_marks.specs.declared.figures.CutMark.{CutMark}
 use Rattle.cut_marks.specs.declared.figures.MarkEnd.{MarkEnd}
-use Rattle.cut_marks.specs.declared.figures.Place.{Place}
+use Rattle.cut_marks.specs.declared.figures.SheetPoint.{SheetPoint}
 use Rattle.cut_marks.specs.declared.ways.Lane.{Lane}
 use Rattle.cut_marks.specs.declared.ways.Lane.TheVariants.{Inner, Outer}
 use Rattle.cut_marks.specs.declared.ways.Laned.{Laned}
@@ -15,7 +15,7 @@ use Rattle.cut_marks.specs.declared.ways.Laned.{Laned}
 abbrev pub ahead : Bool → ℤ → ℤ → ℤ
 ahead forward at by = if forward then at +ℤ by else at -ℤ by
 
-abbrev pub place_at : ℤ → ℤ → Place
+abbrev pub place_at : ℤ → ℤ → SheetPoint
 place_at x y = record { x = x; y = y }
 
 -- at a trace that runs upright: an arrow of 3 mm in the viewing direction, its letter 2 mm on the trace's other side, and another
@@ -66,7 +66,7 @@ end_of e beyond side =
     end_on (is_upright e.trace.way) (is_forward e.trace.way) e.trace.at (ahead beyond side (out_of e.lane)) (ahead beyond side (out_of (other_of e.lane)))
 
 -- the mark of a trace in the view with this box
-abbrev pub mark_of : ViewBox → Laned → Mark
+abbrev pub mark_of : ViewBox → Laned → CutMark
 mark_of b e =
     let upright = is_upright e.trace.way in
     record {
@@ -76,7 +76,7 @@ mark_of b e =
       second = end_of e true (far_side upright b);
     }
 
-abbrev pub marks_in : ViewBox → List Laned → List Mark
+abbrev pub marks_in : ViewBox → List Laned → List CutMark
 marks_in b laned = map (mark_of b) laned
 
 -- above the middle of a cut view's box

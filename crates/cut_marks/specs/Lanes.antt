@@ -5,7 +5,7 @@ use Rattle.std.specs.Option.{is_some}
 use Rattle.cut_marks.specs.Areas.{none_touch}
 use Rattle.cut_marks.specs.Figures.{marks_in}
 use Rattle.cut_marks.specs.Traces.{is_upright, is_forward}
-use Rattle.cut_marks.specs.declared.boxes.ViewBox.{ViewBox}
+use Rattle.sheet_plan.specs.declared.boxes.ViewBox.{ViewBox}
 use Rattle.cut_marks.specs.declared.ways.Lane.{Lane}
 use Rattle.cut_marks.specs.declared.ways.Lane.TheVariants.{Inner, Outer}
 use Rattle.cut_marks.specs.declared.ways.Laned.{Laned}

@@ -1,5 +1,4 @@
 pub mod Areas
-pub mod Boxes
 pub mod Figures
 pub mod Lanes
 pub mod Letters
@@ -8,3 +7,5 @@ pub mod Notes
 pub mod Ranges
 pub mod Reach
 pub mod Traces
+pub mod Items
+pub mod MarkLetters

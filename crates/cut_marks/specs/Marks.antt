@@ -7,12 +7,14 @@ use Rattle.lattice.specs.declared.pieces.ViewSpec.TheVariants.{Plain, Section}
 use Rattle.lattice.specs.Cuts.{plane_of}
 use Rattle.geometry.specs.Parts.{Part}
 use Rattle.sheet_plan.specs.declared.sheet.Sheet.{Sheet}
-use Rattle.cut_marks.specs.Boxes.{IsViewBox}
+use Rattle.sheet_plan.specs.Boxes.{TakesBox, box_of}
 use Rattle.cut_marks.specs.Figures.{marks_in, heading_over}
 use Rattle.cut_marks.specs.Lanes.{AreLaned}
-use Rattle.cut_marks.specs.Letters.{IsLetterOf, cuts_in}
-use Rattle.cut_marks.specs.Traces.{GoesThrough, AreTraces}
-use Rattle.cut_marks.specs.declared.boxes.ViewBox.{ViewBox}
+use Rattle.job_file.specs.ShownCuts.{cuts_in}
+use Rattle.cut_marks.specs.Letters.{IsLetterOf}
+use Rattle.geometry.specs.Traces.{GoesThrough}
+use Rattle.cut_marks.specs.Traces.{AreTraces}
+use Rattle.sheet_plan.specs.declared.boxes.ViewBox.{ViewBox}
 use Rattle.cut_marks.specs.declared.figures.Heading.{Heading}
 use Rattle.cut_marks.specs.declared.views.ViewMarks.{ViewMarks}
 use Rattle.cut_marks.specs.declared.ways.Laned.{Laned}
@@ -21,7 +23,7 @@ use Rattle.cut_marks.specs.declared.ways.Trace.{Trace}
 -- the heading of the view with this number, over its box, with the letter of the cut with the other number
 pub record IsHeaded (sheet : Sheet) (s : Part) (view number : ℕ) (c : Cut) (h : Heading) : Type 0 where
   pub box : ViewBox
-  pub is_box : IsViewBox sheet s.corners view box
+  pub is_box : TakesBox sheet s.corners view (box_of box)
   pub lettered : IsLetterOf number h.letter
   pub over : h ≡ heading_over box h.letter h.has_section
   pub through : IsTrue h.has_section ↔ GoesThrough (plane_of c) s.corners
@@ -31,7 +33,7 @@ pub record ArePlainMarks (sheet : Sheet) (s : Part) (cuts : List Cut) (view : �
   pub box : ViewBox
   pub traces : List Trace
   pub laned : List Laned
-  pub is_box : IsViewBox sheet s.corners view box
+  pub is_box : TakesBox sheet s.corners view (box_of box)
   pub are_traces : AreTraces sheet s view cuts traces
   pub are_laned : AreLaned box traces laned m.left_out.items
   pub unheaded : m.heading ≡ None

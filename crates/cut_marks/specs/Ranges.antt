@@ -1,11 +1,11 @@
 -- Places that are far within the range of numbers.
 use Rattle.std.specs.Prelude.{◌<◌, ◌^◌, unsigned_abs}
 use Rattle.cut_marks.specs.declared.figures.Heading.{Heading}
-use Rattle.cut_marks.specs.declared.figures.Mark.{Mark}
+use Rattle.cut_marks.specs.declared.figures.CutMark.{CutMark}
 use Rattle.cut_marks.specs.declared.figures.MarkEnd.{MarkEnd}
-use Rattle.cut_marks.specs.declared.figures.Place.{Place}
+use Rattle.cut_marks.specs.declared.figures.SheetPoint.{SheetPoint}
 
-pub record IsPlaceInRange (p : Place) : Type 0 where
+pub record IsPlaceInRange (p : SheetPoint) : Type 0 where
   pub x : unsigned_abs p.x < 2 ^ 62
   pub y : unsigned_abs p.y < 2 ^ 62
 
@@ -15,7 +15,7 @@ pub record IsEndInRange (e : MarkEnd) : Type 0 where
   pub letter : IsPlaceInRange e.letter
   pub beside : IsPlaceInRange e.beside
 
-pub record IsMarkInRange (m : Mark) : Type 0 where
+pub record IsMarkInRange (m : CutMark) : Type 0 where
   pub first : IsEndInRange m.first
   pub second : IsEndInRange m.second
 

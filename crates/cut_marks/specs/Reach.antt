@@ -2,13 +2,13 @@
 use Rattle.std.specs.Prelude.{◌≡◌, ◌⊎◌, ℕ, ℤ, pos, ◌+ℤ◌, ◌-ℤ◌, ◌<ℤ◌, ◌≤ℤ◌, if◌then◌else◌, List, All, Some, IfSome, slice_get}
 use Rattle.lattice.specs.declared.points.Corner.{Corner}
 use Rattle.sheet_plan.specs.declared.sheet.Sheet.{Sheet}
-use Rattle.cut_marks.specs.Boxes.{IsViewBox}
+use Rattle.sheet_plan.specs.Boxes.{TakesBox, box_of}
 use Rattle.cut_marks.specs.Traces.{is_upright}
-use Rattle.cut_marks.specs.declared.boxes.ViewBox.{ViewBox}
+use Rattle.sheet_plan.specs.declared.boxes.ViewBox.{ViewBox}
 use Rattle.cut_marks.specs.declared.figures.Heading.{Heading}
-use Rattle.cut_marks.specs.declared.figures.Mark.{Mark}
+use Rattle.cut_marks.specs.declared.figures.CutMark.{CutMark}
 use Rattle.cut_marks.specs.declared.figures.MarkEnd.{MarkEnd}
-use Rattle.cut_marks.specs.declared.figures.Place.{Place}
+use Rattle.cut_marks.specs.declared.figures.SheetPoint.{SheetPoint}
 use Rattle.cut_marks.specs.declared.views.ViewMarks.{ViewMarks}
 use Rattle.cut_marks.specs.declared.ways.Trace.{Trace}
 
@@ -23,11 +23,11 @@ pub record IsInReach (b : ViewBox) (x x_end y y_end : ℤ) : Type 0 where
   pub top : (b.top -ℤ reach) ≤ℤ y
   pub bottom : y_end ≤ℤ (b.bottom +ℤ reach)
 
-abbrev pub IsPointInReach : ViewBox → Place → Type 0
+abbrev pub IsPointInReach : ViewBox → SheetPoint → Type 0
 IsPointInReach b p = IsInReach b p.x p.x p.y p.y
 
 -- a letter takes 1.5 mm on both sides of the middle of its base line, 2.75 mm above it and 0.25 mm beneath
-abbrev pub IsLetterInReach : ViewBox → Place → Type 0
+abbrev pub IsLetterInReach : ViewBox → SheetPoint → Type 0
 IsLetterInReach b p = IsInReach b (p.x -ℤ pos 150) (p.x +ℤ pos 150) (p.y -ℤ pos 275) (p.y +ℤ pos 25)
 
 pub record IsEndInReach (b : ViewBox) (e : MarkEnd) : Type 0 where
@@ -36,7 +36,7 @@ pub record IsEndInReach (b : ViewBox) (e : MarkEnd) : Type 0 where
   pub letter : IsLetterInReach b e.letter
   pub beside : IsLetterInReach b e.beside
 
-pub record IsMarkInReach (b : ViewBox) (m : Mark) : Type 0 where
+pub record IsMarkInReach (b : ViewBox) (m : CutMark) : Type 0 where
   pub first : IsEndInReach b m.first
   pub second : IsEndInReach b m.second
 
@@ -47,7 +47,7 @@ IsHeadingInReach b h = IsInReach b (h.x -ℤ pos 500) (h.x +ℤ pos 500) (h.y -�
 -- what tells the cuts in the view with this number is in reach of its box
 pub record IsViewInReach (sheet : Sheet) (corners : List Corner) (view : ℕ) (m : ViewMarks) : Type 0 where
   pub box : ViewBox
-  pub is_box : IsViewBox sheet corners view box
+  pub is_box : TakesBox sheet corners view (box_of box)
   pub heading : IfSome m.heading (IsHeadingInReach box)
   pub marks : All (IsMarkInReach box) m.marks.items
 

@@ -8,20 +8,16 @@ use Rattle.lattice.specs.Cuts.{Plane, plane_of, toward_of, IsBeyond, IsBeforePla
 use Rattle.lattice.specs.Points.{Point, of_dir, point_of}
 use Rattle.lattice.specs.Triple.{Triple, dot, right_axis, up_axis}
 use Rattle.geometry.specs.Parts.{Part}
-use Rattle.geometry.specs.Traces.{coordinate_of, HasTrace}
+use Rattle.lattice.specs.Axes.{coordinate_of}
+use Rattle.geometry.specs.Traces.{HasTrace}
+use Rattle.sheet_plan.specs.Numbers.{measure_of, sheet_x, sheet_y}
 use Rattle.sheet_plan.specs.declared.sheet.Sheet.{Sheet}
 use Rattle.sheet_plan.specs.declared.sheet.Spread.{Spread}
 use Rattle.sheet_plan.specs.Sheets.{IsPlaceOf}
-use Rattle.cut_marks.specs.Boxes.{x_on, y_on}
 use Rattle.cut_marks.specs.Letters.{IsLetterOf}
 use Rattle.cut_marks.specs.declared.ways.Trace.{Trace}
 use Rattle.cut_marks.specs.declared.ways.Way.{Way}
 use Rattle.cut_marks.specs.declared.ways.Way.TheVariants.{Right, Left, Down, Up}
-
--- corners are on both sides of the plane: it takes something away, and leaves something
-pub record GoesThrough (c : Plane) (corners : List Corner) : Type 0 where
-  pub before : (k : Corner) × Contains corners k × IsBeforePlane c (point_of k)
-  pub beyond : (k : Corner) × Contains corners k × IsBeyond c (point_of k)
 
 -- not all corners are at one place of the axis
 abbrev pub IsSpread : Axis → List Corner → Type 0
@@ -62,6 +58,13 @@ axis_point Z at = record { x = pos 0; y = pos 0; z = at; w = pos 1 }
 
 abbrev pub foot_of : Plane → Point
 foot_of c = axis_point c.axis c.at
+
+-- x and y at which a view in this place shows a point
+abbrev pub x_on : Sheet → Spread → Point → ℤ
+x_on sheet place p = sheet_x (measure_of sheet.scale sheet.decimals) (of_dir place.d) place.x0 p
+
+abbrev pub y_on : Sheet → Spread → Point → ℤ
+y_on sheet place p = sheet_y (measure_of sheet.scale sheet.decimals) (of_dir place.d) place.y0 p
 
 -- where a view in this place shows the plane: its x where its trace runs upright, else its y
 abbrev pub trace_at : Sheet → Spread → Plane → ℤ

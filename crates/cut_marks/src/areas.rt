@@ -3,7 +3,7 @@ ghost use Rattle.std.specs.Prelude.{◌≡◌, int_lt};
 ghost use Rattle.std.specs.List.{list_all};
 ghost use Rattle.cut_marks.specs.Areas.{letter_area, place_area, around, arrow_area, letters_area, areas_of, are_separate, is_clear, are_apart, none_touch};
 
-use crate::figures::{Mark, MarkEnd, Place};
+use crate::figures::{CutMark, MarkEnd, SheetPoint};
 
 /// A rectangle on the sheet. No sum in it wraps, wherever the places are.
 #[derive(Clone, Copy)]
@@ -15,7 +15,7 @@ pub(crate) struct Area {
 }
 
 /// What a letter takes at this place.
-fn letter_area(place: &Place) -> Area
+fn letter_area(place: &SheetPoint) -> Area
     ensures { result ≡ letter_area place.now }
 {
     let x = i128::from(place.x);
@@ -29,7 +29,7 @@ fn letter_area(place: &Place) -> Area
 }
 
 /// What an arrow takes around its tail, or its tip.
-fn place_area(place: &Place) -> Area
+fn place_area(place: &SheetPoint) -> Area
     ensures { result ≡ place_area place.now }
 {
     let x = i128::from(place.x);
@@ -92,7 +92,7 @@ fn is_clear(a: &Area, b: &Area) -> bool
 }
 
 /// An area is clear of the mark's arrows and letters.
-fn is_clear_of(area: &Area, mark: &Mark) -> bool
+fn is_clear_of(area: &Area, mark: &CutMark) -> bool
     ensures { result ≡ list_all (is_clear area.now) (areas_of mark.now) }
 {
     is_clear(area, &arrow_area(&mark.first))
@@ -102,7 +102,7 @@ fn is_clear_of(area: &Area, mark: &Mark) -> bool
 }
 
 /// The arrows and letters of one mark are clear of those of the other.
-fn are_apart(a: &Mark, b: &Mark) -> bool
+fn are_apart(a: &CutMark, b: &CutMark) -> bool
     ensures { result ≡ are_apart a.now b.now }
 {
     is_clear_of(&arrow_area(&a.first), b)
@@ -112,7 +112,7 @@ fn are_apart(a: &Mark, b: &Mark) -> bool
 }
 
 /// The mark touches none of these.
-fn is_apart_from(mark: &Mark, others: &[Mark]) -> bool
+fn is_apart_from(mark: &CutMark, others: &[CutMark]) -> bool
     ensures { result ≡ list_all (are_apart mark.now) others.now }
 {
     for other in others {
@@ -124,7 +124,7 @@ fn is_apart_from(mark: &Mark, others: &[Mark]) -> bool
 }
 
 /// No two of the marks touch. The time goes with the square of their number.
-pub(crate) fn none_touch(marks: &[Mark]) -> bool
+pub(crate) fn none_touch(marks: &[CutMark]) -> bool
     ensures { result ≡ none_touch marks.now }
 {
     for i in 0..marks.len() {

@@ -6,15 +6,15 @@ ghost use Rattle.cut_marks.specs.Letters.{IsLetterOf};
 ghost use Rattle.cut_marks.specs.Traces.{is_upright, is_forward};
 ghost use Rattle.cut_marks.specs.Figures.{ahead, place_at, upright_end, base_beyond, level_end, end_on, other_of, out_of, near_side, far_side, end_of, mark_of, marks_in, heading_over};
 
-use crate::boxes::ViewBox;
 use crate::traces::{is_forward, is_upright};
 use crate::ways::{Lane, Laned};
 use exact_frac::OutOfMemory;
+use sheet_plan::ViewBox;
 use std::alloc::Global;
 
 /// A point of the sheet.
 #[derive(Clone, Copy, Debug)]
-pub struct Place {
+pub struct SheetPoint {
     pub x: i64,
     pub y: i64,
 }
@@ -25,17 +25,17 @@ pub struct Place {
 /// are in the middle of their base lines.
 #[derive(Clone, Copy, Debug)]
 pub struct MarkEnd {
-    pub tail: Place,
-    pub tip: Place,
-    pub letter: Place,
-    pub beside: Place,
+    pub tail: SheetPoint,
+    pub tip: SheetPoint,
+    pub letter: SheetPoint,
+    pub beside: SheetPoint,
 }
 
 /// The mark of a cut in a view that sees its plane edge-on: a chain line across the view's whole box, from the tail of the first end to
 /// that of the second one, and the two ends. Where another cut has its trace on this line, and its viewer looks in the same way, both
 /// letters may stand at it. Letters are ASCII codes.
 #[derive(Clone, Copy, Debug)]
-pub struct Mark {
+pub struct CutMark {
     pub letter: u8,
     pub beside: Option<u8>,
     pub first: MarkEnd,
@@ -62,10 +62,10 @@ fn ahead(forward: bool, at: i64, by: i64) -> i64
     if forward { at + by } else { at - by }
 }
 
-fn place_at(x: i64, y: i64) -> Place
+fn place_at(x: i64, y: i64) -> SheetPoint
     ensures { result ≡ place_at x y }
 {
-    Place { x, y }
+    SheetPoint { x, y }
 }
 
 /// The end of a mark whose trace runs upright at this x: its arrow has this y.
@@ -172,11 +172,11 @@ fn end_of(entry: &Laned, beyond: bool, side: i64) -> MarkEnd
 }
 
 /// The mark of a trace in the view with this box.
-fn mark_of(b: &ViewBox, entry: &Laned) -> Mark
+fn mark_of(b: &ViewBox, entry: &Laned) -> CutMark
     ensures { result ≡ mark_of b.now entry.now }
 {
     let upright = is_upright(entry.trace.way);
-    Mark {
+    CutMark {
         letter: entry.trace.letter,
         beside: entry.beside,
         first: end_of(entry, false, near_side(upright, b)),
@@ -189,7 +189,7 @@ pub(crate) fn marks_in(
     alloc: Global,
     b: &ViewBox,
     laned: &[Laned],
-) -> Result<Vec<Mark>, OutOfMemory>
+) -> Result<Vec<CutMark>, OutOfMemory>
     ensures { IfOk result (λ marks. marks.items ≡ marks_in b.now laned.now) }
 {
     let mut marks = Vec::new(alloc);

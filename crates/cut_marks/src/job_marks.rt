@@ -2,22 +2,22 @@
 ghost use Rattle.std.specs.Prelude.{◌≡◌, ◌<◌, ◌≤◌, length, take, IfOk};
 ghost use Rattle.job_file.specs.declared.view.JobView.{JobView};
 ghost use Rattle.solid_mesh.specs.Solids.{solid_part};
-ghost use Rattle.cut_marks.specs.Letters.{cuts_of, cuts_in};
+ghost use Rattle.lattice.specs.ShownCuts.{cuts_of};
+ghost use Rattle.job_file.specs.ShownCuts.{cuts_in};
 ghost use Rattle.cut_marks.specs.Areas.{NoneTouch};
 ghost use Rattle.cut_marks.specs.Marks.{IsHeaded, ArePlainMarks, IsMarked, AreMarked};
 ghost use Rattle.cut_marks.specs.Reach.{AreInReach};
 
-use crate::boxes::ViewBox;
 use crate::figures::{Heading, heading_over, marks_in};
 use crate::lanes::{Told, laned};
-use crate::letters::{cuts_in, letter_of};
+use crate::letters::letter_of;
 use crate::sections::goes_through;
 use crate::traces::traces_in;
 use crate::views::ViewMarks;
 use exact_frac::OutOfMemory;
-use job_file::JobView;
+use job_file::{JobView, cuts_in};
 use lattice::{Cut, ViewSpec};
-use sheet_plan::Sheet;
+use sheet_plan::{Sheet, ViewBox};
 use solid_mesh::Solid;
 use std::alloc::Global;
 
@@ -79,17 +79,6 @@ fn view_marks(
     }
 }
 
-/// How many cuts a view shows: one or none.
-fn count_of(spec: &ViewSpec) -> usize
-    ensures value { result ≡ length (cuts_of spec.now) }
-    ensures size { result ≤ 1 }
-{
-    match spec {
-        ViewSpec::Plain(_) => 0,
-        ViewSpec::Section(_) => 1,
-    }
-}
-
 /// How many cuts the first so many views show.
 fn count_below(views: &[JobView], end: usize) -> usize
     requires { end ≤ length views.now }
@@ -98,7 +87,7 @@ fn count_below(views: &[JobView], end: usize) -> usize
 {
     let mut count = 0;
     for i in 0..end {
-        count += count_of(&views[i].spec);
+        count += views[i].spec.cuts();
     }
     count
 }

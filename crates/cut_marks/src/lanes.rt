@@ -7,11 +7,11 @@ ghost use Rattle.cut_marks.specs.Figures.{marks_in};
 ghost use Rattle.cut_marks.specs.Lanes.{same, is_on_line, is_open, lettered, with_own, own_ways, placed, AreLaned};
 
 use crate::areas::none_touch;
-use crate::boxes::ViewBox;
 use crate::figures::marks_in;
 use crate::traces::{is_forward, is_upright};
 use crate::ways::{Lane, Laned, Trace};
 use exact_frac::OutOfMemory;
+use sheet_plan::ViewBox;
 use std::alloc::Global;
 
 fn same(a: bool, b: bool) -> bool

@@ -5,23 +5,25 @@
 //!
 //! All lengths are in hundredths of a millimetre on the sheet. Marks and headings end within 7 mm of their view's box, so that they
 //! reach no other view: views are 15 mm apart (lemma `clear`). The cost is a few passes over the part's corners for each view and cut.
+//! `mark_items` says what they are on a page: a text stands with its middle at its place, by the widths of Helvetica's letters.
 #![tactic(auto)]
 
 mod areas;
-mod boxes;
-mod corners;
 mod figures;
+mod items;
 mod job_marks;
 mod lanes;
 mod letters;
+mod mark_letters;
 mod note_lines;
 mod sections;
+mod shown;
 mod traces;
 mod views;
 mod ways;
 
-pub use boxes::ViewBox;
-pub use figures::{Heading, Mark, MarkEnd, Place};
+pub use figures::{CutMark, Heading, MarkEnd, SheetPoint};
+pub use items::mark_items;
 pub use job_marks::marks;
 pub use letters::letter_of;
 pub use note_lines::notes;

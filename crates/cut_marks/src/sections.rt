@@ -4,12 +4,13 @@ ghost use Rattle.lattice.specs.declared.points.Corner.{Corner};
 ghost use Rattle.lattice.specs.Cuts.{plane_of, level_of, unit_of};
 ghost use Rattle.lattice.specs.Points.{of_vector, point_of};
 ghost use Rattle.lattice.specs.Triple.{IsWithin};
-ghost use Rattle.geometry.specs.Traces.{coordinate_of};
+ghost use Rattle.lattice.specs.Axes.{coordinate_of};
 ghost use Rattle.solid_mesh.specs.Solids.{solid_part};
-ghost use Rattle.cut_marks.specs.Traces.{GoesThrough, IsSpread};
+ghost use Rattle.geometry.specs.Traces.{GoesThrough};
+ghost use Rattle.cut_marks.specs.Traces.{IsSpread};
 
-use crate::corners::{along, first_along};
 use lattice::{Axis, Cut, Vector};
+use sheet_plan::reach_along;
 use solid_mesh::Solid;
 
 /// The height of the cut's place, as its viewer sees it.
@@ -21,20 +22,18 @@ fn level(cut: &Cut) -> i64
 }
 
 /// The plane is right below its level: there are corners on both of its sides.
-fn is_amid(lowest: i128, level: i64, topmost: i128) -> bool
+fn is_amid(lowest: i64, level: i64, topmost: i64) -> bool
     ensures { IsTrue result ↔ ((lowest <ℤ level) × (level ≤ℤ topmost)) }
 {
-    lowest < level.into() && i128::from(level) <= topmost
+    lowest < level && level <= topmost
 }
 
-/// The plane of the cut goes through the solid: corners are on both sides of it. Goes twice over them.
+/// The plane of the cut goes through the solid: corners are on both sides of it. Goes once over them.
 pub(crate) fn goes_through(solid: &Solid, cut: &Cut) -> bool
     ensures { IsTrue result ↔ GoesThrough (plane_of cut.now) (solid_part solid.now).corners }
 {
-    let toward = cut.dir().vector();
-    let lowest = along(&toward, &first_along(solid, &toward));
-    let topmost = along(&toward, &first_along(solid, &toward.reversed()));
-    is_amid(lowest, level(cut), topmost)
+    let height = reach_along(solid, &cut.dir().vector());
+    is_amid(height.least, level(cut), height.greatest)
 }
 
 /// One unit along an axis.
@@ -49,18 +48,16 @@ fn unit(axis: Axis) -> Vector
     }
 }
 
-fn is_less(a: i128, b: i128) -> bool
+fn is_less(a: i64, b: i64) -> bool
     ensures { IsTrue result ↔ (a <ℤ b) }
 {
     a < b
 }
 
-/// Not all corners are at one place of the axis. Goes twice over them.
+/// Not all corners are at one place of the axis. Goes once over them.
 pub(crate) fn is_spread(solid: &Solid, axis: Axis) -> bool
     ensures { IsTrue result ↔ IsSpread axis (solid_part solid.now).corners }
 {
-    let unit = unit(axis);
-    let least = along(&unit, &first_along(solid, &unit));
-    let most = along(&unit, &first_along(solid, &unit.reversed()));
-    is_less(least, most)
+    let reach = reach_along(solid, &unit(axis));
+    is_less(reach.least, reach.greatest)
 }

@@ -4,16 +4,17 @@ ghost use Rattle.lattice.specs.declared.cuts.Cut.{Cut};
 ghost use Rattle.lattice.specs.declared.points.Axis.{Axis};
 ghost use Rattle.lattice.specs.Cuts.{plane_of};
 ghost use Rattle.lattice.specs.Points.{of_dir, point_of};
-ghost use Rattle.geometry.specs.Traces.{third_of, IsAlong, HasTrace};
+ghost use Rattle.lattice.specs.Axes.{third_of, IsAlong};
+ghost use Rattle.geometry.specs.Traces.{HasTrace};
 ghost use Rattle.sheet_plan.specs.declared.sheet.Spread.{Spread};
 ghost use Rattle.sheet_plan.specs.Sheets.{IsPlaceOf};
 ghost use Rattle.solid_mesh.specs.Solids.{solid_part};
 ghost use Rattle.cut_marks.specs.Letters.{IsLetterOf};
 ghost use Rattle.cut_marks.specs.Traces.{foot_of, way_of, looks, is_upright, is_forward, IsTraceOn, AreTraces};
 
-use crate::boxes::shown_at;
 use crate::letters::letter_of;
 use crate::sections::{goes_through, is_spread};
+use crate::shown::shown_at;
 use crate::ways::{Trace, Way};
 use exact_frac::OutOfMemory;
 use lattice::{Axis, Corner, Cut, Dir};
@@ -41,45 +42,6 @@ pub(crate) fn is_forward(way: Way) -> bool
     }
 }
 
-/// Both are 0.
-fn are_nothing(a: i64, b: i64) -> bool
-    ensures { IsTrue result ↔ ((a ≡ pos 0) × (b ≡ pos 0)) }
-{
-    a == 0 && b == 0
-}
-
-/// The axis that a direction is along, if it is along one.
-fn sight_axis(d: &Dir) -> Option<Axis>
-    ensures some { IfSome result (λ axis. IsAlong axis (of_dir d.now)) }
-    ensures none { result ≡ None → (axis : Axis) → ¬ IsAlong axis (of_dir d.now) }
-{
-    let v = d.vector();
-    if are_nothing(v.y, v.z) {
-        return Some(Axis::X);
-    }
-    if are_nothing(v.x, v.z) {
-        return Some(Axis::Y);
-    }
-    if are_nothing(v.x, v.y) {
-        return Some(Axis::Z);
-    }
-    None
-}
-
-/// The axis beside two different ones.
-fn third(first: Axis, second: Axis) -> Axis
-    ensures { result ≡ third_of first second }
-{
-    match (first, second) {
-        (Axis::X, Axis::Y) | (Axis::Y, Axis::X) => Axis::Z,
-        (Axis::X, Axis::Z) | (Axis::Z, Axis::X) => Axis::Y,
-        (Axis::Y, Axis::Z) | (Axis::Z, Axis::Y) => Axis::X,
-        (Axis::X, Axis::X) => Axis::X,
-        (Axis::Y, Axis::Y) => Axis::Y,
-        (Axis::Z, Axis::Z) => Axis::Z,
-    }
-}
-
 /// The view along an axis has the trace of the cut.
 fn is_seen_along(solid: &Solid, d: &Dir, cut: &Cut, sight: Axis) -> bool
     requires { IsAlong sight (of_dir d.now) }
@@ -91,15 +53,15 @@ fn is_seen_along(solid: &Solid, d: &Dir, cut: &Cut, sight: Axis) -> bool
     if !goes_through(solid, cut) {
         return false;
     }
-    is_spread(solid, third(cut.axis(), sight))
+    is_spread(solid, cut.axis().third(sight))
 }
 
-/// The view has the trace of the cut. Goes four times over the corners.
+/// The view has the trace of the cut. Goes twice over the corners.
 fn is_seen(solid: &Solid, d: &Dir, cut: &Cut) -> bool
     ensures seen { IsTrue result → (sight : Axis) × HasTrace (of_dir d.now) (solid_part solid.now) (plane_of cut.now) sight }
     ensures unseen { IsFalse result → (sight : Axis) → ¬ HasTrace (of_dir d.now) (solid_part solid.now) (plane_of cut.now) sight }
 {
-    match sight_axis(d) {
+    match d.axis() {
         Some(sight) => is_seen_along(solid, d, cut, sight),
         None => false,
     }
@@ -169,7 +131,7 @@ fn add_trace(
     Ok(())
 }
 
-/// The traces of the cuts that the view has, in their order. Goes four times over the corners for each cut.
+/// The traces of the cuts that the view has, in their order. Goes twice over the corners for each cut.
 pub(crate) fn traces_in(
     alloc: Global,
     solid: &Solid,

@@ -18,7 +18,7 @@ use Rattle.geometry.specs.Cuts.{IsOnBorder, IsLeftOfBorder}
 use Rattle.cut_plane.specs.declared.segments.Segment.{Segment}
 use Rattle.cut_plane.specs.Loops.{IsSegmentOf}
 use Rattle.cut_plane.specs.Sides.{IsRightOf, IsNotAbove, IsLower, IsUpwardBetween}
-use Rattle.cut_plane.proofs.BorderPoints.{IsMixOf, AreEnds, border_ends}
+use Rattle.cut_plane.proofs.BorderSums.{IsMixOf, AreEnds, border_ends}
 
 -- ---- sums
 pub sum_turned : (i j : ℤ) (p q : Point) → weighted_sum i p j q ≡ weighted_sum j q i p

@@ -8,7 +8,7 @@ ghost use Rattle.geometry.specs.Cuts.{over_of};
 ghost use Rattle.solid_mesh.specs.Solids.{solid_part};
 ghost use Rattle.cut_plane.specs.inner.Borders.{IsFaceAt, corner_from, corner_to, CrossesBySides, IsOnOneSide, IsSegmentAt, LeadsOver};
 
-use crate::crossings::{border_line, crossing, over};
+use crate::side_crossings::{border_line, crossing, over};
 use lattice::{Corner, Cut, Line, Spot, Tri};
 use solid_mesh::Solid;
 

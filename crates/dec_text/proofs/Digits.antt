@@ -1,8 +1,8 @@
 -- What digits stand for, as a whole and in parts.
 use Rattle.std.proofs.Common.{◌≡◌, ℕ, ◌+◌, ◌-◌, ◌*◌, ◌^◌, ◌<◌, ◌≤◌, zero, suc, Bool, true, false, List, [], ◌∷◌, ◌++◌, length, fold, take, drop, refl, sym, ◌∙◌, ap, arith, lit<, inl, inr}
-use Rattle.std.proofs.Math.Nat.{pow-suc, mul-le-mul_right, mul-le-mul_left, one-le-pow, sub-zero, zero-sub, suc-sub-suc}
+use Rattle.std.proofs.Math.Nat.{pow-suc, pow-le-pow_right, mul-le-mul_right, mul-le-mul_left, one-le-pow, sub-zero, zero-sub, suc-sub-suc}
 use Rattle.std.proofs.lemmas.Bool.{and_parts, and_from, leb-true}
-use Rattle.std.proofs.lemmas.List.{take-append-drop}
+use Rattle.std.proofs.lemmas.List.{take-append-drop, length-take}
 use Rattle.std.proofs.lemmas.List.Sums.{fold-append}
 use Rattle.std.proofs.lemmas.List.Folds.{list_all-append}
 use Rattle.std.specs.Prelude.{nat_le}
@@ -110,3 +110,10 @@ one_end (x ∷ xs) (u ∷ us) ys vs h k p q e =
     let rest : xs ++ ys ≡ us ++ vs = cc in
     let m = one_end xs us ys vs (and_parts (is_ascii_digit x) (list_all is_ascii_digit xs) h).1 (and_parts (is_ascii_digit u) (list_all is_ascii_digit us) k).1 p q rest in
     (let both = m.0 in cc, m.1)
+
+-- ---- a few digits
+pub digits_size : (text : List ℕ) (most : ℕ) → length text ≤ most → AreDigits text → value_of text < 10 ^ most
+digits_size text most few digits = let p = value_less text digits in let q = pow-le-pow_right {n = 10} (omega arith) few in omega (arith, p, q)
+
+pub front_size : (text : List ℕ) (i : ℕ) → length text ≤ 13 → AreDigits text → value_of (take i text) < 10 ^ 13
+front_size text i few digits = digits_size (take i text) 13 (let e = length-take i text in omega (arith, e)) (digits-take i text digits)

@@ -7,7 +7,7 @@ use Rattle.std.specs.Prelude.{Option, Some, None, codes}
 use Rattle.std.specs.List.{list_all}
 use Rattle.std.specs.Char.{is_ascii_digit}
 use Rattle.dec_text.specs.Numbers.{AreDigits, value_of, IsSign, signed, HasExponent, IsExponent, IsFraction, Number, BeginsNumber, IsLongestStart}
-use Rattle.dec_text.specs.inner.Reading.{kind_of, step, may_end}
+use Rattle.dec_text.specs.inner.Reading.{byte_kind, step, may_end}
 use Rattle.dec_text.specs.declared.number.Kind.{Kind}
 use Rattle.dec_text.specs.declared.number.Kind.TheVariants.{Digit, Point, Mark, Sign, Other}
 use Rattle.dec_text.specs.declared.number.State.{State}
@@ -16,7 +16,7 @@ use Rattle.dec_text.specs.declared.number.State.TheVariants.{Start, Signed, Whol
 -- one byte more, where the bytes before begin a number
 abbrev pub reads : Option State → ℕ → Option State
 reads None byte = None
-reads (Some state) byte = step state (kind_of byte)
+reads (Some state) byte = step state (byte_kind byte)
 
 -- what was read last of the bytes, where they begin a number
 abbrev pub state_after : List ℕ → Option State
@@ -62,10 +62,10 @@ digit_tells : (byte : ℕ) (b : Bool) → is_ascii_digit byte ≡ b → Tells by
 digit_tells byte true h = h
 digit_tells byte false h = point_tells byte (byte == 46) refl
 
-kind_tells : (byte : ℕ) → Tells byte (kind_of byte)
+kind_tells : (byte : ℕ) → Tells byte (byte_kind byte)
 kind_tells byte = digit_tells byte (is_ascii_digit byte) refl
 
-digit_kind : (byte : ℕ) → is_ascii_digit byte ≡ true → kind_of byte ≡ Digit
+digit_kind : (byte : ℕ) → is_ascii_digit byte ≡ true → byte_kind byte ≡ Digit
 digit_kind byte h = ap (λ (b : Bool). cond b Digit (point_kind byte)) h
 
 -- ---- what is to come behind a state
@@ -263,7 +263,7 @@ onward b bs _ _ t more h = not_dead bs h
 
 rest_of : (bytes : List ℕ) (state : State) → ends (fold reads (Some state) bytes) ≡ true → Rest state bytes
 rest_of [] state h = done state h
-rest_of (b ∷ bs) state h = onward b bs state (kind_of b) (kind_tells b) (rest_of bs) h
+rest_of (b ∷ bs) state h = onward b bs state (byte_kind b) (kind_tells b) (rest_of bs) h
 
 number_by_states : (bytes : List ℕ) (state : State) → state_after bytes ≡ Some state → may_end state ≡ true → Number bytes
 number_by_states bytes state e h = rest_of bytes Start (ap ends e ∙ h)
@@ -288,7 +288,7 @@ power_ends false sign digits (inl e) some k = rw e (digits_enter Marked Powered 
 power_ends false sign digits (inr e) some k = rw e (digits_enter MarkSigned Powered refl refl digits some k)
 power_ends true sign digits e some k = rw e (digits_enter MarkSigned Powered refl refl digits some k)
 
-mark_kind_of : (mark : ℕ) → (mark ≡ 101) ⊎ (mark ≡ 69) → kind_of mark ≡ Mark
+mark_kind_of : (mark : ℕ) → (mark ≡ 101) ⊎ (mark ≡ 69) → byte_kind mark ≡ Mark
 mark_kind_of mark (inl e) = rw e refl
 mark_kind_of mark (inr e) = rw e refl
 
@@ -387,7 +387,7 @@ whole_begins : (bytes : List ℕ) → Number bytes → BeginsNumber (take (lengt
 whole_begins bytes n = ([], rw (take_all (length bytes) bytes (omega arith), append-nil bytes) n)
 
 -- the next byte leads nowhere
-pub stops : (bytes : List ℕ) (at : ℕ) (state : State) → at < length bytes → state_after (take at bytes) ≡ Some state → step state (kind_of (get_or bytes at 0)) ≡ None → (Number bytes → ⊥) × IsLongestStart bytes at
+pub stops : (bytes : List ℕ) (at : ℕ) (state : State) → at < length bytes → state_after (take at bytes) ≡ Some state → step state (byte_kind (get_or bytes at 0)) ≡ None → (Number bytes → ⊥) × IsLongestStart bytes at
 stops bytes at state lt e h =
     let now : state_after (take (at + 1) bytes) ≡ None = fold_more reads (Some Start) bytes at 0 lt ∙ ap (λ (s : Option State). reads s (get_or bytes at 0)) e ∙ h in
     let longest : (n : ℕ) → at < n → n ≤ length bytes → BeginsNumber (take n bytes) → ⊥ = λ n p q. none_begins (take n bytes) (dead_behind bytes (at + 1) n (omega arith) now) in

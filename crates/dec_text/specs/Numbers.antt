@@ -1,5 +1,5 @@
 -- How numbers are written, and how many units they are.
-use Rattle.std.specs.Prelude.{◌≡◌, ◌⊎◌, ℕ, ◌+◌, ◌*◌, ◌-◌, ◌^◌, ◌/◌, ◌<◌, ◌≤◌, Bool, true, false, ℤ, pos, negsuc, neg_ℤ, ◌+ℤ◌, ◌-ℤ◌, List, [], ◌∷◌, ◌++◌, length, fold, take, codes}
+use Rattle.std.specs.Prelude.{◌≡◌, ◌⊎◌, ℕ, ◌+◌, ◌*◌, ◌-◌, ◌^◌, ◌/◌, ◌<◌, ◌≤◌, nat_le, ◌&&◌, if◌then◌else◌, Bool, true, false, Option, Some, None, ℤ, pos, negsuc, neg_ℤ, ◌+ℤ◌, ◌-ℤ◌, List, [], ◌∷◌, ◌++◌, length, fold, take, codes}
 use Rattle.std.specs.List.{list_all}
 use Rattle.std.specs.Char.{is_ascii_digit}
 use Rattle.dec_text.specs.declared.number.Length.{Length}
@@ -12,6 +12,10 @@ AreDigits digits = list_all is_ascii_digit digits ≡ true
 -- what decimal digits stand for; 48 is `0`
 abbrev pub value_of : List ℕ → ℕ
 value_of digits = fold (λ n digit. 10 * n + (digit - 48)) 0 digits
+
+-- what 1 to `most` digits stand for
+abbrev pub digits_value : ℕ → List ℕ → Option ℕ
+digits_value most text = if nat_le 1 (length text) && nat_le (length text) most && list_all is_ascii_digit text then Some (value_of text) else None
 
 -- of a number that is not negative nothing or `+`, of a negative one `-`
 abbrev pub IsSign : Bool → List ℕ → Type 0

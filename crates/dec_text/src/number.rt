@@ -1,7 +1,7 @@
 // Numbers as texts, read as whole numbers of units.
 ghost use Rattle.std.specs.Prelude.{◌≡◌, ◌↔◌, ℕ, ◌+◌, ◌*◌, ◌-◌, ◌/◌, ◌^◌, ◌<◌, ◌≤◌, ℤ, List, ◌++◌, length, take, drop, fold, MatchOption, Ok, Err};
 ghost use Rattle.dec_text.specs.Numbers.{AreDigits, value_of, Number, IsExponent, IsLongestStart, tenths_in, magnitude_of, units_of};
-ghost use Rattle.dec_text.specs.inner.Reading.{kind_of, step, may_end, is_minus, behind_sign, IsDigitEnd, HasFraction, IsHeld, IsHeldExponent, count_of, lead_of, front_of, rest_of, tenths_of, IsBelowEnd};
+ghost use Rattle.dec_text.specs.inner.Reading.{byte_kind, step, may_end, is_minus, behind_sign, IsDigitEnd, HasFraction, IsHeld, IsHeldExponent, count_of, lead_of, front_of, rest_of, tenths_of, IsBelowEnd};
 
 /// The largest size of a number in units.
 const LARGEST: u32 = 1048576;
@@ -61,8 +61,8 @@ struct Exponent {
 }
 
 /// What the byte can be.
-fn kind_of(byte: u8) -> Kind
-    ensures { result ≡ kind_of byte }
+fn byte_kind(byte: u8) -> Kind
+    ensures { result ≡ byte_kind byte }
 {
     match byte {
         b'0'..=b'9' => Kind::Digit,
@@ -104,7 +104,7 @@ fn fault_place(bytes: &[u8]) -> Option<u32>
 {
     let mut state = State::Start;
     for (at, byte) in bytes.iter().enumerate() {
-        match step(state, kind_of(*byte)) {
+        match step(state, byte_kind(*byte)) {
             Some(next) => state = next,
             None => return Some(at as u32),
         }

@@ -73,9 +73,9 @@ IsOneOf (Err Failed) new done failed wanting = new ≡ failed
 IsOneOf (Err (Memory e)) new done failed wanting = new ≡ wanting
 
 -- there is nothing in the list
-abbrev pub is_empty : List ℕ → Bool
-is_empty [] = true
-is_empty (x ∷ xs) = false
+abbrev pub is_no_text : List ℕ → Bool
+is_no_text [] = true
+is_no_text (x ∷ xs) = false
 
 -- it tells all; it is steady where no call is to fail, and may find no memory
 abbrev pub told : MemoryState → DeskState
@@ -89,6 +89,6 @@ told s = record {
   read_faults = s.read_faults;
   write_faults = s.write_faults;
   warn_faults = s.warn_faults;
-  steady = is_empty s.failing;
+  steady = is_no_text s.failing;
   firm = false;
 }

@@ -11,7 +11,7 @@ state_of desk = record {
   calls = desk.calls;
   said = desk.said.items;
   warned = desk.warned.items;
-  read_faults = desk.read_faults;
-  write_faults = desk.write_faults;
-  warn_faults = desk.warn_faults;
+  read_faults = desk.faults.read;
+  write_faults = desk.faults.write;
+  warn_faults = desk.faults.warn;
 }

@@ -38,9 +38,9 @@ state_of desk = record {
   said_room = size_of desk.said;
   warned = bytes_in desk.warned;
   warned_room = size_of desk.warned;
-  read_faults = desk.read_faults;
-  write_faults = desk.write_faults;
-  warn_faults = desk.warn_faults;
+  read_faults = desk.faults.read;
+  write_faults = desk.faults.write;
+  warn_faults = desk.faults.warn;
 }
 
 -- there is no room for so many bytes: the name is none that may be kept, or they are more than its room

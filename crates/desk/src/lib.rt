@@ -1,6 +1,7 @@
 //! Where a run finds and leaves its files, with counted faults.
 #![tactic(auto)]
 
+mod counts;
 mod desk;
 mod files;
 mod memory;

@@ -4,6 +4,7 @@ ghost use Rattle.desk.specs.Files.{Keeps, Leaves, file_at};
 ghost use Rattle.desk.specs.Memory.{called, with_read_fault, with_write_fault, with_warn_fault, with_said, with_warned, torn_text, with_torn_said, with_torn_warned, LeavesState, IsOneOf, told};
 ghost use Rattle.desk.specs.inner.Torn.{TearsState};
 
+use crate::counts::FaultCounts;
 use crate::files::{copy_from, find, front, place_of};
 use crate::{Desk, DeskFault, Failed};
 use dec_text::Name;
@@ -21,9 +22,7 @@ pub struct MemoryDesk {
     calls: u64,
     said: Vec<u8>,
     warned: Vec<u8>,
-    read_faults: u64,
-    write_faults: u64,
-    warn_faults: u64,
+    faults: FaultCounts,
 }
 
 // Puts bytes under a name, over what it held.
@@ -77,9 +76,7 @@ impl MemoryDesk {
             calls: 0,
             said: Vec::new(alloc),
             warned: Vec::new(alloc),
-            read_faults: 0,
-            write_faults: 0,
-            warn_faults: 0,
+            faults: FaultCounts::none(),
         }
     }
 
@@ -106,9 +103,7 @@ impl MemoryDesk {
             calls: 0,
             said: Vec::new(alloc),
             warned: Vec::new(alloc),
-            read_faults: 0,
-            write_faults: 0,
-            warn_faults: 0,
+            faults: FaultCounts::none(),
         }
     }
 
@@ -144,32 +139,6 @@ impl MemoryDesk {
         let call = self.calls;
         self.calls = call.saturating_add(1);
         is_listed(&self.failing, call)
-    }
-
-    fn count_read_fault(&mut self) -> Failed
-        ensures counted { state_of self.new ≡ with_read_fault (state_of self.old) }
-        ensures never_falls { (state_of self.old).read_faults ≤ (state_of self.new).read_faults }
-    {
-        self.read_faults = self.read_faults.saturating_add(1);
-        Failed
-    }
-
-    fn count_write_fault(&mut self) -> DeskFault
-        ensures failed { result ≡ DeskFault.Failed }
-        ensures counted { state_of self.new ≡ with_write_fault (state_of self.old) }
-        ensures never_falls { (state_of self.old).write_faults ≤ (state_of self.new).write_faults }
-    {
-        self.write_faults = self.write_faults.saturating_add(1);
-        DeskFault::Failed
-    }
-
-    fn count_warn_fault(&mut self) -> DeskFault
-        ensures failed { result ≡ DeskFault.Failed }
-        ensures counted { state_of self.new ≡ with_warn_fault (state_of self.old) }
-        ensures never_falls { (state_of self.old).warn_faults ≤ (state_of self.new).warn_faults }
-    {
-        self.warn_faults = self.warn_faults.saturating_add(1);
-        DeskFault::Failed
     }
 
     // Leaves of a file what a failed call leaves.
@@ -231,11 +200,11 @@ impl Desk for MemoryDesk {
         ensures never_falls { (state_of self.old).read_faults ≤ (state_of self.new).read_faults }
     {
         if self.count_call() {
-            return Err(self.count_read_fault());
+            return Err(self.faults.count_read());
         }
         match self.file(name) {
             Some(bytes) => Ok(copy_from(bytes, at, into)),
-            None => Err(self.count_read_fault()),
+            None => Err(self.faults.count_read()),
         }
     }
 
@@ -253,7 +222,7 @@ impl Desk for MemoryDesk {
     {
         if self.count_call() {
             return match self.tear_file(name, bytes) {
-                Ok(()) => Err(self.count_write_fault()),
+                Ok(()) => Err(self.faults.count_write()),
                 Err(none) => Err(DeskFault::Memory(none)),
             };
         }
@@ -276,7 +245,7 @@ impl Desk for MemoryDesk {
     {
         if self.count_call() {
             return match tear(&mut self.said, self.left, bytes) {
-                Ok(()) => Err(self.count_write_fault()),
+                Ok(()) => Err(self.faults.count_write()),
                 Err(fault) => Err(fault),
             };
         }
@@ -296,7 +265,7 @@ impl Desk for MemoryDesk {
     {
         if self.count_call() {
             return match tear(&mut self.warned, self.left, bytes) {
-                Ok(()) => Err(self.count_warn_fault()),
+                Ok(()) => Err(self.faults.count_warn()),
                 Err(fault) => Err(fault),
             };
         }

@@ -7,6 +7,7 @@ ghost use Rattle.desk.specs.Rooms.{size_of};
 ghost use Rattle.desk.specs.inner.Places.{IsPlaceOf};
 ghost use Rattle.desk.specs.inner.Slots.{IsUnkept};
 
+use crate::counts::FaultCounts;
 use crate::files::{copy_from, find, place_of};
 use crate::rooms::Room;
 use crate::{Desk, DeskFault, Failed};
@@ -21,9 +22,7 @@ pub struct RoomDesk {
     slots: Vec<(Name, Slot)>,
     said: Room,
     warned: Room,
-    read_faults: u64,
-    write_faults: u64,
-    warn_faults: u64,
+    faults: FaultCounts,
 }
 
 // The room of a file that may be kept, and whether it was.
@@ -108,9 +107,7 @@ impl RoomDesk {
             slots,
             said,
             warned,
-            read_faults: 0,
-            write_faults: 0,
-            warn_faults: 0,
+            faults: FaultCounts::none(),
         })
     }
 
@@ -142,32 +139,6 @@ impl RoomDesk {
     {
         self.warned.as_slice()
     }
-
-    fn count_read_fault(&mut self) -> Failed
-        ensures counted { state_of self.new ≡ with_read_fault (state_of self.old) }
-        ensures never_falls { (state_of self.old).read_faults ≤ (state_of self.new).read_faults }
-    {
-        self.read_faults = self.read_faults.saturating_add(1);
-        Failed
-    }
-
-    fn count_write_fault(&mut self) -> DeskFault
-        ensures failed { result ≡ DeskFault.Failed }
-        ensures counted { state_of self.new ≡ with_write_fault (state_of self.old) }
-        ensures never_falls { (state_of self.old).write_faults ≤ (state_of self.new).write_faults }
-    {
-        self.write_faults = self.write_faults.saturating_add(1);
-        DeskFault::Failed
-    }
-
-    fn count_warn_fault(&mut self) -> DeskFault
-        ensures failed { result ≡ DeskFault.Failed }
-        ensures counted { state_of self.new ≡ with_warn_fault (state_of self.old) }
-        ensures never_falls { (state_of self.old).warn_faults ≤ (state_of self.new).warn_faults }
-    {
-        self.warn_faults = self.warn_faults.saturating_add(1);
-        DeskFault::Failed
-    }
 }
 
 impl Desk for RoomDesk {
@@ -191,7 +162,7 @@ impl Desk for RoomDesk {
     {
         match self.file(name) {
             Some(bytes) => Ok(copy_from(bytes, at, into)),
-            None => Err(self.count_read_fault()),
+            None => Err(self.faults.count_read()),
         }
     }
 
@@ -209,7 +180,7 @@ impl Desk for RoomDesk {
                 self.slots[i].1.keep(bytes);
                 Ok(())
             }
-            None => Err(self.count_write_fault()),
+            None => Err(self.faults.count_write()),
         }
     }
 
@@ -224,7 +195,7 @@ impl Desk for RoomDesk {
         ensures never_falls { (state_of self.old).write_faults ≤ (state_of self.new).write_faults }
     {
         if !self.said.append(bytes) {
-            return Err(self.count_write_fault());
+            return Err(self.faults.count_write());
         }
         Ok(())
     }
@@ -240,7 +211,7 @@ impl Desk for RoomDesk {
         ensures never_falls { (state_of self.old).warn_faults ≤ (state_of self.new).warn_faults }
     {
         if !self.warned.append(bytes) {
-            return Err(self.count_warn_fault());
+            return Err(self.faults.count_warn());
         }
         Ok(())
     }

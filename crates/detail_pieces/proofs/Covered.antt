@@ -2,7 +2,7 @@
 -- it are points that are clear.
 use Rattle.std.proofs.Common.{◌≡◌, ◌⊎◌, inl, inr, zero, suc, List, [], ◌∷◌, ◌++◌, Contains, map, get_or, refl, subst, arith}
 use Rattle.std.proofs.lemmas.List.Elements.{All-contains, Contains-get_or, Contains-append_left, Contains-append_right}
-use Rattle.hiding.proofs.Decisions.{same_or}
+use Rattle.hiding_laws.proofs.Decisions.{same_or}
 use Rattle.lattice.specs.declared.points.Spot.{Spot}
 use Rattle.lattice.specs.declared.pieces.Piece.{Piece}
 use Rattle.lattice.specs.declared.pieces.Strip.{Strip}
@@ -18,10 +18,11 @@ use Rattle.geometry.proofs.Sights.{sight_back}
 use Rattle.line_merge.specs.Merging.{AreStrips, LiesOnStrip, IsClear, AreMerged}
 use Rattle.line_merge.proofs.Lists.{map_contains}
 use Rattle.line_merge.proofs.Sights.{not_seen}
-use Rattle.one_drawing.proofs.Shrinking.{GoesOver, IsNear, near}
-use Rattle.one_drawing.proofs.Sparse.{ViewLine, IsOnViewLine}
-use Rattle.one_drawing.proofs.ViewLines.{IsProper, line_through, through_first, through_second, through_proper, on_between, on_too}
-use Rattle.one_drawing.proofs.ViewOrder.{IsUpTo, seen_itself, three_ways, before_up_to, up_to_before, up_to_on, not_back, up_to_of_lies, lies_first, lies_second, lies_of_up_to}
+use Rattle.drawing_laws.proofs.Shrinking.{GoesOver, IsNear, near}
+use Rattle.drawing_laws.proofs.Sparse.{ViewLine, IsOnViewLine}
+use Rattle.drawing_laws.proofs.ViewLines.{IsProper, line_through, through_first, through_second, through_proper, on_between, on_too}
+use Rattle.drawing_laws.proofs.ViewOrder.{IsUpTo, seen_itself, three_ways, before_up_to, up_to_before, up_to_on, not_back, up_to_of_lies, lies_first, lies_second, lies_of_up_to}
+use Rattle.line_merge.proofs.Given.{between_turned}
 
 -- ---- a strip from its one end to the other, and back
 abbrev ahead : Strip → Piece
@@ -38,9 +39,6 @@ ahead_in strips x there = Contains-append_left (map ahead strips) (map back stri
 
 back_in : (strips : List Strip) (x : Strip) → Contains strips x → Contains (both_ways strips) (back x)
 back_in strips x there = Contains-append_right (map ahead strips) (map back strips) (back x) (map_contains back strips x there)
-
-lies_back : (d : Triple) (a b : Spot) (p : Point) → LiesBetween d a b p → LiesBetween d b a p
-lies_back d a b p (i, j, some, seen) = (j, i, omega arith, subst (λ (q : Point). OnOneSight d q p) (sum_turned a b i j) seen)
 
 -- what holds of the first and of the others
 of_each : (Q : Piece → Type 0) (n : Piece) (ways : List Piece) → Q n → ((m : Piece) → Contains ways m → Q m) → (m : Piece) → Contains (n ∷ ways) m → Q m
@@ -120,7 +118,7 @@ module _ (d : Triple) (strips : List Strip) (are : AreStrips d strips) where
         by : IsBefore d (of_spot x.a) (of_spot x.b) ⊎ (OnOneSight d (of_spot x.a) (of_spot x.b) ⊎ IsBefore d (of_spot x.b) (of_spot x.a)) → Over x
         by (inl less) = inl (h.over (ahead x) (ahead_in strips x there) less lies)
         by (inr (inl seen)) = absurd ((ends_of x there).apart seen)
-        by (inr (inr more)) = inr (h.over (back x) (back_in strips x there) more (lies_back d x.a x.b q lies))
+        by (inr (inr more)) = inr (h.over (back x) (back_in strips x there) more (between_turned d x.a x.b q lies))
 
     off_first : (m : Piece) → GoesOver d line s q m → ¬ OnOneSight d (of_spot m.a) q
     off_first m g = not_seen d (of_spot m.a) q (up_to_before d (of_spot m.a) (of_spot s) q m.a.positive s.positive h.positive g.first h.after)
@@ -167,7 +165,7 @@ module _ (d : Triple) (strips : List Strip) (are : AreStrips d strips) where
 
       lies_by : (x : Strip) → Contains strips x → Over x → LiesOnStrip d x p
       lies_by x there (inl g) = reaches (ahead x) (ahead_in strips x there) g
-      lies_by x there (inr g) = lies_back d x.b x.a p (reaches (back x) (back_in strips x there) g)
+      lies_by x there (inr g) = between_turned d x.b x.a p (reaches (back x) (back_in strips x there) g)
 
       reached : (x : Strip) × Contains strips x × LiesOnStrip d x q → (x : Strip) × Contains strips x × LiesOnStrip d x p
       reached (x, there, lies) = (x, there, lies_by x there (over_of x there lies))

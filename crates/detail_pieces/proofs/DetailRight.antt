@@ -10,8 +10,8 @@ use Rattle.lattice.specs.Points.{Point, IsPoint}
 use Rattle.geometry.specs.Pieces.{LiesOn, LieOnOnce}
 use Rattle.geometry.specs.Scenes.{IsSeenAt, AreRightIn}
 use Rattle.line_merge.specs.Merging.{LiesOnStrip, AreMerged}
-use Rattle.window_clip.specs.declared.windows.Window.{Window}
-use Rattle.window_clip.specs.Windows.{IsInside, IsWithinWindow, IsOnSide, AreClipped}
+use Rattle.detail_pieces.specs.declared.windows.Window.{Window}
+use Rattle.detail_pieces.specs.Windows.{IsInside, IsWithinWindow, IsOnSide, AreClipped}
 use Rattle.drawn_strips.specs.Scenes.{AreStripsIn}
 use Rattle.drawn_strips.proofs.StripsRight.{right_of_strips}
 use Rattle.detail_pieces.specs.Details.{IsOnBoundary, IsDetailIn}

@@ -10,8 +10,8 @@ use Rattle.lattice.specs.Lines.{IsSameLine}
 use Rattle.lattice.specs.Triple.{Triple}
 use Rattle.lattice.specs.Points.{Point, IsPoint, of_spot, OnOneSight}
 use Rattle.line_merge.specs.Merging.{IsClear, LiesOnKind}
-use Rattle.window_clip.specs.declared.windows.Window.{Window}
-use Rattle.window_clip.specs.Windows.{IsInside, IsOnSide, IsEndOf, AreClipped}
+use Rattle.detail_pieces.specs.declared.windows.Window.{Window}
+use Rattle.detail_pieces.specs.Windows.{IsInside, IsOnSide, IsEndOf, AreClipped}
 use Rattle.drawn_strips.specs.Scenes.{AreStripsIn}
 use Rattle.drawn_strips.proofs.StripScenes.{both}
 use Rattle.detail_pieces.proofs.WindowSides.{no_side_seen}

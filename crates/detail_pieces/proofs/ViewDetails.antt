@@ -7,7 +7,7 @@ use Rattle.lattice.specs.Triple.{Triple}
 use Rattle.job_file.specs.declared.job.Job.{Job}
 use Rattle.solid_mesh.specs.Solids.{solid_part}
 use Rattle.solid_mesh.specs.declared.solid.Solid.{Solid}
-use Rattle.drawn_strips.specs.Planes.{planes_in}
+use Rattle.job_file.specs.ShownCuts.{planes_in}
 use Rattle.drawn_strips.specs.Views.{IsOrderedView}
 use Rattle.drawn_strips.proofs.StripsRight.{strips_of_view, ordered_of_view}
 use Rattle.lattice.specs.Cuts.{Plane, plane_of, toward_of}
@@ -22,8 +22,8 @@ use Rattle.geometry.specs.Traces.{IsTracePoint, IsOrdinaryBeside}
 use Rattle.geometry.specs.Views.{IsHidden, IsDrawnPoint}
 use Rattle.job_file.specs.Seen.{direction_seen}
 use Rattle.line_merge.specs.Merging.{AreStrips, AreMerged}
-use Rattle.window_clip.specs.declared.windows.Window.{Window}
-use Rattle.window_clip.specs.Windows.{AreClipped}
+use Rattle.detail_pieces.specs.declared.windows.Window.{Window}
+use Rattle.detail_pieces.specs.Windows.{AreClipped}
 use Rattle.drawn_strips.specs.Scenes.{AreViewStrips}
 use Rattle.detail_pieces.specs.Details.{IsDetailView}
 use Rattle.detail_pieces.proofs.DetailRight.{detail_of_strips}

@@ -5,11 +5,11 @@ use Rattle.std.proofs.lemmas.Int.{ints, by_lt_z}
 use Rattle.integers.proofs.Comparisons.{less_not_same}
 use Rattle.integers.proofs.Orders.{same_of_products}
 use Rattle.integers.proofs.Ring.{var, ◌⊗◌, ring}
-use Rattle.hiding.proofs.Decisions.{at_most_or}
+use Rattle.hiding_laws.proofs.Decisions.{at_most_or}
 use Rattle.lattice.specs.Triple.{Triple}
 use Rattle.lattice.specs.Points.{Point, IsPoint, across_of, upward_of, OnOneSight}
-use Rattle.window_clip.specs.declared.windows.Window.{Window}
-use Rattle.window_clip.specs.Windows.{IsInside, IsWithinWindow, IsOnSide}
+use Rattle.detail_pieces.specs.declared.windows.Window.{Window}
+use Rattle.detail_pieces.specs.Windows.{IsInside, IsWithinWindow, IsOnSide}
 
 -- ---- numbers
 -- of fractions x / v and y / w

@@ -13,8 +13,8 @@ use Rattle.geometry.specs.Pieces.{LiesOn, LiesOnStyle, AreProper, LieOnOnce, Are
 use Rattle.geometry.specs.Scenes.{IsSeenAt, SeesVisible, SeesHiddenAlone, SeesTraceAlone}
 use Rattle.geometry.specs.Traces.{IsTracePoint, IsOrdinaryBeside}
 use Rattle.geometry.specs.Views.{IsHidden, IsDrawnPoint}
-use Rattle.window_clip.specs.declared.windows.Window.{Window}
-use Rattle.window_clip.specs.Windows.{IsInside, IsWithinWindow, IsOnSide}
+use Rattle.detail_pieces.specs.declared.windows.Window.{Window}
+use Rattle.detail_pieces.specs.Windows.{IsInside, IsWithinWindow, IsOnSide}
 
 -- on one of the sides of the window
 abbrev pub IsOnBoundary : Triple → Window → Point → Type 0

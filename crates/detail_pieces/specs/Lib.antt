@@ -1,1 +1,4 @@
 pub mod Details
+pub mod Windows
+pub mod inner
+pub mod Pages

@@ -3,11 +3,13 @@ ghost use Rattle.std.specs.Prelude.{◌<◌, length, IfOk};
 ghost use Rattle.lattice.specs.Creases.{fraction_of};
 ghost use Rattle.job_file.specs.declared.view.JobView.{JobView};
 ghost use Rattle.solid_mesh.specs.Solids.{solid_part};
-ghost use Rattle.drawn_strips.specs.Planes.{planes_in};
+ghost use Rattle.job_file.specs.ShownCuts.{planes_in};
 ghost use Rattle.drawn_strips.specs.Views.{IsOrderedView};
 ghost use Rattle.piece_verify.specs.Checked.{IsViewOf};
 ghost use Rattle.detail_pieces.specs.Details.{IsDetailView};
 
+use crate::clipping::clip;
+use crate::windows::Window;
 use exact_frac::OutOfMemory;
 use job_file::Job;
 use lattice::Piece;
@@ -15,7 +17,6 @@ use line_merge::merge;
 use piece_verify::{view_dir, view_strips};
 use solid_mesh::Solid;
 use std::alloc::Global;
-use window_clip::{Window, clip};
 
 /// The pieces of what a view of the job shows in the window, in their order: the view's strips, found by a direct test of all
 /// faces along each edge, clipped and then put together.

@@ -10,7 +10,7 @@ use Rattle.part_input.specs.Parts.{TakesSolid}
 use Rattle.part_input.specs.declared.fault.Fault.{Fault}
 use Rattle.part_input.proofs.Singles.{same_value, same_fault, not_both, none_some, same_some, named_job_single, solid_single}
 use Rattle.piece_verify.specs.Lists.{IsList, IsFaultLine}
-use Rattle.detail_view.specs.Run.{AsksFor, TakesList, ReadsList, TakesReadList, HasView, Given, listed, viewed, TakesPart, ChecksBy, Checks, TakesViewed, Details, Takes, Runs}
+use Rattle.detail_view.specs.Run.{AsksFor, TakesList, ReadsList, TakesReadList, HasView, Given, listed, viewed, TakesPart, ChecksBy, Checks, TakesViewed, Details, Takes, RunsPieces}
 use Rattle.detail_view.specs.Steps.{◌and_then◌, Lifted, Yields}
 use Rattle.detail_view.specs.Words.{Check, Detail, Asked, checks, details, asked_by}
 use Rattle.detail_view.specs.declared.fault.PiecesFault.{PiecesFault}
@@ -164,5 +164,5 @@ takes_decided : (files : Files) (asked : Asked) → IsDecided (Takes files asked
 takes_decided files (checks c) = checks_decided files c
 takes_decided files (details d) = details_decided files d
 
-pub run_decided : (words : List (List ℕ)) (files : Files) → IsDecided (Runs words files)
+pub run_decided : (words : List (List ℕ)) (files : Files) → IsDecided (RunsPieces words files)
 run_decided words files = decided_then (AsksFor words) (Takes files) (asks_single words) (takes_decided files)

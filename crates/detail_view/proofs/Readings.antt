@@ -29,13 +29,6 @@ span_facts from to h =
     let b = and_parts (int_lt from to) (is_near from) a.0 in
     record { rises = less from to b.0; from_near = near from b.1; to_near = near to a.1 }
 
--- ---- digits
-pub digits_size : (text : List ℕ) (most : ℕ) → length text ≤ most → AreDigits text → value_of text < 10 ^ most
-digits_size text most few digits = let p = value_less text digits in let q = pow-le-pow_right {n = 10} (omega arith) few in omega (arith, p, q)
-
-pub front_size : (text : List ℕ) (i : ℕ) → length text ≤ 13 → AreDigits text → value_of (take i text) < 10 ^ 13
-front_size text i few digits = digits_size (take i text) 13 (let e = length-take i text in omega (arith, e)) (digits-take i text digits)
-
 -- ---- words
 pub word_found : (words : List (String Global)) (i : ℕ) (x : String Global) → i < length words → x ≡ get_or words i x → string_bytes x ≡ word_at (texts words) i
 word_found [] i x h e = absurd (omega (arith, h))

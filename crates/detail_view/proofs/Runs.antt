@@ -5,7 +5,7 @@ use Rattle.piece_verify.specs.declared.check.Verdict.{Verdict}
 use Rattle.desk.specs.Files.{Files, Rose}
 use Rattle.part_input.specs.declared.fault.Fault.TheVariants.{ReadFault}
 use Rattle.detail_view.specs.Faults.{IsReading, IsWriting, CountsReads, CountsWrites, HasNoWriteFault}
-use Rattle.detail_view.specs.Run.{HasVerdict, IsOfAsked, AnswersWords, AskedInOrder, RunsInOrder}
+use Rattle.detail_view.specs.Run.{HasVerdict, IsOfAsked, AnswersPiecesWords, AskedInOrder, RunsInOrder}
 use Rattle.detail_view.specs.Steps.{Refuses, IsMissing, Answers, IsAnswerOf, Ends}
 use Rattle.detail_view.specs.Words.{Asked, checks, details, asked_by}
 use Rattle.detail_view.specs.declared.fault.PiecesFault.{PiecesFault}
@@ -70,10 +70,10 @@ asked_no_usage (details d) (inl h) = h
 asked_no_usage (details d) (inr (inl h)) = h
 asked_no_usage (details d) (inr (inr h)) = h
 
-pub words_answered : (asked : Option Asked) (a : Asked) → asked ≡ Some a → (fault : Option PiecesFault) → IfSome fault (λ e. IsWriting e ⊎ IsOfAsked a e) → AnswersWords asked fault
-words_answered asked a is fault h = subst (λ (o : Option Asked). AnswersWords o fault) (sym is) (by fault h)
+pub words_answered : (asked : Option Asked) (a : Asked) → asked ≡ Some a → (fault : Option PiecesFault) → IfSome fault (λ e. IsWriting e ⊎ IsOfAsked a e) → AnswersPiecesWords asked fault
+words_answered asked a is fault h = subst (λ (o : Option Asked). AnswersPiecesWords o fault) (sym is) (by fault h)
   where
-    by : (fault : Option PiecesFault) → IfSome fault (λ e. IsWriting e ⊎ IsOfAsked a e) → AnswersWords (Some a) fault
+    by : (fault : Option PiecesFault) → IfSome fault (λ e. IsWriting e ⊎ IsOfAsked a e) → AnswersPiecesWords (Some a) fault
     by None h = refl
     by (Some Usage) (inl h) = absurd h
     by (Some Usage) (inr h) = absurd (asked_no_usage a h)

@@ -8,7 +8,7 @@ use Rattle.part_input.proofs.Missing.{no_size}
 use Rattle.part_input.specs.declared.fault.Input.TheVariants.{Part as ThePart}
 use Rattle.part_input.specs.declared.fault.Fault.TheVariants.{ReadFault}
 use Rattle.detail_view.specs.Run.{IsOfJob, IsOfView, IsOfPartNamed, IsOfDetail, TakesViewed, DetailsInOrder}
-use Rattle.detail_view.specs.Steps.{◌and_then◌, Gives, IsMissing}
+use Rattle.detail_view.specs.Steps.{◌and_then◌, GivesPieces, IsMissing}
 use Rattle.detail_view.specs.Words.{Detail}
 use Rattle.detail_view.specs.declared.fault.PiecesFault.{PiecesFault}
 use Rattle.detail_view.specs.declared.fault.PiecesFault.TheVariants.{Input, ReadList}
@@ -16,7 +16,7 @@ use Rattle.detail_view.proofs.Chains.{refuses_as}
 
 -- what the first step gave goes on
 pub gives_next : {A B X : Type 0} (first : Result A PiecesFault → Type 0) (next : A → Result B PiecesFault → Type 0) (x : A) → first (Ok x)
-    → (view : X → B) (r : Result X PiecesFault) → Gives view (next x) r → Gives view (first and_then next) r
+    → (view : X → B) (r : Result X PiecesFault) → GivesPieces view (next x) r → GivesPieces view (first and_then next) r
 gives_next first next x so_far view (Ok y) h = (x, so_far, h)
 gives_next first next x so_far view (Err e) h = refuses_as (next x) (first and_then next) (λ e h. inr (x, so_far, h)) e h
 

@@ -12,12 +12,12 @@ use Rattle.lattice.specs.declared.pieces.Piece.{Piece}
 use Rattle.lattice.specs.declared.points.Dir.{Dir}
 use Rattle.solid_mesh.specs.Solids.{solid_part}
 use Rattle.solid_mesh.specs.declared.solid.Solid.{Solid}
-use Rattle.drawn_strips.specs.Planes.{planes_in}
+use Rattle.job_file.specs.ShownCuts.{planes_in}
 use Rattle.drawn_strips.specs.Views.{IsOrderedView}
 use Rattle.piece_verify.specs.Checked.{IsViewOf}
-use Rattle.window_clip.specs.declared.windows.Window.{Window}
+use Rattle.detail_pieces.specs.declared.windows.Window.{Window}
 use Rattle.detail_pieces.specs.Details.{IsDetailView}
-use Rattle.detail_page.specs.Pages.{IsDetailText}
+use Rattle.detail_pieces.specs.Pages.{IsDetailText}
 use Rattle.detail_view.specs.Run.{Given, viewed, Details}
 use Rattle.detail_view.specs.Seen.{window_seen}
 use Rattle.detail_view.specs.Words.{Detail, Asked, checks, details}

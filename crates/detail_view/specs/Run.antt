@@ -10,8 +10,8 @@ use Rattle.job_file.specs.declared.job.Job.{Job}
 use Rattle.solid_mesh.specs.Solids.{solid_part}
 use Rattle.solid_mesh.specs.declared.solid.Solid.{Solid}
 use Rattle.sheet_plan.specs.declared.sheet.Stroke.{Stroke}
-use Rattle.list_lines.specs.Lines.{IsEntryOf}
-use Rattle.list_lines.specs.declared.line.Entry.{Entry}
+use Rattle.piece_verify.specs.ListLines.{IsEntryOf}
+use Rattle.piece_verify.specs.declared.line.Entry.{Entry}
 use Rattle.part_input.specs.Jobs.{TakesReadJob, IsOfJobFile}
 use Rattle.part_input.specs.Parts.{sample_size, TakesSolid, IsOfPart, HasSampleOr}
 use Rattle.part_input.specs.declared.fault.Input.TheVariants.{Job as TheJob, Part as ThePart}
@@ -81,8 +81,8 @@ Takes files (checks c) = Checks files c
 Takes files (details d) = Details files d
 
 -- a run: what its words ask for, and what the files at entry give for that
-abbrev pub Runs : List (List ℕ) → Files → Result Given PiecesFault → Type 0
-Runs words files = AsksFor words and_then Takes files
+abbrev pub RunsPieces : List (List ℕ) → Files → Result Given PiecesFault → Type 0
+RunsPieces words files = AsksFor words and_then Takes files
 
 -- ---- verdicts
 -- the verdict is that on the entries of a list, for a solid by a job, as the steps give them
@@ -170,12 +170,12 @@ IsOfAsked (checks c) fault = IsOfCheck c fault
 IsOfAsked (details d) fault = IsOfDetail d fault
 
 -- on every desk the words are refused exactly so, unless memory ran out, and what they name is at fault only as it may be
-abbrev pub AnswersWords : Option Asked → Option PiecesFault → Type 0
-AnswersWords asked None = IsSome asked
-AnswersWords asked (Some Usage) = asked ≡ None
-AnswersWords asked (Some Memory) = Unit {0}
-AnswersWords asked (Some WriteFault) = IsSome asked
-AnswersWords asked (Some fault) = IsSomeAnd asked (λ a. IsOfAsked a fault)
+abbrev pub AnswersPiecesWords : Option Asked → Option PiecesFault → Type 0
+AnswersPiecesWords asked None = IsSome asked
+AnswersPiecesWords asked (Some Usage) = asked ≡ None
+AnswersPiecesWords asked (Some Memory) = Unit {0}
+AnswersPiecesWords asked (Some WriteFault) = IsSome asked
+AnswersPiecesWords asked (Some fault) = IsSomeAnd asked (λ a. IsOfAsked a fault)
 
 -- ---- the order of reading
 -- the job comes first, then a part that isn't a sample, then the list

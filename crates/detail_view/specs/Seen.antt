@@ -1,7 +1,7 @@
 -- What contracts see of words.
 use Rattle.job_file.specs.Seen.{scale_seen}
 use Rattle.detail_view.specs.Words.{Bounds, Check, Detail, Asked, checks, details}
-use Rattle.window_clip.specs.declared.windows.Window.{Window}
+use Rattle.detail_pieces.specs.declared.windows.Window.{Window}
 use Rattle.detail_view.specs.declared.words.CheckWords.{CheckWords}
 use Rattle.detail_view.specs.declared.words.DetailWords.{DetailWords}
 use Rattle.detail_view.specs.declared.words.Words.{Words}

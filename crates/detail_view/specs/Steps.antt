@@ -31,9 +31,9 @@ abbrev pub Refuses : {A : Type 0} → (Result A PiecesFault → Type 0) → Piec
 Refuses steps e = IsFree e ⊎ steps (Err e)
 
 -- a step's result, seen by view
-abbrev pub Gives : {X Y : Type 0} → (X → Y) → (Result Y PiecesFault → Type 0) → Result X PiecesFault → Type 0
-Gives view steps (Ok x) = steps (Ok (view x))
-Gives view steps (Err e) = Refuses steps e
+abbrev pub GivesPieces : {X Y : Type 0} → (X → Y) → (Result Y PiecesFault → Type 0) → Result X PiecesFault → Type 0
+GivesPieces view steps (Ok x) = steps (Ok (view x))
+GivesPieces view steps (Err e) = Refuses steps e
 
 -- a fault of reading is that of the steps, as on a steady desk: the file is missing
 abbrev pub IsMissing : {A : Type 0} → (Result A PiecesFault → Type 0) → PiecesFault → Type 0

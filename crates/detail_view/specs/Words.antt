@@ -1,17 +1,11 @@
 -- What the words behind the program's name ask for: `check PART JOB LIST`, or `detail PART JOB VIEW U1 V1 U2 V2 SCALE OUT`.
 use Rattle.std.specs.Prelude.{ℕ, ◌^◌, Bool, true, false, nat_le, ◌&&◌, ◌||◌, ◌==◌, ℤ, int_lt, unsigned_abs, List, [], ◌∷◌, length, get_or, Option, Some, None, option_map, if◌then◌else◌, codes}
-use Rattle.std.specs.List.{list_all}
-use Rattle.std.specs.Char.{is_ascii_digit}
 use Rattle.std.specs.Str.{bytes_eq}
-use Rattle.dec_text.specs.Numbers.{value_of, signed}
+use Rattle.dec_text.specs.Numbers.{digits_value, signed}
 use Rattle.job_file.specs.Scales.{scales}
 use Rattle.job_file.specs.Steps.{look_up}
 
 -- ---- numbers
--- what 1 to `most` digits stand for
-abbrev pub digits_value : ℕ → List ℕ → Option ℕ
-digits_value most text = if nat_le 1 (length text) && nat_le (length text) most && list_all is_ascii_digit text then Some (value_of text) else None
-
 -- what a minus sign, or none, and 1 to 13 digits stand for
 abbrev pub whole_value : List ℕ → Option ℤ
 whole_value [] = None
@@ -63,16 +57,16 @@ pub data Asked : Type 0 where
   checks : Check → Asked
   details : Detail → Asked
 
-abbrev pub is_empty : List ℕ → Bool
-is_empty name = length name == 0
+abbrev pub is_no_name : List ℕ → Bool
+is_no_name name = length name == 0
 
 abbrev pub check_by : List ℕ → List ℕ → List ℕ → Option Asked
 check_by part job list =
-    if is_empty part || is_empty job || is_empty list then None else Some (checks (record { part = part; job = job; list = list }))
+    if is_no_name part || is_no_name job || is_no_name list then None else Some (checks (record { part = part; job = job; list = list }))
 
 abbrev pub detail_or : List ℕ → List ℕ → Option ℕ → Option Bounds → Option (ℕ × ℕ) → List ℕ → Option Asked
 detail_or part job (Some view) (Some window) (Some scale) out =
-    if is_empty part || is_empty job || is_empty out then None
+    if is_no_name part || is_no_name job || is_no_name out then None
     else Some (details (record { part = part; job = job; view = view; window = window; scale = scale; out = out }))
 detail_or part job _ _ _ out = None
 

@@ -7,7 +7,7 @@ ghost use Rattle.detail_view.specs.Drawn.{IsDrawnOf, LeavesDrawn, pieces_told, H
 ghost use Rattle.detail_view.specs.Faults.{status_of, CountsReads, CountsWrites, HasNoWriteFault, IsWriting};
 ghost use Rattle.detail_view.specs.Run.{HasView, TakesViewed, Details, IsOfJob, IsOfView, IsOfDetail, IsRefusal, DetailsInOrder, HasFiles, OnlyDraws};
 ghost use Rattle.detail_view.specs.Seen.{detail_seen};
-ghost use Rattle.detail_view.specs.Steps.{Gives, IsMissing, Ends};
+ghost use Rattle.detail_view.specs.Steps.{GivesPieces, IsMissing, Ends};
 ghost use Rattle.detail_view.specs.Words.{details};
 ghost use Rattle.detail_view.specs.inner.Drawing.{LeavesPage, TellsPieces};
 ghost use Rattle.detail_view.specs.inner.Judging.{IsOfSaying};
@@ -18,8 +18,7 @@ use crate::fault::{PiecesFault, PiecesOutcome};
 use crate::inputs::{take_job, take_solid};
 use crate::words::DetailWords;
 use desk::{Desk, DeskFault};
-use detail_page::detail_text;
-use detail_pieces::detail_of;
+use detail_pieces::{detail_of, detail_text};
 use exact_frac::OutOfMemory;
 use job_file::Job;
 use lattice::Piece;
@@ -29,7 +28,7 @@ use std::alloc::Global;
 
 /// The job, where it has this view.
 fn with_view(job: Job, view: u32) -> Result<Job, PiecesFault>
-    ensures answer { Gives job_seen (HasView view (job_seen job)) result }
+    ensures answer { GivesPieces job_seen (HasView view (job_seen job)) result }
     ensures in_range { IfOk result (λ same. view < length same.views.items) }
     ensures of_view { IfErr result (IsOfView view) }
 {
@@ -47,7 +46,7 @@ fn take_viewed<D: Desk>(
     desk: &mut D,
 ) -> Result<Job, PiecesFault>
     ensures answer { (D.state desk.old).tells ≡ true →
-        Gives job_seen (TakesViewed (D.state desk.old).files (detail_seen words.now)) result }
+        GivesPieces job_seen (TakesViewed (D.state desk.old).files (detail_seen words.now)) result }
     ensures in_range { IfOk result (λ job. words.now.view < length job.views.items) }
     ensures of_job { IfErr result (λ e. IsOfJob e ⊎ IsOfView words.now.view e) }
     ensures reads { CountsReads (result_err result) (D.state desk.old).read_faults (D.state desk.new).read_faults }
@@ -77,7 +76,7 @@ fn take_shown<D: Desk>(
     desk: &mut D,
 ) -> Result<Shown, PiecesFault>
     ensures answer { (D.state desk.old).tells ≡ true →
-        Gives given_of (Details (D.state desk.old).files (detail_seen words.now)) result }
+        GivesPieces given_of (Details (D.state desk.old).files (detail_seen words.now)) result }
     ensures in_range { IfOk result (λ shown. words.now.view < length shown.job.views.items) }
     ensures of_detail { IfErr result (IsOfDetail (detail_seen words.now)) }
     ensures order { (D.state desk.old).tells ≡ true → IfErr result (DetailsInOrder (D.state desk.old).files (detail_seen words.now)) }

@@ -7,7 +7,7 @@ ghost use Rattle.solid_mesh.specs.Solids.{solid_part};
 ghost use Rattle.part_input.specs.Jobs.{TakesReadJob};
 ghost use Rattle.part_input.specs.Parts.{sample_size, HasSampleOr};
 ghost use Rattle.detail_view.specs.Faults.{fault_of, CountsReads, IsReading};
-ghost use Rattle.detail_view.specs.Steps.{Lifted, Gives, IsMissing};
+ghost use Rattle.detail_view.specs.Steps.{Lifted, GivesPieces, IsMissing};
 ghost use Rattle.detail_view.specs.Run.{ReadsList, TakesPart, TakesReadList, IsOfJob, IsOfPartNamed, IsOfList};
 ghost use Rattle.detail_view.specs.inner.Judging.{GivesEntries};
 
@@ -37,7 +37,7 @@ pub(crate) fn take_job<D: Desk>(
     desk: &mut D,
 ) -> Result<Job, PiecesFault>
     ensures answer { (D.state desk.old).tells ≡ true →
-        Gives job_seen (Lifted (TakesReadJob (D.state desk.old).files (Some name.now))) result }
+        GivesPieces job_seen (Lifted (TakesReadJob (D.state desk.old).files (Some name.now))) result }
     ensures of_job { IfErr result IsOfJob }
     ensures reads { CountsReads (result_err result) (D.state desk.old).read_faults (D.state desk.new).read_faults }
     ensures missing { (D.state desk.old).steady ≡ true →
@@ -60,7 +60,7 @@ pub(crate) fn take_solid<D: Desk>(
     desk: &mut D,
 ) -> Result<Solid, PiecesFault>
     ensures answer { (D.state desk.old).tells ≡ true →
-        Gives solid_part (TakesPart (D.state desk.old).files name.now (job_seen job.now)) result }
+        GivesPieces solid_part (TakesPart (D.state desk.old).files name.now (job_seen job.now)) result }
     ensures of_part { IfErr result (IsOfPartNamed name.now) }
     ensures reads { CountsReads (result_err result) (D.state desk.old).read_faults (D.state desk.new).read_faults }
     ensures missing { (D.state desk.old).steady ≡ true →

@@ -9,7 +9,7 @@ mod numbers;
 mod run;
 mod words;
 
+pub use detail_pieces::{Window, clip};
 pub use fault::{PiecesFault, PiecesOutcome};
 pub use run::pieces;
-pub use window_clip::{Window, clip};
 pub use words::{CheckWords, DetailWords, Words, read_words};

@@ -4,7 +4,7 @@ ghost use Rattle.desk.specs.Files.{OnlyReads, Rose};
 ghost use Rattle.draw_words.specs.Seen.{texts};
 ghost use Rattle.detail_view.specs.Drawn.{pieces_told, HasDetail, KeepsPage};
 ghost use Rattle.detail_view.specs.Faults.{status_of, CountsReads, CountsWrites, HasNoWriteFault, IsWriting};
-ghost use Rattle.detail_view.specs.Run.{Takes, Runs, HasVerdict, IsVerdictOn, SaysAsked, IsOfAsked, IsRefusal, AnswersWords, AskedInOrder, RunsInOrder, HasFiles, OnlyAsked};
+ghost use Rattle.detail_view.specs.Run.{Takes, RunsPieces, HasVerdict, IsVerdictOn, SaysAsked, IsOfAsked, IsRefusal, AnswersPiecesWords, AskedInOrder, RunsInOrder, HasFiles, OnlyAsked};
 ghost use Rattle.detail_view.specs.Seen.{asked_seen};
 ghost use Rattle.detail_view.specs.Steps.{IsMissing, Ends, IsAnswerOf};
 ghost use Rattle.detail_view.specs.Words.{asked_by};
@@ -53,8 +53,8 @@ fn run<D: Desk>(alloc: Global, words: &Words, desk: &mut D) -> PiecesOutcome
 pub fn pieces<D: Desk>(alloc: Global, words: &[String], desk: &mut D) -> PiecesOutcome
     // The answer is that of the run's steps, in their order.
     ensures status { result.status ≡ status_of result.fault result.verdict }
-    ensures answer { (D.state desk.old).tells ≡ true → Ends (Runs (texts words.now) (D.state desk.old).files) result.fault }
-    ensures words { AnswersWords (asked_by (texts words.now)) result.fault }
+    ensures answer { (D.state desk.old).tells ≡ true → Ends (RunsPieces (texts words.now) (D.state desk.old).files) result.fault }
+    ensures words { AnswersPiecesWords (asked_by (texts words.now)) result.fault }
     ensures order { (D.state desk.old).tells ≡ true → IfSome result.fault (RunsInOrder (texts words.now) (D.state desk.old).files) }
 
     // A fault of the desk is answered exactly where it counted one.
@@ -63,17 +63,17 @@ pub fn pieces<D: Desk>(alloc: Global, words: &[String], desk: &mut D) -> PiecesO
 
     // A steady desk fails only where a file is missing.
     ensures missing { (D.state desk.old).steady ≡ true →
-        IfSome result.fault (IsMissing (Runs (texts words.now) (D.state desk.old).files)) }
+        IfSome result.fault (IsMissing (RunsPieces (texts words.now) (D.state desk.old).files)) }
     ensures steady { (D.state desk.old).steady ≡ true → HasNoWriteFault result.fault }
 
     // Where no fault of reading or writing was counted, the answer is that of the steps, or want of memory.
     ensures complete { (D.state desk.old).tells ≡ true →
         (Rose (D.state desk.old).read_faults (D.state desk.new).read_faults → ⊥) →
         (Rose (D.state desk.old).write_faults (D.state desk.new).write_faults → ⊥) →
-        IsAnswerOf (Runs (texts words.now) (D.state desk.old).files) result.fault }
+        IsAnswerOf (RunsPieces (texts words.now) (D.state desk.old).files) result.fault }
 
     // On a steady desk it is so whatever was counted.
-    ensures exact { (D.state desk.old).steady ≡ true → IsAnswerOf (Runs (texts words.now) (D.state desk.old).files) result.fault }
+    ensures exact { (D.state desk.old).steady ≡ true → IsAnswerOf (RunsPieces (texts words.now) (D.state desk.old).files) result.fault }
 
     // A steady desk that has the files that the words name to be read counts no fault.
     ensures held { (D.state desk.old).steady ≡ true →

@@ -3,15 +3,16 @@ ghost use Rattle.std.specs.Prelude.{◌≡◌, ◌<◌, Some, None, IfOk, IsErrO
 ghost use Rattle.draw_words.specs.Seen.{texts};
 ghost use Rattle.job_file.specs.Scales.{scales};
 ghost use Rattle.job_file.specs.Seen.{scale_seen};
-ghost use Rattle.detail_view.specs.Words.{is_near, is_span, bounds_or, bounds_by, check_by, detail_or, digits_value, word_at, detail_words, asked_by};
+ghost use Rattle.detail_view.specs.Words.{is_near, is_span, bounds_or, bounds_by, check_by, detail_or, word_at, detail_words, asked_by};
 ghost use Rattle.detail_view.specs.Seen.{window_seen, asked_seen};
+ghost use Rattle.dec_text.specs.Numbers.{digits_value};
 
-use crate::numbers::{natural, whole};
-use dec_text::Name;
+use crate::numbers::whole;
+use dec_text::{Name, natural};
+use detail_pieces::Window;
 use draw_words::WordsError;
 use job_file::Scale;
 use std::alloc::Global;
-use window_clip::Window;
 
 /// What a list is checked for.
 #[derive(Debug, Drop)]

@@ -13,7 +13,7 @@ use Rattle.part_input.specs.declared.fault.Fault.{Fault}
 use Rattle.part_input.specs.declared.fault.Fault.TheVariants.{Usage, ReadFault, Job as JobUnread, NoPlotter, SampleRange, Part as PartUnread, Nothing, Mesh, WriteFault, Memory}
 use Rattle.part_input.proofs.Answered.{IsOfNoDesk, of_steps, of_steady, uncounted, given, refused}
 use Rattle.part_input.proofs.Singles.{IsSingle}
-use Rattle.draw_core.specs.Run.{HasPlotters, Drawn, PlansSheet, TakesMetJob, DrawsFiles, Runs, HasJobFile, HasFiles}
+use Rattle.draw_core.specs.Run.{HasPlotters, Drawn, PlansSheet, TakesMetJob, DrawsFiles, RunsDraw, HasJobFile, HasFiles}
 use Rattle.draw_core.specs.inner.Faults.{IsWriteOutcome}
 use Rattle.draw_core.proofs.OneAnswer.{one_answer}
 use Rattle.put_texts.specs.Faults.{CountsWrites, HasNoWriteFault}
@@ -67,13 +67,13 @@ module _ (suffixes : List (List ℕ)) (files : Files) (input : Input) where
       never_then (TakesMetJob suffixes files named.job) (λ job. TakesSolid files named.part job.decimals job.unit and_then PlansSheet job) (ReadFault input) (met_job_there named.job job)
       (λ job. never_then (TakesSolid files named.part job.decimals job.unit) (PlansSheet job) (ReadFault input) (part_there named.part job.decimals job.unit part) (λ part h. h))
 
-  never_missing : (words : List (List ℕ)) → IfSome (named_by words) (HasFiles files) → Runs suffixes words files (Err (ReadFault input)) → ⊥
+  never_missing : (words : List (List ℕ)) → IfSome (named_by words) (HasFiles files) → RunsDraw suffixes words files (Err (ReadFault input)) → ⊥
   never_missing words there (inl (e, none)) = not_read input Usage refl e
   never_missing words there (inr (named, is, h)) = files_there named (subst (λ (o : Option Named). IfSome o (HasFiles files)) is there) h
 
 module _ (suffixes words : List (List ℕ)) (files : Files) where
   abbrev Steps : Result Drawn Fault → Type 0
-  Steps = Runs suffixes words files
+  Steps = RunsDraw suffixes words files
 
   one : IsSingle Steps
   one = one_answer suffixes words files

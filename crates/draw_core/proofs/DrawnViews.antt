@@ -2,7 +2,7 @@
 use Rattle.std.proofs.Common.{◌≡◌, ◌≤◌, length, arith}
 use Rattle.std.proofs.lemmas.Slice.Zip.{AllZip-long}
 use Rattle.solid_mesh.specs.Solids.{solid_part}
-use Rattle.drawn_strips.specs.Planes.{planes_in}
+use Rattle.job_file.specs.ShownCuts.{planes_in}
 use Rattle.draw_core.specs.Drawing.{ShowsJobView, spacing_on, IsDrawing}
 use Rattle.draw_core.specs.declared.drawing.Drawing.{Drawing}
 use Rattle.draw_core.proofs.SheetFacts.{as_many_places}

@@ -29,10 +29,10 @@ use Rattle.solid_mesh.specs.Solids.{solid_part}
 use Rattle.solid_mesh.specs.declared.solid.Solid.{Solid}
 use Rattle.solid_mesh.proofs.Facts.{closed, in_range}
 use Rattle.drawn_strips.specs.Views.{IsRightView}
-use Rattle.view_boxes.specs.Standing.{IsInBox, StandsInBox}
-use Rattle.view_boxes.proofs.OnPaper.{IsInExtent, shown_in_box}
-use Rattle.view_boxes.proofs.Drawn.{EndsInExtent, plain_in_extent, cut_in_extent}
-use Rattle.view_boxes.proofs.Hatched.{hatch_in_extent}
+use Rattle.drawing_laws.specs.Standing.{IsInBox, StandsInBox}
+use Rattle.drawing_laws.proofs.OnPaper.{IsInExtent, shown_in_box}
+use Rattle.drawing_laws.proofs.Drawn.{EndsInExtent, plain_in_extent, cut_in_extent}
+use Rattle.drawing_laws.proofs.Hatched.{hatch_in_extent}
 use Rattle.view_lines.specs.Views.{IsHatchedView}
 use Rattle.view_lines.specs.declared.view.ViewDrawing.{ViewDrawing}
 use Rattle.draw_core.specs.Drawing.{ShowsJobView, StandInBoxes}

@@ -8,13 +8,13 @@ use Rattle.geometry.specs.Parts.{Part}
 use Rattle.job_file.specs.Documents.{JobValues}
 use Rattle.part_input.specs.Jobs.{ReadsJob, TakesReadJob}
 use Rattle.part_input.specs.Parts.{sample_size, MakesSample, ChecksPart, TakesSoupOr, TakesSolid, IsOfSampleOr}
-use Rattle.part_input.specs.Steps.{◌and_then◌, Refuses, Gives}
+use Rattle.part_input.specs.Steps.{◌and_then◌, Refuses, GivesInput}
 use Rattle.part_input.specs.declared.fault.Input.{Input}
 use Rattle.part_input.specs.declared.fault.Fault.{Fault}
 use Rattle.part_input.specs.declared.fault.Fault.TheVariants.{ReadFault, WriteFault, Memory}
 use Rattle.part_input.proofs.Answered.{IsOfNoDesk}
 use Rattle.put_texts.specs.Faults.{HasNoWriteFault}
-use Rattle.draw_core.specs.Run.{Drawn, PlansSheet, IsOfJob, IsOfFiles, AnswersWords, NamesNoFile, IsJobOf, IsPartOf, IsOfWords}
+use Rattle.draw_core.specs.Run.{Drawn, PlansSheet, IsOfJob, IsOfFiles, AnswersDrawWords, NamesNoFile, IsJobOf, IsPartOf, IsOfWords}
 
 -- ---- what they say
 abbrev no_files : Files
@@ -36,7 +36,7 @@ part_by_words name decimals unit part sample = go (sample_size name) (λ is. sam
 -- so it is of the drawing of that job and that part
 pub drawn_by_words : {X : Type 0} (view : X → Drawn) (r : Result X Fault) (named : Named) (job : JobValues) (part : Part)
     → (named.job ≡ None → (files : Files) → TakesReadJob files named.job (Ok job)) → (IsSome (sample_size named.part) → (files : Files) → TakesSolid files named.part job.decimals job.unit (Ok part))
-    → Gives view (PlansSheet job part) r → IfOk r (λ x. IsOfWords named (view x))
+    → GivesInput view (PlansSheet job part) r → IfOk r (λ x. IsOfWords named (view x))
 drawn_by_words view (Ok x) named job part usual sample (same, has) =
     let is : IsOfWords named (record { job = job; part = part }) = record {
       job = job_by_words named.job job usual;
@@ -56,7 +56,7 @@ not_read named alone input (inr (inl of_part)) = go (sample_size named.part) alo
     go (Some size) is h = h
 not_read named alone input (inr (inr of_sheet)) = of_sheet
 
-pub no_desk : (named : Option Named) → IfSome named NamesNoFile → (e : Fault) → AnswersWords named (Some e) → HasNoWriteFault (Some e) → IsOfNoDesk e
+pub no_desk : (named : Option Named) → IfSome named NamesNoFile → (e : Fault) → AnswersDrawWords named (Some e) → HasNoWriteFault (Some e) → IsOfNoDesk e
 no_desk None alone (ReadFault input) words none = absurd (words)
 no_desk (Some names) alone (ReadFault input) words none = absurd (not_read names alone input words)
 no_desk named alone (WriteFault target) words none = absurd (none)

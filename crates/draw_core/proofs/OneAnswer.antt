@@ -5,7 +5,7 @@ use Rattle.desk.specs.Files.{Files}
 use Rattle.draw_words.specs.Names.{Named, named_by}
 use Rattle.geometry.specs.Parts.{Part}
 use Rattle.job_file.specs.Documents.{JobValues}
-use Rattle.one_answer.proofs.OneSheet.{no_both, one_lack}
+use Rattle.answers_unique.proofs.OneSheet.{no_both, one_lack}
 use Rattle.part_input.specs.Jobs.{TakesReadJob}
 use Rattle.part_input.specs.Parts.{TakesSolid}
 use Rattle.part_input.specs.Steps.{◌and_then◌}
@@ -14,7 +14,7 @@ use Rattle.part_input.specs.declared.fault.Fault.TheVariants.{NoPlotter, DoesNot
 use Rattle.part_input.proofs.Singles.{IsSingle, single_then, none_some, same_some, named_job_single, solid_single}
 use Rattle.draw_core.specs.Outputs.{first_unmet}
 use Rattle.draw_core.specs.Sheets.{HasSheet, HasNoSheet}
-use Rattle.draw_core.specs.Run.{NamesFiles, HasPlotters, Drawn, PlansSheet, TakesMetJob, DrawsFiles, Runs}
+use Rattle.draw_core.specs.Run.{NamesFiles, HasPlotters, Drawn, PlansSheet, TakesMetJob, DrawsFiles, RunsDraw}
 
 -- ---- the words
 names_single : (words : List (List ℕ)) → IsSingle (NamesFiles words)
@@ -65,5 +65,5 @@ draws_single suffixes files named =
     single_then (TakesMetJob suffixes files named.job) (λ job. TakesSolid files named.part job.decimals job.unit and_then PlansSheet job) (met_job_single suffixes files named.job)
     (λ job. single_then (TakesSolid files named.part job.decimals job.unit) (PlansSheet job) (solid_single files named.part job.decimals job.unit) (plan_single job))
 
-pub one_answer : (suffixes words : List (List ℕ)) (files : Files) (r s : Result Drawn Fault) → Runs suffixes words files r → Runs suffixes words files s → r ≡ s
+pub one_answer : (suffixes words : List (List ℕ)) (files : Files) (r s : Result Drawn Fault) → RunsDraw suffixes words files r → RunsDraw suffixes words files s → r ≡ s
 one_answer suffixes words files = single_then (NamesFiles words) (DrawsFiles suffixes files) (names_single words) (draws_single suffixes files)

@@ -17,7 +17,7 @@ use Rattle.sheet_plan.specs.declared.sheet.Sheet.{Sheet}
 use Rattle.sheet_plan.specs.declared.sheet.Stroke.{Stroke}
 use Rattle.sheet_plan.specs.Sheets.{spacing_of}
 use Rattle.svg_page.specs.Svg.{svg_of}
-use Rattle.drawn_strips.specs.Planes.{planes_in}
+use Rattle.job_file.specs.ShownCuts.{planes_in}
 use Rattle.draw_core.specs.Numbers.{SumsViews}
 use Rattle.draw_core.specs.Outputs.{File, plot_name, HoldsAll, LeavesAll}
 use Rattle.draw_core.specs.Run.{Drawn}
@@ -25,7 +25,7 @@ use Rattle.draw_core.specs.Sheets.{IsSheetOf}
 use Rattle.draw_core.specs.Strokes.{AreStrokes}
 use Rattle.draw_core.specs.declared.drawing.Drawing.{Drawing}
 use Rattle.part_input.specs.declared.fault.Fault.{Fault}
-use Rattle.view_boxes.specs.Standing.{StandsInBox}
+use Rattle.drawing_laws.specs.Standing.{StandsInBox}
 use Rattle.view_lines.specs.Views.{ShowsView}
 use Rattle.view_lines.specs.declared.numbers.ViewNumbers.{ViewNumbers}
 use Rattle.view_lines.specs.declared.view.ViewDrawing.{ViewDrawing}

@@ -46,8 +46,8 @@ DrawsFiles suffixes files named =
     TakesMetJob suffixes files named.job and_then λ job. (TakesSolid files named.part job.decimals job.unit and_then PlansSheet job)
 
 -- a run with plotters of these suffixes: what is drawn, or the refusal
-abbrev pub Runs : List (List ℕ) → List (List ℕ) → Files → Result Drawn Fault → Type 0
-Runs suffixes words files = NamesFiles words and_then DrawsFiles suffixes files
+abbrev pub RunsDraw : List (List ℕ) → List (List ℕ) → Files → Result Drawn Fault → Type 0
+RunsDraw suffixes words files = NamesFiles words and_then DrawsFiles suffixes files
 
 -- ---- answers
 -- the faults of the usual job, and those of a named one
@@ -78,12 +78,12 @@ abbrev pub IsOfFiles : Named → Fault → Type 0
 IsOfFiles named fault = IsOfJob named.job fault ⊎ IsOfPart named.part fault ⊎ IsOfSheet fault
 
 -- on every desk the words are refused exactly so, unless memory ran out, and the job and the part are at fault only as they may be
-abbrev pub AnswersWords : Option Named → Option Fault → Type 0
-AnswersWords named (Some Usage) = named ≡ None
-AnswersWords named (Some Memory) = Unit {0}
-AnswersWords named (Some (WriteFault target)) = IsSome named
-AnswersWords named (Some fault) = IsSomeAnd named (λ names. IsOfFiles names fault)
-AnswersWords named None = IsSome named
+abbrev pub AnswersDrawWords : Option Named → Option Fault → Type 0
+AnswersDrawWords named (Some Usage) = named ≡ None
+AnswersDrawWords named (Some Memory) = Unit {0}
+AnswersDrawWords named (Some (WriteFault target)) = IsSome named
+AnswersDrawWords named (Some fault) = IsSomeAnd named (λ names. IsOfFiles names fault)
+AnswersDrawWords named None = IsSome named
 
 -- they name no file to be read: no job, and a sample as the part
 pub record NamesNoFile (named : Named) : Type 0 where

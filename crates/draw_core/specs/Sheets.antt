@@ -9,7 +9,7 @@ use Rattle.sheet_plan.specs.declared.errors.PlanError.TheVariants.{DoesNotFit as
 use Rattle.sheet_plan.specs.declared.sheet.Sheet.{Sheet}
 use Rattle.sheet_plan.specs.Boxes.{ViewsAreApart, ViewsAreWithinMargins, StandInColumn, StandInRow}
 use Rattle.sheet_plan.specs.Extents.{AreExtents}
-use Rattle.sheet_plan.specs.Plans.{IsPlanned, IsRefused}
+use Rattle.sheet_plan.specs.Plans.{IsPlanned, IsSheetRefused}
 
 -- the job's sheet for a part with these corners: its views stand apart, within the margins and in line
 pub record IsSheetOf (job : Job) (corners : List Corner) (sheet : Sheet) : Type 0 where
@@ -25,7 +25,7 @@ pub record IsSheetOf (job : Job) (corners : List Corner) (sheet : Sheet) : Type 
 pub record HasNoRoomFor (job : Job) (corners : List Corner) (need_w need_h have_w have_h : ℤ) : Type 0 where
   pub extents : List Extent
   pub reach : AreExtents corners job.views.items extents
-  pub refused : IsRefused job extents (NotFitting need_w need_h have_w have_h)
+  pub refused : IsSheetRefused job extents (NotFitting need_w need_h have_w have_h)
 
 -- that there is such a sheet for a job with these values, and that there is none
 abbrev pub HasSheet : JobValues → List Corner → Type 0

@@ -2,7 +2,7 @@
 ghost use Rattle.std.specs.Prelude.{◌≡◌, IfOk, IfErr};
 ghost use Rattle.std.specs.Result.{result_err};
 ghost use Rattle.job_file.specs.Seen.{job_seen};
-ghost use Rattle.part_input.specs.Steps.{Gives, IsAnswerOf};
+ghost use Rattle.part_input.specs.Steps.{GivesInput, IsAnswerOf};
 ghost use Rattle.solid_mesh.specs.Solids.{solid_part};
 ghost use Rattle.draw_core.specs.Drawing.{drawn_in, IsDrawing};
 ghost use Rattle.draw_core.specs.Numbers.{SumsViews};
@@ -28,7 +28,7 @@ pub(crate) struct Numbered {
 
 /// The drawing of the solid by the job, with its numbers.
 pub(crate) fn numbered_drawing(alloc: Global, solid: Solid, job: Job) -> Result<Numbered, Fault>
-    ensures answer { Gives (λ made. drawn_in made.drawing) (PlansSheet (job_seen job) (solid_part solid)) result }
+    ensures answer { GivesInput (λ made. drawn_in made.drawing) (PlansSheet (job_seen job) (solid_part solid)) result }
     ensures of_sheet { IfErr result IsOfSheet }
     ensures outputs { IfOk result (λ made. made.drawing.job.outputs.items ≡ job.outputs.items) }
     ensures shows { IfOk result (λ made. IsDrawing made.drawing) }
@@ -73,7 +73,7 @@ pub(crate) fn numbered_drawing(alloc: Global, solid: Solid, job: Job) -> Result<
 /// The views may not fit the job's sheet, and memory may run out.
 pub fn drawing_of(alloc: Global, solid: Solid, job: Job) -> Result<Drawing, Fault>
     // It is of the job and the part, or is refused as the views don't fit their sheet.
-    ensures answer { Gives drawn_in (PlansSheet (job_seen job) (solid_part solid)) result }
+    ensures answer { GivesInput drawn_in (PlansSheet (job_seen job) (solid_part solid)) result }
     ensures of_sheet { IfErr result IsOfSheet }
     ensures complete { IsAnswerOf (PlansSheet (job_seen job) (solid_part solid)) (result_err result) }
     ensures shows { IfOk result IsDrawing }

@@ -7,7 +7,7 @@ ghost use Rattle.draw_core.specs.inner.Taken.{drawn_of, IsDrawn};
 ghost use Rattle.plot_rack.specs.Racks.{boxes_of};
 ghost use Rattle.part_input.specs.Faults.{CountsReads, status_of};
 ghost use Rattle.part_input.specs.Steps.{Refuses, IsAnswerOf, IsMissing};
-ghost use Rattle.draw_core.specs.Run.{Runs, AnswersWords, NamesNoFile, IsOfWords, RunsInOrder, HasDrawing, HasFiles};
+ghost use Rattle.draw_core.specs.Run.{RunsDraw, AnswersDrawWords, NamesNoFile, IsOfWords, RunsInOrder, HasDrawing, HasFiles};
 ghost use Rattle.draw_core.specs.inner.Faults.{IsWriteOutcome};
 ghost use Rattle.draw_core.specs.Lines.{Warns, WarnsWhole};
 ghost use Rattle.fault_lines.specs.Lines.{NamesNothing};
@@ -198,8 +198,8 @@ pub fn draw<D: Desk>(
     // The answer is that of the run's steps, in their order.
     ensures status { result.status ≡ status_of result.fault }
     ensures answer { (D.state desk.old).tells ≡ true →
-        IfSome result.fault (Refuses (Runs (map (λ b. (plot b).suffix) extras.items) (texts words.now) (D.state desk.old).files)) }
-    ensures words { AnswersWords (named_by (texts words.now)) result.fault }
+        IfSome result.fault (Refuses (RunsDraw (map (λ b. (plot b).suffix) extras.items) (texts words.now) (D.state desk.old).files)) }
+    ensures words { AnswersDrawWords (named_by (texts words.now)) result.fault }
     ensures order { (D.state desk.old).tells ≡ true →
         IfSome result.fault (RunsInOrder (map (λ b. (plot b).suffix) extras.items) (texts words.now) (D.state desk.old).files) }
 
@@ -209,28 +209,28 @@ pub fn draw<D: Desk>(
 
     // A steady desk fails only where a file is missing.
     ensures missing { (D.state desk.old).steady ≡ true →
-        IfSome result.fault (IsMissing (Runs (map (λ b. (plot b).suffix) extras.items) (texts words.now) (D.state desk.old).files)) }
+        IfSome result.fault (IsMissing (RunsDraw (map (λ b. (plot b).suffix) extras.items) (texts words.now) (D.state desk.old).files)) }
     ensures steady { (D.state desk.old).steady ≡ true → HasNoWriteFault result.fault }
 
     // Where no fault of reading or writing was counted, the answer is that of the steps, or want of memory.
     ensures complete { (D.state desk.old).tells ≡ true →
         (Rose (D.state desk.old).read_faults (D.state desk.new).read_faults → ⊥) →
         (Rose (D.state desk.old).write_faults (D.state desk.new).write_faults → ⊥) →
-        IsAnswerOf (Runs (map (λ b. (plot b).suffix) extras.items) (texts words.now) (D.state desk.old).files) result.fault }
+        IsAnswerOf (RunsDraw (map (λ b. (plot b).suffix) extras.items) (texts words.now) (D.state desk.old).files) result.fault }
 
     // On a steady desk it is so whatever was counted.
     ensures exact { (D.state desk.old).steady ≡ true →
-        IsAnswerOf (Runs (map (λ b. (plot b).suffix) extras.items) (texts words.now) (D.state desk.old).files) result.fault }
+        IsAnswerOf (RunsDraw (map (λ b. (plot b).suffix) extras.items) (texts words.now) (D.state desk.old).files) result.fault }
 
     // On every desk the words say as much of the drawing as they say without a file: of the job where they name none, of the part
     // where it is a sample; and where both is so, the answer is that of the steps, whatever files there are, or want of memory,
     // wherever no fault of writing was counted.
     ensures words_drawn { IfSome result.drawing (λ d. IsSomeAnd (named_by (texts words.now)) (λ named. IsOfWords named (drawn_in d))) }
     ensures words_answer { IfSome (named_by (texts words.now)) NamesNoFile → (files : Files) →
-        IfSome result.fault (Refuses (Runs (map (λ b. (plot b).suffix) extras.items) (texts words.now) files)) }
+        IfSome result.fault (Refuses (RunsDraw (map (λ b. (plot b).suffix) extras.items) (texts words.now) files)) }
     ensures words_complete { IfSome (named_by (texts words.now)) NamesNoFile → (files : Files) →
         (Rose (D.state desk.old).write_faults (D.state desk.new).write_faults → ⊥) →
-        IsAnswerOf (Runs (map (λ b. (plot b).suffix) extras.items) (texts words.now) files) result.fault }
+        IsAnswerOf (RunsDraw (map (λ b. (plot b).suffix) extras.items) (texts words.now) files) result.fault }
 
     // A steady desk that has the files that the words name to be read counts no fault.
     ensures held { (D.state desk.old).steady ≡ true →
@@ -240,7 +240,7 @@ pub fn draw<D: Desk>(
     // The drawing shows the part by the job, from the texts at entry, and its text is what the file holds.
     ensures drawn { HasDrawing result.fault (is_some result.drawing) }
     ensures part { (D.state desk.old).tells ≡ true →
-        IfSome result.drawing (λ d. Runs (map (λ b. (plot b).suffix) extras.items) (texts words.now) (D.state desk.old).files (Ok (drawn_in d))) }
+        IfSome result.drawing (λ d. RunsDraw (map (λ b. (plot b).suffix) extras.items) (texts words.now) (D.state desk.old).files (Ok (drawn_in d))) }
     ensures shows { IfSome result.drawing IsDrawing }
     ensures files { (D.state desk.old).tells ≡ true →
         IfSome result.drawing (WritesNamed (map (λ b. plot b) extras.items) (named_by (texts words.now)) result.fault (D.state desk.old).files (D.state desk.new).files) }

@@ -7,11 +7,11 @@ ghost use Rattle.draw_words.specs.Seen.{named_seen, texts};
 ghost use Rattle.job_file.specs.Seen.{job_seen};
 ghost use Rattle.part_input.specs.Faults.{CountsReads};
 ghost use Rattle.part_input.specs.Jobs.{TakesReadJob};
-ghost use Rattle.part_input.specs.Steps.{Gives, IsMissing};
+ghost use Rattle.part_input.specs.Steps.{GivesInput, IsMissing};
 ghost use Rattle.plot_rack.specs.Choices.{AreChosen};
 ghost use Rattle.plot_rack.specs.Racks.{boxes_of};
 ghost use Rattle.solid_mesh.specs.Solids.{solid_part};
-ghost use Rattle.draw_core.specs.Run.{HasPlotters, PlansSheet, DrawsFiles, Runs, AnswersWords, IsOfUsualJob, IsOfJob, IsOfSheet, IsOfFiles, NamesNoFile, IsOfWords, RunsInOrder};
+ghost use Rattle.draw_core.specs.Run.{HasPlotters, PlansSheet, DrawsFiles, RunsDraw, AnswersDrawWords, IsOfUsualJob, IsOfJob, IsOfSheet, IsOfFiles, NamesNoFile, IsOfWords, RunsInOrder};
 ghost use Rattle.draw_core.specs.inner.Faults.{IsOfOutputs, ReadsInOrder};
 ghost use Rattle.draw_core.specs.inner.Taken.{drawn_of, IsDrawn, HasItsPlotters, GoesWhereNamed};
 ghost use Rattle.put_texts.specs.Faults.{HasNoWriteFault};
@@ -40,7 +40,7 @@ pub(crate) struct Taken {
 
 /// The plotters for the outputs of a job, out of these.
 fn rack_of(alloc: Global, extras: Vec<Box<dyn Plotter>>, job: &Job) -> Result<Rack, Fault>
-    ensures answer { Gives (λ _. job_seen job.now) (HasPlotters (map (λ b. (plot b).suffix) extras.items) (job_seen job.now)) result }
+    ensures answer { GivesInput (λ _. job_seen job.now) (HasPlotters (map (λ b. (plot b).suffix) extras.items) (job_seen job.now)) result }
     ensures of_outputs { IfErr result IsOfOutputs }
     ensures usual { job.now.outputs.items ≡ [] → IfErr result IsOfUsualJob }
     ensures chosen { IfOk result (λ rack. AreChosen (λ b. (plot b).suffix) extras.items job.now.outputs.items (boxes_of rack)) }
@@ -64,7 +64,7 @@ fn no_plotter(alloc: Global, name: &Name) -> Fault
 
 /// The usual job.
 fn usual_job(alloc: Global) -> Result<Job, Fault>
-    ensures answer { (files : Files) → Gives job_seen (TakesReadJob files None) result }
+    ensures answer { (files : Files) → GivesInput job_seen (TakesReadJob files None) result }
     ensures of_job { IfErr result IsOfUsualJob }
     ensures outputs { IfOk result (λ job. job.outputs.items ≡ []) }
 {
@@ -77,8 +77,8 @@ fn usual_job(alloc: Global) -> Result<Job, Fault>
 /// The job of the file with this name, or with no name the usual one.
 fn take_job<D: Desk>(alloc: Global, name: &Option<Name>, desk: &mut D) -> Result<Job, Fault>
     ensures answer { (D.state desk.old).tells ≡ true →
-        Gives job_seen (TakesReadJob (D.state desk.old).files name.now) result }
-    ensures usual { name.now ≡ None → (files : Files) → Gives job_seen (TakesReadJob files name.now) result }
+        GivesInput job_seen (TakesReadJob (D.state desk.old).files name.now) result }
+    ensures usual { name.now ≡ None → (files : Files) → GivesInput job_seen (TakesReadJob files name.now) result }
     ensures of_job { IfErr result (IsOfJob name.now) }
     ensures outputs { name.now ≡ None → IfOk result (λ job. job.outputs.items ≡ []) }
     ensures reads { CountsReads (result_err result) (D.state desk.old).read_faults (D.state desk.new).read_faults }
@@ -94,7 +94,7 @@ fn take_job<D: Desk>(alloc: Global, name: &Option<Name>, desk: &mut D) -> Result
 
 /// The drawing of the solid by the job, with what it is written by.
 fn draw_solid(alloc: Global, out: Name, job: Job, rack: Rack, solid: Solid) -> Result<Taken, Fault>
-    ensures answer { Gives drawn_of (PlansSheet (job_seen job) (solid_part solid)) result }
+    ensures answer { GivesInput drawn_of (PlansSheet (job_seen job) (solid_part solid)) result }
     ensures of_sheet { IfErr result IsOfSheet }
     ensures drawn { IfOk result IsDrawn }
     ensures out { IfOk result (λ taken. taken.out ≡ out) }
@@ -119,9 +119,9 @@ fn take_files<D: Desk>(
     extras: Vec<Box<dyn Plotter>>,
 ) -> Result<Taken, Fault>
     ensures answer { (D.state desk.old).tells ≡ true →
-        Gives drawn_of (DrawsFiles (map (λ b. (plot b).suffix) extras.items) (D.state desk.old).files (named_seen named)) result }
+        GivesInput drawn_of (DrawsFiles (map (λ b. (plot b).suffix) extras.items) (D.state desk.old).files (named_seen named)) result }
     ensures no_file { NamesNoFile (named_seen named) → (files : Files) →
-        Gives drawn_of (DrawsFiles (map (λ b. (plot b).suffix) extras.items) files (named_seen named)) result }
+        GivesInput drawn_of (DrawsFiles (map (λ b. (plot b).suffix) extras.items) files (named_seen named)) result }
     ensures by_words { IfOk result (λ taken. IsOfWords (named_seen named) (drawn_of taken)) }
     ensures of_files { IfErr result (IsOfFiles (named_seen named)) }
     ensures drawn { IfOk result IsDrawn }
@@ -156,11 +156,11 @@ pub(crate) fn take<D: Desk>(
     extras: Vec<Box<dyn Plotter>>,
 ) -> Result<Taken, Fault>
     ensures answer { (D.state desk.old).tells ≡ true →
-        Gives drawn_of (Runs (map (λ b. (plot b).suffix) extras.items) (texts words.now) (D.state desk.old).files) result }
+        GivesInput drawn_of (RunsDraw (map (λ b. (plot b).suffix) extras.items) (texts words.now) (D.state desk.old).files) result }
     ensures no_file { IfSome (named_by (texts words.now)) NamesNoFile → (files : Files) →
-        Gives drawn_of (Runs (map (λ b. (plot b).suffix) extras.items) (texts words.now) files) result }
+        GivesInput drawn_of (RunsDraw (map (λ b. (plot b).suffix) extras.items) (texts words.now) files) result }
     ensures by_words { IfOk result (λ taken. IsSomeAnd (named_by (texts words.now)) (λ named. IsOfWords named (drawn_of taken))) }
-    ensures words { AnswersWords (named_by (texts words.now)) (result_err result) }
+    ensures words { AnswersDrawWords (named_by (texts words.now)) (result_err result) }
     ensures drawn { IfOk result IsDrawn }
     ensures out { IfOk result (GoesWhereNamed (named_by (texts words.now))) }
     ensures plotters { IfOk result (HasItsPlotters (λ b. (plot b).suffix) extras.items) }
@@ -169,7 +169,7 @@ pub(crate) fn take<D: Desk>(
     ensures no_write { HasNoWriteFault (result_err result) }
     ensures reads { CountsReads (result_err result) (D.state desk.old).read_faults (D.state desk.new).read_faults }
     ensures missing { (D.state desk.old).steady ≡ true →
-        IfErr result (IsMissing (Runs (map (λ b. (plot b).suffix) extras.items) (texts words.now) (D.state desk.old).files)) }
+        IfErr result (IsMissing (RunsDraw (map (λ b. (plot b).suffix) extras.items) (texts words.now) (D.state desk.old).files)) }
     ensures changes { OnlyReads (D.state desk.old) (D.state desk.new) }
 {
     match read_words(alloc, words) {

@@ -2,13 +2,12 @@
 ghost use Rattle.std.specs.Prelude.{◌≤◌, length, map, IfOk};
 ghost use Rattle.std.specs.List.{AllZip};
 ghost use Rattle.lattice.specs.Cuts.{plane_of};
-ghost use Rattle.drawn_strips.specs.Planes.{planes_in};
+ghost use Rattle.job_file.specs.ShownCuts.{planes_in};
 ghost use Rattle.draw_core.specs.Drawing.{ShowsJobView};
 ghost use Rattle.draw_core.specs.Numbers.{SumsViews};
 
-use drawn_strips::cuts_in;
 use exact_frac::OutOfMemory;
-use job_file::JobView;
+use job_file::{JobView, cuts_in};
 use lattice::{Crease, Cut};
 use solid_mesh::Solid;
 use std::alloc::Global;

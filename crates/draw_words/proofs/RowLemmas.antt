@@ -65,7 +65,7 @@ is_given-first role (g ∷ gs) = go (is_role role g.role) refl (is_given-first r
     go true e later = rw (same_role g.role role, e) refl
     go false e later = rw (same_role g.role role, e) later
 
-at_row-missing : (id : Text) (change : Row → List Row) (missing rows : List Row) → has_row id rows ≡ false → at_row id change missing rows ≡ rows ++ missing
+pub at_row-missing : (id : Text) (change : Row → List Row) (missing rows : List Row) → has_row id rows ≡ false → at_row id change missing rows ≡ rows ++ missing
 at_row-missing id change missing [] none = refl
 at_row-missing id change missing (r ∷ rows) none = go (bytes_eq r.id id) refl (at_row-missing id change missing rows)
   where
@@ -74,7 +74,7 @@ at_row-missing id change missing (r ∷ rows) none = go (bytes_eq r.id id) refl 
     go true e later = absurd (true≢false (rw e at none))
     go false e later = rw e (ap (λ (rest : List Row). r ∷ rest) (later (rw e at none)))
 
-new_row : (id : Text) (how : Reading) (v : Text) (rows : List Row) → has_row id rows ≡ false
+pub new_row : (id : Text) (how : Reading) (v : Text) (rows : List Row) → has_row id rows ≡ false
     → with_values id how CommandLine (v ∷ []) (without id rows) ≡ rows ++ (record { id = id; values = v ∷ []; count = None; source = Some CommandLine; reading = how }) ∷ []
 new_row id how v rows none =
     let kept : without id rows ≡ rows = at_row-missing id (λ _. []) [] rows none ∙ append-nil rows in

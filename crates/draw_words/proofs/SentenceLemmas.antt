@@ -10,7 +10,7 @@ use Rattle.clap.specs.Simple.{built, entered, matches_of}
 use Rattle.clap.specs.Walk.{Held, Row, Text, Waiting, Walk, finished, first_of, has_row, idle, nothing_held, option, settled, used, walk}
 use Rattle.clap.specs.declared.error.kind.ErrorKind.TheVariants.{ArgumentConflict, MissingRequiredArgument, UnknownArgument}
 use Rattle.draw_words.specs.inner.App.{draw_app}
-use Rattle.draw_words.specs.Grammar.{Given, Kind, Role, as_job, as_out, as_part, before, ends, given, given_at, given_by, gives, is_marked, kind_of, opens, plain, unknown_option}
+use Rattle.draw_words.specs.Grammar.{Given, Kind, Role, as_job, as_out, as_part, before, ends, given, given_at, given_by, gives, is_marked, draw_word_kind, opens, plain, unknown_option}
 use Rattle.draw_words.specs.Names.{Read, is_role, read_given, read_of, texts_as}
 use Rattle.draw_words.specs.Seen.{texts}
 use Rattle.draw_words.proofs.WordLemmas.{IsFault, Reads, id_of, reads, rule_as, rules, top}
@@ -168,7 +168,7 @@ doomed_word plain word words has_part h r f none =
 doomed : (words : List Text) (has_part : Bool) (h : Held) → AreUtf8 words → IsFault (settle_fault rules false h) → h.skip ≡ 0 → IsFault (left_fault (standing idle has_part false h) words)
 unfolding AreUtf8
 doomed [] has_part h utf8 f none = fault_at_end (standing idle has_part false h) f
-doomed (word ∷ words) has_part h utf8 f none = doomed_word (kind_of word) word words has_part h (reads word utf8.0) f none
+doomed (word ∷ words) has_part h utf8 f none = doomed_word (draw_word_kind word) word words has_part h (reads word utf8.0) f none
 
 -- ---- behind `--`
 ended_word : (word : Text) (words : List Text) (waiting : Waiting) (gs : List Given) (h : Held) → IsClosed gs h
@@ -327,10 +327,10 @@ unfolding AreUtf8
 tells [] utf8 None gs h c = subst (λ (all : List Given). TellsFrom (read_given all) (standing idle (is_part gs) false h) []) (sym (append-nil gs)) (closed_end idle false gs h c)
 tells [] utf8 (Some role) gs h s =
     fault_at_end (standing (option (id_of role)) (is_part gs) false h) (subst (λ (held : Held). IsFault (settle_fault rules false held)) (sym s.2) (waiting_fault role (map row gs)))
-tells (word ∷ words) utf8 None gs h c = closed_word (kind_of word) word words gs h (reads word utf8.0) c (tells words utf8.1)
+tells (word ∷ words) utf8 None gs h c = closed_word (draw_word_kind word) word words gs h (reads word utf8.0) c (tells words utf8.1)
 tells (word ∷ words) utf8 (Some role) gs h s =
     subst (λ (held : Held). TellsFrom (read_from gs (given_next role word words)) (standing (option (id_of role)) (is_part gs) false held) (word ∷ words)) (sym s.2)
-    (option_word (kind_of word) role word words gs utf8.1 (reads word utf8.0) s.0 s.1 (tells words utf8.1))
+    (option_word (draw_word_kind word) role word words gs utf8.1 (reads word utf8.0) s.0 s.1 (tells words utf8.1))
 
 -- ---- the whole call
 are_utf8 : (words : List (String Global)) → AreUtf8 (texts words)

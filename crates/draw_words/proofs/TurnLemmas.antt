@@ -19,7 +19,7 @@ pub later_fault : (a b : Kinds) → IsFault b → IsFault (or_else a b)
 later_fault [] b h = h
 later_fault (k ∷ ks) b h = tt
 
-or_else-assoc : (a b c : Kinds) → or_else (or_else a b) c ≡ or_else a (or_else b c)
+pub or_else-assoc : (a b c : Kinds) → or_else (or_else a b) c ≡ or_else a (or_else b c)
 or_else-assoc [] b c = refl
 or_else-assoc (k ∷ ks) b c = refl
 
@@ -55,7 +55,7 @@ pub turn_passes : (w : Walk) (word : Text) (words : List Text) → turn w word �
 turn_passes w word words h = turned w word words ∙ ap (λ (k : Kinds). or_else k (left_fault (walked rules [] w word) words)) h
 
 -- ---- one word
-and_false : (b : Bool) → (b && false) ≡ false
+pub and_false : (b : Bool) → (b && false) ≡ false
 and_false true = refl
 and_false false = refl
 
@@ -240,22 +240,22 @@ pub left_end : (w : Walk) → left_fault w [] ≡ end_fault w.held
 unfolding walk_fault
 left_end w = refl
 
-abbrev HasNoDefaults : List Rule → Type 0
+abbrev pub HasNoDefaults : List Rule → Type 0
 HasNoDefaults [] = Unit {0}
 HasNoDefaults (r ∷ rs) = (r.defaults ≡ []) × HasNoDefaults rs
 
-same_rows : (b : Bool) (rows : List Row) → cond b rows rows ≡ rows
+pub same_rows : (b : Bool) (rows : List Row) → cond b rows rows ≡ rows
 same_rows true rows = refl
 same_rows false rows = refl
 
-with_default-none : (r : Rule) (rows : List Row) → r.defaults ≡ [] → with_default rows r ≡ rows
+pub with_default-none : (r : Rule) (rows : List Row) → r.defaults ≡ [] → with_default rows r ≡ rows
 with_default-none r rows none = rw none (same_rows (has_row r.id rows) rows)
 
-or_true : (b : Bool) → (b || true) ≡ true
+pub or_true : (b : Bool) → (b || true) ≡ true
 or_true true = refl
 or_true false = refl
 
-default_fault-none : (r : Rule) (rows : List Row) → r.defaults ≡ [] → default_fault rows r ≡ []
+pub default_fault-none : (r : Rule) (rows : List Row) → r.defaults ≡ [] → default_fault rows r ≡ []
 default_fault-none r rows none = rw (none, or_true (has_row r.id rows)) refl
 
 defaults_fault-none : (rs : List Rule) (rows : List Row) → HasNoDefaults rs → defaults_fault rows rs ≡ []
@@ -264,7 +264,7 @@ defaults_fault-none [] rows none = refl
 defaults_fault-none (r ∷ rs) rows none =
     ap₂ or_else (default_fault-none r rows none.0) (ap (λ (rest : List Row). defaults_fault rest rs) (with_default-none r rows none.0) ∙ defaults_fault-none rs rows none.1)
 
-all_defaults-none : (rs : List Rule) (rows : List Row) → HasNoDefaults rs → fold with_default rows rs ≡ rows
+pub all_defaults-none : (rs : List Rule) (rows : List Row) → HasNoDefaults rs → fold with_default rows rs ≡ rows
 all_defaults-none [] rows none = refl
 all_defaults-none (r ∷ rs) rows none = ap (λ (rest : List Row). fold with_default rest rs) (with_default-none r rows none.0) ∙ all_defaults-none rs rows none.1
 

@@ -12,7 +12,7 @@ use Rattle.clap.specs.Lexer.{has_byte, long_of, short_of}
 use Rattle.clap.specs.Simple.{Shape, built}
 use Rattle.clap.specs.Walk.{Held, Rule, Text, arg_by_long}
 use Rattle.draw_words.specs.inner.App.{draw_app, part_rule}
-use Rattle.draw_words.specs.Grammar.{Kind, Role, as_job, as_out, as_part, ends, gives, is_marked, kind_of, opens, option_or, plain, unknown_option}
+use Rattle.draw_words.specs.Grammar.{Kind, Role, as_job, as_out, as_part, ends, gives, is_marked, draw_word_kind, opens, option_or, plain, unknown_option}
 use Rattle.draw_words.specs.Names.{is_role}
 
 -- ---- the command as it is built
@@ -148,33 +148,33 @@ marked rest n None d ds is long false true e f = record { name = n; option = ref
 marked rest n (Some v) d ds is long false true e f = record { name = n; option = refl; marked = refl; no_end = rw is refl; long = long; rule = rw (e, f) refl }
 marked rest n value d ds is long false false e f = record { marked = refl; no_end = rw is refl; fault = λ h none. rw (long, e, f) tt }
 
-two_marks : (word : Text) → Reads (kind_of (45 ∷ 45 ∷ word)) (45 ∷ 45 ∷ word)
+two_marks : (word : Text) → Reads (draw_word_kind (45 ∷ 45 ∷ word)) (45 ∷ 45 ∷ word)
 two_marks [] = (refl, refl)
 two_marks (d ∷ ds) =
     let name = before_first is_equals (d ∷ ds) in
     let out : option_or as_out (codes "out") (d ∷ ds) unknown_option ≡ cut_or as_out (codes "out") (d ∷ ds) unknown_option = option_or-cut as_out unknown_option (codes "out") (d ∷ ds) (refl, (refl, (refl, tt))) in
-    let both : kind_of (45 ∷ 45 ∷ d ∷ ds) ≡ cut_or as_job (codes "job") (d ∷ ds) (cut_or as_out (codes "out") (d ∷ ds) unknown_option) =
+    let both : draw_word_kind (45 ∷ 45 ∷ d ∷ ds) ≡ cut_or as_job (codes "job") (d ∷ ds) (cut_or as_out (codes "out") (d ∷ ds) unknown_option) =
     ap (option_or as_job (codes "job") (d ∷ ds)) out ∙ option_or-cut as_job (cut_or as_out (codes "out") (d ∷ ds) unknown_option) (codes "job") (d ∷ ds) (refl, (refl, (refl, tt))) in
     subst (λ (k : Kind). Reads k (45 ∷ 45 ∷ d ∷ ds)) (sym both)
     (marked (d ∷ ds) name (cut (d ∷ ds)) d ds refl refl (bytes_eq (codes "job") name) (bytes_eq (codes "out") name) refl refl)
 
-one_mark : (c : ℕ) (word : Text) → IsUtf8 (45 ∷ c ∷ word) → Reads (kind_of (45 ∷ c ∷ word)) (45 ∷ c ∷ word)
+one_mark : (c : ℕ) (word : Text) → IsUtf8 (45 ∷ c ∷ word) → Reads (draw_word_kind (45 ∷ c ∷ word)) (45 ∷ c ∷ word)
 one_mark c word utf8 = go (c == 45) refl
   where
-    go : (t : Bool) → (c == 45) ≡ t → Reads (kind_of (45 ∷ c ∷ word)) (45 ∷ c ∷ word)
+    go : (t : Bool) → (c == 45) ≡ t → Reads (draw_word_kind (45 ∷ c ∷ word)) (45 ∷ c ∷ word)
     go true e = rw (eqb-true c 45 e) (two_marks word)
     go false e = rw e (record { marked = refl; no_end = rw e refl; fault = λ h none. rw (e, e) (bundle_faults c word h utf8 none) })
 
-pub reads : (word : Text) → IsUtf8 word → Reads (kind_of word) word
+pub reads : (word : Text) → IsUtf8 word → Reads (draw_word_kind word) word
 reads [] utf8 = record { unmarked = refl; no_end = refl; long = refl; short = refl }
 reads (b ∷ []) utf8 = go (b == 45) refl
   where
-    go : (t : Bool) → (b == 45) ≡ t → Reads (kind_of (b ∷ [])) (b ∷ [])
+    go : (t : Bool) → (b == 45) ≡ t → Reads (draw_word_kind (b ∷ [])) (b ∷ [])
     go true e = rw (eqb-true b 45 e) (record { unmarked = refl; no_end = refl; long = refl; short = refl })
     go false e = rw e (record { unmarked = refl; no_end = rw e refl; long = rw e refl; short = rw e refl })
 reads (b ∷ c ∷ word) utf8 = go (b == 45) refl
   where
-    go : (t : Bool) → (b == 45) ≡ t → Reads (kind_of (b ∷ c ∷ word)) (b ∷ c ∷ word)
+    go : (t : Bool) → (b == 45) ≡ t → Reads (draw_word_kind (b ∷ c ∷ word)) (b ∷ c ∷ word)
     go true e =
         let is = eqb-true b 45 e in
         rw is (one_mark c word (rw is at utf8))

@@ -38,8 +38,8 @@ abbrev pub option_or : Role → List ℕ → List ℕ → Kind → Kind
 option_or role name word other =
     if bytes_eq word name then opens role else option_map_or (gives role) (behind (name ++ codes "=") word) other
 
-abbrev pub kind_of : List ℕ → Kind
-kind_of word =
+abbrev pub draw_word_kind : List ℕ → Kind
+draw_word_kind word =
     if bytes_eq word (codes "--") then ends
     else option_or as_job (codes "--job") word (option_or as_out (codes "--out") word (if is_marked word then unknown_option else plain))
 
@@ -68,5 +68,5 @@ given_at plain word words next = before (given as_part word) (next None)
 abbrev pub given_by : Option Role → List (List ℕ) → Option (List Given)
 given_by None [] = Some []
 given_by (Some role) [] = None
-given_by None (word ∷ words) = given_at (kind_of word) word words (λ pending. given_by pending words)
+given_by None (word ∷ words) = given_at (draw_word_kind word) word words (λ pending. given_by pending words)
 given_by (Some role) (word ∷ words) = if is_marked word then None else before (given role word) (given_by None words)

@@ -41,15 +41,15 @@ pub record Named : Type 0 where
   pub job : Option (List ℕ)
   pub out : List ℕ
 
-abbrev pub is_empty : Option (List ℕ) → Bool
-is_empty None = false
-is_empty (Some []) = true
-is_empty (Some (b ∷ text)) = false
+abbrev pub is_empty_value : Option (List ℕ) → Bool
+is_empty_value None = false
+is_empty_value (Some []) = true
+is_empty_value (Some (b ∷ text)) = false
 
 -- no name is empty
 abbrev pub named : Read → Option Named
 named read =
-    if is_empty (Some read.part) || is_empty read.job || is_empty read.out then None
+    if is_empty_value (Some read.part) || is_empty_value read.job || is_empty_value read.out then None
     else Some (record { part = read.part; job = read.job; out = unwrap_or read.out (codes "drawing.svg") })
 
 -- what the words name; None where they are refused

@@ -17,7 +17,7 @@ use std::alloc::{AllocError, Global};
 
 /// What the words give: the one that is plain, and the values of the options.
 #[derive(Clone, Copy)]
-pub struct Found<'a> {
+pub struct DrawTexts<'a> {
     pub part: &'a str,
     pub job: Option<&'a str>,
     pub out: Option<&'a str>,
@@ -85,13 +85,13 @@ fn first_value<'a>(matches: &ArgMatches<'a>, name: &str) -> Option<&'a str>
 }
 
 /// What the words give, where they are a sentence but for empty names. The time goes with the length of the words.
-pub fn read<'a>(alloc: Global, words: &'a [String]) -> Result<Found<'a>, WordsError>
+pub fn read<'a>(alloc: Global, words: &'a [String]) -> Result<DrawTexts<'a>, WordsError>
     ensures read { IfOk result (λ found. read_of (texts words.entry.now) ≡ Some (found_seen found)) }
     ensures usage { IsErrOf result WordsError.Usage → read_of (texts words.entry.now) ≡ None }
 {
     let matches = matches(alloc, words)?;
     match first_value(&matches, "part") {
-        Some(part) => Ok(Found {
+        Some(part) => Ok(DrawTexts {
             part,
             job: first_value(&matches, "job"),
             out: first_value(&matches, "out"),

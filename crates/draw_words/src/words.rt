@@ -1,10 +1,10 @@
 // What the words of a run name.
 ghost use Rattle.std.specs.Prelude.{◌≡◌, IfOk, IsErrOf, Some, None, option_copied};
-ghost use Rattle.draw_words.specs.Names.{is_empty, named, named_by};
+ghost use Rattle.draw_words.specs.Names.{is_empty_value, named, named_by};
 ghost use Rattle.draw_words.specs.Seen.{named_seen, texts};
 ghost use Rattle.draw_words.specs.inner.Seen.{found_seen};
 
-use crate::command::{Found, read};
+use crate::command::{DrawTexts, read};
 use crate::errors::WordsError;
 use dec_text::Name;
 use exact_frac::OutOfMemory;
@@ -19,8 +19,8 @@ pub struct Words {
 }
 
 /// There is a text, and it is empty.
-fn is_empty(text: Option<&str>) -> bool
-    ensures { result ≡ is_empty (option_copied text.entry) }
+fn is_empty_value(text: Option<&str>) -> bool
+    ensures { result ≡ is_empty_value (option_copied text.entry) }
 {
     match text {
         Some(text) => text.is_empty(),
@@ -47,7 +47,7 @@ pub fn read_words(alloc: Global, words: &[String]) -> Result<Words, WordsError>
     ensures usage { IsErrOf result WordsError.Usage → named_by (texts words.now) ≡ None }
 {
     let found = read(alloc, words)?;
-    if found.part.is_empty() || is_empty(found.job) || is_empty(found.out) {
+    if found.part.is_empty() || is_empty_value(found.job) || is_empty_value(found.out) {
         return Err(WordsError::Usage);
     }
     Ok(Words {

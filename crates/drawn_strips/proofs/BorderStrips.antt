@@ -21,13 +21,13 @@ use Rattle.geometry.specs.Cuts.{crossing_of, start_corner, end_corner, IsOnBorde
 use Rattle.geometry.proofs.Borders.{crossing_on_side, crossing_on_plane}
 use Rattle.geometry.proofs.StepLines.{RunsAlong}
 use Rattle.geometry.proofs.Sights.{sight_on}
-use Rattle.hiding.specs.inner.Values.{IsSideOf}
-use Rattle.hiding.proofs.Ordinary.{side-edge}
+use Rattle.hiding_laws.specs.Values.{IsSideOf}
+use Rattle.hiding_laws.proofs.Ordinary.{side-edge}
 use Rattle.line_merge.specs.Merging.{LiesOnStrip}
 use Rattle.cut_plane.specs.declared.segments.Segment.{Segment}
 use Rattle.cut_plane.specs.Loops.{IsSegmentOf}
 use Rattle.cut_plane.proofs.Apart.{border_apart}
-use Rattle.cut_plane.proofs.BorderPoints.{IsMixOf, AreEnds, border_ends}
+use Rattle.cut_plane.proofs.BorderSums.{IsMixOf, AreEnds, border_ends}
 use Rattle.cut_plane.proofs.RightOf.{mix_product, first_on, second_on}
 use Rattle.drawn_strips.specs.Strips.{IsBorderStrip}
 use Rattle.drawn_strips.proofs.BorderWays.{border_runs_along}

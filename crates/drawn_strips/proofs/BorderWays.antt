@@ -20,10 +20,10 @@ use Rattle.line_merge.proofs.Lists.{contains_map}
 use Rattle.cut_plane.specs.declared.segments.Segment.{Segment}
 use Rattle.cut_plane.specs.Loops.{IsSegmentOf, AreBorders}
 use Rattle.cut_plane.proofs.FaceCorners.{have_same}
-use Rattle.section_parity.proofs.BorderPoints.{IsAlone, before, beyond}
-use Rattle.section_parity.proofs.FaceBorders.{not_all_before, not_all_beyond}
-use Rattle.section_parity.proofs.Roots.{Apex, apex_of, some_border, first_end, second_end}
-use Rattle.section_parity.proofs.Steps.{border_gap}
+use Rattle.cut_plane.proofs.LoneCorners.{IsAlone, before, beyond}
+use Rattle.cut_plane.proofs.FaceBorders.{not_all_before, not_all_beyond}
+use Rattle.cut_plane.proofs.Roots.{Apex, apex_of, some_border, first_end, second_end}
+use Rattle.cut_plane.proofs.Steps.{border_gap}
 
 -- ---- a border runs at right angles to the normal and the direction
 -- a border seen as a point goes nowhere

@@ -6,10 +6,10 @@ use Rattle.geometry.specs.Faces.{share_point}
 use Rattle.geometry.specs.Parts.{Part, Edge}
 use Rattle.geometry.specs.Cuts.{IsOrdinaryInCut}
 use Rattle.geometry.proofs.BorderSteps.{ordinary_along_cut}
-use Rattle.span_slow.specs.declared.span.Span.{Span}
+use Rattle.lattice.specs.declared.spans.Span.{Span}
 use Rattle.geometry.specs.Places.{IsEarlier, IsBetween, HasNoEndAt}
-use Rattle.span_slow.specs.CutSpans.{CoverBeyond}
-use Rattle.span_slow.proofs.CutCovers.{CoverNothing, CoverBetween, cover_cases}
+use Rattle.cut_plane.specs.Beyond.{CoverBeyond}
+use Rattle.cut_plane.proofs.CutCovers.{CoverNothing, CoverBetween, cover_cases}
 use Rattle.drawn_strips.proofs.SpanPlaces.{earlier_in, between_chain, find, weak, inner_of_between}
 
 module _ (c : Plane) {s : Part} (e : Edge s) where

@@ -23,15 +23,15 @@ use Rattle.geometry.proofs.StepLines.{RunsAlong, one_line}
 use Rattle.geometry.proofs.OnLines.{on_line_between}
 use Rattle.geometry.proofs.Sights.{sight_on}
 use Rattle.geometry.specs.Places.{IsBetween, HasNoEndAt}
-use Rattle.hiding.proofs.CutPlanes.{ordinary-in-plain}
-use Rattle.hiding.proofs.FrontEnds.{not-at-start, not-at-finish}
+use Rattle.hiding_laws.proofs.CutPlanes.{ordinary-in-plain}
+use Rattle.hiding_laws.proofs.FrontEnds.{not-at-start, not-at-finish}
 use Rattle.line_merge.proofs.Zips.{zip_left, zip_right}
 use Rattle.line_merge.specs.Merging.{AreStrips, LiesOnStrip, IsClear, AreMerged}
 use Rattle.cut_plane.specs.declared.segments.Segment.{Segment}
 use Rattle.cut_plane.specs.Loops.{IsSegmentOf, AreBorders}
 use Rattle.solid_mesh.proofs.SpotLemmas.{share_on_edge}
-use Rattle.section_parity.specs.Diagonals.{IsUnderBorder}
-use Rattle.span_slow.specs.declared.span.Span.{Span}
+use Rattle.cut_plane.specs.Diagonals.{IsUnderBorder}
+use Rattle.lattice.specs.declared.spans.Span.{Span}
 use Rattle.drawn_strips.specs.Scenes.{AreStripsBeyond}
 use Rattle.drawn_strips.specs.Strips.{IsOffBorders, IsFreeAnswer, TellHiddenInCut, IsBorderStrip, AreCutStrips}
 use Rattle.drawn_strips.proofs.BorderWays.{segment_of_point}

@@ -14,7 +14,7 @@ use Rattle.geometry.proofs.Shares.{edge_share}
 use Rattle.geometry.specs.Places.{IsBetween}
 use Rattle.line_merge.proofs.Zips.{zip_right}
 use Rattle.line_merge.specs.Merging.{LiesOnStrip}
-use Rattle.span_slow.specs.declared.span.Span.{Span}
+use Rattle.lattice.specs.declared.spans.Span.{Span}
 use Rattle.drawn_strips.specs.Strips.{IsStripOf, AreEdgeStrips}
 use Rattle.drawn_strips.proofs.EdgeStrips.{IsSpanOf, Origin, strip_of_span}
 use Rattle.drawn_strips.proofs.SpanPlaces.{StaysAlong}

@@ -12,7 +12,7 @@ use Rattle.geometry.proofs.StepLines.{RunsAlong, edge_runs}
 use Rattle.line_merge.specs.Merging.{LiesOnStrip}
 use Rattle.line_merge.proofs.Zips.{zip_left}
 use Rattle.solid_mesh.proofs.SpotLemmas.{share_on_edge}
-use Rattle.span_slow.specs.declared.span.Span.{Span}
+use Rattle.lattice.specs.declared.spans.Span.{Span}
 use Rattle.geometry.specs.Places.{IsEarlier, IsBetween, HasNoEndAt}
 use Rattle.drawn_strips.specs.Strips.{IsStripOf, AreStripsOf}
 use Rattle.drawn_strips.proofs.SpanPlaces.{StaysAlong}

@@ -4,7 +4,6 @@ pub mod CutPlaces
 pub mod CutRight
 pub mod EdgeScenes
 pub mod EdgeStrips
-pub mod SlowSpans
 pub mod SpanPlaces
 pub mod SpanSums
 pub mod StripLists

@@ -11,19 +11,17 @@ use Rattle.lattice.specs.Points.{Point, IsPoint, OnOneSight}
 use Rattle.geometry.specs.Faces.{share_point}
 use Rattle.geometry.specs.Parts.{Part, Edge}
 use Rattle.line_merge.proofs.Lists.{contains_first}
-use Rattle.span_slow.specs.declared.span.Span.{Span}
+use Rattle.lattice.specs.declared.spans.Span.{Span}
 use Rattle.geometry.specs.Places.{IsPlace, point_at, IsEarlier, IsBetween, HasNoEndAt}
-use Rattle.span_slow.specs.Spans.{Follow, CoverEdge}
+use Rattle.geometry.specs.Spans.{Follow, CoverEdge}
 use Rattle.geometry.proofs.PlaceOrder.{less_less, less_most, between_inner}
 use Rattle.geometry.proofs.SamePlaces.{same_between, same_earlier}
 use Rattle.geometry.proofs.Shares.{one_place}
+use Rattle.integers.proofs.Comparisons.{less_not_at_most}
 
 -- ---- orders
 equal_of : (a b : ℤ) → b ≤ℤ a → a ≤ℤ b → a ≡ b
 equal_of a b h k = omega (arith, ints)
-
-not_less : (a b : ℤ) → a <ℤ b → b ≤ℤ a → ⊥
-not_less a b h k = omega (arith, ints)
 
 pub at_most_by : (x y z : ℤ) → y -ℤ x ≡ z → pos 0 ≤ℤ z → x ≤ℤ y
 at_most_by x y z e h = omega (arith, ints)
@@ -81,7 +79,7 @@ module _ (d : Triple) (O : Point → Type 0) (along : StaysAlong d O) {s : Part}
   pub find : (from to : Frac) (spans : List Span) → Follow from spans to → ((x : Span) → Contains spans x → HasNoEndAt O e x.from x.to)
       → (from.num *ℤ m) <ℤ (n *ℤ from.den) → (n *ℤ to.den) ≤ℤ (to.num *ℤ m) → (x : Span) × Contains spans x × IsBetween x.from x.to n m
   find from to [] same apart after before =
-      absurd (not_less (from.num *ℤ m) (n *ℤ from.den) after
+      absurd (less_not_at_most (from.num *ℤ m) (n *ℤ from.den) after
       (subst (λ (k : ℤ). (n *ℤ from.den) ≤ℤ (k *ℤ m)) (sym same.0) (subst (λ (k : ℤ). (n *ℤ k) ≤ℤ (to.num *ℤ m)) (sym same.1) before)))
   find from to (x ∷ xs) (same, earlier, later) apart after before =
       by_lt_z (n *ℤ x.to.den) (x.to.num *ℤ m)

@@ -9,7 +9,7 @@ use Rattle.lattice.specs.Triple.{Triple}
 use Rattle.lattice.specs.Points.{Point, OnOneSight}
 use Rattle.geometry.specs.Faces.{share_point}
 use Rattle.geometry.specs.Parts.{Part, Edge}
-use Rattle.span_slow.specs.declared.span.Span.{Span}
+use Rattle.lattice.specs.declared.spans.Span.{Span}
 use Rattle.geometry.specs.Places.{IsEarlier, IsBetween, HasNoEndAt}
 use Rattle.geometry.proofs.Sights.{sight_on}
 use Rattle.geometry.proofs.Shares.{one_place}

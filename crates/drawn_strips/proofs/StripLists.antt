@@ -6,7 +6,7 @@ use Rattle.lattice.specs.declared.pieces.Strip.{Strip}
 use Rattle.lattice.specs.Triple.{Triple}
 use Rattle.geometry.specs.Parts.{Part, Edge, IsNumbered}
 use Rattle.line_merge.proofs.Lists.{contains_first}
-use Rattle.span_slow.specs.declared.span.Span.{Span}
+use Rattle.lattice.specs.declared.spans.Span.{Span}
 use Rattle.std.specs.List.{AllZip}
 use Rattle.drawn_strips.specs.Strips.{IsStripOf, AreStripsOf, AreEdgeStrips}
 

@@ -12,7 +12,7 @@ use Rattle.geometry.specs.Views.{IsEndOn}
 use Rattle.geometry.proofs.EdgeLines.{share_on_line}
 use Rattle.geometry.proofs.Shares.{end_on, sum_is}
 use Rattle.line_merge.specs.Merging.{LiesOnStrip}
-use Rattle.span_slow.specs.declared.span.Span.{Span}
+use Rattle.lattice.specs.declared.spans.Span.{Span}
 use Rattle.geometry.specs.Places.{point_at, IsEarlier, HasNoEndAt}
 use Rattle.drawn_strips.specs.Strips.{IsEdgeLine, IsStripOf}
 use Rattle.drawn_strips.proofs.SpanPlaces.{StaysAlong}

@@ -9,7 +9,7 @@ use Rattle.lattice.specs.Points.{Point, IsPoint, OnOneSight}
 use Rattle.geometry.specs.Scenes.{IsSeenAt, SeesVisible, SeesHiddenAlone, SeesTraceAlone, AreRightIn}
 use Rattle.line_merge.specs.Merging.{AreStrips, LiesOnStrip, IsClear, LiesOnKind, LiesOnTracesOnly, AreMerged}
 use Rattle.drawn_strips.specs.Scenes.{SeesHidden, AreStripsIn}
-use Rattle.drawn_strips.specs.Strips.{kind_of}
+use Rattle.drawn_strips.specs.Strips.{strip_kind}
 
 -- a strip of this kind is hidden or seen, as its point is
 abbrev pub TellsOf : StripKind → Type 0 → Type 0
@@ -18,10 +18,10 @@ TellsOf Hidden P = P
 TellsOf Trace P = ⊥
 
 -- the kind of a span that tells whether it is hidden
-pub kind_tells : (k : StripKind) (hidden : Bool) {P : Type 0} → k ≡ kind_of hidden → IsTrue hidden ↔ P → TellsOf k P
+pub kind_tells : (k : StripKind) (hidden : Bool) {P : Type 0} → k ≡ strip_kind hidden → IsTrue hidden ↔ P → TellsOf k P
 kind_tells k hidden {P} is tells = subst (λ (k : StripKind). TellsOf k P) (sym is) (by hidden tells)
   where
-    by : (hidden : Bool) → IsTrue hidden ↔ P → TellsOf (kind_of hidden) P
+    by : (hidden : Bool) → IsTrue hidden ↔ P → TellsOf (strip_kind hidden) P
     by true tells = tells.0 refl
     by false tells = λ p. let t = tells.1 p in cc
 

@@ -13,7 +13,7 @@ use Rattle.lattice.specs.Lines.{IsOnLine, AreStripEnds}
 use Rattle.geometry.specs.Pieces.{LiesBetween, IsBefore}
 use Rattle.geometry.proofs.OnLines.{on_line_between}
 use Rattle.geometry.proofs.Shares.{sum_turned}
-use Rattle.hiding.proofs.Decisions.{same_or, alike_or}
+use Rattle.hiding_laws.proofs.Decisions.{same_or, alike_or}
 use Rattle.line_merge.specs.Merging.{LiesOnStrip}
 use Rattle.line_merge.proofs.Between.{between, seen_between}
 use Rattle.line_merge.proofs.Lists.{contains_first}

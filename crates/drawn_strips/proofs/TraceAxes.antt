@@ -1,4 +1,4 @@
--- Which axis a direction is along, and when corners are on both sides of the plane of a cut.
+-- When corners are on both sides of the plane of a cut, by those that are first and last on its axis.
 use Rattle.std.proofs.Common.{◌≡◌, ◌≢◌, ◌⊎◌, inl, inr, ◌↔◌, ℕ, ◌<◌, ◌≤◌, ◌+◌, Bool, true, false, IsTrue, List, All, length, take, slice_get, Some, Contains, refl, sym, subst, arith, unsigned_abs}
 use Rattle.std.specs.Prelude.{ℤ, pos, neg_ℤ, ◌<ℤ◌, ◌≤ℤ◌}
 use Rattle.std.proofs.lemmas.Int.{ints}
@@ -12,62 +12,12 @@ use Rattle.lattice.specs.declared.points.Corner.{Corner}
 use Rattle.lattice.specs.Cuts.{Plane, toward_of}
 use Rattle.lattice.specs.Points.{point_of, height_of}
 use Rattle.lattice.specs.Triple.{Triple}
-use Rattle.lattice.proofs.CutSides.{corner_beyond, corner_before}
-use Rattle.geometry.specs.Traces.{component_of, coordinate_of, IsAlong}
-use Rattle.drawn_strips.specs.Traces.{IsFirstOn, IsLastOn, HasBothSides}
-
--- ---- directions along an axis
-somewhere : (a b c : ℤ) → 0 < unsigned_abs a + unsigned_abs b + unsigned_abs c → b ≡ pos 0 → c ≡ pos 0 → a ≢ pos 0
-somewhere a b c h e f g = omega (arith, ints, e, f, g)
-
-turned : (a b c : ℤ) → 0 < unsigned_abs a + unsigned_abs b + unsigned_abs c → 0 < unsigned_abs b + unsigned_abs a + unsigned_abs c
-turned a b c h = omega arith
-
-last : (a b c : ℤ) → 0 < unsigned_abs a + unsigned_abs b + unsigned_abs c → 0 < unsigned_abs c + unsigned_abs a + unsigned_abs b
-last a b c h = omega arith
-
-module _ (d : Triple) (some : 0 < unsigned_abs d.x + unsigned_abs d.y + unsigned_abs d.z) where
-  pub along_x : d.y ≡ pos 0 → d.z ≡ pos 0 → IsAlong X d
-  along_x y z = record { there = somewhere d.x d.y d.z some y z; alone = alone }
-    where
-      alone : (other : Axis) → other ≢ X → component_of other d ≡ pos 0
-      alone X n = absurd (n refl)
-      alone Y n = y
-      alone Z n = z
-
-  pub along_y : d.x ≡ pos 0 → d.z ≡ pos 0 → IsAlong Y d
-  along_y x z = record { there = somewhere d.y d.x d.z (turned d.x d.y d.z some) x z; alone = alone }
-    where
-      alone : (other : Axis) → other ≢ Y → component_of other d ≡ pos 0
-      alone X n = x
-      alone Y n = absurd (n refl)
-      alone Z n = z
-
-  pub along_z : d.x ≡ pos 0 → d.y ≡ pos 0 → IsAlong Z d
-  along_z x y = record { there = somewhere d.z d.x d.y (last d.x d.y d.z some) x y; alone = alone }
-    where
-      alone : (other : Axis) → other ≢ Z → component_of other d ≡ pos 0
-      alone X n = x
-      alone Y n = y
-      alone Z n = absurd (n refl)
-
--- along an axis the two other numbers are 0
-pub not_along : (d : Triple) → ¬ ((d.y ≡ pos 0) × (d.z ≡ pos 0)) → ¬ ((d.x ≡ pos 0) × (d.z ≡ pos 0)) → ¬ ((d.x ≡ pos 0) × (d.y ≡ pos 0)) → (axis : Axis) → ¬ IsAlong axis d
-not_along d x y z X along = x (along.alone Y (λ e. cc), along.alone Z (λ e. cc))
-not_along d x y z Y along = y (along.alone X (λ e. cc), along.alone Z (λ e. cc))
-not_along d x y z Z along = z (along.alone X (λ e. cc), along.alone Y (λ e. cc))
+use Rattle.lattice.proofs.CutSides.{corner_beyond, corner_before, height_high, height_low}
+use Rattle.lattice.specs.Axes.{component_of, coordinate_of, IsAlong}
+use Rattle.geometry.specs.Traces.{GoesThrough}
+use Rattle.drawn_strips.specs.Traces.{IsFirstOn, IsLastOn}
 
 -- ---- corners on both sides of a plane
-coordinate_high : (axis : Axis) (at : ℤ) (k : Corner) → height_of (toward_of (record { axis = axis; at = at; from_high = true })) (point_of k) ≡ coordinate_of axis (point_of k)
-coordinate_high X at k = omega (arith, ints)
-coordinate_high Y at k = omega (arith, ints)
-coordinate_high Z at k = omega (arith, ints)
-
-coordinate_low : (axis : Axis) (at : ℤ) (k : Corner) → height_of (toward_of (record { axis = axis; at = at; from_high = false })) (point_of k) ≡ neg_ℤ (coordinate_of axis (point_of k))
-coordinate_low X at k = omega (arith, ints)
-coordinate_low Y at k = omega (arith, ints)
-coordinate_low Z at k = omega (arith, ints)
-
 module _ (axis : Axis) (at : ℤ) (corners : List Corner) (first last : Corner) (is_first : IsFirstOn axis corners first) (is_last : IsLastOn axis corners last) where
   abbrev high : Plane
   high = record { axis = axis; at = at; from_high = true }
@@ -108,31 +58,31 @@ module _ (axis : Axis) (at : ℤ) (corners : List Corner) (first last : Corner) 
   bound_last : (k : Corner) → Contains corners k → coordinate_of axis (point_of k) ≤ℤ b
   bound_last k here = All-contains (λ l. coordinate_of axis (point_of l) ≤ℤ b) corners k is_last.bound here
 
-  pub sides_high : HasBothSides high corners ↔ ((a <ℤ at) × (at ≤ℤ b))
+  pub sides_high : GoesThrough high corners ↔ ((a <ℤ at) × (at ≤ℤ b))
   sides_high = (
     λ h.
         let (k, here, before) = h.before in
         let (l, too, beyond) = h.beyond in (
-          most_less a _ at (bound_first l too) (subst (λ (v : ℤ). v <ℤ at) (coordinate_high axis at l) ((corner_beyond high l).0 beyond)),
-          most_most at _ b (subst (λ (v : ℤ). at ≤ℤ v) (coordinate_high axis at k) ((corner_before high k).0 before)) (bound_last k here),
+          most_less a _ at (bound_first l too) (subst (λ (v : ℤ). v <ℤ at) (height_high axis at l) ((corner_beyond high l).0 beyond)),
+          most_most at _ b (subst (λ (v : ℤ). at ≤ℤ v) (height_high axis at k) ((corner_before high k).0 before)) (bound_last k here),
         ),
     λ (less, most). record {
-      before = (last, is_last.listed, (corner_before high last).1 (subst (λ (v : ℤ). at ≤ℤ v) (sym (coordinate_high axis at last)) most));
-      beyond = (first, is_first.listed, (corner_beyond high first).1 (subst (λ (v : ℤ). v <ℤ at) (sym (coordinate_high axis at first)) less));
+      before = (last, is_last.listed, (corner_before high last).1 (subst (λ (v : ℤ). at ≤ℤ v) (sym (height_high axis at last)) most));
+      beyond = (first, is_first.listed, (corner_beyond high first).1 (subst (λ (v : ℤ). v <ℤ at) (sym (height_high axis at first)) less));
     },
   )
 
-  pub sides_low : HasBothSides low corners ↔ ((a ≤ℤ at) × (at <ℤ b))
+  pub sides_low : GoesThrough low corners ↔ ((a ≤ℤ at) × (at <ℤ b))
   sides_low = (
     λ h.
         let (k, here, before) = h.before in
         let (l, too, beyond) = h.beyond in (
-          most_most a _ at (bound_first k here) (most_back _ at (subst (λ (v : ℤ). neg_ℤ at ≤ℤ v) (coordinate_low axis at k) ((corner_before low k).0 before))),
-          less_most at _ b (less_back at _ (subst (λ (v : ℤ). v <ℤ neg_ℤ at) (coordinate_low axis at l) ((corner_beyond low l).0 beyond))) (bound_last l too),
+          most_most a _ at (bound_first k here) (most_back _ at (subst (λ (v : ℤ). neg_ℤ at ≤ℤ v) (height_low axis at k) ((corner_before low k).0 before))),
+          less_most at _ b (less_back at _ (subst (λ (v : ℤ). v <ℤ neg_ℤ at) (height_low axis at l) ((corner_beyond low l).0 beyond))) (bound_last l too),
         ),
     λ (most, less). record {
-      before = (first, is_first.listed, (corner_before low first).1 (subst (λ (v : ℤ). neg_ℤ at ≤ℤ v) (sym (coordinate_low axis at first)) (turn_most a at most)));
-      beyond = (last, is_last.listed, (corner_beyond low last).1 (subst (λ (v : ℤ). v <ℤ neg_ℤ at) (sym (coordinate_low axis at last)) (turn_less at b less)));
+      before = (first, is_first.listed, (corner_before low first).1 (subst (λ (v : ℤ). neg_ℤ at ≤ℤ v) (sym (height_low axis at first)) (turn_most a at most)));
+      beyond = (last, is_last.listed, (corner_beyond low last).1 (subst (λ (v : ℤ). v <ℤ neg_ℤ at) (sym (height_low axis at last)) (turn_less at b less)));
     },
   )
 
@@ -146,16 +96,16 @@ module _ (c : Plane) (corners : List Corner) (first last : Corner) (axis : Axis)
   same : (b : Bool) → c.from_high ≡ b → plane b ≡ c
   same b e = λ t. record { axis = axis_is t; at = at_is t; from_high = sym e t }
 
-  pub told_high : c.from_high ≡ true → IsTrue r ↔ ((least <ℤ at) × (at ≤ℤ most)) → IsTrue r ↔ HasBothSides c corners
-  told_high e tells = subst (λ (p : Plane). IsTrue r ↔ HasBothSides p corners) (same true e)
-      (↔-trans tells (subst (λ (v : ℤ). ((v <ℤ at) × (at ≤ℤ most)) ↔ HasBothSides (plane true) corners) (sym least_is)
-      (subst (λ (v : ℤ). ((coordinate_of axis (point_of first) <ℤ at) × (at ≤ℤ v)) ↔ HasBothSides (plane true) corners) (sym most_is)
+  pub told_high : c.from_high ≡ true → IsTrue r ↔ ((least <ℤ at) × (at ≤ℤ most)) → IsTrue r ↔ GoesThrough c corners
+  told_high e tells = subst (λ (p : Plane). IsTrue r ↔ GoesThrough p corners) (same true e)
+      (↔-trans tells (subst (λ (v : ℤ). ((v <ℤ at) × (at ≤ℤ most)) ↔ GoesThrough (plane true) corners) (sym least_is)
+      (subst (λ (v : ℤ). ((coordinate_of axis (point_of first) <ℤ at) × (at ≤ℤ v)) ↔ GoesThrough (plane true) corners) (sym most_is)
       (let sides = sides_high axis at corners first last is_first is_last in (sides.1, sides.0)))))
 
-  pub told_low : c.from_high ≡ false → IsTrue r ↔ ((least ≤ℤ at) × (at <ℤ most)) → IsTrue r ↔ HasBothSides c corners
-  told_low e tells = subst (λ (p : Plane). IsTrue r ↔ HasBothSides p corners) (same false e)
-      (↔-trans tells (subst (λ (v : ℤ). ((v ≤ℤ at) × (at <ℤ most)) ↔ HasBothSides (plane false) corners) (sym least_is)
-      (subst (λ (v : ℤ). ((coordinate_of axis (point_of first) ≤ℤ at) × (at <ℤ v)) ↔ HasBothSides (plane false) corners) (sym most_is)
+  pub told_low : c.from_high ≡ false → IsTrue r ↔ ((least ≤ℤ at) × (at <ℤ most)) → IsTrue r ↔ GoesThrough c corners
+  told_low e tells = subst (λ (p : Plane). IsTrue r ↔ GoesThrough p corners) (same false e)
+      (↔-trans tells (subst (λ (v : ℤ). ((v ≤ℤ at) × (at <ℤ most)) ↔ GoesThrough (plane false) corners) (sym least_is)
+      (subst (λ (v : ℤ). ((coordinate_of axis (point_of first) ≤ℤ at) × (at <ℤ v)) ↔ GoesThrough (plane false) corners) (sym most_is)
       (let sides = sides_low axis at corners first last is_first is_last in (sides.1, sides.0)))))
 
 -- ---- the first and the last corner of a list, found one after the other

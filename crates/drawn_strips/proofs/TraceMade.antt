@@ -12,11 +12,13 @@ use Rattle.lattice.specs.Lines.{IsOnLine}
 use Rattle.lattice.specs.Points.{Point, point_of, of_spot, OnOneSight}
 use Rattle.lattice.specs.Triple.{Triple}
 use Rattle.geometry.specs.Parts.{Part}
-use Rattle.geometry.specs.Traces.{coordinate_of, third_of, IsAlong, IsAmongCorners, HasTrace, IsOnTrace}
+use Rattle.lattice.specs.Axes.{coordinate_of, third_of, IsAlong}
+use Rattle.geometry.specs.Traces.{IsAmongCorners, HasTrace, IsOnTrace}
 use Rattle.geometry.proofs.TracePoints.{third_other, third_aside, coordinates_of_sight}
-use Rattle.drawn_strips.specs.Traces.{IsFirstOn, IsLastOn, HasBothSides, IsTraceStrip}
+use Rattle.geometry.specs.Traces.{GoesThrough}
+use Rattle.drawn_strips.specs.Traces.{IsFirstOn, IsLastOn, IsTraceStrip}
 
-once : (n : ℤ) → n *ℤ pos 1 ≡ n
+pub once : (n : ℤ) → n *ℤ pos 1 ≡ n
 once n = omega (arith, ints)
 
 some_one : pos 0 <ℤ pos 1
@@ -137,7 +139,7 @@ module _ (d : Triple) (s : Part) (c : Plane) (sight : Axis) (has : HasTrace d s 
 
 -- ---- a view along an axis has the trace of a cut that goes through the part, which isn't at one place along the trace
 module _ (d : Triple) (s : Part) (c : Plane) (sight : Axis) (along : IsAlong sight d) where
-  pub trace_there : sight ≢ c.axis → HasBothSides c s.corners → (first last : Corner) → IsFirstOn (third_of c.axis sight) s.corners first → IsLastOn (third_of c.axis sight) s.corners last
+  pub trace_there : sight ≢ c.axis → GoesThrough c s.corners → (first last : Corner) → IsFirstOn (third_of c.axis sight) s.corners first → IsLastOn (third_of c.axis sight) s.corners last
       → coordinate_of (third_of c.axis sight) (point_of first) <ℤ coordinate_of (third_of c.axis sight) (point_of last) → HasTrace d s c sight
   trace_there other sides first last is_first is_last less = record {
     other = other;
@@ -151,5 +153,5 @@ module _ (d : Triple) (s : Part) (c : Plane) (sight : Axis) (along : IsAlong sig
       → ¬ (coordinate_of (third_of c.axis sight) (point_of first) <ℤ coordinate_of (third_of c.axis sight) (point_of last)) → ¬ HasTrace d s c sight
   none_flat first last is_first is_last flat has = flat (ends_apart s (third_of c.axis sight) first last is_first is_last has.apart)
 
-  pub none_beside : ¬ HasBothSides c s.corners → ¬ HasTrace d s c sight
+  pub none_beside : ¬ GoesThrough c s.corners → ¬ HasTrace d s c sight
   none_beside aside has = aside (record { before = has.before; beyond = has.beyond })

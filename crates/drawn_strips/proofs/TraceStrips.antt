@@ -18,21 +18,20 @@ use Rattle.lattice.specs.Triple.{Triple, dot, right_axis, up_axis}
 use Rattle.lattice.proofs.Vectors.{dots, letters}
 use Rattle.geometry.specs.Parts.{Part}
 use Rattle.geometry.specs.Pieces.{spot_sum}
-use Rattle.geometry.specs.Traces.{component_of, coordinate_of, third_of, IsOnTrace, IsTraceEnd, IsOrdinaryBeside}
+use Rattle.lattice.specs.Axes.{component_of, coordinate_of, third_of}
+use Rattle.geometry.specs.Traces.{IsOnTrace, IsTraceEnd, IsOrdinaryBeside}
 use Rattle.geometry.proofs.Sights.{sight_on}
 use Rattle.geometry.proofs.StepLines.{RunsAlong}
 use Rattle.geometry.proofs.TracePoints.{same_or_other, one_of_others, third_other, unit_here, unit_elsewhere, sight_of_coordinates, coordinates_of_sight, among_sum}
 use Rattle.line_merge.specs.Merging.{LiesOnStrip}
 use Rattle.drawn_strips.specs.Traces.{IsTraceStrip}
+use Rattle.drawn_strips.proofs.TraceMade.{once}
 
 -- the coordinates of a sum of two spots
 sum_at : (x : Axis) (a b : Spot) (i j : ℕ) → coordinate_of x (spot_sum a b i j) ≡ (pos i *ℤ coordinate_of x (of_spot a)) +ℤ (pos j *ℤ coordinate_of x (of_spot b))
 sum_at X a b i j = refl
 sum_at Y a b i j = refl
 sum_at Z a b i j = refl
-
-once : (n : ℤ) → n *ℤ pos 1 ≡ n
-once n = omega (arith, ints)
 
 none_less : (v : ℤ) → v ≡ pos 1 → pos 0 ≤ℤ v
 none_less v e = omega (arith, ints, e)

@@ -12,7 +12,8 @@ use Rattle.lattice.specs.Points.{Point, IsPoint, of_spot, difference, OnOneSight
 use Rattle.lattice.specs.Lines.{IsSameLine, AreStripEnds}
 use Rattle.geometry.specs.Parts.{Part, Edge, IsNumbered, IsClosed}
 use Rattle.geometry.specs.Scenes.{IsSeenAt, AreRight}
-use Rattle.geometry.specs.Traces.{third_of, IsTracePoint, TraceRuns, EdgeRuns, IsOrdinaryBeside}
+use Rattle.lattice.specs.Axes.{third_of}
+use Rattle.geometry.specs.Traces.{IsTracePoint, TraceRuns, EdgeRuns, IsOrdinaryBeside}
 use Rattle.geometry.specs.Views.{IsDrawn, IsHidden, IsOrdinary, IsDrawnPoint, AreDrawnEdges}
 use Rattle.geometry.proofs.StepLines.{RunsAlong, one_line}
 use Rattle.geometry.proofs.OnLines.{on_line_between}
@@ -21,8 +22,8 @@ use Rattle.geometry.proofs.TracePoints.{det_turned}
 use Rattle.geometry.specs.Places.{IsBetween, HasNoOrdinaryEnd}
 use Rattle.line_merge.specs.Merging.{AreStrips, LiesOnStrip, IsClear, AreMerged}
 use Rattle.solid_mesh.proofs.SpotLemmas.{share_on_edge}
-use Rattle.span_slow.specs.Spans.{IsAnswer}
-use Rattle.span_slow.specs.declared.span.Span.{Span}
+use Rattle.geometry.specs.Spans.{IsAnswer}
+use Rattle.lattice.specs.declared.spans.Span.{Span}
 use Rattle.drawn_strips.specs.Scenes.{AreStripsAlong}
 use Rattle.drawn_strips.specs.Strips.{TellHidden}
 use Rattle.drawn_strips.specs.Traces.{IsTraceStrip, ArePlainStrips}

@@ -1,4 +1,3 @@
-pub mod Planes
 pub mod Scenes
 pub mod Strips
 pub mod Traces

@@ -11,13 +11,13 @@ use Rattle.lattice.specs.Lines.{IsOnLine}
 use Rattle.lattice.specs.Cuts.{Plane, toward_of}
 use Rattle.geometry.specs.Parts.{Part, Edge, IsNumbered}
 use Rattle.cut_plane.specs.declared.segments.Segment.{Segment}
-use Rattle.span_slow.specs.declared.span.Span.{Span}
+use Rattle.lattice.specs.declared.spans.Span.{Span}
 use Rattle.geometry.specs.Cuts.{IsHiddenInCut, IsOrdinaryInCut}
 use Rattle.geometry.specs.Faces.{share_point}
 use Rattle.geometry.specs.Places.{point_at, IsBetween, HasNoEndAt, HasNoOrdinaryEnd}
-use Rattle.section_parity.specs.Diagonals.{IsUnderBorder}
-use Rattle.span_slow.specs.Spans.{CoverEdge, IsAnswer}
-use Rattle.span_slow.specs.CutSpans.{CoverBeyond}
+use Rattle.cut_plane.specs.Diagonals.{IsUnderBorder}
+use Rattle.geometry.specs.Spans.{CoverEdge, IsAnswer}
+use Rattle.cut_plane.specs.Beyond.{CoverBeyond}
 
 -- the spans cover the edge, none of their ends is at an ordinary point, and at each ordinary point within a span what it tells is so
 pub record TellHidden (d : Triple) {s : Part} (e : Edge s) (spans : List Span) : Type 0 where
@@ -49,16 +49,16 @@ pub record IsEdgeLine (d : Triple) {s : Part} (e : Edge s) (l : Line) : Type 0 w
   pub second : IsOnLine d l (point_of e.b)
 
 -- a strip of a hidden span is hidden, one of a visible span is seen
-abbrev pub kind_of : Bool → StripKind
-kind_of true = Hidden
-kind_of false = Seen
+abbrev pub strip_kind : Bool → StripKind
+strip_kind true = Hidden
+strip_kind false = Seen
 
 -- the strip is the whole span, on the line of its edge
 pub record IsStripOf (d : Triple) {s : Part} (e : Edge s) (x : Span) (strip : Strip) : Type 0 where
   pub line : IsEdgeLine d e strip.line
   pub from : of_spot strip.a ≡ point_at e x.from
   pub to : of_spot strip.b ≡ point_at e x.to
-  pub kind : strip.kind ≡ kind_of x.hidden
+  pub kind : strip.kind ≡ strip_kind x.hidden
 
 -- the strips are spans of the edge that are right, one each, in order
 pub record AreStripsOf (d : Triple) {s : Part} (Right : Edge s → List Span → Type 0) (e : Edge s) (strips : List Strip) : Type 0 where

@@ -9,7 +9,8 @@ use Rattle.lattice.specs.Lines.{IsOnLine}
 use Rattle.lattice.specs.Points.{point_of, of_spot}
 use Rattle.lattice.specs.Triple.{Triple}
 use Rattle.geometry.specs.Parts.{Part}
-use Rattle.geometry.specs.Traces.{coordinate_of, third_of, HasTrace, IsOnTrace}
+use Rattle.lattice.specs.Axes.{coordinate_of, third_of}
+use Rattle.geometry.specs.Traces.{HasTrace, IsOnTrace}
 use Rattle.drawn_strips.specs.Strips.{TellHidden, AreEdgeStrips}
 
 -- the corner is listed, and none is before it on the axis; or none is behind it
@@ -20,11 +21,6 @@ pub record IsFirstOn (axis : Axis) (corners : List Corner) (k : Corner) : Type 0
 pub record IsLastOn (axis : Axis) (corners : List Corner) (k : Corner) : Type 0 where
   pub listed : Contains corners k
   pub bound : All (λ l. coordinate_of axis (point_of l) ≤ℤ coordinate_of axis (point_of k)) corners
-
--- corners are on both sides of the plane
-pub record HasBothSides (c : Plane) (corners : List Corner) : Type 0 where
-  pub before : (k : Corner) × Contains corners k × IsBeforePlane c (point_of k)
-  pub beyond : (k : Corner) × Contains corners k × IsBeyond c (point_of k)
 
 -- the strip is the whole trace, from its first end on the axis that it runs along to its last
 pub record IsTraceStrip (d : Triple) (s : Part) (c : Plane) (sight : Axis) (y : Strip) : Type 0 where

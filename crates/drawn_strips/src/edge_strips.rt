@@ -7,12 +7,11 @@ ghost use Rattle.geometry.specs.Places.{IsEarlier};
 ghost use Rattle.geometry.specs.Views.{IsEndOn};
 ghost use Rattle.solid_mesh.specs.Solids.{edge_halves};
 ghost use Rattle.edge_pick.specs.Edges.{OfEdge};
-ghost use Rattle.drawn_strips.specs.Strips.{kind_of, IsEdgeLine, IsStripOf};
+ghost use Rattle.drawn_strips.specs.Strips.{strip_kind, IsEdgeLine, IsStripOf};
 
 use exact_frac::OutOfMemory;
-use lattice::{Dir, Line, Strip, StripKind};
+use lattice::{Dir, Line, Span, Strip, StripKind};
 use solid_mesh::Solid;
-use span_slow::Span;
 
 /// The line that the edge is seen on. It takes what `Line::through` takes.
 pub fn edge_line(solid: &Solid, d: &Dir, edge: u32) -> Line
@@ -36,13 +35,13 @@ fn strip_of(solid: &Solid, d: &Dir, edge: u32, line: &Line, span: &Span) -> Stri
         line: *line,
         a: solid.spot(edge, &span.from),
         b: solid.spot(edge, &span.to),
-        kind: kind_of(span.hidden),
+        kind: strip_kind(span.hidden),
     }
 }
 
 /// The kind of the strip of a span that is hidden, or visible.
-fn kind_of(hidden: bool) -> StripKind
-    ensures { result ≡ kind_of hidden }
+fn strip_kind(hidden: bool) -> StripKind
+    ensures { result ≡ strip_kind hidden }
 {
     if hidden {
         StripKind::Hidden

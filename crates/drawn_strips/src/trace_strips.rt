@@ -5,51 +5,14 @@ ghost use Rattle.lattice.specs.declared.pieces.Strip.{Strip};
 ghost use Rattle.lattice.specs.Cuts.{plane_of};
 ghost use Rattle.lattice.specs.Points.{of_dir, point_of};
 ghost use Rattle.solid_mesh.specs.Solids.{solid_part};
-ghost use Rattle.geometry.specs.Traces.{coordinate_of, third_of, IsAlong, HasTrace};
-ghost use Rattle.drawn_strips.specs.Traces.{IsFirstOn, IsLastOn, HasBothSides, IsTraceStrip, AreTraceStrips};
+ghost use Rattle.lattice.specs.Axes.{coordinate_of, third_of, IsAlong};
+ghost use Rattle.geometry.specs.Traces.{HasTrace};
+ghost use Rattle.geometry.specs.Traces.{GoesThrough};
+ghost use Rattle.drawn_strips.specs.Traces.{IsFirstOn, IsLastOn, IsTraceStrip, AreTraceStrips};
 
 use exact_frac::OutOfMemory;
 use lattice::{Axis, Corner, Cut, Dir, Line, Spot, Strip, StripKind};
 use solid_mesh::Solid;
-
-/// Both are 0.
-fn are_nothing(a: i64, b: i64) -> bool
-    ensures { IsTrue result ↔ ((a ≡ pos 0) × (b ≡ pos 0)) }
-{
-    a == 0 && b == 0
-}
-
-/// The axis that a direction is along, if it is along one.
-fn sight_axis(d: &Dir) -> Option<Axis>
-    ensures some { IfSome result (λ axis. IsAlong axis (of_dir d.now)) }
-    ensures none { result ≡ None → (axis : Axis) → ¬ IsAlong axis (of_dir d.now) }
-{
-    let v = d.vector();
-    if are_nothing(v.y, v.z) {
-        return Some(Axis::X);
-    }
-    if are_nothing(v.x, v.z) {
-        return Some(Axis::Y);
-    }
-    if are_nothing(v.x, v.y) {
-        return Some(Axis::Z);
-    }
-    None
-}
-
-/// The axis beside two different ones.
-fn third(first: Axis, second: Axis) -> Axis
-    ensures { result ≡ third_of first second }
-{
-    match (first, second) {
-        (Axis::X, Axis::Y) | (Axis::Y, Axis::X) => Axis::Z,
-        (Axis::X, Axis::Z) | (Axis::Z, Axis::X) => Axis::Y,
-        (Axis::Y, Axis::Z) | (Axis::Z, Axis::Y) => Axis::X,
-        (Axis::X, Axis::X) => Axis::X,
-        (Axis::Y, Axis::Y) => Axis::Y,
-        (Axis::Z, Axis::Z) => Axis::Z,
-    }
-}
 
 /// The coordinate of a corner on an axis.
 fn coordinate(corner: &Corner, axis: Axis) -> i32
@@ -147,7 +110,7 @@ fn is_amid_from_low(least: i64, at: i64, most: i64) -> bool
 
 /// Corners are on both sides of the plane of the cut. Goes once over them.
 fn is_cut(solid: &Solid, cut: &Cut) -> bool
-    ensures { IsTrue result ↔ HasBothSides (plane_of cut.now) (solid_part solid.now).corners }
+    ensures { IsTrue result ↔ GoesThrough (plane_of cut.now) (solid_part solid.now).corners }
 {
     let axis = cut.axis();
     let ends = ends_on(solid, axis);
@@ -190,7 +153,7 @@ fn trace_along(solid: &Solid, d: &Dir, cut: &Cut, sight: Axis) -> Option<Strip>
     if !is_cut(solid, cut) {
         return None;
     }
-    let run = third(cut.axis(), sight);
+    let run = cut.axis().third(sight);
     let ends = ends_on(solid, run);
     if !are_apart(&ends, run) {
         return None;
@@ -204,7 +167,7 @@ fn trace_of(solid: &Solid, d: &Dir, cut: &Cut) -> Option<Strip>
     ensures some { IfSome result (λ y. (sight : Axis) × IsTraceStrip (of_dir d.now) (solid_part solid.now) (plane_of cut.now) sight y) }
     ensures none { result ≡ None → (sight : Axis) → ¬ HasTrace (of_dir d.now) (solid_part solid.now) (plane_of cut.now) sight }
 {
-    match sight_axis(d) {
+    match d.axis() {
         Some(sight) => trace_along(solid, d, cut, sight),
         None => None,
     }

@@ -11,6 +11,7 @@ use Rattle.lattice.specs.declared.points.Corner.{Corner}
 use Rattle.lattice.specs.Points.{Point}
 use Rattle.geometry.specs.Faces.{edge_sum, face_sum}
 use Rattle.fault_place.specs.Places.{Figure, stretch, triangle, least_of, greatest_of, low_of, high_of, IsPointOf, IsInBoth}
+use Rattle.meeting.proofs.TouchingBoxes.{edge_low, edge_high, face_low, face_high}
 
 -- ---- sums with weights are no less, and no greater, than what all their numbers are
 share : (i : ℕ) (n p : ℤ) → n ≤ℤ p → pos 0 ≤ℤ (pos i *ℤ (p -ℤ n))
@@ -49,17 +50,6 @@ three_to i j k a b c n ha hb hc =
     (sum_not_negative _ _ (sum_not_negative _ _ (share i a n ha) (share j b n hb)) (share k c n hc))
 
 -- ---- the ends
-least_of_two : (x y : ℤ) → (int_min x y ≤ℤ x) × (int_min x y ≤ℤ y)
-least_of_two x y = (omega (arith, ints, clamps), omega (arith, ints, clamps))
-
-greatest_of_two : (x y : ℤ) → (x ≤ℤ int_max x y) × (y ≤ℤ int_max x y)
-greatest_of_two x y = (omega (arith, ints, clamps), omega (arith, ints, clamps))
-
-least_of_three : (x y z : ℤ) → (int_min (int_min x y) z ≤ℤ x) × (int_min (int_min x y) z ≤ℤ y) × (int_min (int_min x y) z ≤ℤ z)
-least_of_three x y z = (omega (arith, ints, clamps), omega (arith, ints, clamps), omega (arith, ints, clamps))
-
-greatest_of_three : (x y z : ℤ) → (x ≤ℤ int_max (int_max x y) z) × (y ≤ℤ int_max (int_max x y) z) × (z ≤ℤ int_max (int_max x y) z)
-greatest_of_three x y z = (omega (arith, ints, clamps), omega (arith, ints, clamps), omega (arith, ints, clamps))
 
 greater_is : (u v : ℤ) → (int_max u v ≡ u) ⊎ (int_max u v ≡ v)
 greater_is u v =
@@ -79,21 +69,21 @@ module _ (axis : Corner → ℤ) (coordinate : Point → ℤ)
     (of_face : (a b c : Corner) (i j k : ℕ) → coordinate (face_sum a b c i j k) ≡ ((pos i *ℤ axis a) +ℤ (pos j *ℤ axis b)) +ℤ (pos k *ℤ axis c)) where
   from_least : (f : Figure) (p : Point) → IsPointOf f p → (least_of axis f *ℤ p.w) ≤ℤ coordinate p
   from_least (stretch a b) p (i, j, _, is) =
-      let (low_a, low_b) = least_of_two (axis a) (axis b) in
+      let (low_a, low_b) = edge_low (axis a) (axis b) in
       let at = two_from i j (axis a) (axis b) (int_min (axis a) (axis b)) low_a low_b in
       subst (λ (q : Point). (least_of axis (stretch a b) *ℤ q.w) ≤ℤ coordinate q) (sym is) (subst (λ (n : ℤ). (least_of axis (stretch a b) *ℤ pos (i + j)) ≤ℤ n) (sym (of_edge a b i j)) at)
   from_least (triangle a b c) p (i, j, k, _, is) =
-      let (low_a, low_b, low_c) = least_of_three (axis a) (axis b) (axis c) in
+      let (low_a, low_b, low_c) = face_low (axis a) (axis b) (axis c) in
       let at = three_from i j k (axis a) (axis b) (axis c) (int_min (int_min (axis a) (axis b)) (axis c)) low_a low_b low_c in
       subst (λ (q : Point). (least_of axis (triangle a b c) *ℤ q.w) ≤ℤ coordinate q) (sym is) (subst (λ (n : ℤ). (least_of axis (triangle a b c) *ℤ pos (i + j + k)) ≤ℤ n) (sym (of_face a b c i j k)) at)
 
   to_greatest : (f : Figure) (p : Point) → IsPointOf f p → coordinate p ≤ℤ (greatest_of axis f *ℤ p.w)
   to_greatest (stretch a b) p (i, j, _, is) =
-      let (high_a, high_b) = greatest_of_two (axis a) (axis b) in
+      let (high_a, high_b) = edge_high (axis a) (axis b) in
       let at = two_to i j (axis a) (axis b) (int_max (axis a) (axis b)) high_a high_b in
       subst (λ (q : Point). coordinate q ≤ℤ (greatest_of axis (stretch a b) *ℤ q.w)) (sym is) (subst (λ (n : ℤ). n ≤ℤ (greatest_of axis (stretch a b) *ℤ pos (i + j))) (sym (of_edge a b i j)) at)
   to_greatest (triangle a b c) p (i, j, k, _, is) =
-      let (high_a, high_b, high_c) = greatest_of_three (axis a) (axis b) (axis c) in
+      let (high_a, high_b, high_c) = face_high (axis a) (axis b) (axis c) in
       let at = three_to i j k (axis a) (axis b) (axis c) (int_max (int_max (axis a) (axis b)) (axis c)) high_a high_b high_c in
       subst (λ (q : Point). coordinate q ≤ℤ (greatest_of axis (triangle a b c) *ℤ q.w)) (sym is) (subst (λ (n : ℤ). n ≤ℤ (greatest_of axis (triangle a b c) *ℤ pos (i + j + k))) (sym (of_face a b c i j k)) at)
 

@@ -7,9 +7,9 @@ use Rattle.std.proofs.lemmas.Option.{slice_get-get_or, same_Some, slice_get_with
 use Rattle.lattice.specs.declared.points.Corner.{Corner}
 use Rattle.lattice.specs.declared.soup.Tri.{Tri}
 use Rattle.lattice.specs.Triangles.{IsBelow}
-use Rattle.flip_bounds.specs.declared.bounded.Bounded.{Bounded}
-use Rattle.flip_bounds.specs.Heights.{Placed, side_square}
-use Rattle.flip_bounds.specs.Flips.{tri, IsRound, IsRise, IsSideOf, IsSliverBeside, first_of, second_of}
+use Rattle.flip_slivers.specs.declared.bounded.Bounded.{Bounded}
+use Rattle.flip_slivers.specs.Heights.{Placed, side_square}
+use Rattle.flip_slivers.specs.Flips.{tri, IsRound, IsRise, IsSideOf, IsSliverBeside, first_of, second_of}
 use Rattle.integers.proofs.Absolutes.{natural_positive, pos-product}
 use Rattle.flip_slivers.specs.declared.choices.Flip.{Flip}
 use Rattle.flip_slivers.specs.declared.measures.Measure.{Measure}

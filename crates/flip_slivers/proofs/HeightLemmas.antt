@@ -4,7 +4,7 @@ use Rattle.std.specs.Prelude.{ℤ, pos, negsuc, ◌+ℤ◌, ◌*ℤ◌, ◌<ℤ�
 use Rattle.std.proofs.Math.Nat.{mul-le-mul_right, mul-lt-mul_of_pos_right}
 use Rattle.std.proofs.Common.{lt_of_le_of_lt, le_of_lt}
 use Rattle.std.proofs.lemmas.Nat.{mul-le, mul-lt}
-use Rattle.flip_bounds.specs.Heights.{IsRoundedUp}
+use Rattle.flip_slivers.specs.Heights.{IsRoundedUp}
 use Rattle.integers.proofs.Absolutes.{pos-product, pos-sum_of_three}
 use Rattle.std.proofs.lemmas.Int.{ints, to_z-of_z, fits_signed_from_abs}
 use Rattle.std.specs.Int.{w64}

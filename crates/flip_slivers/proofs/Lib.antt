@@ -9,3 +9,12 @@ pub mod Potential
 pub mod QueueLemmas
 pub mod SettledLemmas
 pub mod SettlingLemmas
+pub mod Lengths
+pub mod Nearness
+pub mod Feet
+pub mod FootFaces
+pub mod Slivers
+pub mod FlipFaces
+pub mod FlipTriangles
+pub mod Changed
+pub mod FlipsNear

@@ -9,9 +9,9 @@ use Rattle.std.proofs.lemmas.List.Elements.{All-nil, All-filter, Contains-append
 use Rattle.std.proofs.lemmas.Option.{slice_get-map, slice_get_within, slice_get-get_or, same_Some}
 use Rattle.integers.proofs.Passing.{Contains-filter}
 use Rattle.lattice.specs.declared.soup.Tri.{Tri}
-use Rattle.flip_bounds.specs.declared.bounded.Bounded.{Bounded}
-use Rattle.flip_bounds.specs.Flips.{tri, IsRound, HasSide, IsSideOf}
-use Rattle.flip_bounds.proofs.Changed.{set_same, set_other}
+use Rattle.flip_slivers.specs.declared.bounded.Bounded.{Bounded}
+use Rattle.flip_slivers.specs.Flips.{tri, IsRound, HasSide, IsSideOf}
+use Rattle.flip_slivers.proofs.Changed.{set_same, set_other}
 use Rattle.geometry.specs.Parts.{IsCornerOf}
 use Rattle.flip_slivers.specs.inner.Lists.{HasKey, HasSideAt, HasTriAt, IsListed, IsGrown, IsLess, IsMore, lists_of, list_number, listed_at, triangles_of}
 

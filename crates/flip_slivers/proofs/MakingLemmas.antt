@@ -9,9 +9,9 @@ use Rattle.std.proofs.lemmas.Option.{slice_get_within, slice_get-get_or, same_So
 use Rattle.lattice.specs.declared.points.Corner.{Corner}
 use Rattle.lattice.specs.declared.soup.Tri.{Tri}
 use Rattle.lattice.specs.Triangles.{IsBelow}
-use Rattle.flip_bounds.specs.declared.bounded.Bounded.{Bounded}
-use Rattle.flip_bounds.specs.Flips.{tri, IsRound, HasSide, IsSideOf, IsFlip, AreFlips, more, first_of, second_of}
-use Rattle.flip_bounds.proofs.Changed.{set_same, set_other}
+use Rattle.flip_slivers.specs.declared.bounded.Bounded.{Bounded}
+use Rattle.flip_slivers.specs.Flips.{tri, IsRound, HasSide, IsSideOf, IsFlip, AreFlips, more, first_of, second_of}
+use Rattle.flip_slivers.proofs.Changed.{set_same, set_other}
 use Rattle.flip_slivers.specs.declared.choices.Flip.{Flip}
 use Rattle.flip_slivers.specs.declared.measures.Measure.{Measure}
 use Rattle.flip_slivers.specs.inner.Lists.{HasTriAt, IsLess, IsListed, IsMore, lists_of, triangles_of}

@@ -6,8 +6,8 @@ use Rattle.std.proofs.lemmas.List.{length-append}
 use Rattle.std.proofs.lemmas.Option.{same_Some, slice_get_within}
 use Rattle.lattice.specs.declared.points.Corner.{Corner}
 use Rattle.lattice.specs.declared.soup.Tri.{Tri}
-use Rattle.flip_bounds.specs.Heights.{HasHeight, IsLower}
-use Rattle.flip_bounds.specs.Flips.{IsRise}
+use Rattle.flip_slivers.specs.Heights.{HasHeight, IsLower}
+use Rattle.flip_slivers.specs.Flips.{IsRise}
 use Rattle.flip_slivers.specs.declared.heights.Height.{Height}
 use Rattle.flip_slivers.specs.declared.measures.Measure.{Measure}
 use Rattle.flip_slivers.specs.inner.Measures.{IsMeasure, AreMeasures}

@@ -13,9 +13,9 @@ use Rattle.lattice.specs.declared.soup.Tri.{Tri}
 use Rattle.lattice.specs.Points.{difference}
 use Rattle.lattice.specs.Triple.{Triple, dot, cross}
 use Rattle.geometry.specs.Faces.{normal}
-use Rattle.flip_bounds.specs.Heights.{HasHeight, IsLongest, IsLower, IsRoundedUp, side_square, area_square}
-use Rattle.flip_bounds.specs.Flips.{tri, IsRound, IsRise, first_of, second_of}
-use Rattle.flip_bounds.proofs.Lengths.{square_not_negative}
+use Rattle.flip_slivers.specs.Heights.{HasHeight, IsLongest, IsLower, IsRoundedUp, side_square, area_square}
+use Rattle.flip_slivers.specs.Flips.{tri, IsRound, IsRise, first_of, second_of}
+use Rattle.flip_slivers.proofs.Lengths.{square_not_negative}
 
 -- ---- one height
 pub longest_once : (a b c : Corner) (l m : ℤ) → IsLongest a b c l → IsLongest a b c m → l ≡ m

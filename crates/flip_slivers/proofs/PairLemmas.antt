@@ -7,8 +7,8 @@ use Rattle.std.proofs.lemmas.Bool.{cases_eq, false≢true}
 use Rattle.std.proofs.lemmas.List.{drop_more, drop_all, length-set, get_or-replicate, length-replicate, append-nil}
 use Rattle.std.proofs.lemmas.Option.{slice_get_within, slice_get_read, get_or_from_slice_get, same_Some, slice_get-get_or, none-some}
 use Rattle.lattice.specs.declared.soup.Tri.{Tri}
-use Rattle.flip_bounds.specs.Flips.{tri, HasSide}
-use Rattle.flip_bounds.proofs.Changed.{set_same, set_other}
+use Rattle.flip_slivers.specs.Flips.{tri, HasSide}
+use Rattle.flip_slivers.proofs.Changed.{set_same, set_other}
 use Rattle.flip_slivers.specs.Pairs.{AreOpposite, AreOppositeAt, IsWithoutPairs, alone}
 use Rattle.flip_slivers.specs.inner.Lists.{IsListed, list_number, listed_at}
 use Rattle.flip_slivers.specs.inner.Partners.{ArePartners, IsFreePartner, IsAlone}

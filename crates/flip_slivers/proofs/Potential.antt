@@ -10,9 +10,9 @@ use Rattle.std.proofs.lemmas.List.{length-set}
 use Rattle.integers.proofs.Signs.{mul_nonneg}
 use Rattle.lattice.specs.declared.points.Corner.{Corner}
 use Rattle.lattice.specs.declared.soup.Tri.{Tri}
-use Rattle.flip_bounds.specs.declared.bounded.Bounded.{Bounded}
-use Rattle.flip_bounds.specs.Heights.{HasHeight, IsLower, area_square}
-use Rattle.flip_bounds.specs.Flips.{tri, IsRound, IsFlip, AreFlips, none, more, first_of, second_of}
+use Rattle.flip_slivers.specs.declared.bounded.Bounded.{Bounded}
+use Rattle.flip_slivers.specs.Heights.{HasHeight, IsLower, area_square}
+use Rattle.flip_slivers.specs.Flips.{tri, IsRound, IsFlip, AreFlips, none, more, first_of, second_of}
 use Rattle.flip_slivers.proofs.OneHeight.{turned_normal, area_not_negative, side_not_negative}
 
 -- ---- flat triangles

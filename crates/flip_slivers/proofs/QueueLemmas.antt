@@ -9,9 +9,9 @@ use Rattle.std.proofs.lemmas.Option.{slice_get-get_or, slice_get_within, same_So
 use Rattle.lattice.specs.declared.points.Corner.{Corner}
 use Rattle.lattice.specs.declared.soup.Tri.{Tri}
 use Rattle.geometry.specs.Parts.{IsCornerOf}
-use Rattle.flip_bounds.specs.declared.bounded.Bounded.{Bounded}
-use Rattle.flip_bounds.specs.Flips.{tri, IsRound}
-use Rattle.flip_bounds.proofs.Changed.{set_same, set_other}
+use Rattle.flip_slivers.specs.declared.bounded.Bounded.{Bounded}
+use Rattle.flip_slivers.specs.Flips.{tri, IsRound}
+use Rattle.flip_slivers.proofs.Changed.{set_same, set_other}
 use Rattle.flip_slivers.specs.inner.Lists.{HasTriAt, IsListed, list_number, listed_at, triangles_of}
 use Rattle.flip_slivers.specs.inner.Choices.{AreIdle, AreSettled, IsFuller, IsIdleAt, IsQueue, Waits}
 use Rattle.flip_slivers.proofs.ListLemmas.{corner_listed}

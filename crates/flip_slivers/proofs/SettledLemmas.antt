@@ -6,9 +6,9 @@ use Rattle.std.proofs.lemmas.List.{get_or_default}
 use Rattle.std.proofs.lemmas.Option.{same_Some}
 use Rattle.lattice.specs.declared.points.Corner.{Corner}
 use Rattle.lattice.specs.declared.soup.Tri.{Tri}
-use Rattle.flip_bounds.specs.declared.bounded.Bounded.{Bounded}
-use Rattle.flip_bounds.specs.Heights.{HasHeight, IsRoundedUp, side_square}
-use Rattle.flip_bounds.specs.Flips.{tri, IsRound, HasSide, IsSideOf, IsFlip, IsRise, first_of, second_of}
+use Rattle.flip_slivers.specs.declared.bounded.Bounded.{Bounded}
+use Rattle.flip_slivers.specs.Heights.{HasHeight, IsRoundedUp, side_square}
+use Rattle.flip_slivers.specs.Flips.{tri, IsRound, HasSide, IsSideOf, IsFlip, IsRise, first_of, second_of}
 use Rattle.flip_slivers.specs.declared.choices.Flip.{Flip}
 use Rattle.flip_slivers.specs.declared.choices.Sliver.{Sliver}
 use Rattle.flip_slivers.specs.inner.Choices.{IsSliverAt, IsNewBound, IsChoice, AreSettled, IsIdleAt, IsIdleOn, IsIdleBeside, Waits}

@@ -10,10 +10,10 @@ use Rattle.lattice.specs.declared.points.Corner.{Corner}
 use Rattle.lattice.specs.declared.soup.Tri.{Tri}
 use Rattle.lattice.specs.Triangles.{IsBelow}
 use Rattle.geometry.specs.Parts.{part_with}
-use Rattle.flip_bounds.specs.declared.bounded.Bounded.{Bounded}
-use Rattle.flip_bounds.specs.Near.{AreNearSurfaces}
-use Rattle.flip_bounds.specs.Flips.{AreFlips, unmoved, IsGreatestBound}
-use Rattle.flip_bounds.proofs.FlipsNear.{flips_near, flips_within, flips_count, flips_in_range}
+use Rattle.flip_slivers.specs.declared.bounded.Bounded.{Bounded}
+use Rattle.flip_slivers.specs.Near.{AreNearSurfaces}
+use Rattle.flip_slivers.specs.Flips.{AreFlips, unmoved, IsGreatestBound}
+use Rattle.flip_slivers.proofs.FlipsNear.{flips_near, flips_within, flips_count, flips_in_range}
 use Rattle.flip_slivers.specs.Flipped.{IsFlipped}
 use Rattle.flip_slivers.specs.declared.measures.Measure.{Measure}
 use Rattle.flip_slivers.specs.inner.Lists.{IsListed, lists_of, triangles_of}

@@ -2,8 +2,8 @@
 use Rattle.std.specs.Prelude.{◌≡◌, ℕ, List, map}
 use Rattle.lattice.specs.declared.points.Corner.{Corner}
 use Rattle.lattice.specs.declared.soup.Tri.{Tri}
-use Rattle.flip_bounds.specs.declared.bounded.Bounded.{Bounded}
-use Rattle.flip_bounds.specs.Flips.{IsFlip, AreFlips, unmoved, IsGreatestBound}
+use Rattle.flip_slivers.specs.declared.bounded.Bounded.{Bounded}
+use Rattle.flip_slivers.specs.Flips.{IsFlip, AreFlips, unmoved, IsGreatestBound}
 
 -- the triangles after so many flips, of which none is left, and the greatest bound that one of them carries
 pub record IsFlipped (corners : List Corner) (most : ℕ) (given triangles : List Tri) (flips moved : ℕ) : Type 0 where

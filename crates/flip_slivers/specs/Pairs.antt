@@ -1,7 +1,7 @@
 -- Triangles on the same corners that are turned opposite, and what is left without them.
 use Rattle.std.specs.Prelude.{◌≡◌, ◌≢◌, ℕ, List, [], ◌∷◌, length, Option, Some, None, slice_get}
 use Rattle.lattice.specs.declared.soup.Tri.{Tri}
-use Rattle.flip_bounds.specs.Flips.{tri, IsRound}
+use Rattle.flip_slivers.specs.Flips.{tri, IsRound}
 
 -- the second triangle has the corner numbers of the first in the other order around
 abbrev pub AreOpposite : Tri → Tri → Type 0

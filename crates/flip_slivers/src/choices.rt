@@ -1,13 +1,13 @@
 // Which flip is made next.
 ghost use Rattle.std.specs.Prelude.{◌≡◌, ◌⊎◌, ℕ, ◌<◌, ◌≤◌, ◌↔◌, length, slice_get, Some, IfSome, IsNone, IsTrue};
 ghost use Rattle.lattice.specs.Triangles.{IsBelow};
-ghost use Rattle.flip_bounds.specs.Flips.{tri, IsRound, IsRise, first_of, second_of};
+ghost use Rattle.flip_slivers.specs.Flips.{tri, IsRound, IsRise, first_of, second_of};
 ghost use Rattle.flip_slivers.specs.inner.Choices.{IsLaid, IsSliverAt, IsChoice, IsCandidate, IsNewBound, IsIdleAt, IsIdleOn, IsIdleBeside};
 
+use crate::Bounded;
 use crate::heights::{is_sliver, side_between};
 use crate::lists::{is_side, listed, third_of};
 use crate::measures::{Measure, rises};
-use flip_bounds::Bounded;
 use lattice::{Corner, Tri};
 
 /// The two triangles of a flip by their places, their corners as in `IsFlip`, and the bound that both get.

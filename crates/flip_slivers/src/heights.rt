@@ -1,7 +1,7 @@
 // The least heights of triangles: which is lower, and how far a flip moves points.
 ghost use Rattle.std.specs.Prelude.{◌≡◌, ◌+◌, ◌*◌, ◌<◌, ◌≤◌, ◌^◌, ◌↔◌, length, IsTrue, pos, unsigned_abs, ◌*ℤ◌, ◌<ℤ◌};
 ghost use Rattle.lattice.specs.Triangles.{IsBelow};
-ghost use Rattle.flip_bounds.specs.Heights.{HasHeight, IsLongest, IsRoundedUp, side_square, area_square};
+ghost use Rattle.flip_slivers.specs.Heights.{HasHeight, IsLongest, IsRoundedUp, side_square, area_square};
 
 use exact_frac::{Frac, isqrt};
 use lattice::{Corner, Tri, Vector, cross};

@@ -1,9 +1,9 @@
 // Lists of places: for each directed side and each corner, the triangles that have it.
 ghost use Rattle.std.specs.Prelude.{◌≡◌, ℕ, ◌<◌, ◌≤◌, ◌↔◌, [], length, vec_len, IsTrue, IfSome, IsNone, IfOk, OnOk};
-ghost use Rattle.flip_bounds.specs.Flips.{tri, IsRound, HasSide, IsSideOf};
+ghost use Rattle.flip_slivers.specs.Flips.{tri, IsRound, HasSide, IsSideOf};
 ghost use Rattle.flip_slivers.specs.inner.Lists.{HasTriAt, IsListed, IsGrown, IsLess, IsMore, lists_of, list_number, listed_at, triangles_of};
 
-use flip_bounds::Bounded;
+use crate::Bounded;
 use lattice::Tri;
 use std::alloc::{AllocError, Global};
 

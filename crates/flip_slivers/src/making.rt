@@ -1,14 +1,14 @@
 // Flips that are made, one after the other.
 ghost use Rattle.std.specs.Prelude.{◌≡◌, ℕ, ◌<◌, ◌≤◌, length, slice_set, true, false, OnOk, IfOk};
 ghost use Rattle.lattice.specs.Triangles.{IsBelow};
-ghost use Rattle.flip_bounds.specs.Flips.{AreFlips};
+ghost use Rattle.flip_slivers.specs.Flips.{AreFlips};
 ghost use Rattle.flip_slivers.specs.inner.Choices.{IsChoice, IsLaid, IsReady, AreSettled, flipped};
 
+use crate::Bounded;
 use crate::choices::{Flip, Scene};
 use crate::lists::{add_all, take_out_all};
 use crate::measures::{Measure, measure_of};
 use crate::queue::{Queue, next_flip, wait, wake};
-use flip_bounds::Bounded;
 use lattice::{Corner, Tri};
 use std::alloc::AllocError;
 

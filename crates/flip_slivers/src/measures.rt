@@ -2,7 +2,7 @@
 ghost use Rattle.std.specs.Prelude.{◌↔◌, length, IsTrue, IfOk};
 ghost use Rattle.std.specs.List.{All};
 ghost use Rattle.lattice.specs.Triangles.{IsBelow};
-ghost use Rattle.flip_bounds.specs.Flips.{IsRise};
+ghost use Rattle.flip_slivers.specs.Flips.{IsRise};
 ghost use Rattle.flip_slivers.specs.inner.Measures.{IsMeasure, AreMeasures};
 
 use crate::heights::{Height, height_at, is_below_both, is_less, is_sliver, rise_of};

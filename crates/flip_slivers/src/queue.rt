@@ -1,12 +1,12 @@
 // Triangles that wait to be looked at: at the start all, later those that a flip changed or gave a chance.
 ghost use Rattle.std.specs.Prelude.{◌≡◌, ◌⊎◌, ℕ, ◌<◌, ◌≤◌, length, vec_len, IfOk, OnOk, IsNone, IfSome, IsTrue};
-ghost use Rattle.flip_bounds.specs.Flips.{IsSideOf};
+ghost use Rattle.flip_slivers.specs.Flips.{IsSideOf};
 ghost use Rattle.flip_slivers.specs.inner.Lists.{HasTriAt, IsListed, lists_of, triangles_of};
 ghost use Rattle.flip_slivers.specs.inner.Choices.{AreIdle, AreSettled, IsChoice, IsFuller, IsLaid, IsQueue, Waits};
 
+use crate::Bounded;
 use crate::choices::{Flip, Scene, flip_at};
 use crate::lists::{is_side, is_triangle, listed};
-use flip_bounds::Bounded;
 use lattice::Tri;
 use std::alloc::{AllocError, Global};
 

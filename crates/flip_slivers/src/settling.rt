@@ -3,18 +3,18 @@ ghost use Rattle.std.specs.Prelude.{◌≡◌, ℕ, ◌*◌, ◌<◌, ◌≤◌,
 ghost use Rattle.std.specs.List.{All};
 ghost use Rattle.lattice.specs.Triangles.{IsBelow};
 ghost use Rattle.geometry.specs.Parts.{part_with};
-ghost use Rattle.flip_bounds.specs.Near.{AreNearSurfaces};
-ghost use Rattle.flip_bounds.specs.Flips.{IsGreatestBound, unmoved};
+ghost use Rattle.flip_slivers.specs.Near.{AreNearSurfaces};
+ghost use Rattle.flip_slivers.specs.Flips.{IsGreatestBound, unmoved};
 ghost use Rattle.flip_slivers.specs.Flipped.{IsFlipped};
 ghost use Rattle.flip_slivers.specs.inner.Choices.{IsLaid};
 ghost use Rattle.flip_slivers.specs.inner.Lists.{triangles_of};
 
+use crate::Bounded;
 use crate::lists::list_all;
 use crate::making::{Mesh, flip_all};
 use crate::measures::measure_all;
 use crate::queue::all_waiting;
 use exact_frac::OutOfMemory;
-use flip_bounds::Bounded;
 use lattice::{Corner, Tri};
 use std::alloc::{AllocError, Global};
 

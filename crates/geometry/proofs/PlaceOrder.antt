@@ -3,7 +3,7 @@ use Rattle.std.proofs.Common.{◌≡◌, [], ◌∷◌, refl, sym, subst, ap, �
 use Rattle.std.specs.Prelude.{ℤ, pos, ◌+ℤ◌, ◌-ℤ◌, ◌*ℤ◌, ◌<ℤ◌, ◌≤ℤ◌}
 use Rattle.std.proofs.lemmas.Int.{ints, by_lt_z}
 use Rattle.integers.proofs.Comparisons.{not_negative_of_positive, gap_of_at_most, at_most_of_less, less_of_gap, at_most_of_gap, less_not_at_most, sum_positive, gap_of_same, same_of_both, at_most_itself, zero_times, zero_between, at_most_of_same}
-use Rattle.integers.proofs.Ring.{var, ◌⊕◌, ◌⊖◌, ◌⊗◌, ring, gap_of_less, same_of_gap}
+use Rattle.integers.proofs.Ring.{var, ◌⊕◌, ◌⊖◌, ◌⊗◌, ring, gap_of_less, less_by, same_of_gap}
 use Rattle.integers.proofs.Signs.{mul_nonneg, mul_pos, nonneg_of_mul, pos_of_mul, zero_of_mul}
 use Rattle.exact_frac.specs.declared.Frac.{Frac}
 use Rattle.geometry.specs.Places.{IsEarlier, IsValue, IsBetween}
@@ -138,3 +138,15 @@ between_value a b n m k l up positive same h = (
   less_most a.num a.den n m k l a.positive up positive h.0 (at_most_of_same (n *ℤ l) (k *ℤ m) same),
   most_less k l n m b.num b.den positive up b.positive (at_most_of_same (k *ℤ m) (n *ℤ l) (sym same)) h.1,
 )
+
+-- the mediant is strictly between
+pub mediant_between : (a b : Frac) → IsEarlier a b → IsBetween a b (a.num +ℤ b.num) (a.den +ℤ b.den)
+mediant_between a b h = (
+  less_by (a.num *ℤ (a.den +ℤ b.den)) ((a.num +ℤ b.num) *ℤ a.den) ((b.num *ℤ a.den) -ℤ (a.num *ℤ b.den))
+      (ring (a.num ∷ a.den ∷ b.num ∷ b.den ∷ []) (((var 0 ⊕ var 2) ⊗ var 1) ⊖ (var 0 ⊗ (var 1 ⊕ var 3))) ((var 2 ⊗ var 1) ⊖ (var 0 ⊗ var 3)) refl) gap,
+  less_by ((a.num +ℤ b.num) *ℤ b.den) (b.num *ℤ (a.den +ℤ b.den)) ((b.num *ℤ a.den) -ℤ (a.num *ℤ b.den))
+      (ring (a.num ∷ a.den ∷ b.num ∷ b.den ∷ []) ((var 2 ⊗ (var 1 ⊕ var 3)) ⊖ ((var 0 ⊕ var 2) ⊗ var 3)) ((var 2 ⊗ var 1) ⊖ (var 0 ⊗ var 3)) refl) gap,
+)
+  where
+    gap : pos 0 <ℤ ((b.num *ℤ a.den) -ℤ (a.num *ℤ b.den))
+    gap = gap_of_less (a.num *ℤ b.den) (b.num *ℤ a.den) h

@@ -15,7 +15,8 @@ use Rattle.lattice.proofs.SightAxes.{agree_of_sight}
 use Rattle.lattice.proofs.SightLines.{sight_of_along}
 use Rattle.lattice.proofs.Vectors.{letters, dots, crosses}
 use Rattle.geometry.specs.Parts.{Part}
-use Rattle.geometry.specs.Traces.{component_of, coordinate_of, third_of, IsAlong, IsAmongCorners, TraceRuns, EdgeRuns, IsOrdinaryBeside}
+use Rattle.lattice.specs.Axes.{component_of, coordinate_of, third_of, IsAlong}
+use Rattle.geometry.specs.Traces.{IsAmongCorners, TraceRuns, EdgeRuns, IsOrdinaryBeside}
 use Rattle.geometry.proofs.Sights.{sight_on, ordinary_along}
 
 -- ---- axes

@@ -2,9 +2,15 @@ pub mod Faces
 pub mod Parts
 pub mod Views
 pub mod Places
+pub mod Spans
 pub mod Cuts
 pub mod Traces
 pub mod Pieces
 pub mod Scenes
 pub mod Runs
 pub mod Sound
+pub mod Counts
+pub mod Shares
+pub mod Covers
+pub mod Turns
+pub mod inner

@@ -66,12 +66,12 @@ rank_of Dashed = 1
 rank_of Chain = 2
 
 -- l stands before m: by its style, then by its end a, then by its end b
-abbrev pub StandsBefore : Triple → Piece → Piece → Type 0
-StandsBefore d l m =
+abbrev pub PieceStandsBefore : Triple → Piece → Piece → Type 0
+PieceStandsBefore d l m =
     (rank_of l.style < rank_of m.style)
     ⊎ ((l.style ≡ m.style) × (IsBefore d (of_spot l.a) (of_spot m.a) ⊎ (OnOneSight d (of_spot l.a) (of_spot m.a) × IsBefore d (of_spot l.b) (of_spot m.b))))
 
 -- the end a of each piece is before its end b, and each piece stands before the later ones
 pub record AreInOrder (d : Triple) (pieces : List Piece) : Type 0 where
   pub ends : All (λ l. IsBefore d (of_spot l.a) (of_spot l.b)) pieces
-  pub order : AllPairs (StandsBefore d) pieces
+  pub order : AllPairs (PieceStandsBefore d) pieces

@@ -1,17 +1,12 @@
 -- Places of an edge: fractions from 0 to 1.
-use Rattle.std.specs.Prelude.{◌≡◌, ◌<◌, ◌^◌, ℤ, pos, ◌*ℤ◌, ◌<ℤ◌, ◌≤ℤ◌, unsigned_abs}
+use Rattle.std.specs.Prelude.{◌≡◌, ℤ, ◌*ℤ◌, ◌<ℤ◌, ◌≤ℤ◌}
 use Rattle.exact_frac.specs.declared.Frac.{Frac}
+pub use Rattle.lattice.specs.Places.{IsPlace}
 use Rattle.lattice.specs.Triple.{Triple}
 use Rattle.lattice.specs.Points.{Point}
 use Rattle.geometry.specs.Faces.{share_point}
 use Rattle.geometry.specs.Parts.{Part, Edge}
 use Rattle.geometry.specs.Views.{IsOrdinary}
-
--- a share of an edge, from 0 to 1, as small as a spot allows
-pub record IsPlace (r : Frac) : Type 0 where
-  pub least : pos 0 ≤ℤ r.num
-  pub most : r.num ≤ℤ r.den
-  pub small : unsigned_abs r.den < 2 ^ 69
 
 -- the point of the edge at this place
 abbrev pub point_at : {s : Part} → Edge s → Frac → Point

@@ -1,8 +1,8 @@
 -- Where planes of cuts are seen edge-on in a plain view: their traces, and which points are ordinary beside them.
-use Rattle.std.specs.Prelude.{◌≡◌, ◌≢◌, ◌⊎◌, ℤ, pos, ◌*ℤ◌, ◌≤ℤ◌, List, Contains}
+use Rattle.std.specs.Prelude.{◌≡◌, ◌≢◌, ◌⊎◌, pos, ◌*ℤ◌, ◌≤ℤ◌, List, Contains}
 use Rattle.lattice.specs.declared.points.Axis.{Axis}
-use Rattle.lattice.specs.declared.points.Axis.TheVariants.{X, Y, Z}
 use Rattle.lattice.specs.declared.points.Corner.{Corner}
+use Rattle.lattice.specs.Axes.{coordinate_of, third_of, IsAlong}
 use Rattle.lattice.specs.Cuts.{Plane, unit_of, IsBeyond, IsBeforePlane}
 use Rattle.lattice.specs.Points.{Point, IsPoint, point_of, OnOneSight}
 use Rattle.lattice.specs.Triple.{Triple, det}
@@ -10,37 +10,12 @@ use Rattle.geometry.specs.Faces.{difference}
 use Rattle.geometry.specs.Parts.{Part, Edge}
 use Rattle.geometry.specs.Views.{IsSeenOver, IsOrdinary}
 
--- ---- axes
--- the number of a direction along an axis
-abbrev pub component_of : Axis → Triple → ℤ
-component_of X d = d.x
-component_of Y d = d.y
-component_of Z d = d.z
-
--- the coordinate of a point on an axis, times its w
-abbrev pub coordinate_of : Axis → Point → ℤ
-coordinate_of X p = p.x
-coordinate_of Y p = p.y
-coordinate_of Z p = p.z
-
--- the axis beside two different ones
-abbrev pub third_of : Axis → Axis → Axis
-third_of X X = X
-third_of X Y = Z
-third_of X Z = Y
-third_of Y X = Z
-third_of Y Y = Y
-third_of Y Z = X
-third_of Z X = Y
-third_of Z Y = X
-third_of Z Z = Z
-
--- the direction is along the axis: on no other has it a number that isn't 0
-pub record IsAlong (axis : Axis) (d : Triple) : Type 0 where
-  pub there : component_of axis d ≢ pos 0
-  pub alone : (other : Axis) → other ≢ axis → component_of other d ≡ pos 0
-
 -- ---- traces
+-- corners are on both sides of the plane: it takes something away, and leaves something
+pub record GoesThrough (c : Plane) (corners : List Corner) : Type 0 where
+  pub before : (k : Corner) × Contains corners k × IsBeforePlane c (point_of k)
+  pub beyond : (k : Corner) × Contains corners k × IsBeyond c (point_of k)
+
 -- The view along d has the trace of the plane of a cut: d is along an axis other than the cut's, corners are on both sides of the
 -- plane, and on the third axis, along which the trace runs, not all corners are at one place.
 pub record HasTrace (d : Triple) (s : Part) (c : Plane) (sight : Axis) : Type 0 where

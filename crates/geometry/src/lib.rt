@@ -1,2 +1,3 @@
-//! The definitions that the contracts above speak in: what a part is, and what a view of it shows. They stand in `specs/`.
+//! The definitions that the contracts above speak in: what a part is, what a view of it shows, and the two counts along an edge and
+//! around its corners. They stand in `specs/`.
 #![tactic(auto)]

@@ -23,11 +23,11 @@ use Rattle.geometry.proofs.Sights.{sight_on}
 use Rattle.cut_plane.specs.declared.segments.Segment.{Segment}
 use Rattle.cut_plane.specs.Loops.{AreBorders}
 use Rattle.cut_plane.proofs.Apart.{border_apart}
-use Rattle.cut_plane.proofs.BorderPoints.{IsMixOf}
+use Rattle.cut_plane.proofs.BorderSums.{IsMixOf}
 use Rattle.cut_plane.proofs.Lists.{contains_cases, contains_none}
 use Rattle.cut_plane.proofs.RightOf.{sum_turned}
-use Rattle.section_parity.proofs.Roots.{some_number}
-use Rattle.hatch_fill.specs.declared.places.Place.{Place}
+use Rattle.cut_plane.proofs.Roots.{some_number}
+use Rattle.hatch_fill.specs.declared.places.HatchPlace.{HatchPlace}
 use Rattle.hatch_fill.specs.inner.Parts.{AreJoined}
 use Rattle.hatch_fill.specs.inner.Places.{IsNear}
 use Rattle.hatch_fill.specs.inner.Stretches.{IsPlaceOf, IsSpotOn, AreEndsAlong, IsStretchOf, HasStretch, AreStretches}
@@ -70,7 +70,7 @@ along_at l u v w diagonal on slope level =
         second a b f g = omega (arith, ints)
 
 -- what is seen between the spots of two places
-module _ (d : Triple) (diagonal : ℤ) (t t' : Place) (k k' : Spot) (is : IsPlaceOf d diagonal k t) (is' : IsPlaceOf d diagonal k' t') (order : (t.across.num *ℤ t'.across.den) <ℤ (t'.across.num *ℤ t.across.den)) (i j : ℕ) (some : 0 < i + j) (r : Point) (there : IsPoint r)
+module _ (d : Triple) (diagonal : ℤ) (t t' : HatchPlace) (k k' : Spot) (is : IsPlaceOf d diagonal k t) (is' : IsPlaceOf d diagonal k' t') (order : (t.across.num *ℤ t'.across.den) <ℤ (t'.across.num *ℤ t.across.den)) (i j : ℕ) (some : 0 < i + j) (r : Point) (there : IsPoint r)
     (sight : OnOneSight d (weighted_sum (pos i) (of_spot k) (pos j) (of_spot k')) r) where
   same : ((pos i *ℤ t.across.num) +ℤ (pos j *ℤ t'.across.num)) *ℤ r.w ≡ across_of d r *ℤ ((pos i *ℤ t.across.den) +ℤ (pos j *ℤ t'.across.den))
   same =
@@ -83,7 +83,7 @@ module _ (d : Triple) (diagonal : ℤ) (t t' : Place) (k k' : Spot) (is : IsPlac
   pub seen_until : (across_of d r *ℤ t'.across.den) ≤ℤ (t'.across.num *ℤ r.w)
   seen_until = until_second t.across.num t.across.den t'.across.num t'.across.den (across_of d r) r.w i j t.across.positive t'.across.positive some (at_most_of_less _ _ order) same there
 
-module _ (c : Plane) (small : unsigned_abs c.at ≤ 2 ^ 20) (s : Part) (whole : HasNoFlatTriangle s) (segments : List Segment) (starts : List ℕ) (borders : AreBorders c s segments starts) (spacing : ℕ) (stretches : List (Interval Place))
+module _ (c : Plane) (small : unsigned_abs c.at ≤ 2 ^ 20) (s : Part) (whole : HasNoFlatTriangle s) (segments : List Segment) (starts : List ℕ) (borders : AreBorders c s segments starts) (spacing : ℕ) (stretches : List (Interval HatchPlace))
     (joined : AreJoined (AreStretches (toward_of c) spacing) segments stretches) where
   abbrev d : Triple
   d = toward_of c
@@ -167,7 +167,7 @@ module _ (c : Plane) (small : unsigned_abs c.at ≤ 2 ^ 20) (s : Part) (whole : 
           apart = λ same. border_apart c g.is.face a b e (whole g.is.face) (same_sight d a b D at_a at_b same);
         }
 
-    through : (i : Interval Place) → IsStretchOf d spacing g.x i → Crosses (is_not_after D (across_of d p) p.w) i
+    through : (i : Interval HatchPlace) → IsStretchOf d spacing g.x i → Crosses (is_not_after D (across_of d p) p.w) i
     through i is = by is.ends
       where
         cross : (k k' : Spot) (j : ℤ) → IsPlaceOf d (j *ℤ pos spacing) k i.from → IsPlaceOf d (j *ℤ pos spacing) k' i.to → IsAt d D (of_spot k)

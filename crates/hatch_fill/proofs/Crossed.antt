@@ -15,9 +15,9 @@ use Rattle.lattice.specs.Points.{Point, IsPoint, of_spot, across_of, upward_of, 
 use Rattle.lattice.specs.Lines.{IsOnLine}
 use Rattle.lattice.specs.Cuts.{Plane, toward_of}
 use Rattle.lattice.proofs.OnLines.{weighted_sum, product_of_sum, on_line_of_sum}
-use Rattle.section_parity.proofs.Sights.{Sight, sight_of}
-use Rattle.section_parity.specs.Diagonals.{diagonal_of}
-use Rattle.section_parity.proofs.Roots.{some_number}
+use Rattle.cut_plane.proofs.Sights.{Sight, sight_of}
+use Rattle.cut_plane.specs.Diagonals.{diagonal_of}
+use Rattle.cut_plane.proofs.Roots.{some_number}
 use Rattle.hatch_fill.specs.inner.Places.{IsNear}
 use Rattle.hatch_fill.specs.inner.Meetings.{MeetsAt, HasMeeting}
 use Rattle.hatch_fill.proofs.Meets.{same_quotient}

@@ -11,7 +11,7 @@ use Rattle.integers.proofs.Orders.{at_most_of_not_lt}
 use Rattle.exact_frac.specs.Frac.{order_of}
 use Rattle.intervals.specs.declared.interval.Interval.{Interval}
 use Rattle.intervals.specs.Cuts.{IsCut, Crosses}
-use Rattle.hatch_fill.specs.declared.places.Place.{Place}
+use Rattle.hatch_fill.specs.declared.places.HatchPlace.{HatchPlace}
 use Rattle.hatch_fill.specs.inner.Places.{place_order}
 
 before_most : (r s t : Ordering) → Chains r s t → is_le s ≡ true → ¬ (r ≡ Greater) → is_le t ≡ true
@@ -22,7 +22,7 @@ before_most Equal s t h e k = ap is_le (h.first refl) ∙ e
 before_most Greater s t h e k = absurd (k refl)
 
 -- U - V of the place is less
-abbrev pub line_cut : ℤ → Place → Bool
+abbrev pub line_cut : ℤ → HatchPlace → Bool
 line_cut n t = is_lt (int_cmp t.diagonal n)
 
 pub is_line_cut : (n : ℤ) → IsCut place_order (line_cut n)
@@ -33,18 +33,18 @@ is_line_cut n x y h k =
 -- the point where U - V is this number and U is u / w
 module _ (diagonal u w : ℤ) where
   -- the order of a place and the point
-  abbrev pub point_order : Place → Ordering
+  abbrev pub point_order : HatchPlace → Ordering
   point_order t = ordering_then (int_cmp t.diagonal diagonal) (int_cmp (t.across.num *ℤ w) (u *ℤ t.across.den))
 
   -- the place is before the point
-  abbrev pub is_before : Place → Bool
+  abbrev pub is_before : HatchPlace → Bool
   is_before t = is_lt (point_order t)
 
   -- the place is not after it
-  abbrev pub is_not_after : Place → Bool
+  abbrev pub is_not_after : HatchPlace → Bool
   is_not_after t = is_le (point_order t)
 
-  chain : pos 0 <ℤ w → (x y : Place) → Chains (place_order x y) (point_order y) (point_order x)
+  chain : pos 0 <ℤ w → (x y : HatchPlace) → Chains (place_order x y) (point_order y) (point_order x)
   chain positive x y = chained _ _ _ _ _ _ (chained_total int_cmp_total x.diagonal y.diagonal diagonal) (chained_ratios x.across.num x.across.den y.across.num y.across.den u w x.across.positive y.across.positive positive)
 
   pub before_is_cut : pos 0 <ℤ w → IsCut place_order is_before
@@ -54,13 +54,13 @@ module _ (diagonal u w : ℤ) where
   not_after_is_cut positive x y h k = before_most (place_order x y) (point_order y) (point_order x) (chain positive x y) h k
 
   -- ---- by the place's line
-  pub on_lesser : (t : Place) → t.diagonal <ℤ diagonal → point_order t ≡ Less
+  pub on_lesser : (t : HatchPlace) → t.diagonal <ℤ diagonal → point_order t ≡ Less
   on_lesser t h = ap (λ (o : Ordering). ordering_then o (int_cmp (t.across.num *ℤ w) (u *ℤ t.across.den))) (sym (int_cmp_is t.diagonal diagonal Less h))
 
-  pub on_greater : (t : Place) → diagonal <ℤ t.diagonal → point_order t ≡ Greater
+  pub on_greater : (t : HatchPlace) → diagonal <ℤ t.diagonal → point_order t ≡ Greater
   on_greater t h = ap (λ (o : Ordering). ordering_then o (int_cmp (t.across.num *ℤ w) (u *ℤ t.across.den))) (sym (int_cmp_is t.diagonal diagonal Greater h))
 
-  pub on_line : (t : Place) → t.diagonal ≡ diagonal → point_order t ≡ int_cmp (t.across.num *ℤ w) (u *ℤ t.across.den)
+  pub on_line : (t : HatchPlace) → t.diagonal ≡ diagonal → point_order t ≡ int_cmp (t.across.num *ℤ w) (u *ℤ t.across.den)
   on_line t h = ap (λ (o : Ordering). ordering_then o (int_cmp (t.across.num *ℤ w) (u *ℤ t.across.den))) (sym (int_cmp_is t.diagonal diagonal Equal h))
 
 -- ---- what the order of two numbers tells
@@ -95,7 +95,7 @@ pub of_more : (a b : ℤ) → b <ℤ a → is_le (int_cmp a b) ≡ false
 of_more a b h = ap is_le (sym (int_cmp_is a b Greater h))
 
 -- ---- an interval of one line
-module _ (i : Interval Place) (one : i.from.diagonal ≡ i.to.diagonal) (diagonal u w : ℤ) where
+module _ (i : Interval HatchPlace) (one : i.from.diagonal ≡ i.to.diagonal) (diagonal u w : ℤ) where
   -- a cut before a point goes through it exactly where the point is on its line, after its beginning and not after its end
   pub record IsAmong : Type 0 where
     pub line : i.from.diagonal ≡ diagonal

@@ -26,10 +26,10 @@ use Rattle.cut_plane.specs.declared.segments.Segment.{Segment}
 use Rattle.cut_plane.specs.Loops.{IsSegmentOf, AreBorders}
 use Rattle.cut_plane.proofs.Lists.{contains_first, contains_rest, contains_cases, contains_none, each_contains, pairs_first, pairs_rest}
 use Rattle.line_merge.proofs.Zips.{zip_left, zip_right}
-use Rattle.section_parity.specs.Diagonals.{IsUnderBorder}
-use Rattle.hatch_fill.specs.declared.places.Place.{Place}
+use Rattle.cut_plane.specs.Diagonals.{IsUnderBorder}
+use Rattle.hatch_fill.specs.declared.places.HatchPlace.{HatchPlace}
 use Rattle.hatch_fill.specs.inner.Crossings.{AreCrossings}
-use Rattle.hatch_fill.specs.Hatching.{IsLeftOf, IsHatchLine, LiesOnHatch, IsOffBorder, AreApart, StandsBefore, IsHatching}
+use Rattle.hatch_fill.specs.Hatching.{IsLeftOf, IsHatchLine, LiesOnHatch, IsOffBorder, AreApart, HatchStandsBefore, IsHatching}
 use Rattle.hatch_fill.specs.inner.Lines.{IsLineOver}
 use Rattle.hatch_fill.specs.inner.Parts.{AreJoined}
 use Rattle.hatch_fill.specs.inner.Places.{place_order}
@@ -48,14 +48,14 @@ use Rattle.hatch_fill.proofs.Turns.{IsAt}
 use Rattle.hatch_fill.proofs.Under.{joined_part, IsMark, stretch_marks, stretch_under}
 
 -- ---- lists
-pub between_proper : (s t : Place) → All (IsProper place_order) (between s t)
+pub between_proper : (s t : HatchPlace) → All (IsProper place_order) (between s t)
 between_proper s t = by_less s t (All (IsProper place_order)) (λ e. each_contains (IsProper place_order) (record { from = s; to = t } ∷ []) (λ i there. by i e (contains_cases (record { from = s; to = t }) [] i there))) (λ n k d less. absurd (omega arith))
   where
-    by : (i : Interval Place) → place_order s t ≡ Less → (record { from = s; to = t } ≡ i) ⊎ Contains [] i → IsProper place_order i
+    by : (i : Interval HatchPlace) → place_order s t ≡ Less → (record { from = s; to = t } ≡ i) ⊎ Contains [] i → IsProper place_order i
     by i e (inl same) = subst (IsProper place_order) same e
     by i e (inr k) = absurd (contains_none i k)
 
-pub pairs_proper : (xs : List Place) → (i : Interval Place) → Contains (pairs_of xs) i → IsProper place_order i
+pub pairs_proper : (xs : List HatchPlace) → (i : Interval HatchPlace) → Contains (pairs_of xs) i → IsProper place_order i
 pairs_proper [] i there = absurd (contains_none i there)
 pairs_proper (s ∷ []) i there = absurd (contains_none i there)
 pairs_proper (s ∷ t ∷ rest) i there = by (Contains-append_cases (between s t) (pairs_of rest) i there) (pairs_proper rest i)
@@ -64,13 +64,13 @@ pairs_proper (s ∷ t ∷ rest) i there = by (Contains-append_cases (between s t
     by (inl here) later = All-contains (IsProper place_order) (between s t) i (between_proper s t) here
     by (inr k) later = later k
 
-pairs_ends : (xs : List Place) → (i : Interval Place) → Contains (pairs_of xs) i → Contains xs i.from × Contains xs i.to
+pairs_ends : (xs : List HatchPlace) → (i : Interval HatchPlace) → Contains (pairs_of xs) i → Contains xs i.from × Contains xs i.to
 pairs_ends [] i there = absurd (contains_none i there)
 pairs_ends (s ∷ []) i there = absurd (contains_none i there)
 pairs_ends (s ∷ t ∷ rest) i there = by (Contains-append_cases (between s t) (pairs_of rest) i there) (pairs_ends rest i)
   where
     ends : (record { from = s; to = t } ≡ i) ⊎ Contains [] i → Contains (s ∷ t ∷ rest) i.from × Contains (s ∷ t ∷ rest) i.to
-    ends (inl e) = subst (λ (j : Interval Place). Contains (s ∷ t ∷ rest) j.from × Contains (s ∷ t ∷ rest) j.to) e (contains_first (t ∷ rest) s, contains_rest s (t ∷ rest) t (contains_first rest t))
+    ends (inl e) = subst (λ (j : Interval HatchPlace). Contains (s ∷ t ∷ rest) j.from × Contains (s ∷ t ∷ rest) j.to) e (contains_first (t ∷ rest) s, contains_rest s (t ∷ rest) t (contains_first rest t))
     ends (inr k) = absurd (contains_none i k)
 
     by : Contains (between s t) i ⊎ Contains (pairs_of rest) i → (Contains (pairs_of rest) i → Contains rest i.from × Contains rest i.to) → Contains (s ∷ t ∷ rest) i.from × Contains (s ∷ t ∷ rest) i.to
@@ -88,14 +88,14 @@ zip_pairs R P Q holds (x ∷ xs) (y ∷ ys) (r, more) pairs =
     (zip_pairs R P Q holds xs ys more (pairs_rest P x xs pairs))
 
 -- an interval of one hatch line, whose ends are on borders
-pub record IsRun (c : Plane) (s : Part) (spacing : ℕ) (i : Interval Place) : Type 0 where
+pub record IsRun (c : Plane) (s : Part) (spacing : ℕ) (i : Interval HatchPlace) : Type 0 where
   pub proper : place_order i.from i.to ≡ Less
   pub one : i.from.diagonal ≡ i.to.diagonal
   pub from : IsMark c s spacing i.from
   pub to : IsMark c s spacing i.to
 
 -- what the steps of the filling give
-pub record AreSteps (c : Plane) (s : Part) (segments : List Segment) (spacing : ℕ) (places sorted : List Place) (stretches whole parts rest : List (Interval Place)) (lines : List HatchLine) : Type 0 where
+pub record AreSteps (c : Plane) (s : Part) (segments : List Segment) (spacing : ℕ) (places sorted : List HatchPlace) (stretches whole parts rest : List (Interval HatchPlace)) (lines : List HatchLine) : Type 0 where
   pub crossings : AreJoined (AreCrossings (toward_of c) spacing) segments places
   pub moved : IsPermutation places sorted
   pub ascending : IsSorted place_order sorted
@@ -106,7 +106,7 @@ pub record AreSteps (c : Plane) (s : Part) (segments : List Segment) (spacing : 
   pub drawn : AllZip (IsLineOver c) rest lines
 
 module _ (c : Plane) (small : unsigned_abs c.at ≤ 2 ^ 20) (s : Part) (closed : IsClosed s) (below : All (IsBelow (length s.corners)) s.triangles) (segments : List Segment) (starts : List ℕ) (borders : AreBorders c s segments starts) (spacing : ℕ) (some : 1 ≤ spacing)
-    (places sorted : List Place) (stretches whole parts rest : List (Interval Place)) (lines : List HatchLine) (steps : AreSteps c s segments spacing places sorted stretches whole parts rest lines) where
+    (places sorted : List HatchPlace) (stretches whole parts rest : List (Interval HatchPlace)) (lines : List HatchLine) (steps : AreSteps c s segments spacing places sorted stretches whole parts rest lines) where
   abbrev d : Triple
   d = toward_of c
 
@@ -116,14 +116,14 @@ module _ (c : Plane) (small : unsigned_abs c.at ≤ 2 ^ 20) (s : Part) (closed :
   even : EvenLines sorted
   even = even_sorted c s closed below segments starts borders spacing some places steps.crossings sorted steps.moved
 
-  pair_line : (i : Interval Place) → Contains (pairs_of sorted) i → i.from.diagonal ≡ i.to.diagonal
+  pair_line : (i : Interval HatchPlace) → Contains (pairs_of sorted) i → i.from.diagonal ≡ i.to.diagonal
   pair_line = pairs_on_lines sorted ascend even
 
-  mark_of : (t : Place) → Contains sorted t → IsMark c s spacing t
+  mark_of : (t : HatchPlace) → Contains sorted t → IsMark c s spacing t
   mark_of = sorted_mark c s closed below segments starts borders spacing some places steps.crossings sorted steps.moved
 
   -- ---- marks
-  pair_mark : (t : Place) → IsEndOf (pairs_of sorted) t → IsMark c s spacing t
+  pair_mark : (t : HatchPlace) → IsEndOf (pairs_of sorted) t → IsMark c s spacing t
   pair_mark t (k, i, within, at, is) = by (pairs_ends sorted i (k, within, at)) is
     where
       by : Contains sorted i.from × Contains sorted i.to → (i.from ≡ t) ⊎ (i.to ≡ t) → IsMark c s spacing t
@@ -131,31 +131,31 @@ module _ (c : Plane) (small : unsigned_abs c.at ≤ 2 ^ 20) (s : Part) (closed :
       by (from, to) (inr e) = subst (IsMark c s spacing) e (mark_of i.to to)
 
   -- the segment of a stretch
-  stretch_of : (i : Interval Place) → Contains stretches i → (x : Segment) × IsSegmentOf c s x × IsStretchOf d spacing x i
+  stretch_of : (i : Interval HatchPlace) → Contains stretches i → (x : Segment) × IsSegmentOf c s x × IsStretchOf d spacing x i
   stretch_of i there =
       let (x, listed, (part, are, in_part)) = joined_part (AreStretches d spacing) segments stretches steps.along i there in
       (x, All-contains (IsSegmentOf c s) segments x borders.each listed, All-contains (IsStretchOf d spacing x) part i are.each in_part)
 
-  stretch_mark : (t : Place) → IsEndOf stretches t → IsMark c s spacing t
+  stretch_mark : (t : HatchPlace) → IsEndOf stretches t → IsMark c s spacing t
   stretch_mark t (k, i, within, at, is) = let (x, h, stretch) = stretch_of i (k, within, at) in by (stretch_marks c s spacing some x h i stretch) is
     where
       by : IsMark c s spacing i.from × IsMark c s spacing i.to × (i.from.diagonal ≡ i.to.diagonal) → (i.from ≡ t) ⊎ (i.to ≡ t) → IsMark c s spacing t
       by (from, to, one) (inl e) = subst (IsMark c s spacing) e from
       by (from, to, one) (inr e) = subst (IsMark c s spacing) e to
 
-  united_mark : (xs us : List (Interval Place)) → ((t : Place) → IsEndOf xs t → IsMark c s spacing t) → AreUnited place_order xs us → (t : Place) → IsEndOf us t → IsMark c s spacing t
-  united_mark xs us marks united t (k, u, within, at, is) = by (All-contains (λ (v : Interval Place). IsEndOf xs v.from × IsEndOf xs v.to) us u united.ends (k, within, at)) is
+  united_mark : (xs us : List (Interval HatchPlace)) → ((t : HatchPlace) → IsEndOf xs t → IsMark c s spacing t) → AreUnited place_order xs us → (t : HatchPlace) → IsEndOf us t → IsMark c s spacing t
+  united_mark xs us marks united t (k, u, within, at, is) = by (All-contains (λ (v : Interval HatchPlace). IsEndOf xs v.from × IsEndOf xs v.to) us u united.ends (k, within, at)) is
     where
       by : IsEndOf xs u.from × IsEndOf xs u.to → (u.from ≡ t) ⊎ (u.to ≡ t) → IsMark c s spacing t
       by (from, to) (inl e) = subst (IsMark c s spacing) e (marks u.from from)
       by (from, to) (inr e) = subst (IsMark c s spacing) e (marks u.to to)
 
-  rest_mark : (t : Place) → IsEndOf whole t ⊎ IsEndOf parts t → IsMark c s spacing t
+  rest_mark : (t : HatchPlace) → IsEndOf whole t ⊎ IsEndOf parts t → IsMark c s spacing t
   rest_mark t (inl h) = united_mark (pairs_of sorted) whole pair_mark steps.united t h
   rest_mark t (inr h) = united_mark stretches parts stretch_mark steps.united_along t h
 
   -- ---- runs
-  rest_line : (i : Interval Place) → Contains rest i → place_order i.from i.to ≡ Less → i.from.diagonal ≡ i.to.diagonal
+  rest_line : (i : Interval HatchPlace) → Contains rest i → place_order i.from i.to ≡ Less → i.from.diagonal ≡ i.to.diagonal
   rest_line i there proper = by (int_cmp i.from.diagonal i.to.diagonal) (int_ranks i.from.diagonal i.to.diagonal) proper
     where
       none : CrossesAny (line_cut i.to.diagonal) (pairs_of sorted) → ⊥
@@ -169,10 +169,10 @@ module _ (c : Plane) (small : unsigned_abs c.at ≤ 2 ^ 20) (s : Part) (closed :
       by Equal h e = h
       by Greater h e = cc
 
-  run_of : (i : Interval Place) → Contains rest i → IsRun c s spacing i
+  run_of : (i : Interval HatchPlace) → Contains rest i → IsRun c s spacing i
   run_of i there =
       let proper = All-contains (IsProper place_order) rest i steps.left.apart.inside there in
-      let (from, to) = All-contains (λ (r : Interval Place). (IsEndOf whole r.from ⊎ IsEndOf parts r.from) × (IsEndOf whole r.to ⊎ IsEndOf parts r.to)) rest i steps.left.ends there in
+      let (from, to) = All-contains (λ (r : Interval HatchPlace). (IsEndOf whole r.from ⊎ IsEndOf parts r.from) × (IsEndOf whole r.to ⊎ IsEndOf parts r.to)) rest i steps.left.ends there in
       record { proper = proper; one = rest_line i there proper; from = rest_mark i.from from; to = rest_mark i.to to }
 
   -- ---- points off the borders
@@ -184,7 +184,7 @@ module _ (c : Plane) (small : unsigned_abs c.at ≤ 2 ^ 20) (s : Part) (closed :
     u = across_of d p
 
     -- it is at no mark
-    off_mark : (t : Place) → IsMark c s spacing t → t.diagonal ≡ D → t.across.num *ℤ p.w ≡ u *ℤ t.across.den → ⊥
+    off_mark : (t : HatchPlace) → IsMark c s spacing t → t.diagonal ≡ D → t.across.num *ℤ p.w ≡ u *ℤ t.across.den → ⊥
     off_mark t m line e = off (m.under p (subst (λ (z : ℤ). IsAt d z p) (sym line) on) e)
 
     none_along : CrossesAny (is_before D u p.w) parts → ⊥
@@ -220,7 +220,7 @@ module _ (c : Plane) (small : unsigned_abs c.at ≤ 2 ^ 20) (s : Part) (closed :
         let line = one_diagonal d p i.from.diagonal D positive h.at on in
         any_of (Crosses (is_before D u p.w)) rest i listed (crosses i run.one D u p.w (record { line = line; after = strict i.from run.from line (most_cases _ _ h.from); until = h.to }))
       where
-        strict : (t : Place) → IsMark c s spacing t → t.diagonal ≡ D → ((t.across.num *ℤ p.w) <ℤ (u *ℤ t.across.den)) ⊎ (t.across.num *ℤ p.w ≡ u *ℤ t.across.den) → (t.across.num *ℤ p.w) <ℤ (u *ℤ t.across.den)
+        strict : (t : HatchPlace) → IsMark c s spacing t → t.diagonal ≡ D → ((t.across.num *ℤ p.w) <ℤ (u *ℤ t.across.den)) ⊎ (t.across.num *ℤ p.w ≡ u *ℤ t.across.den) → (t.across.num *ℤ p.w) <ℤ (u *ℤ t.across.den)
         strict t m line (inl h) = h
         strict t m line (inr e) = absurd (off_mark t m line e)
 
@@ -231,7 +231,7 @@ module _ (c : Plane) (small : unsigned_abs c.at ≤ 2 ^ 20) (s : Part) (closed :
         let h = among i run.one D u p.w through in
         (x, (j, inside, is), lies_within c i run.one run.proper x over p (subst (λ (z : ℤ). IsAt d z p) (sym h.line) on) h.after (strict i.to run.to (sym run.one ∙ h.line) (most_cases _ _ h.until)))
       where
-        strict : (t : Place) → IsMark c s spacing t → t.diagonal ≡ D → ((u *ℤ t.across.den) <ℤ (t.across.num *ℤ p.w)) ⊎ (u *ℤ t.across.den ≡ t.across.num *ℤ p.w) → (u *ℤ t.across.den) <ℤ (t.across.num *ℤ p.w)
+        strict : (t : HatchPlace) → IsMark c s spacing t → t.diagonal ≡ D → ((u *ℤ t.across.den) <ℤ (t.across.num *ℤ p.w)) ⊎ (u *ℤ t.across.den ≡ t.across.num *ℤ p.w) → (u *ℤ t.across.den) <ℤ (t.across.num *ℤ p.w)
         strict t m line (inl h) = h
         strict t m line (inr e) = absurd (off_mark t m line (sym e))
 
@@ -271,7 +271,7 @@ module _ (c : Plane) (small : unsigned_abs c.at ≤ 2 ^ 20) (s : Part) (closed :
 
   -- ---- apart and in order
   -- two runs, the first before the second
-  record AreAfter (i i' : Interval Place) : Type 0 where
+  record AreAfter (i i' : Interval HatchPlace) : Type 0 where
     pub first : IsRun c s spacing i
     pub second : IsRun c s spacing i'
     pub less : place_order i.to i'.from ≡ Less
@@ -283,7 +283,7 @@ module _ (c : Plane) (small : unsigned_abs c.at ≤ 2 ^ 20) (s : Part) (closed :
     less = steps.left.apart.apart k j o less within;
   }
 
-  lines_apart : (i i' : Interval Place) (x x' : HatchLine) → IsLineOver c i x → IsLineOver c i' x' → AreAfter i i' → AreApart d x x'
+  lines_apart : (i i' : Interval HatchPlace) (x x' : HatchLine) → IsLineOver c i x → IsLineOver c i' x' → AreAfter i i' → AreApart d x x'
   lines_apart i i' x x' over over' h p there lies lies' =
       let at = from_to c i h.first.one h.first.proper x over p there lies in
       let at' = from_to c i' h.second.one h.second.proper x' over' p there lies' in
@@ -291,7 +291,7 @@ module _ (c : Plane) (small : unsigned_abs c.at ≤ 2 ^ 20) (s : Part) (closed :
       let less = less_on_line i.to i'.from (sym h.first.one ∙ one) h.less in
       less_not_at_most _ _ (less_most i.to.across.num i.to.across.den i'.from.across.num i'.from.across.den (across_of d p) p.w i.to.across.positive i'.from.across.positive there less at'.from) at.to
 
-  stands : (i i' : Interval Place) (x x' : HatchLine) → IsLineOver c i x → IsLineOver c i' x' → AreAfter i i' → StandsBefore c spacing x x'
+  stands : (i i' : Interval HatchPlace) (x x' : HatchLine) → IsLineOver c i x → IsLineOver c i' x' → AreAfter i i' → HatchStandsBefore c spacing x x'
   stands i i' x x' over over' h m n is is' = by (int_cmp i.to.diagonal i'.from.diagonal) (int_ranks i.to.diagonal i'.from.diagonal) h.less
     where
       first : m *ℤ pos spacing ≡ i.from.diagonal
@@ -332,5 +332,5 @@ module _ (c : Plane) (small : unsigned_abs c.at ≤ 2 ^ 20) (s : Part) (closed :
     exactly = exactly_here;
     off_borders = λ f. each_contains (IsOffBorder c f) lines (λ x there. off_border f x there);
     apart = zip_pairs (IsLineOver c) AreAfter (AreApart d) lines_apart rest lines steps.drawn after;
-    order = zip_pairs (IsLineOver c) AreAfter (StandsBefore c spacing) stands rest lines steps.drawn after;
+    order = zip_pairs (IsLineOver c) AreAfter (HatchStandsBefore c spacing) stands rest lines steps.drawn after;
   }

@@ -8,7 +8,7 @@ use Rattle.integers.proofs.Ring.{var, ◌⊖◌, ◌⊗◌, ring}
 use Rattle.integers.proofs.Signs.{mul_pos}
 use Rattle.intervals.proofs.Lists.{pairs_append}
 use Rattle.lattice.specs.declared.lines.Line.{Line}
-use Rattle.hatch_fill.specs.declared.places.Place.{Place}
+use Rattle.hatch_fill.specs.declared.places.HatchPlace.{HatchPlace}
 use Rattle.hatch_fill.specs.inner.Meetings.{IsMeeting, HasMeeting}
 use Rattle.hatch_fill.specs.inner.Crossings.{IsMeetingAmong, AreMeetings}
 
@@ -26,7 +26,7 @@ module _ (line : Line) (spacing : ℕ) (some : 1 ≤ spacing) (from : ℤ) where
       none : (number : ℤ) → from ≤ℤ number → number <ℤ from → ⊥
       none number h l = omega (arith, ints)
 
-  among_more : (k : ℤ) (t : Place) → IsMeetingAmong line spacing from k t → IsMeetingAmong line spacing from (k +ℤ pos 1) t
+  among_more : (k : ℤ) (t : HatchPlace) → IsMeetingAmong line spacing from k t → IsMeetingAmong line spacing from (k +ℤ pos 1) t
   among_more k t (number, least, below, is) = (number, least, omega (arith, ints), is)
 
   below_cases : (number k : ℤ) → number <ℤ (k +ℤ pos 1) → (number <ℤ k) ⊎ (number ≡ k)
@@ -35,7 +35,7 @@ module _ (line : Line) (spacing : ℕ) (some : 1 ≤ spacing) (from : ℤ) where
       last : k ≤ℤ number → number ≡ k
       last l = omega (arith, ints)
 
-  module _ (k : ℤ) (least : from ≤ℤ k) (places : List Place) (before : AreMeetings line spacing from k places) where
+  module _ (k : ℤ) (least : from ≤ℤ k) (places : List HatchPlace) (before : AreMeetings line spacing from k places) where
     pub meetings_same : ¬ HasMeeting line (k *ℤ pos spacing) → AreMeetings line spacing from (k +ℤ pos 1) places
     meetings_same none = record {
       each = All-weaker (IsMeetingAmong line spacing from k) (IsMeetingAmong line spacing from (k +ℤ pos 1)) (among_more k) places before.each;
@@ -43,25 +43,25 @@ module _ (line : Line) (spacing : ℕ) (some : 1 ≤ spacing) (from : ℤ) where
       all = λ number l below has. by number l has (below_cases number k below);
     }
       where
-        by : (number : ℤ) → from ≤ℤ number → HasMeeting line (number *ℤ pos spacing) → (number <ℤ k) ⊎ (number ≡ k) → (t : Place) × Contains places t × (t.diagonal ≡ number *ℤ pos spacing)
+        by : (number : ℤ) → from ≤ℤ number → HasMeeting line (number *ℤ pos spacing) → (number <ℤ k) ⊎ (number ≡ k) → (t : HatchPlace) × Contains places t × (t.diagonal ≡ number *ℤ pos spacing)
         by number l has (inl less) = before.all number l less has
         by number l has (inr same) = absurd (none (subst (λ (n : ℤ). HasMeeting line (n *ℤ pos spacing)) same has))
 
-    pub meetings_more : (t : Place) → IsMeeting line (k *ℤ pos spacing) t → AreMeetings line spacing from (k +ℤ pos 1) (places ++ t ∷ [])
+    pub meetings_more : (t : HatchPlace) → IsMeeting line (k *ℤ pos spacing) t → AreMeetings line spacing from (k +ℤ pos 1) (places ++ t ∷ [])
     meetings_more t is = record {
       each = All-push (IsMeetingAmong line spacing from (k +ℤ pos 1)) places t (All-weaker (IsMeetingAmong line spacing from k) (IsMeetingAmong line spacing from (k +ℤ pos 1)) (among_more k) places before.each) (k, least, omega (arith, ints), is);
-      once = pairs_append (λ (x y : Place). x.diagonal ≢ y.diagonal) places (t ∷ []) before.once (λ i j d less within. absurd (omega arith)) (λ x y there last. apart x y there (Contains-push_cases [] t y last));
+      once = pairs_append (λ (x y : HatchPlace). x.diagonal ≢ y.diagonal) places (t ∷ []) before.once (λ i j d less within. absurd (omega arith)) (λ x y there last. apart x y there (Contains-push_cases [] t y last));
       all = λ number l below has. by number l has (below_cases number k below);
     }
       where
-        earlier : (x : Place) → IsMeetingAmong line spacing from k x → x.diagonal ≡ t.diagonal → ⊥
+        earlier : (x : HatchPlace) → IsMeetingAmong line spacing from k x → x.diagonal ≡ t.diagonal → ⊥
         earlier x (number, l, below, h) e = less_not_same (number *ℤ pos spacing) (k *ℤ pos spacing) (numbers_apart number k spacing some below) (sym h.at ∙ e ∙ is.at)
 
-        apart : (x y : Place) → Contains places x → Contains [] y ⊎ (t ≡ y) → x.diagonal ≢ y.diagonal
+        apart : (x y : HatchPlace) → Contains places x → Contains [] y ⊎ (t ≡ y) → x.diagonal ≢ y.diagonal
         apart x y there (inl (n, less, at)) e = absurd (omega arith)
-        apart x y there (inr same) e = earlier x (All-contains (IsMeetingAmong line spacing from k) places x before.each there) (e ∙ ap (λ (z : Place). z.diagonal) (sym same))
+        apart x y there (inr same) e = earlier x (All-contains (IsMeetingAmong line spacing from k) places x before.each there) (e ∙ ap (λ (z : HatchPlace). z.diagonal) (sym same))
 
-        by : (number : ℤ) → from ≤ℤ number → HasMeeting line (number *ℤ pos spacing) → (number <ℤ k) ⊎ (number ≡ k) → (x : Place) × Contains (places ++ t ∷ []) x × (x.diagonal ≡ number *ℤ pos spacing)
+        by : (number : ℤ) → from ≤ℤ number → HasMeeting line (number *ℤ pos spacing) → (number <ℤ k) ⊎ (number ≡ k) → (x : HatchPlace) × Contains (places ++ t ∷ []) x × (x.diagonal ≡ number *ℤ pos spacing)
         by number l has (inl less) = let (x, there, e) = before.all number l less has in (x, Contains-append_left places (t ∷ []) x there, e)
         by number l has (inr same) = (t, Contains-push places t, is.at ∙ (λ i. sym same i *ℤ pos spacing))
 
@@ -76,6 +76,6 @@ module _ (line : Line) (spacing : ℕ) (some : 1 ≤ spacing) (from : ℤ) where
         none : (number : ℤ) → k ≡ from → from ≤ℤ number → number <ℤ k → ⊥
         none number e h l = omega (arith, ints)
 
-        ended : (t : Place) → IsMeetingAmong line spacing from k t → (k ≤ℤ to) ⊎ (k ≡ from) → IsMeetingAmong line spacing from to t
+        ended : (t : HatchPlace) → IsMeetingAmong line spacing from k t → (k ≤ℤ to) ⊎ (k ≡ from) → IsMeetingAmong line spacing from to t
         ended t (number, l, below, is) (inl h) = (number, l, omega (arith, ints), is)
         ended t (number, l, below, is) (inr e) = absurd (none number e l below)

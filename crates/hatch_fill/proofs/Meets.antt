@@ -6,7 +6,7 @@ use Rattle.integers.proofs.Ring.{var, con, ◌⊕◌, ◌⊖◌, ◌⊗◌, ring
 use Rattle.integers.proofs.Signs.{zero_of_times}
 use Rattle.exact_frac.specs.declared.Frac.{Frac}
 use Rattle.lattice.specs.declared.lines.Line.{Line}
-use Rattle.hatch_fill.specs.declared.places.Place.{Place}
+use Rattle.hatch_fill.specs.declared.places.HatchPlace.{HatchPlace}
 use Rattle.hatch_fill.specs.inner.Places.{IsPlaceAt, HasSpot}
 use Rattle.hatch_fill.specs.inner.Meetings.{MeetsAt, IsMeeting, HasMeeting}
 use Rattle.hatch_fill.proofs.Near.{near_same, upward_same}
@@ -34,7 +34,7 @@ module _ (line : Line) (diagonal m k : ℤ) (x : Frac) (slope : m ≡ line.a +�
   meets : MeetsAt line diagonal x.num x.den
   meets = (λ i. sym slope i *ℤ x.num) ∙ is ∙ (λ i. level i *ℤ x.den)
 
-  pub meeting_there : (t : Place) → IsPlaceAt diagonal x t → IsMeeting line diagonal t
+  pub meeting_there : (t : HatchPlace) → IsPlaceAt diagonal x t → IsMeeting line diagonal t
   meeting_there t h = record { crosses = crosses; at = h.line; on = (λ i. (line.a +ℤ line.b) *ℤ h.num i) ∙ meets ∙ (λ i. (line.c +ℤ (line.b *ℤ diagonal)) *ℤ sym h.den i) }
 
   pub meeting_nowhere : unsigned_abs x.den ≤ 2 ^ 45 → ¬ HasSpot diagonal x.num x.den → ¬ HasMeeting line diagonal

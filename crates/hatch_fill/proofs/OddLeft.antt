@@ -15,9 +15,9 @@ use Rattle.cut_plane.specs.declared.segments.Segment.{Segment}
 use Rattle.cut_plane.specs.Loops.{IsSegmentOf, AreBorders}
 use Rattle.cut_plane.proofs.BySegments.{odd_alike}
 use Rattle.cut_plane.proofs.Following.{one_goes, one_returns}
-use Rattle.section_parity.proofs.Sights.{sight_of, turn_of}
-use Rattle.section_parity.specs.Diagonals.{diagonal_of}
-use Rattle.section_parity.proofs.OverDiagonals.{GoesOver, CrossesLeftOf, HasOddLeft}
+use Rattle.cut_plane.proofs.Sights.{sight_of, turn_of}
+use Rattle.cut_plane.specs.Diagonals.{diagonal_of}
+use Rattle.cut_plane.proofs.OverDiagonals.{GoesOver, CrossesLeftOf, HasOddLeft}
 
 -- ---- borders of faces with the same corners
 module _ (c : Plane) {s : Part} (f g : Face s) (ea : f.a ≡ g.a) (eb : f.b ≡ g.b) (ec : f.c ≡ g.c) where

@@ -15,7 +15,7 @@ use Rattle.intervals.specs.Cuts.{Crosses, CrossesAny}
 use Rattle.intervals.proofs.Lists.{any_left, any_right, any_cases, none, one, of_one}
 use Rattle.exact_frac.specs.Frac.{order_of}
 use Rattle.cut_plane.proofs.Lists.{contains_first, contains_rest, contains_cases, contains_none}
-use Rattle.hatch_fill.specs.declared.places.Place.{Place}
+use Rattle.hatch_fill.specs.declared.places.HatchPlace.{HatchPlace}
 use Rattle.hatch_fill.specs.inner.Places.{place_order}
 use Rattle.hatch_fill.specs.inner.Stretches.{between, pairs_of}
 use Rattle.hatch_fill.proofs.Along.{by_less}
@@ -24,17 +24,17 @@ use Rattle.hatch_fill.proofs.Cuts.{is_before, before_is_cut, on_lesser, on_great
 
 -- ---- tests of places
 -- U - V of the place is this number
-abbrev pub is_on : ℤ → Place → Bool
+abbrev pub is_on : ℤ → HatchPlace → Bool
 is_on diagonal t = is_eq (int_cmp t.diagonal diagonal)
 
 -- and the place is before the point with this U
-abbrev pub is_left : ℤ → ℤ → ℤ → Place → Bool
+abbrev pub is_left : ℤ → ℤ → ℤ → HatchPlace → Bool
 is_left diagonal u w t = is_on diagonal t && is_lt (int_cmp (t.across.num *ℤ w) (u *ℤ t.across.den))
 
-pub of_on : (diagonal : ℤ) (t : Place) → t.diagonal ≡ diagonal → is_on diagonal t ≡ true
+pub of_on : (diagonal : ℤ) (t : HatchPlace) → t.diagonal ≡ diagonal → is_on diagonal t ≡ true
 of_on diagonal t e = ap is_eq (sym (int_cmp_is t.diagonal diagonal Equal e))
 
-pub on_of : (diagonal : ℤ) (t : Place) → is_on diagonal t ≡ true → t.diagonal ≡ diagonal
+pub on_of : (diagonal : ℤ) (t : HatchPlace) → is_on diagonal t ≡ true → t.diagonal ≡ diagonal
 on_of diagonal t = by (int_cmp t.diagonal diagonal) (int_ranks t.diagonal diagonal)
   where
     by : (r : Ordering) → MatchOrdering r (t.diagonal <ℤ diagonal) (t.diagonal ≡ diagonal) (diagonal <ℤ t.diagonal) → is_eq r ≡ true → t.diagonal ≡ diagonal
@@ -42,7 +42,7 @@ on_of diagonal t = by (int_cmp t.diagonal diagonal) (int_ranks t.diagonal diagon
     by Equal h e = h
     by Greater h e = cc
 
-off_of : (diagonal : ℤ) (t : Place) → (t.diagonal ≡ diagonal → ⊥) → is_on diagonal t ≡ false
+off_of : (diagonal : ℤ) (t : HatchPlace) → (t.diagonal ≡ diagonal → ⊥) → is_on diagonal t ≡ false
 off_of diagonal t h = by (is_on diagonal t) refl
   where
     by : (b : Bool) → is_on diagonal t ≡ b → is_on diagonal t ≡ false
@@ -57,7 +57,7 @@ and_second : (a b : Bool) → a && b ≡ true → b ≡ true
 and_second true b e = e
 and_second false b e = absurd (false≢true e)
 
-module _ (diagonal u w : ℤ) (t : Place) where
+module _ (diagonal u w : ℤ) (t : HatchPlace) where
   pub left_line : is_left diagonal u w t ≡ true → t.diagonal ≡ diagonal
   left_line e = on_of diagonal t (and_first (is_on diagonal t) _ e)
 
@@ -74,15 +74,15 @@ module _ (diagonal u w : ℤ) (t : Place) where
   not_left h = ap (λ (b : Bool). b && is_lt (int_cmp (t.across.num *ℤ w) (u *ℤ t.across.den))) (off_of diagonal t h)
 
 -- ---- ascending places
-abbrev pub Ascend : List Place → Type 0
+abbrev pub Ascend : List HatchPlace → Type 0
 Ascend [] = Unit
-Ascend (x ∷ xs) = ((y : Place) → Contains xs y → ¬ (place_order x y ≡ Greater)) × Ascend xs
+Ascend (x ∷ xs) = ((y : HatchPlace) → Contains xs y → ¬ (place_order x y ≡ Greater)) × Ascend xs
 
 -- each line has an even number of them
-abbrev pub EvenLines : List Place → Type 0
+abbrev pub EvenLines : List HatchPlace → Type 0
 EvenLines xs = (diagonal : ℤ) → passing (is_on diagonal) xs % 2 ≡ 0
 
-no_lesser : (x y : Place) → ¬ (place_order x y ≡ Greater) → x.diagonal ≤ℤ y.diagonal
+no_lesser : (x y : HatchPlace) → ¬ (place_order x y ≡ Greater) → x.diagonal ≤ℤ y.diagonal
 no_lesser x y h = by (int_cmp x.diagonal y.diagonal) (int_ranks x.diagonal y.diagonal) h
   where
     by : (r : Ordering) → MatchOrdering r (x.diagonal <ℤ y.diagonal) (x.diagonal ≡ y.diagonal) (y.diagonal <ℤ x.diagonal) → ¬ (ordering_then r (order_of x.across y.across) ≡ Greater) → x.diagonal ≤ℤ y.diagonal
@@ -91,28 +91,28 @@ no_lesser x y h = by (int_cmp x.diagonal y.diagonal) (int_ranks x.diagonal y.dia
     by Greater k g = absurd (g refl)
 
 -- a line's last place has another before it
-lone : (x : Place) → passing (is_on x.diagonal) (x ∷ []) % 2 ≡ 0 → ⊥
+lone : (x : HatchPlace) → passing (is_on x.diagonal) (x ∷ []) % 2 ≡ 0 → ⊥
 lone x e = by (is_on x.diagonal x) (of_on x.diagonal x refl) e
   where
     by : (b : Bool) → b ≡ true → (one_if b + 0) % 2 ≡ 0 → ⊥
     by true f g = omega arith
     by false f g = false≢true f
 
-module _ (s t : Place) (rest : List Place) (up : Ascend (s ∷ t ∷ rest)) (even : EvenLines (s ∷ t ∷ rest)) where
+module _ (s t : HatchPlace) (rest : List HatchPlace) (up : Ascend (s ∷ t ∷ rest)) (even : EvenLines (s ∷ t ∷ rest)) where
   pub one_line : s.diagonal ≡ t.diagonal
   one_line = by_lt_z s.diagonal t.diagonal (λ l. absurd (alone l)) (λ l. same l (no_lesser s t (up.0 t (contains_first rest t))))
     where
       same : t.diagonal ≤ℤ s.diagonal → s.diagonal ≤ℤ t.diagonal → s.diagonal ≡ t.diagonal
       same h k = omega (arith, ints)
 
-      beyond : s.diagonal <ℤ t.diagonal → (y : Place) → t.diagonal ≤ℤ y.diagonal → y.diagonal ≡ s.diagonal → ⊥
+      beyond : s.diagonal <ℤ t.diagonal → (y : HatchPlace) → t.diagonal ≤ℤ y.diagonal → y.diagonal ≡ s.diagonal → ⊥
       beyond l y h e = omega (arith, ints)
 
       itself : t.diagonal ≤ℤ t.diagonal
       itself = omega (arith, ints)
 
-      off : s.diagonal <ℤ t.diagonal → (y : Place) → (t ≡ y) ⊎ Contains rest y → is_on s.diagonal y ≡ false
-      off l y (inl e) = off_of s.diagonal y (beyond l y (subst (λ (z : Place). t.diagonal ≤ℤ z.diagonal) e itself))
+      off : s.diagonal <ℤ t.diagonal → (y : HatchPlace) → (t ≡ y) ⊎ Contains rest y → is_on s.diagonal y ≡ false
+      off l y (inl e) = off_of s.diagonal y (beyond l y (subst (λ (z : HatchPlace). t.diagonal ≤ℤ z.diagonal) e itself))
       off l y (inr there) = off_of s.diagonal y (beyond l y (no_lesser t y (up.1.0 y there)))
 
       odd : (b : Bool) (n : ℕ) → b ≡ true → n ≡ 0 → (one_if b + n) % 2 ≡ 0 → ⊥
@@ -132,7 +132,7 @@ module _ (s t : Place) (rest : List Place) (up : Ascend (s ∷ t ∷ rest)) (eve
       both false true n e h = absurd (false≢true e)
 
 -- ---- the pairs
-pub pairs_on_lines : (xs : List Place) → Ascend xs → EvenLines xs → (i : Interval Place) → Contains (pairs_of xs) i → i.from.diagonal ≡ i.to.diagonal
+pub pairs_on_lines : (xs : List HatchPlace) → Ascend xs → EvenLines xs → (i : Interval HatchPlace) → Contains (pairs_of xs) i → i.from.diagonal ≡ i.to.diagonal
 pairs_on_lines [] up even i there = absurd (contains_none i there)
 pairs_on_lines (s ∷ []) up even i there = absurd (contains_none i there)
 pairs_on_lines (s ∷ t ∷ rest) up even i there =
@@ -142,37 +142,37 @@ pairs_on_lines (s ∷ t ∷ rest) up even i there =
     by (inl here) later = by_less s t (λ is. Contains is i → i.from.diagonal ≡ i.to.diagonal) (λ e k. one_of (contains_cases (record { from = s; to = t }) [] i k)) (λ e k. absurd (contains_none i k)) here
       where
         one_of : (record { from = s; to = t } ≡ i) ⊎ Contains [] i → i.from.diagonal ≡ i.to.diagonal
-        one_of (inl e) = subst (λ (x : Interval Place). x.from.diagonal ≡ x.to.diagonal) e (one_line s t rest up even)
+        one_of (inl e) = subst (λ (x : Interval HatchPlace). x.from.diagonal ≡ x.to.diagonal) e (one_line s t rest up even)
         one_of (inr k) = absurd (contains_none i k)
     by (inr k) later = later k
 
 module _ (diagonal u w : ℤ) (positive : pos 0 <ℤ w) where
-  abbrev cut : Place → Bool
+  abbrev cut : HatchPlace → Bool
   cut = is_before diagonal u w
 
-  abbrev left : Place → Bool
+  abbrev left : HatchPlace → Bool
   left = is_left diagonal u w
 
   -- the cut goes through the pair of the two
-  through_two : (s t : Place) → ¬ (place_order s t ≡ Greater) → cut s ≡ true → cut t ≡ false → CrossesAny cut (between s t)
+  through_two : (s t : HatchPlace) → ¬ (place_order s t ≡ Greater) → cut s ≡ true → cut t ≡ false → CrossesAny cut (between s t)
   through_two s t up begun ended = by_less s t (CrossesAny cut) (λ e. one (Crosses cut) (record { from = s; to = t }) (begun, ended)) (λ n. absurd (true≢false (sym (before_is_cut diagonal u w positive t s begun (back n)) ∙ ended)))
     where
       back : ¬ (place_order s t ≡ Less) → ¬ (place_order t s ≡ Greater)
       back n e = n (place_order_total.antisymm s t ∙ ap ordering_reverse e)
 
-  of_two : (s t : Place) → CrossesAny cut (between s t) → (cut s ≡ true) × (cut t ≡ false)
+  of_two : (s t : HatchPlace) → CrossesAny cut (between s t) → (cut s ≡ true) × (cut t ≡ false)
   of_two s t = by_less s t (λ is. CrossesAny cut is → (cut s ≡ true) × (cut t ≡ false)) (λ e c. of_one (Crosses cut) (record { from = s; to = t }) c) (λ n c. absurd (none (Crosses cut) c))
 
   -- where a place isn't before the point, no later one is left of it
-  none_left : (t : Place) (rest : List Place) → ((y : Place) → Contains rest y → ¬ (place_order t y ≡ Greater)) → cut t ≡ false → passing left rest ≡ 0
+  none_left : (t : HatchPlace) (rest : List HatchPlace) → ((y : HatchPlace) → Contains rest y → ¬ (place_order t y ≡ Greater)) → cut t ≡ false → passing left rest ≡ 0
   none_left t rest up ended = passing_none left rest (λ y there. by y (left y) refl (up y there))
     where
-      by : (y : Place) (b : Bool) → left y ≡ b → ¬ (place_order t y ≡ Greater) → left y ≡ false
+      by : (y : HatchPlace) (b : Bool) → left y ≡ b → ¬ (place_order t y ≡ Greater) → left y ≡ false
       by y false e h = e
       by y true e h = absurd (true≢false (sym (before_is_cut diagonal u w positive t y (sym (left_test diagonal u w y (left_line diagonal u w y e)) ∙ e) h) ∙ ended))
 
   -- so no later pair is crossed
-  none_through : (xs : List Place) → ((y : Place) → Contains xs y → cut y ≡ false) → CrossesAny cut (pairs_of xs) → ⊥
+  none_through : (xs : List HatchPlace) → ((y : HatchPlace) → Contains xs y → cut y ≡ false) → CrossesAny cut (pairs_of xs) → ⊥
   none_through [] off c = none (Crosses cut) c
   none_through (s ∷ []) off c = none (Crosses cut) c
   none_through (s ∷ t ∷ rest) off c = by (any_cases (Crosses cut) (between s t) (pairs_of rest) c) (none_through rest (λ y there. off y (contains_rest s (t ∷ rest) y (contains_rest t rest y there))))
@@ -181,7 +181,7 @@ module _ (diagonal u w : ℤ) (positive : pos 0 <ℤ w) where
       by (inl here) later = true≢false (sym (of_two s t here).0 ∙ off s (contains_first (t ∷ rest) s))
       by (inr there) later = later there
 
-  pub crossed_where_odd : (xs : List Place) → Ascend xs → EvenLines xs → CrossesAny cut (pairs_of xs) ↔ (passing left xs % 2 ≡ 1)
+  pub crossed_where_odd : (xs : List HatchPlace) → Ascend xs → EvenLines xs → CrossesAny cut (pairs_of xs) ↔ (passing left xs % 2 ≡ 1)
   crossed_where_odd [] up even = ((λ c. absurd (none (Crosses cut) c)), (λ e. absurd (omega arith)))
   crossed_where_odd (s ∷ []) up even = absurd (lone s (even s.diagonal))
   crossed_where_odd (s ∷ t ∷ rest) up even = by (cut s) (cut t) (left s) (left t) refl refl refl refl tests (crossed_where_odd rest up.1.1 (even_rest s t rest up even))
@@ -228,7 +228,7 @@ module _ (diagonal u w : ℤ) (positive : pos 0 <ℤ w) where
           back : (a b n : ℕ) → a ≡ b → (a + (b + n)) % 2 ≡ 1 → n % 2 ≡ 1
           back a b n e h = omega arith
 
-      later_off : cut t ≡ false → (y : Place) → Contains rest y → cut y ≡ false
+      later_off : cut t ≡ false → (y : HatchPlace) → Contains rest y → cut y ≡ false
       later_off e y there = off (cut y) refl
         where
           off : (b : Bool) → cut y ≡ b → cut y ≡ false

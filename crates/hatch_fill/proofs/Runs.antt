@@ -19,8 +19,8 @@ use Rattle.lattice.specs.Cuts.{Plane, toward_of, plane_height, IsOnPlane}
 use Rattle.lattice.proofs.OnLines.{product_of_sum}
 use Rattle.geometry.specs.Pieces.{spot_sum}
 use Rattle.geometry.proofs.OnLines.{sum_is_point}
-use Rattle.section_parity.specs.Diagonals.{diagonal_of}
-use Rattle.hatch_fill.specs.declared.places.Place.{Place}
+use Rattle.cut_plane.specs.Diagonals.{diagonal_of}
+use Rattle.hatch_fill.specs.declared.places.HatchPlace.{HatchPlace}
 use Rattle.hatch_fill.specs.inner.Places.{place_order}
 use Rattle.hatch_fill.specs.Hatching.{IsHatchLine, LiesOnHatch, IsLeftOf}
 use Rattle.hatch_fill.specs.inner.Lines.{IsSpotAt, IsLineOver}
@@ -31,7 +31,7 @@ use Rattle.hatch_fill.proofs.Turns.{IsAt}
 use Rattle.hatch_fill.proofs.Under.{sum_at}
 
 -- ---- order on one line
-pub less_on_line : (s t : Place) → s.diagonal ≡ t.diagonal → place_order s t ≡ Less → (s.across.num *ℤ t.across.den) <ℤ (t.across.num *ℤ s.across.den)
+pub less_on_line : (s t : HatchPlace) → s.diagonal ≡ t.diagonal → place_order s t ≡ Less → (s.across.num *ℤ t.across.den) <ℤ (t.across.num *ℤ s.across.den)
 less_on_line s t one e = less_of_cmp _ _ (ap (λ (r : Ordering). ordering_then r (order_of s.across t.across)) (int_cmp_is s.diagonal t.diagonal Equal one) ∙ e)
 
 -- ---- points of hatch lines
@@ -47,7 +47,7 @@ at_of_sight d r p diagonal there at sight = same_of_products (diagonal_of d p) (
     gap u v w u' v' w' e f = ring (u ∷ v ∷ w' ∷ []) ((var 0 ⊖ var 1) ⊗ var 2) ((var 0 ⊗ var 2) ⊖ (var 1 ⊗ var 2)) refl ∙ (λ i. e i -ℤ f i) ∙ ring (u' ∷ v' ∷ w ∷ []) ((var 0 ⊗ var 2) ⊖ (var 1 ⊗ var 2)) ((var 0 ⊖ var 1) ⊗ var 2) refl
 
 -- ---- the spot of a place
-module _ (c : Plane) (t : Place) (p : Spot) (is : IsSpotAt c t p) where
+module _ (c : Plane) (t : HatchPlace) (p : Spot) (is : IsSpotAt c t p) where
   abbrev d : Triple
   d = toward_of c
 
@@ -83,7 +83,7 @@ module _ (c : Plane) (t : Place) (p : Spot) (is : IsSpotAt c t p) where
       ∙ (λ i. plane_height c *ℤ sym spot_divisor i)
 
 -- ---- the hatch line of an interval
-module _ (c : Plane) (i : Interval Place) (one : i.from.diagonal ≡ i.to.diagonal) (proper : place_order i.from i.to ≡ Less) (x : HatchLine) (over : IsLineOver c i x) where
+module _ (c : Plane) (i : Interval HatchPlace) (one : i.from.diagonal ≡ i.to.diagonal) (proper : place_order i.from i.to ≡ Less) (x : HatchLine) (over : IsLineOver c i x) where
   abbrev D : ℤ
   D = i.from.diagonal
 
@@ -127,7 +127,7 @@ module _ (c : Plane) (i : Interval Place) (one : i.from.diagonal ≡ i.to.diagon
       d : Triple
       d = toward_of c
 
-      two : (t : Place) → pos 0 <ℤ (pos 2 *ℤ t.across.den)
+      two : (t : HatchPlace) → pos 0 <ℤ (pos 2 *ℤ t.across.den)
       two t = twice_positive t.across.den t.across.positive
 
       same : ((pos g *ℤ (pos 2 *ℤ i.from.across.num)) +ℤ (pos h *ℤ (pos 2 *ℤ i.to.across.num))) *ℤ p.w ≡ across_of d p *ℤ ((pos g *ℤ (pos 2 *ℤ i.from.across.den)) +ℤ (pos h *ℤ (pos 2 *ℤ i.to.across.den)))

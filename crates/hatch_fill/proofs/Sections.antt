@@ -21,14 +21,14 @@ use Rattle.geometry.specs.Cuts.{IsCount, nothing, counted, skipped, IsInSection,
 use Rattle.cut_plane.specs.declared.segments.Segment.{Segment}
 use Rattle.cut_plane.specs.Loops.{IsSegmentOf, AreBorders}
 use Rattle.cut_plane.proofs.Lists.{contains_first, contains_rest, pairs_first, pairs_rest}
-use Rattle.section_parity.specs.Diagonals.{IsUnderBorder}
-use Rattle.hatch_fill.specs.declared.places.Place.{Place}
+use Rattle.cut_plane.specs.Diagonals.{IsUnderBorder}
+use Rattle.hatch_fill.specs.declared.places.HatchPlace.{HatchPlace}
 use Rattle.hatch_fill.proofs.PlaceOrders.{place_order_total}
 use Rattle.hatch_fill.specs.inner.Parts.{AreJoined}
 use Rattle.hatch_fill.specs.inner.Places.{place_order}
 use Rattle.hatch_fill.specs.inner.Lines.{triple_along, point_over}
 use Rattle.hatch_fill.specs.inner.Crossings.{AreCrossings}
-use Rattle.section_parity.proofs.Diagonals.{section_on_diagonal}
+use Rattle.cut_plane.proofs.Diagonals.{section_on_diagonal}
 use Rattle.hatch_fill.proofs.Counts.{one_if, passing, passing_permuted, some_passes, joined_count}
 use Rattle.hatch_fill.proofs.OddLeft.{SegmentCrosses, segment_count, odd_left}
 use Rattle.hatch_fill.proofs.Paired.{is_on, is_left, on_of, Ascend, EvenLines}
@@ -49,11 +49,11 @@ counted_some (x ∷ xs) n (counted _ _ k p rest) odd = (x, p)
 counted_some (x ∷ xs) n (skipped _ _ k p rest) odd = counted_some xs n rest odd
 
 -- sorted places ascend
-ascend_of : (xs : List Place) → AllPairs (λ (x y : Place). is_lt (place_order y x) ≡ false) xs → Ascend xs
+ascend_of : (xs : List HatchPlace) → AllPairs (λ (x y : HatchPlace). is_lt (place_order y x) ≡ false) xs → Ascend xs
 ascend_of [] pairs = tt
 ascend_of (x ∷ xs) pairs = (
-  (λ y there up. not_less (place_order y x) (place_order_total.antisymm y x ∙ ap ordering_reverse up) (All-contains (λ (z : Place). is_lt (place_order z x) ≡ false) xs y (pairs_first (λ (x y : Place). is_lt (place_order y x) ≡ false) x xs pairs) there)),
-  ascend_of xs (pairs_rest (λ (x y : Place). is_lt (place_order y x) ≡ false) x xs pairs),
+  (λ y there up. not_less (place_order y x) (place_order_total.antisymm y x ∙ ap ordering_reverse up) (All-contains (λ (z : HatchPlace). is_lt (place_order z x) ≡ false) xs y (pairs_first (λ (x y : HatchPlace). is_lt (place_order y x) ≡ false) x xs pairs) there)),
+  ascend_of xs (pairs_rest (λ (x y : HatchPlace). is_lt (place_order y x) ≡ false) x xs pairs),
 )
   where
     not_less : (r : Ordering) → r ≡ Less → is_lt r ≡ false → ⊥
@@ -61,10 +61,10 @@ ascend_of (x ∷ xs) pairs = (
     not_less Equal e f = cc
     not_less Greater e f = cc
 
-pub sorted_ascend : (xs : List Place) → IsSorted place_order xs → Ascend xs
-sorted_ascend xs sorted = ascend_of xs (λ i j e less within. sorted_far (λ x y. is_lt (place_order x y)) (ranks_by place_order_total (λ (x : Place). x)) xs sorted i j e (omega arith) within)
+pub sorted_ascend : (xs : List HatchPlace) → IsSorted place_order xs → Ascend xs
+sorted_ascend xs sorted = ascend_of xs (λ i j e less within. sorted_far (λ x y. is_lt (place_order x y)) (ranks_by place_order_total (λ (x : HatchPlace). x)) xs sorted i j e (omega arith) within)
 
-module _ (c : Plane) (s : Part) (closed : IsClosed s) (below : All (IsBelow (length s.corners)) s.triangles) (segments : List Segment) (starts : List ℕ) (borders : AreBorders c s segments starts) (spacing : ℕ) (some : 1 ≤ spacing) (places : List Place)
+module _ (c : Plane) (s : Part) (closed : IsClosed s) (below : All (IsBelow (length s.corners)) s.triangles) (segments : List Segment) (starts : List ℕ) (borders : AreBorders c s segments starts) (spacing : ℕ) (some : 1 ≤ spacing) (places : List HatchPlace)
     (joined : AreJoined (AreCrossings (toward_of c) spacing) segments places) where
   abbrev d : Triple
   d = toward_of c
@@ -123,7 +123,7 @@ module _ (c : Plane) (s : Part) (closed : IsClosed s) (below : All (IsBelow (len
             too_near (across_of d left.right) left.right.w there near (at_most_of_less _ _ (subst (λ (z : ℤ). (z *ℤ left.right.w) <ℤ (across_of d left.right *ℤ pos 1)) far_across left.more_across))
 
     -- each place is left of it
-    all_left : (t : Place) → is_left D (across_of d far) (pos 1) t ≡ is_on D t
+    all_left : (t : HatchPlace) → is_left D (across_of d far) (pos 1) t ≡ is_on D t
     all_left t = by (is_on D t)
       where
         further : (t.across.num *ℤ pos 1) <ℤ (across_of d far *ℤ t.across.den)
@@ -153,22 +153,22 @@ module _ (c : Plane) (s : Part) (closed : IsClosed s) (below : All (IsBelow (len
   pub even_lines : EvenLines places
   even_lines diagonal = by (some_passes (is_on diagonal) places)
     where
-      of_mark : (t : Place) → t.diagonal ≡ diagonal → IsMark c s spacing t → passing (is_on diagonal) places % 2 ≡ 0
+      of_mark : (t : HatchPlace) → t.diagonal ≡ diagonal → IsMark c s spacing t → passing (is_on diagonal) places % 2 ≡ 0
       of_mark t e m = subst (λ (z : ℤ). passing (is_on z) places % 2 ≡ 0) (sym m.line ∙ e) (even_line m.number)
 
       none : (n : ℕ) → n ≡ 0 → n % 2 ≡ 0
       none n e = omega arith
 
-      by : ((t : Place) × Contains places t × (is_on diagonal t ≡ true)) ⊎ (passing (is_on diagonal) places ≡ 0) → passing (is_on diagonal) places % 2 ≡ 0
+      by : ((t : HatchPlace) × Contains places t × (is_on diagonal t ≡ true)) ⊎ (passing (is_on diagonal) places ≡ 0) → passing (is_on diagonal) places % 2 ≡ 0
       by (inl (t, there, on)) = of_mark t (on_of diagonal t on) (crossing_marks c s spacing some segments borders.each places joined t there)
       by (inr e) = none (passing (is_on diagonal) places) e
 
   -- the same of sorted places
-  module _ (sorted : List Place) (moved : IsPermutation places sorted) where
+  module _ (sorted : List HatchPlace) (moved : IsPermutation places sorted) where
     pub even_sorted : EvenLines sorted
     even_sorted diagonal = subst (λ (n : ℕ). n % 2 ≡ 0) (sym (passing_permuted (is_on diagonal) places sorted moved)) (even_lines diagonal)
 
-    pub sorted_mark : (t : Place) → Contains sorted t → IsMark c s spacing t
+    pub sorted_mark : (t : HatchPlace) → Contains sorted t → IsMark c s spacing t
     sorted_mark t there = crossing_marks c s spacing some segments borders.each places joined t (Contains-permutation sorted places t (IsPermutation-sym places sorted moved) there)
 
     pub inside_where_odd_sorted : (number : ℤ) (p : Point) → IsPoint p → IsAt d (number *ℤ pos spacing) p → ¬ IsUnderBorder c s p → (passing (is_left (number *ℤ pos spacing) (across_of d p) p.w) sorted % 2 ≡ 1) ↔ IsInSection c s p

@@ -12,10 +12,10 @@ use Rattle.lattice.specs.Points.{Point, IsPoint, of_spot, across_of}
 use Rattle.lattice.specs.Lines.{IsOnLine}
 use Rattle.lattice.specs.Cuts.{Plane, toward_of}
 use Rattle.cut_plane.specs.declared.segments.Segment.{Segment}
-use Rattle.section_parity.proofs.Sights.{sight_of}
-use Rattle.section_parity.specs.Diagonals.{diagonal_of}
-use Rattle.section_parity.proofs.OverDiagonals.{GoesOver, CrossesLeftOf}
-use Rattle.hatch_fill.specs.declared.places.Place.{Place}
+use Rattle.cut_plane.proofs.Sights.{sight_of}
+use Rattle.cut_plane.specs.Diagonals.{diagonal_of}
+use Rattle.cut_plane.proofs.OverDiagonals.{GoesOver, CrossesLeftOf}
+use Rattle.hatch_fill.specs.declared.places.HatchPlace.{HatchPlace}
 use Rattle.hatch_fill.specs.inner.Numbers.{IsFirstNumber}
 use Rattle.hatch_fill.specs.inner.Meetings.{IsMeeting}
 use Rattle.hatch_fill.specs.inner.Crossings.{IsMeetingAmong, AreMeetings, AreCrossings}
@@ -53,26 +53,26 @@ module _ (c : Plane) (l : Line) (k m : Spot) (on_k : IsOnLine (toward_of c) l (o
   pub before_second : IsAcross D (sight_of d (of_spot k)) (sight_of d (of_spot m)) → number <ℤ b
   before_second h = by_lt_z number b (λ l. l) (λ l. absurd (less_not_at_most _ _ h.to ((second number).0 l)))
 
-  module _ (p : Point) (positive : IsPoint p) (at : IsAt d D p) (places : List Place) (are : AreMeetings l spacing a b places) where
-    among : (t : Place) → Contains places t → t.diagonal ≡ D → (a ≤ℤ number) × (number <ℤ b) × IsMeeting l D t
+  module _ (p : Point) (positive : IsPoint p) (at : IsAt d D p) (places : List HatchPlace) (are : AreMeetings l spacing a b places) where
+    among : (t : HatchPlace) → Contains places t → t.diagonal ≡ D → (a ≤ℤ number) × (number <ℤ b) × IsMeeting l D t
     among t there e =
         let (j, h, below, is) = All-contains (IsMeetingAmong l spacing a b) places t are.each there in
         let same = one_number j number spacing some (sym is.at ∙ e) in
         (subst (λ (z : ℤ). a ≤ℤ z) same h, subst (λ (z : ℤ). z <ℤ b) same below, subst (λ (z : ℤ). IsMeeting l (z *ℤ pos spacing) t) same is)
 
-    found : GoesOver d (of_spot k) (of_spot m) p → (t : Place) × Contains places t × (is_left D (across_of d p) p.w t ≡ true)
+    found : GoesOver d (of_spot k) (of_spot m) p → (t : HatchPlace) × Contains places t × (is_left D (across_of d p) p.w t ≡ true)
     found goes =
         let h = across_of_goes d l (of_spot k) (of_spot m) p k.positive m.positive positive D at goes in
         let (t, there, e) = are.all number (from_first h) (before_second h) (has_meeting c l k m D h on_k on_m) in
         let (least, below, is) = among t there e in
         (t, there, left_of D (across_of d p) p.w t e (less_of_goes d l (of_spot k) (of_spot m) p k.positive m.positive positive D at on_k on_m t.across.num t.across.den t.across.positive is.crosses is.on h goes))
 
-    back : (t : Place) → Contains places t → is_left D (across_of d p) p.w t ≡ true → GoesOver d (of_spot k) (of_spot m) p
+    back : (t : HatchPlace) → Contains places t → is_left D (across_of d p) p.w t ≡ true → GoesOver d (of_spot k) (of_spot m) p
     back t there left =
         let (least, below, is) = among t there (left_line D (across_of d p) p.w t left) in
         goes_of_less d l (of_spot k) (of_spot m) p k.positive m.positive positive D at on_k on_m t.across.num t.across.den t.across.positive is.crosses is.on (is_across least below) (left_less D (across_of d p) p.w t left)
 
-    apart : AllPairs (λ (x y : Place). is_left D (across_of d p) p.w x ≡ true → is_left D (across_of d p) p.w y ≡ true → ⊥) places
+    apart : AllPairs (λ (x y : HatchPlace). is_left D (across_of d p) p.w x ≡ true → is_left D (across_of d p) p.w y ≡ true → ⊥) places
     apart i j e less within f g = are.once i j e less within (left_line D (across_of d p) p.w (get_or places i e) f ∙ sym (left_line D (across_of d p) p.w (get_or places j e) g))
 
     pub one_way : Tally (GoesOver d (of_spot k) (of_spot m) p) (passing (is_left D (across_of d p) p.w) places)
@@ -81,13 +81,13 @@ module _ (c : Plane) (l : Line) (k m : Spot) (on_k : IsOnLine (toward_of c) l (o
         one_not_none : (n : ℕ) → n ≡ 1 → n ≡ 0 → ⊥
         one_not_none n e f = omega arith
 
-        by : ((t : Place) × Contains places t × (is_left D (across_of d p) p.w t ≡ true)) ⊎ (passing (is_left D (across_of d p) p.w) places ≡ 0) → Tally (GoesOver d (of_spot k) (of_spot m) p) (passing (is_left D (across_of d p) p.w) places)
+        by : ((t : HatchPlace) × Contains places t × (is_left D (across_of d p) p.w t ≡ true)) ⊎ (passing (is_left D (across_of d p) p.w) places ≡ 0) → Tally (GoesOver d (of_spot k) (of_spot m) p) (passing (is_left D (across_of d p) p.w) places)
         by (inl (t, there, left)) = inl (back t there left, one_passes (is_left D (across_of d p) p.w) places apart t there left)
         by (inr none) = inr ((λ goes. let (t, there, left) = found goes in one_not_none _ (one_passes (is_left D (across_of d p) p.w) places apart t there left) none), none)
 
 -- both ways
 pub crosses_once : (c : Plane) (x : Segment) → IsOnLine (toward_of c) x.line (of_spot x.a) → IsOnLine (toward_of c) x.line (of_spot x.b) → (spacing : ℕ) → 1 ≤ spacing → (number : ℤ) (p : Point) → IsPoint p
-    → IsAt (toward_of c) (number *ℤ pos spacing) p → (places : List Place) → AreCrossings (toward_of c) spacing x places
+    → IsAt (toward_of c) (number *ℤ pos spacing) p → (places : List HatchPlace) → AreCrossings (toward_of c) spacing x places
     → Tally (CrossesLeftOf (toward_of c) (of_spot x.a) (of_spot x.b) p) (passing (is_left (number *ℤ pos spacing) (across_of (toward_of c) p) p.w) places)
 crosses_once c x on_a on_b spacing some number p positive at places h =
     subst (λ (n : ℕ). Tally (CrossesLeftOf d (of_spot x.a) (of_spot x.b) p) n) (sym (passing_append left h.rising h.falling) ∙ ap (passing left) (sym h.together))
@@ -98,7 +98,7 @@ crosses_once c x on_a on_b spacing some number p positive at places h =
     d : Triple
     d = toward_of c
 
-    left : Place → Bool
+    left : HatchPlace → Bool
     left = is_left (number *ℤ pos spacing) (across_of d p) p.w
 
     apart : GoesOver d (of_spot x.a) (of_spot x.b) p → GoesOver d (of_spot x.b) (of_spot x.a) p → ⊥

@@ -9,9 +9,9 @@ use Rattle.lattice.specs.declared.lines.Line.{Line}
 use Rattle.lattice.specs.Triple.{Triple}
 use Rattle.lattice.specs.Points.{Point, IsPoint, across_of}
 use Rattle.lattice.specs.Lines.{IsOnLine}
-use Rattle.section_parity.proofs.Sights.{Sight, sight_of, turn_of}
-use Rattle.section_parity.specs.Diagonals.{diagonal_of}
-use Rattle.section_parity.proofs.OverDiagonals.{GoesOver}
+use Rattle.cut_plane.proofs.Sights.{Sight, sight_of, turn_of}
+use Rattle.cut_plane.specs.Diagonals.{diagonal_of}
+use Rattle.cut_plane.proofs.OverDiagonals.{GoesOver}
 use Rattle.hatch_fill.specs.inner.Meetings.{MeetsAt}
 use Rattle.hatch_fill.proofs.Meets.{size_of_some}
 

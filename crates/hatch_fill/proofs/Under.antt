@@ -20,13 +20,13 @@ use Rattle.geometry.specs.Parts.{Part, Face}
 use Rattle.geometry.specs.Cuts.{IsOnBorder}
 use Rattle.cut_plane.specs.declared.segments.Segment.{Segment}
 use Rattle.cut_plane.specs.Loops.{IsSegmentOf, AreBorders}
-use Rattle.cut_plane.proofs.BorderPoints.{IsMixOf, AreEnds, border_ends}
+use Rattle.cut_plane.proofs.BorderSums.{IsMixOf, AreEnds, border_ends}
 use Rattle.cut_plane.proofs.FaceCorners.{have_same}
 use Rattle.cut_plane.proofs.Lists.{segment_at, contains_first, contains_rest, contains_none}
 use Rattle.cut_plane.proofs.Parities.{crossed_of_point}
 use Rattle.cut_plane.proofs.RightOf.{sum_turned, first_alone, second_alone, first_on, second_on}
-use Rattle.section_parity.specs.Diagonals.{IsUnderBorder}
-use Rattle.hatch_fill.specs.declared.places.Place.{Place}
+use Rattle.cut_plane.specs.Diagonals.{IsUnderBorder}
+use Rattle.hatch_fill.specs.declared.places.HatchPlace.{HatchPlace}
 use Rattle.hatch_fill.specs.inner.Parts.{AreJoined}
 use Rattle.hatch_fill.specs.inner.Places.{IsNear}
 use Rattle.hatch_fill.specs.inner.Crossings.{IsMeetingAmong, AreCrossings}
@@ -105,14 +105,14 @@ module _ (c : Plane) (s : Part) (x : Segment) (h : IsSegmentOf c s x) where
   second_under p sight = sum_under 0 1 (omega arith) p (subst (λ (q : Point). OnOneSight d q p) (sym (second_alone (of_spot x.a) (of_spot x.b))) sight)
 
 -- ---- marks: places on hatch lines that are on borders
-pub record IsMark (c : Plane) (s : Part) (spacing : ℕ) (t : Place) : Type 0 where
+pub record IsMark (c : Plane) (s : Part) (spacing : ℕ) (t : HatchPlace) : Type 0 where
   pub number : ℤ
   pub line : t.diagonal ≡ number *ℤ pos spacing
   pub under : (p : Point) → IsAt (toward_of c) t.diagonal p → t.across.num *ℤ p.w ≡ across_of (toward_of c) p *ℤ t.across.den → IsUnderBorder c s p
 
 module _ (c : Plane) (s : Part) (spacing : ℕ) (some : 1 ≤ spacing) where
-  crossing_mark : (x : Segment) → IsSegmentOf c s x → (places : List Place) → AreCrossings (toward_of c) spacing x places → (t : Place) → Contains places t → IsMark c s spacing t
-  crossing_mark x h places are t there = by (Contains-append_cases are.rising are.falling t (subst (λ (ts : List Place). Contains ts t) are.together there))
+  crossing_mark : (x : Segment) → IsSegmentOf c s x → (places : List HatchPlace) → AreCrossings (toward_of c) spacing x places → (t : HatchPlace) → Contains places t → IsMark c s spacing t
+  crossing_mark x h places are t there = by (Contains-append_cases are.rising are.falling t (subst (λ (ts : List HatchPlace). Contains ts t) are.together there))
     where
       d : Triple
       d = toward_of c
@@ -150,25 +150,25 @@ module _ (c : Plane) (s : Part) (spacing : ℕ) (some : 1 ≤ spacing) where
       by (inl in_rising) = up (All-contains (IsMeetingAmong x.line spacing are.a are.b) are.rising t are.from_a.each in_rising)
       by (inr in_falling) = down (All-contains (IsMeetingAmong x.line spacing are.b are.a) are.falling t are.from_b.each in_falling)
 
-  pub crossing_marks : (segments : List Segment) → All (IsSegmentOf c s) segments → (places : List Place) → AreJoined (AreCrossings (toward_of c) spacing) segments places → (t : Place) → Contains places t → IsMark c s spacing t
+  pub crossing_marks : (segments : List Segment) → All (IsSegmentOf c s) segments → (places : List HatchPlace) → AreJoined (AreCrossings (toward_of c) spacing) segments places → (t : HatchPlace) → Contains places t → IsMark c s spacing t
   crossing_marks segments each places joined t there =
       let (x, listed, (part, are, in_part)) = joined_part (AreCrossings (toward_of c) spacing) segments places joined t there in
       crossing_mark x (All-contains (IsSegmentOf c s) segments x each listed) part are t in_part
 
   -- ---- stretches
   module _ (x : Segment) (h : IsSegmentOf c s x) where
-    seen_at : (p : Spot) (j : ℤ) (t : Place) → IsPlaceOf (toward_of c) (j *ℤ pos spacing) p t → (q : Point) → IsAt (toward_of c) t.diagonal q → t.across.num *ℤ q.w ≡ across_of (toward_of c) q *ℤ t.across.den → OnOneSight (toward_of c) (of_spot p) q
+    seen_at : (p : Spot) (j : ℤ) (t : HatchPlace) → IsPlaceOf (toward_of c) (j *ℤ pos spacing) p t → (q : Point) → IsAt (toward_of c) t.diagonal q → t.across.num *ℤ q.w ≡ across_of (toward_of c) q *ℤ t.across.den → OnOneSight (toward_of c) (of_spot p) q
     seen_at p j t is q at e =
         same_sight (toward_of c) (of_spot p) q (j *ℤ pos spacing) is.on (subst (λ (z : ℤ). IsAt (toward_of c) z q) is.line at)
         ((λ i. sym is.num i *ℤ q.w) ∙ e ∙ (λ i. across_of (toward_of c) q *ℤ is.den i))
 
-    first_mark : (j : ℤ) (t : Place) → IsPlaceOf (toward_of c) (j *ℤ pos spacing) x.a t → IsMark c s spacing t
+    first_mark : (j : ℤ) (t : HatchPlace) → IsPlaceOf (toward_of c) (j *ℤ pos spacing) x.a t → IsMark c s spacing t
     first_mark j t is = record { number = j; line = is.line; under = λ q at e. first_under c s x h q (seen_at x.a j t is q at e) }
 
-    second_mark : (j : ℤ) (t : Place) → IsPlaceOf (toward_of c) (j *ℤ pos spacing) x.b t → IsMark c s spacing t
+    second_mark : (j : ℤ) (t : HatchPlace) → IsPlaceOf (toward_of c) (j *ℤ pos spacing) x.b t → IsMark c s spacing t
     second_mark j t is = record { number = j; line = is.line; under = λ q at e. second_under c s x h q (seen_at x.b j t is q at e) }
 
-    pub stretch_marks : (i : Interval Place) → IsStretchOf (toward_of c) spacing x i → IsMark c s spacing i.from × IsMark c s spacing i.to × (i.from.diagonal ≡ i.to.diagonal)
+    pub stretch_marks : (i : Interval HatchPlace) → IsStretchOf (toward_of c) spacing x i → IsMark c s spacing i.from × IsMark c s spacing i.to × (i.from.diagonal ≡ i.to.diagonal)
     stretch_marks i is = by is.ends
       where
         by : AreEndsAlong (toward_of c) spacing x i.from i.to ⊎ AreEndsAlong (toward_of c) spacing x i.to i.from → IsMark c s spacing i.from × IsMark c s spacing i.to × (i.from.diagonal ≡ i.to.diagonal)
@@ -176,7 +176,7 @@ module _ (c : Plane) (s : Part) (spacing : ℕ) (some : 1 ≤ spacing) where
         by (inr e) = (second_mark e.number i.from e.second, first_mark e.number i.to e.first, e.second.line ∙ sym e.first.line)
 
     -- a point between the ends of a stretch has the border under it
-    pub stretch_under : (i : Interval Place) → IsStretchOf (toward_of c) spacing x i → (p : Point) → IsPoint p → IsAt (toward_of c) i.from.diagonal p
+    pub stretch_under : (i : Interval HatchPlace) → IsStretchOf (toward_of c) spacing x i → (p : Point) → IsPoint p → IsAt (toward_of c) i.from.diagonal p
         → (i.from.across.num *ℤ p.w) <ℤ (across_of (toward_of c) p *ℤ i.from.across.den) → (across_of (toward_of c) p *ℤ i.to.across.den) ≤ℤ (i.to.across.num *ℤ p.w) → IsUnderBorder c s p
     stretch_under i is p positive at after until = by is.ends (weights_until i.from.across.num i.from.across.den i.to.across.num i.to.across.den (across_of (toward_of c) p) p.w after until)
       where

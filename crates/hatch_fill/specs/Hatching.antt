@@ -7,7 +7,7 @@ use Rattle.lattice.specs.Cuts.{Plane, toward_of, IsOnPlane}
 use Rattle.geometry.specs.Parts.{Part, Face}
 use Rattle.geometry.specs.Cuts.{IsInSection, border, IsSeenOverInCut}
 use Rattle.geometry.specs.Pieces.{LiesBetween}
-use Rattle.section_parity.specs.Diagonals.{diagonal_of, IsUnderBorder}
+use Rattle.cut_plane.specs.Diagonals.{diagonal_of, IsUnderBorder}
 
 -- the point is seen where U - V is this number of spacings
 abbrev pub IsOnHatch : Triple → ℕ → ℤ → Point → Type 0
@@ -37,8 +37,8 @@ abbrev pub AreApart : Triple → HatchLine → HatchLine → Type 0
 AreApart d x y = (p : Point) → IsPoint p → LiesOnHatch d x p → LiesOnHatch d y p → ⊥
 
 -- by the number of the line, and then from left to right
-abbrev pub StandsBefore : Plane → ℕ → HatchLine → HatchLine → Type 0
-StandsBefore c spacing x y =
+abbrev pub HatchStandsBefore : Plane → ℕ → HatchLine → HatchLine → Type 0
+HatchStandsBefore c spacing x y =
     (m n : ℤ) → IsHatchLine c spacing m x → IsHatchLine c spacing n y → (m <ℤ n) ⊎ ((m ≡ n) × IsLeftOf (toward_of c) (of_spot x.a) (of_spot y.a))
 
 -- the lines fill the section of the part: where U - V is a whole number of spacings, and off the borders, exactly the points in the section are on them
@@ -48,4 +48,4 @@ pub record IsHatching (c : Plane) (s : Part) (spacing : ℕ) (lines : List Hatch
       → ((x : HatchLine) × Contains lines x × LiesOnHatch (toward_of c) x p) ↔ IsInSection c s p
   pub off_borders : (f : Face s) → All (IsOffBorder c f) lines
   pub apart : AllPairs (AreApart (toward_of c)) lines
-  pub order : AllPairs (StandsBefore c spacing) lines
+  pub order : AllPairs (HatchStandsBefore c spacing) lines

@@ -6,7 +6,7 @@ ghost use Rattle.hatch_fill.specs.inner.Parts.{AreJoined, AreAdded};
 
 use crate::meetings::meeting;
 use crate::numbers::{diagonal, diagonal_at, first_number};
-use crate::places::Place;
+use crate::places::HatchPlace;
 use cut_plane::Segment;
 use exact_frac::OutOfMemory;
 use lattice::{Dir, Line};
@@ -18,7 +18,7 @@ pub(crate) fn crossings(
     d: &Dir,
     segments: &[Segment],
     spacing: u32,
-) -> Result<Vec<Place>, OutOfMemory>
+) -> Result<Vec<HatchPlace>, OutOfMemory>
     requires { 1 ≤ spacing }
     ensures { IfOk result (λ places. AreJoined (AreCrossings (of_dir d.now) spacing) segments.now places.items) }
 {
@@ -32,7 +32,7 @@ pub(crate) fn crossings(
 /// Adds the places at which the segment crosses hatch lines. It crosses those from its lesser U - V on, that one included, to
 /// its greater.
 fn add_crossings(
-    places: &mut Vec<Place>,
+    places: &mut Vec<HatchPlace>,
     d: &Dir,
     segment: &Segment,
     spacing: u32,
@@ -48,7 +48,7 @@ fn add_crossings(
 
 /// Adds the places at which the line meets the hatch lines from one number on and before another.
 fn add_meetings(
-    places: &mut Vec<Place>,
+    places: &mut Vec<HatchPlace>,
     line: &Line,
     spacing: u32,
     from: i64,

@@ -5,7 +5,7 @@ ghost use Rattle.lattice.specs.Triple.{IsWithin};
 ghost use Rattle.lattice.specs.Cuts.{plane_of, plane_height};
 ghost use Rattle.hatch_fill.specs.inner.Lines.{IsSpotAt, IsLineOver, triple_seen};
 
-use crate::places::Place;
+use crate::places::HatchPlace;
 use exact_frac::OutOfMemory;
 use intervals::Interval;
 use lattice::{Axis, Cut, HatchLine, Spot};
@@ -15,7 +15,7 @@ use std::alloc::Global;
 pub(crate) fn hatch_lines(
     alloc: Global,
     cut: &Cut,
-    intervals: &[Interval<Place>],
+    intervals: &[Interval<HatchPlace>],
 ) -> Result<Vec<HatchLine>, OutOfMemory>
     ensures { IfOk result (λ lines. AllZip (IsLineOver (plane_of cut.now)) intervals.now lines.items) }
 {
@@ -27,7 +27,7 @@ pub(crate) fn hatch_lines(
 }
 
 /// The hatch line from the one end of the interval to the other.
-fn hatch_line(cut: &Cut, x: &Interval<Place>) -> HatchLine
+fn hatch_line(cut: &Cut, x: &Interval<HatchPlace>) -> HatchLine
     ensures { IsLineOver (plane_of cut.now) x.now result }
 {
     HatchLine {
@@ -37,7 +37,7 @@ fn hatch_line(cut: &Cut, x: &Interval<Place>) -> HatchLine
 }
 
 /// The spot of the plane at this place, with the doubled divisor of the place.
-fn spot_at(cut: &Cut, place: &Place) -> Spot
+fn spot_at(cut: &Cut, place: &HatchPlace) -> Spot
     ensures { IsSpotAt (plane_of cut.now) place.now result }
 {
     let den = place.across.den;

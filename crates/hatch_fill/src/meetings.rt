@@ -2,12 +2,12 @@
 ghost use Rattle.std.specs.Prelude.{◌≡◌, ◌≢◌, ◌<◌, ◌≤◌, ◌^◌, pos, ◌+ℤ◌, ◌*ℤ◌, unsigned_abs, IsNone, IfSome};
 ghost use Rattle.hatch_fill.specs.inner.Meetings.{IsMeeting, HasMeeting};
 
-use crate::places::Place;
+use crate::places::HatchPlace;
 use exact_frac::Frac;
 use lattice::Line;
 
 /// Where the line meets the hatch line with this U - V, if it does at one place and a spot can be there.
-pub(crate) fn meeting(line: &Line, diagonal: i64) -> Option<Place>
+pub(crate) fn meeting(line: &Line, diagonal: i64) -> Option<HatchPlace>
     ensures some { IfSome result (IsMeeting line.now diagonal) }
     ensures none { IsNone result → ¬ HasMeeting line.now diagonal }
 {
@@ -15,7 +15,7 @@ pub(crate) fn meeting(line: &Line, diagonal: i64) -> Option<Place>
     if slope == 0 {
         return None;
     }
-    Place::new(diagonal, &ratio(level(line, diagonal), slope))
+    HatchPlace::new(diagonal, &ratio(level(line, diagonal), slope))
 }
 
 /// `a + b`, which is 0 where the line runs along hatch lines.

@@ -2,7 +2,7 @@
 ghost use Rattle.std.specs.Prelude.{◌≡◌, ◌*◌, ◌<◌, ◌≤◌, ◌^◌, pos, ◌*ℤ◌, ◌<ℤ◌, unsigned_abs};
 ghost use Rattle.integers.specs.Floors.{IsFloor};
 ghost use Rattle.lattice.specs.Points.{of_dir, of_spot, IsRatio};
-ghost use Rattle.section_parity.specs.Diagonals.{diagonal_of};
+ghost use Rattle.cut_plane.specs.Diagonals.{diagonal_of};
 ghost use Rattle.hatch_fill.specs.inner.Numbers.{IsFirstNumber};
 
 use exact_frac::Frac;

@@ -6,7 +6,7 @@ use exact_frac::Frac;
 /// A place on a hatch line: U - V is `diagonal`, and U is `across`. A spot can be there: neither U nor V is above 2^21 in
 /// size, and the divisor is below 2^69. Places are in the order of their lines, and on one line of U.
 #[derive(Clone, Copy, PartialEq, Eq, PartialOrd, Ord)]
-pub(crate) struct Place {
+pub(crate) struct HatchPlace {
     pub diagonal: i64,
     pub across: Frac,
     ghost short: { unsigned_abs across.den < 2 ^ 69 },
@@ -14,11 +14,11 @@ pub(crate) struct Place {
     ghost upward_near: { unsigned_abs (across.num -ℤ (diagonal *ℤ across.den)) ≤ 2 ^ 21 * unsigned_abs across.den },
 }
 
-impl Place {
+impl HatchPlace {
     ghost use Rattle.hatch_fill.specs.inner.Places.{IsPlaceAt, HasSpot};
 
     /// The place with this U - V and this U, if a spot can be there.
-    pub(crate) fn new(diagonal: i64, across: &Frac) -> Option<Place>
+    pub(crate) fn new(diagonal: i64, across: &Frac) -> Option<HatchPlace>
         ensures some { IfSome result (IsPlaceAt diagonal across.now) }
         ensures none { IsNone result → ¬ HasSpot diagonal across.now.num across.now.den }
     {
@@ -31,7 +31,7 @@ impl Place {
         if !is_near(upward(diagonal, across), across.den) {
             return None;
         }
-        Some(Place {
+        Some(HatchPlace {
             diagonal,
             across: *across,
         })

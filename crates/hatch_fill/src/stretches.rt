@@ -1,12 +1,12 @@
 // Intervals of hatch lines: within the section, and along its borders.
 ghost use Rattle.std.specs.Prelude.{◌≡◌, ◌++◌, ◌↔◌, ◌≤◌, ◌*ℤ◌, IsTrue, IsNone, IfSome, IfOk, OnOk};
 ghost use Rattle.lattice.specs.Points.{of_dir, of_spot};
-ghost use Rattle.section_parity.specs.Diagonals.{diagonal_of};
+ghost use Rattle.cut_plane.specs.Diagonals.{diagonal_of};
 ghost use Rattle.hatch_fill.specs.inner.Parts.{AreJoined, AreAdded};
 ghost use Rattle.hatch_fill.specs.inner.Stretches.{between, pairs_of, IsPlaceOf, IsSpotOn, AreEndsAlong, HasStretch, AreStretches};
 
 use crate::numbers::{diagonal, diagonal_at, first_number};
-use crate::places::Place;
+use crate::places::HatchPlace;
 use cut_plane::Segment;
 use exact_frac::{Frac, OutOfMemory};
 use intervals::Interval;
@@ -14,7 +14,10 @@ use lattice::{Dir, Spot, across};
 use std::alloc::Global;
 
 /// What is between the first place and the second, between the third and the fourth, and so on.
-pub(crate) fn pairs(alloc: Global, places: &[Place]) -> Result<Vec<Interval<Place>>, OutOfMemory>
+pub(crate) fn pairs(
+    alloc: Global,
+    places: &[HatchPlace],
+) -> Result<Vec<Interval<HatchPlace>>, OutOfMemory>
     ensures { IfOk result (λ intervals. intervals.items ≡ pairs_of places.now) }
 {
     let mut intervals = Vec::new(alloc);
@@ -32,7 +35,7 @@ pub(crate) fn stretches(
     d: &Dir,
     segments: &[Segment],
     spacing: u32,
-) -> Result<Vec<Interval<Place>>, OutOfMemory>
+) -> Result<Vec<Interval<HatchPlace>>, OutOfMemory>
     requires { 1 ≤ spacing }
     ensures { IfOk result (λ intervals. AreJoined (AreStretches (of_dir d.now) spacing) segments.now intervals.items) }
 {
@@ -45,7 +48,7 @@ pub(crate) fn stretches(
 
 /// Adds what the segment covers of a hatch line, if it runs along one.
 fn add_stretch(
-    intervals: &mut Vec<Interval<Place>>,
+    intervals: &mut Vec<Interval<HatchPlace>>,
     d: &Dir,
     segment: &Segment,
     spacing: u32,
@@ -65,8 +68,8 @@ fn add_stretch(
 /// The places of a segment's ends.
 #[derive(Clone, Copy)]
 struct Ends {
-    a: Place,
-    b: Place,
+    a: HatchPlace,
+    b: HatchPlace,
 }
 
 /// Where the segment's ends are on the hatch line along which it runs, if it does and spots can be there.
@@ -84,12 +87,12 @@ fn ends_along(d: &Dir, segment: &Segment, spacing: u32) -> Option<Ends>
 }
 
 /// The place of the spot, if its U - V is this number and a spot can be there.
-fn place_on(d: &Dir, p: &Spot, at: i64) -> Option<Place>
+fn place_on(d: &Dir, p: &Spot, at: i64) -> Option<HatchPlace>
     ensures some { IfSome result (IsPlaceOf (of_dir d.now) at p.now) }
     ensures none { IsNone result → ¬ IsSpotOn (of_dir d.now) at p.now }
 {
     if is_on(d, p, at) {
-        Place::new(at, &across(d, p))
+        HatchPlace::new(at, &across(d, p))
     } else {
         None
     }
@@ -107,7 +110,11 @@ fn is_on(d: &Dir, p: &Spot, at: i64) -> bool
 }
 
 /// Adds the interval, if it has an inside.
-fn add(intervals: &mut Vec<Interval<Place>>, from: Place, to: Place) -> Result<(), OutOfMemory>
+fn add(
+    intervals: &mut Vec<Interval<HatchPlace>>,
+    from: HatchPlace,
+    to: HatchPlace,
+) -> Result<(), OutOfMemory>
     ensures { OnOk result (intervals.new.items ≡ intervals.old.items ++ between from to) }
 {
     if from < to {

@@ -1,9 +1,9 @@
 -- Orders of whole numbers: what they say, and that a positive factor on both sides keeps them.
-use Rattle.std.proofs.Common.{◌≡◌, true, false, [], ◌∷◌, refl, sym, ap, subst, arith}
+use Rattle.std.proofs.Common.{◌≡◌, ◌↔◌, Bool, true, false, IsTrue, [], ◌∷◌, refl, sym, ap, subst, arith}
 use Rattle.std.specs.Prelude.{ℤ, pos, ◌-ℤ◌, ◌*ℤ◌, ◌≤ℤ◌, ◌<ℤ◌}
 use Rattle.std.specs.Cmp.{int_ranks, int_cmp_is}
 use Rattle.std.specs.Int.Signed.{lt_z}
-use Rattle.std.specs.Ordering.{int_cmp, is_lt, MatchOrdering}
+use Rattle.std.specs.Ordering.{int_cmp, is_lt, is_le, MatchOrdering}
 use Rattle.std.specs.declared.cmp.Ordering.{Ordering}
 use Rattle.std.specs.declared.cmp.Ordering.TheVariants.{Less, Equal, Greater}
 use Rattle.std.proofs.lemmas.Bool.{true_from_ne_false, false_from_ne_true}
@@ -43,6 +43,14 @@ at_most_of_not_lt a b h = go (int_cmp a b) (int_ranks a b) h
     go Less k e = cc
     go Equal k e = omega (arith, ints)
     go Greater k e = omega (arith, ints)
+
+pub at_most_of_le : (x y : ℤ) (b : Bool) → b ≡ is_le (int_cmp x y) → IsTrue b ↔ (x ≤ℤ y)
+at_most_of_le x y b e = by (int_cmp x y) (int_ranks x y) e
+  where
+    by : (r : Ordering) → MatchOrdering r (x <ℤ y) (x ≡ y) (y <ℤ x) → b ≡ is_le r → IsTrue b ↔ (x ≤ℤ y)
+    by Less h f = ((λ t. omega (arith, ints)), (λ t. f))
+    by Equal h f = ((λ t. omega (arith, ints)), (λ t. f))
+    by Greater h f = ((λ t. absurd (cc)), (λ t. absurd (omega (arith, ints))))
 
 -- what the test of two numbers gives
 pub lt_z_of_less : (a b : ℤ) → a <ℤ b → lt_z a b ≡ true

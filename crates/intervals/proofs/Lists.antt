@@ -1,14 +1,11 @@
 -- Some element of a list, of lists put together, and of the front of a list.
-use Rattle.std.proofs.Common.{◌≡◌, ℕ, ◌+◌, ◌-◌, ◌<◌, ◌≤◌, refl, List, [], ◌∷◌, ◌++◌, length, take, get_or, sym, ap, ◌∙◌, ◌⊎◌, inl, inr, ⊎_elim, subst, arith}
+use Rattle.std.proofs.Common.{◌≡◌, ℕ, ◌-◌, ◌<◌, ◌≤◌, refl, List, [], ◌∷◌, ◌++◌, length, take, get_or, sym, ◌∙◌, ◌⊎◌, inl, inr, ⊎_elim, subst, arith}
 use Rattle.std.specs.Prelude.{Some, slice_get, All, AllPairs, Any, Contains, IsPermutation}
-use Rattle.std.proofs.lemmas.List.{take_more, length-append, length-take-le, get_or_append_left, get_or-append_right, get_or-take, get_or_default}
+use Rattle.std.proofs.lemmas.List.{length-append, length-take-le, get_or_append_left, get_or-append_right, get_or-take, get_or_default}
 use Rattle.std.proofs.lemmas.Bool.{cases_lt}
 use Rattle.std.proofs.lemmas.Option.{slice_get_within, get_or_from_slice_get}
 use Rattle.std.proofs.lemmas.List.Elements.{Contains-append_left, Contains-append_right, Contains-append_cases, Contains-push, Contains-push_cases, Contains-get_or}
 use Rattle.std.proofs.lemmas.List.Sorted.{Contains-permutation}
-
-pub front_more : {X : Type 0} (xs : List X) (k : ℕ) (x : X) → k < length xs → get_or xs k x ≡ x → take k xs ++ x ∷ [] ≡ take (k + 1) xs
-front_more xs k x within at = sym (take_more xs k x within ∙ ap (λ y. take k xs ++ y ∷ []) at)
 
 pub at_front : {X : Type 0} (xs : List X) (x : X) → slice_get xs 0 ≡ Some x → Contains xs x
 at_front xs x h = (0, slice_get_within xs 0 x h, get_or_from_slice_get xs 0 x x h)

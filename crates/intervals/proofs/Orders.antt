@@ -8,6 +8,7 @@ use Rattle.std.specs.Ordering.{ordering_reverse, is_lt}
 use Rattle.std.specs.Cmp.{IsTotalOrder}
 use Rattle.std.proofs.lemmas.Cmp.{alike_right, tied_itself}
 use Rattle.intervals.specs.Cuts.{IsNotAfter, IsCut}
+use Rattle.integers.proofs.Orders.{less_of_is_lt}
 
 pub either : (b : Bool) → (b ≡ true) ⊎ (b ≡ false)
 either true = inl refl
@@ -19,11 +20,6 @@ not_true false h = refl
 
 pub not_less : (r : Ordering) → is_lt r ≡ false → ¬ (r ≡ Less)
 not_less r h e = true≢false (sym (ap is_lt e) ∙ h)
-
-is_less : (r : Ordering) → is_lt r ≡ true → r ≡ Less
-is_less Less e = refl
-is_less Equal e = cc
-is_less Greater e = cc
 
 not_is_true : (b : Bool) → ¬ (b ≡ true) → not b ≡ true
 not_is_true true h = absurd (h refl)
@@ -85,7 +81,7 @@ module _ {T : Type 0} {cmp : T → T → Ordering} (o : IsTotalOrder cmp) where
 
   -- before the value, and up to it
   pub before_value : (t : T) → IsCut cmp (λ x. is_lt (cmp x t))
-  before_value t x y h k = ap is_lt (not_after_less x y t k (is_less (cmp y t) h))
+  before_value t x y h k = ap is_lt (not_after_less x y t k (less_of_is_lt (cmp y t) h))
 
   pub up_to_value : (t : T) → IsCut cmp (λ x. not (is_lt (cmp t x)))
-  up_to_value t x y h k = not_is_true (is_lt (cmp t x)) (λ e. true≢false (sym (ap is_lt (less_not_after t x y (is_less (cmp t x) e) k)) ∙ not-true (is_lt (cmp t y)) h))
+  up_to_value t x y h k = not_is_true (is_lt (cmp t x)) (λ e. true≢false (sym (ap is_lt (less_not_after t x y (less_of_is_lt (cmp t x) e) k)) ∙ not-true (is_lt (cmp t y)) h))

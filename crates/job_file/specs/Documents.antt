@@ -13,10 +13,11 @@ use Rattle.job_file.specs.declared.fault.JobFault.{JobFault}
 use Rattle.job_file.specs.declared.fault.JobFault.TheVariants.{NotToml, Version, Wrong, TooManyViews}
 use Rattle.job_file.specs.declared.fault.Key.TheVariants as key
 use Rattle.job_file.specs.declared.job.Paper.{Paper}
-use Rattle.job_file.specs.declared.job.Paper.TheVariants.{A0, A1, A2, A3, A4}
+use Rattle.job_file.specs.declared.job.Paper.TheVariants.{A3}
 use Rattle.job_file.specs.declared.view.Principal.TheVariants.{Front, Above, Left}
 use Rattle.job_file.specs.Arrays.{values_in}
 use Rattle.job_file.specs.Keys.{unknown_key}
+use Rattle.job_file.specs.Papers.{papers}
 use Rattle.job_file.specs.declared.table.Kind.{Kind}
 use Rattle.job_file.specs.declared.table.Kind.TheVariants.{JobOne, JobTwo}
 use Rattle.job_file.specs.Scales.{scales}
@@ -60,9 +61,6 @@ choice rows d = option_and_then (look_up rows) (as_str d)
 -- third-angle projection, or not
 abbrev pub angles : List (List ℕ × Bool)
 angles = (codes "first", false) ∷ (codes "third", true) ∷ []
-
-abbrev pub papers : List (List ℕ × Paper)
-papers = (codes "A0", A0) ∷ (codes "A1", A1) ∷ (codes "A2", A2) ∷ (codes "A3", A3) ∷ (codes "A4", A4) ∷ []
 
 abbrev pub creases : List (List ℕ × Crease)
 creases = (codes "fine", Fine) ∷ (codes "normal", Normal) ∷ (codes "coarse", Coarse) ∷ []

@@ -3,8 +3,10 @@ pub mod CutKeys
 pub mod Documents
 pub mod Keys
 pub mod Names
+pub mod Papers
 pub mod Scales
 pub mod Seen
+pub mod ShownCuts
 pub mod Steps
 pub mod Texts
 pub mod ViewValues

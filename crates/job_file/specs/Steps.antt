@@ -44,6 +44,6 @@ abbrev pub Fails : {B : Type 0} → JobError → Result B JobFault → Type 0
 Fails (Memory e) said = Unit {0}
 Fails (Job fault) said = said ≡ Err fault
 
-abbrev pub Gives : {A B : Type 0} → (A → B) → Result A JobError → Result B JobFault → Type 0
-Gives seen (Ok x) said = said ≡ Ok (seen x)
-Gives seen (Err e) said = Fails e said
+abbrev pub GivesJob : {A B : Type 0} → (A → B) → Result A JobError → Result B JobFault → Type 0
+GivesJob seen (Ok x) said = said ≡ Ok (seen x)
+GivesJob seen (Err e) said = Fails e said

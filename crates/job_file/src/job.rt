@@ -19,6 +19,24 @@ pub enum Paper {
     A4,
 }
 
+impl Paper {
+    ghost use Rattle.std.specs.Prelude.{◌≡◌};
+    ghost use Rattle.job_file.specs.Papers.{paper_name};
+
+    /// Its name.
+    pub fn name(self) -> &'static str
+        ensures { result.now ≡ paper_name self }
+    {
+        match self {
+            Paper::A0 => "A0",
+            Paper::A1 => "A1",
+            Paper::A2 => "A2",
+            Paper::A3 => "A3",
+            Paper::A4 => "A4",
+        }
+    }
+}
+
 /// A length on the sheet, and the length of the part that it stands for: 50:1, 20:1, 10:1, 5:1, 2:1, 1:1, 1:2, 1:5, 1:10,
 /// 1:20, 1:50 or 1:100.
 #[derive(Clone, Copy, PartialEq, Eq, Debug)]

@@ -10,6 +10,7 @@ mod fault;
 mod job;
 mod read;
 mod settings;
+mod shown_cuts;
 mod table;
 mod texts;
 mod view;
@@ -17,4 +18,5 @@ mod views;
 
 pub use fault::{JobError, JobFault, Key};
 pub use job::{Job, Paper, Scale};
+pub use shown_cuts::cuts_in;
 pub use view::{JobView, Principal};

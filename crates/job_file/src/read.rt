@@ -3,7 +3,7 @@ ghost use Rattle.std.specs.Prelude.{◌≡◌, [], Ok, IfOk};
 ghost use Rattle.toml.specs.View.{table_view};
 ghost use Rattle.job_file.specs.Documents.{job_of, job_of_bytes};
 ghost use Rattle.job_file.specs.Seen.{job_seen};
-ghost use Rattle.job_file.specs.Steps.{Gives};
+ghost use Rattle.job_file.specs.Steps.{GivesJob};
 
 use crate::fault::{JobError, JobFault};
 use crate::job::Job;
@@ -19,7 +19,7 @@ use toml::Table;
 /// The job of a table.
 #[tactic(auto, unfolding(crate::specs::Documents::job_of))]
 fn job_of(alloc: Global, table: &Table) -> Result<Job, JobError>
-    ensures { Gives job_seen result (job_of (table_view table.now)) }
+    ensures { GivesJob job_seen result (job_of (table_view table.now)) }
 {
     let kind = version(table)?;
     if let Some(key) = unknown_key(kind, table) {
@@ -44,7 +44,7 @@ impl Job {
     /// no job of this version has, then the keys in the order of `Key`, and last the views one by one. The time is that of reading the
     /// text as TOML; the rest is linear in its length.
     pub fn read(alloc: Global, bytes: &[u8]) -> Result<Job, JobError>
-        ensures { Gives job_seen result (job_of_bytes bytes.now) }
+        ensures { GivesJob job_seen result (job_of_bytes bytes.now) }
     {
         match toml::table_from_slice(alloc, bytes) {
             Ok(table) => job_of(alloc, &table),

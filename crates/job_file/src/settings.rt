@@ -2,7 +2,8 @@
 ghost use Rattle.std.specs.Prelude.{◌≡◌, ◌≤◌, false, None, IfOk, codes, option_map};
 ghost use Rattle.toml.specs.Data.{get_member, as_integer};
 ghost use Rattle.toml.specs.View.{table_view};
-ghost use Rattle.job_file.specs.Documents.{version_of, version_at, decimals_of, choice, angles, papers, fits, creases, lengths, layouts};
+ghost use Rattle.job_file.specs.Documents.{version_of, version_at, decimals_of, choice, angles, fits, creases, lengths, layouts};
+ghost use Rattle.job_file.specs.Papers.{papers};
 ghost use Rattle.job_file.specs.Seen.{scale_seen};
 ghost use Rattle.job_file.specs.Steps.{look_up, value_or};
 ghost use Rattle.job_file.specs.inner.Steps.{GivesExactly};

@@ -5,7 +5,7 @@ ghost use Rattle.std.specs.Str.{bytes_eq};
 ghost use Rattle.toml.specs.Data.{get_member};
 ghost use Rattle.toml.specs.View.{view, table_view};
 ghost use Rattle.job_file.specs.Documents.{title_of, texts_of, proper_outputs, outputs_of};
-ghost use Rattle.job_file.specs.Steps.{or_wrong, value_or, Gives};
+ghost use Rattle.job_file.specs.Steps.{or_wrong, value_or, GivesJob};
 ghost use Rattle.job_file.specs.Texts.{is_title_char, is_title, is_output_byte, is_output, are_outputs};
 
 use crate::fault::{JobError, JobFault, Key};
@@ -39,7 +39,7 @@ fn is_title(text: &str) -> bool
 
 /// The job's title.
 pub fn title(alloc: Global, table: &Table) -> Result<Name, JobError>
-    ensures value { Gives (λ name. name) result (value_or (codes "") Key.Title title_of (get_member (codes "title") (table_view table.now))) }
+    ensures value { GivesJob (λ name. name) result (value_or (codes "") Key.Title title_of (get_member (codes "title") (table_view table.now))) }
     ensures proper { IfOk result (λ name. IsTrue (is_title name)) }
 {
     match value_at(table, "title") {
@@ -120,7 +120,7 @@ fn texts_of(alloc: Global, values: &[Value]) -> Result<Option<Vec<Name>>, OutOfM
 
 /// The job's outputs.
 pub fn outputs(alloc: Global, table: &Table) -> Result<Vec<Name>, JobError>
-    ensures value { Gives (λ names. names.items) result (value_or [] Key.Outputs outputs_of (get_member (codes "outputs") (table_view table.now))) }
+    ensures value { GivesJob (λ names. names.items) result (value_or [] Key.Outputs outputs_of (get_member (codes "outputs") (table_view table.now))) }
     ensures proper { IfOk result (λ names. IsTrue (are_outputs names.items)) }
 {
     match value_at(table, "outputs") {
@@ -134,7 +134,7 @@ pub fn outputs(alloc: Global, table: &Table) -> Result<Vec<Name>, JobError>
 
 /// The names of outputs that some values are.
 fn proper_outputs(alloc: Global, values: &[Value]) -> Result<Vec<Name>, JobError>
-    ensures value { Gives (λ names. names.items) result (or_wrong Key.Outputs (proper_outputs (map view values.now))) }
+    ensures value { GivesJob (λ names. names.items) result (or_wrong Key.Outputs (proper_outputs (map view values.now))) }
     ensures proper { IfOk result (λ names. IsTrue (are_outputs names.items)) }
 {
     match texts_of(alloc, values)? {

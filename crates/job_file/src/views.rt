@@ -5,7 +5,7 @@ ghost use Rattle.toml.specs.Data.{get_member};
 ghost use Rattle.toml.specs.View.{view, table_view};
 ghost use Rattle.job_file.specs.Documents.{is_table, usual_views, views_of, views_at};
 ghost use Rattle.job_file.specs.Seen.{view_seen};
-ghost use Rattle.job_file.specs.Steps.{Gives};
+ghost use Rattle.job_file.specs.Steps.{GivesJob};
 ghost use Rattle.job_file.specs.inner.Steps.{GivesExactly};
 ghost use Rattle.job_file.specs.ViewKeys.{is_named, view_named, named_view, toward_view, view_of_keys, view_of_table, view_of, views_after};
 ghost use Rattle.job_file.specs.Views.{AreNamedApart};
@@ -112,7 +112,7 @@ fn view_of_keys(table: &Table, earlier: &[JobView]) -> Result<JobView, JobFault>
 #[tactic(auto, unfolding(crate::specs::ViewKeys::view_of_table))]
 fn view_of_table(alloc: Global, table: &Table, earlier: &[JobView]) -> Result<JobView, JobError>
     requires { length earlier.now < 12 }
-    ensures value { Gives view_seen result (view_of_table (map view_seen earlier.now) (table_view table.now)) }
+    ensures value { GivesJob view_seen result (view_of_table (map view_seen earlier.now) (table_view table.now)) }
     ensures apart { IfOk result (λ v. All (λ w. AreNamedApart w.named v.named) earlier.now) }
 {
     if let Some(key) = unknown_key(Kind::View, table) {
@@ -124,7 +124,7 @@ fn view_of_table(alloc: Global, table: &Table, earlier: &[JobView]) -> Result<Jo
 /// The view of a value.
 fn view_of(alloc: Global, value: &Value, earlier: &[JobView]) -> Result<JobView, JobError>
     requires { length earlier.now < 12 }
-    ensures value { Gives view_seen result (view_of (map view_seen earlier.now) (view value.now)) }
+    ensures value { GivesJob view_seen result (view_of (map view_seen earlier.now) (view value.now)) }
     ensures apart { IfOk result (λ v. All (λ w. AreNamedApart w.named v.named) earlier.now) }
 {
     match value.as_table() {
@@ -136,7 +136,7 @@ fn view_of(alloc: Global, value: &Value, earlier: &[JobView]) -> Result<JobView,
 /// All views of the values, one after the other. Each name is compared with those of the views before it.
 fn views_in_order(alloc: Global, values: &[Value]) -> Result<Vec<JobView>, JobError>
     requires { length values.now ≤ 12 }
-    ensures value { Gives (λ views. map view_seen views.items) result (views_after [] (map view values.now)) }
+    ensures value { GivesJob (λ views. map view_seen views.items) result (views_after [] (map view values.now)) }
     ensures count { IfOk result (λ views. length views.items ≡ length values.now) }
     ensures apart { IfOk result (λ views. AllPairs (λ v w. AreNamedApart v.named w.named) views.items) }
 {
@@ -162,7 +162,7 @@ fn are_tables(values: &[Value]) -> bool
 
 /// The views of the values: 1 to 12 tables.
 fn views_of(alloc: Global, values: &[Value]) -> Result<Vec<JobView>, JobError>
-    ensures value { Gives (λ views. map view_seen views.items) result (views_of (map view values.now)) }
+    ensures value { GivesJob (λ views. map view_seen views.items) result (views_of (map view values.now)) }
     ensures some { IfOk result (λ views. 1 ≤ length views.items) }
     ensures few { IfOk result (λ views. length views.items ≤ 12) }
     ensures apart { IfOk result (λ views. AllPairs (λ v w. AreNamedApart v.named w.named) views.items) }
@@ -190,7 +190,7 @@ fn usual_views(alloc: Global) -> Result<Vec<JobView>, OutOfMemory>
 
 /// The job's views.
 pub fn views(alloc: Global, table: &Table) -> Result<Vec<JobView>, JobError>
-    ensures value { Gives (λ views. map view_seen views.items) result (views_at (get_member (codes "view") (table_view table.now))) }
+    ensures value { GivesJob (λ views. map view_seen views.items) result (views_at (get_member (codes "view") (table_view table.now))) }
     ensures some { IfOk result (λ views. 1 ≤ length views.items) }
     ensures few { IfOk result (λ views. length views.items ≤ 12) }
     ensures apart { IfOk result (λ views. AllPairs (λ v w. AreNamedApart v.named w.named) views.items) }

@@ -1,6 +1,8 @@
+pub mod AlongAxes
 pub mod CutSides
 pub mod LowestTerms
 pub mod OnLines
+pub mod PointLetters
 pub mod SameLines
 pub mod SightAxes
 pub mod SightLines

@@ -15,18 +15,18 @@ use Rattle.lattice.specs.declared.points.Dir.{Dir}
 use Rattle.lattice.specs.Lines.{IsOnLine, IsLineOf, AreStripEndsInSomeView}
 use Rattle.lattice.proofs.Vectors.{letters, dots}
 
+-- a line through u / w and v / w goes through s / z and t / z, if these are the same: w times what it leaves of one is z times what it leaves of the other
+pub seen_too : (a b c u v w s t z : ℤ) → pos 0 <ℤ w → u *ℤ z ≡ s *ℤ w → v *ℤ z ≡ t *ℤ w → (a *ℤ u) +ℤ (b *ℤ v) ≡ c *ℤ w → (a *ℤ s) +ℤ (b *ℤ t) ≡ c *ℤ z
+seen_too a b c u v w s t z positive e f g =
+    same_of_gap ((a *ℤ s) +ℤ (b *ℤ t)) (c *ℤ z) (zero_of_mul w (((a *ℤ s) +ℤ (b *ℤ t)) -ℤ (c *ℤ z)) positive
+    (by_three (w *ℤ (((a *ℤ s) +ℤ (b *ℤ t)) -ℤ (c *ℤ z))) (pos 0) (u *ℤ z) (s *ℤ w) (pos 0 -ℤ a) (v *ℤ z) (t *ℤ w) (pos 0 -ℤ b) ((a *ℤ u) +ℤ (b *ℤ v)) (c *ℤ w) z
+    (ring (a ∷ b ∷ c ∷ u ∷ v ∷ w ∷ s ∷ t ∷ z ∷ [])
+    ((var 5 ⊗ (((var 0 ⊗ var 6) ⊕ (var 1 ⊗ var 7)) ⊖ (var 2 ⊗ var 8))) ⊖ con (pos 0))
+    (((((var 3 ⊗ var 8) ⊖ (var 6 ⊗ var 5)) ⊗ (con (pos 0) ⊖ var 0)) ⊕ (((var 4 ⊗ var 8) ⊖ (var 7 ⊗ var 5)) ⊗ (con (pos 0) ⊖ var 1))) ⊕ ((((var 0 ⊗ var 3) ⊕ (var 1 ⊗ var 4)) ⊖ (var 2 ⊗ var 5)) ⊗ var 8)) refl) e f g))
+
 -- what is seen at one place is on the same lines
 pub on_line_of_sight : (d : Triple) (l : Line) (p q : Point) → IsPoint p → OnOneSight d p q → IsOnLine d l p → IsOnLine d l q
-on_line_of_sight d l p q positive same on = turned l.a l.b l.c (across_of d p) (upward_of d p) p.w (across_of d q) (upward_of d q) q.w positive same.across same.upward on
-  where
-    -- p.w times what q leaves is what p leaves times q.w
-    turned : (a b c u v w s t z : ℤ) → pos 0 <ℤ w → u *ℤ z ≡ s *ℤ w → v *ℤ z ≡ t *ℤ w → (a *ℤ u) +ℤ (b *ℤ v) ≡ c *ℤ w → (a *ℤ s) +ℤ (b *ℤ t) ≡ c *ℤ z
-    turned a b c u v w s t z positive e f g =
-        same_of_gap ((a *ℤ s) +ℤ (b *ℤ t)) (c *ℤ z) (zero_of_mul w (((a *ℤ s) +ℤ (b *ℤ t)) -ℤ (c *ℤ z)) positive
-        (by_three (w *ℤ (((a *ℤ s) +ℤ (b *ℤ t)) -ℤ (c *ℤ z))) (pos 0) (u *ℤ z) (s *ℤ w) (pos 0 -ℤ a) (v *ℤ z) (t *ℤ w) (pos 0 -ℤ b) ((a *ℤ u) +ℤ (b *ℤ v)) (c *ℤ w) z
-        (ring (a ∷ b ∷ c ∷ u ∷ v ∷ w ∷ s ∷ t ∷ z ∷ [])
-        ((var 5 ⊗ (((var 0 ⊗ var 6) ⊕ (var 1 ⊗ var 7)) ⊖ (var 2 ⊗ var 8))) ⊖ con (pos 0))
-        (((((var 3 ⊗ var 8) ⊖ (var 6 ⊗ var 5)) ⊗ (con (pos 0) ⊖ var 0)) ⊕ (((var 4 ⊗ var 8) ⊖ (var 7 ⊗ var 5)) ⊗ (con (pos 0) ⊖ var 1))) ⊕ ((((var 0 ⊗ var 3) ⊕ (var 1 ⊗ var 4)) ⊖ (var 2 ⊗ var 5)) ⊗ var 8)) refl) e f g))
+on_line_of_sight d l p q positive same on = seen_too l.a l.b l.c (across_of d p) (upward_of d p) p.w (across_of d q) (upward_of d q) q.w positive same.across same.upward on
 
 -- the sum of two points with whole weights
 abbrev pub weighted_sum : ℤ → Point → ℤ → Point → Point

@@ -1,9 +1,12 @@
+pub mod Axes
 pub mod Creases
 pub mod Cuts
 pub mod Faults
 pub mod Lines
 pub mod LowestTerms
+pub mod Places
 pub mod Points
+pub mod ShownCuts
 pub mod Triangles
 pub mod Triple
 pub mod inner

@@ -1,5 +1,5 @@
 // What a drawing is made of.
-ghost use Rattle.std.specs.Prelude.{◌≡◌};
+ghost use Rattle.std.specs.Prelude.{◌≡◌, ◌≤◌, length};
 ghost use Rattle.lattice.specs.Lines.{AreStripEndsInSomeView};
 
 use crate::cuts::Cut;
@@ -81,4 +81,19 @@ pub enum ViewSpec {
     Plain(Dir),
     /// What is left of the part beyond this cut, with its section.
     Section(Cut),
+}
+
+impl ViewSpec {
+    ghost use Rattle.lattice.specs.ShownCuts.{cuts_of};
+
+    /// How many cuts the view shows: one or none.
+    pub fn cuts(&self) -> usize
+        ensures value { result ≡ length (cuts_of self.now) }
+        ensures size { result ≤ 1 }
+    {
+        match self {
+            ViewSpec::Plain(_) => 0,
+            ViewSpec::Section(_) => 1,
+        }
+    }
 }

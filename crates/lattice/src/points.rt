@@ -1,5 +1,5 @@
 // Points, vectors and directions.
-ghost use Rattle.std.specs.Prelude.{◌≡◌, ℕ, ◌+◌, ◌*◌, ◌<◌, ◌≤◌, ◌^◌, ◌↔◌, pos, ◌-ℤ◌, ◌<ℤ◌, unsigned_abs, IfOk, IsNone};
+ghost use Rattle.std.specs.Prelude.{◌≡◌, ℕ, ◌+◌, ◌*◌, ◌<◌, ◌≤◌, ◌^◌, ◌↔◌, pos, ◌-ℤ◌, ◌<ℤ◌, unsigned_abs, None, IfOk, IfSome, IsNone, IsTrue};
 ghost use Rattle.lattice.specs.Triple.{IsWithin, dot, negated, right_axis, up_axis};
 ghost use Rattle.lattice.specs.declared.points.Axis.{Axis};
 ghost use Rattle.lattice.specs.Faults.{IsFirstOutside};
@@ -12,6 +12,24 @@ pub enum Axis {
     X,
     Y,
     Z,
+}
+
+impl Axis {
+    ghost use Rattle.lattice.specs.Axes.{third_of};
+
+    /// The axis beside this one and another; of two that are the same, that one.
+    pub fn third(self, other: Axis) -> Axis
+        ensures { result ≡ third_of self other }
+    {
+        match (self, other) {
+            (Axis::X, Axis::Y) | (Axis::Y, Axis::X) => Axis::Z,
+            (Axis::X, Axis::Z) | (Axis::Z, Axis::X) => Axis::Y,
+            (Axis::Y, Axis::Z) | (Axis::Z, Axis::Y) => Axis::X,
+            (Axis::X, Axis::X) => Axis::X,
+            (Axis::Y, Axis::Y) => Axis::Y,
+            (Axis::Z, Axis::Z) => Axis::Z,
+        }
+    }
 }
 
 /// A corner of a part, in units. Each coordinate is at most 2^20 in size.
@@ -137,6 +155,7 @@ pub struct Dir {
 }
 
 impl Dir {
+    ghost use Rattle.lattice.specs.Axes.{IsAlong};
     ghost use Rattle.lattice.specs.Points.{of_dir, of_vector};
     ghost use Rattle.lattice.specs.Cuts.{side_of};
 
@@ -192,6 +211,23 @@ impl Dir {
         }
     }
 
+    /// The axis that the direction is along, if it is along one.
+    pub fn axis(&self) -> Option<Axis>
+        ensures some { IfSome result (λ axis. IsAlong axis (of_dir self.now)) }
+        ensures none { result ≡ None → (axis : Axis) → ¬ IsAlong axis (of_dir self.now) }
+    {
+        if are_nothing(self.y, self.z) {
+            return Some(Axis::X);
+        }
+        if are_nothing(self.x, self.z) {
+            return Some(Axis::Y);
+        }
+        if are_nothing(self.x, self.y) {
+            return Some(Axis::Z);
+        }
+        None
+    }
+
     /// The right axis of the view, `(-y, x, 0)`: level, and to the viewer's right. For a view along z it is `(1, 0, 0)`.
     pub fn right(&self) -> Vector
         ensures axis { of_vector result ≡ right_axis (of_dir self.now) }
@@ -220,6 +256,13 @@ impl Dir {
             z: minor(self.x, self.y, right.x, right.y),
         }
     }
+}
+
+/// Both are 0.
+fn are_nothing(a: i64, b: i64) -> bool
+    ensures { IsTrue result ↔ ((a ≡ pos 0) × (b ≡ pos 0)) }
+{
+    a == 0 && b == 0
 }
 
 /// The first axis whose component no direction has.

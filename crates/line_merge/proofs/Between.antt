@@ -50,7 +50,7 @@ module _ (d : Triple) (l : Line) (p q : Point) (on_p : IsOnLine d l p) (on_q : I
           nothing : pos 0 <ℤ pos 0 → ⊥
           nothing h = omega (arith, ints)
 
-zero_or_not : (b : ℤ) → (b ≡ pos 0) ⊎ (b ≡ pos 0 → ⊥)
+pub zero_or_not : (b : ℤ) → (b ≡ pos 0) ⊎ (b ≡ pos 0 → ⊥)
 zero_or_not (pos zero) = inl refl
 zero_or_not (pos (suc n)) = inr (λ e. omega (arith, ints))
 zero_or_not (negsuc n) = inr (λ e. omega (arith, ints))

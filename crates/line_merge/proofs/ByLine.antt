@@ -1,5 +1,5 @@
 -- What is put together of the strips of some lines, and then of those of later lines, is put together of all of them.
-use Rattle.std.proofs.Common.{◌≡◌, ℕ, ◌+◌, ◌<◌, ◌≤◌, ◌⊎◌, inl, inr, Bool, List, [], ◌∷◌, ◌++◌, Contains, length, take, get_or, map, refl, sym, ap, subst, ◌∙◌, arith, IsPermutation}
+use Rattle.std.proofs.Common.{◌≡◌, ℕ, ◌+◌, ◌<◌, ◌≤◌, ◌⊎◌, inl, inr, List, [], ◌∷◌, ◌++◌, length, take, get_or, map, refl, sym, ap, subst, ◌∙◌, arith, IsPermutation}
 use Rattle.std.specs.Cmp.{nat_cmp_is}
 use Rattle.std.specs.List.{All, AllZip, filter}
 use Rattle.std.specs.Ordering.{ordering_then}
@@ -19,7 +19,7 @@ use Rattle.lattice.specs.declared.pieces.StripKind.TheVariants.{Seen, Hidden, Tr
 use Rattle.lattice.specs.declared.pieces.Style.TheVariants.{Solid, Dashed, Chain}
 use Rattle.line_merge.specs.declared.ends.SeenEnd.{SeenEnd}
 use Rattle.line_merge.specs.declared.numbering.Numbered.{Numbered}
-use Rattle.line_merge.specs.inner.Ends.{seen_order, end_order, IsSeenEndOf, IsIntervalOf, AreUnitedOf, IsLeftOfAll}
+use Rattle.line_merge.specs.inner.Ends.{seen_order, end_order, IsSeenEndOf, IsIntervalOf, AreUnitedOf}
 use Rattle.line_merge.specs.inner.Kinds.{is_up_to}
 use Rattle.line_merge.specs.inner.Laws.{end_order_total}
 use Rattle.line_merge.specs.declared.numbering.Listed.{Listed}

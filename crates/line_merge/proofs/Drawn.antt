@@ -12,7 +12,7 @@ use Rattle.lattice.specs.Points.{of_spot, OnOneSight}
 use Rattle.lattice.specs.Lines.{IsOnLine, IsSameLine}
 use Rattle.lattice.proofs.OnLines.{on_line_of_sight}
 use Rattle.lattice.proofs.SameLines.{same_line, same_of_parallel}
-use Rattle.geometry.specs.Pieces.{IsBefore, rank_of, StandsBefore, ArePiecesParallel, ShareAnEnd}
+use Rattle.geometry.specs.Pieces.{IsBefore, rank_of, PieceStandsBefore, ArePiecesParallel, ShareAnEnd}
 use Rattle.geometry.proofs.Sights.{sight_back}
 use Rattle.line_merge.specs.declared.ends.SeenEnd.{SeenEnd}
 use Rattle.line_merge.specs.inner.Ends.{seen_order, end_order, IsSeenEnd}
@@ -59,7 +59,7 @@ module _ (d : Triple) (x y : Stretch) (from_x : IsSeenEnd d x.from) (to_x : IsSe
   tails = ordering_then (seen_order x.from y.from) (seen_order x.to y.to)
 
   -- what the order says of pieces
-  pub stands : stretch_order x y ≡ Less → StandsBefore d (piece_of x) (piece_of y)
+  pub stands : stretch_order x y ≡ Less → PieceStandsBefore d (piece_of x) (piece_of y)
   stands h = by (rank_less x.style y.style tails h)
     where
       ends : (seen_order x.from y.from ≡ Less) ⊎ ((seen_order x.from y.from ≡ Equal) × (seen_order x.to y.to ≡ Less))
@@ -70,7 +70,7 @@ module _ (d : Triple) (x y : Stretch) (from_x : IsSeenEnd d x.from) (to_x : IsSe
         before d (of_spot x.to.spot) (of_spot y.to.spot) (sym (seen_is d x.to y.to to_x to_y) ∙ f),
       )
 
-      by : (rank_of x.style < rank_of y.style) ⊎ ((x.style ≡ y.style) × (tails ≡ Less)) → StandsBefore d (piece_of x) (piece_of y)
+      by : (rank_of x.style < rank_of y.style) ⊎ ((x.style ≡ y.style) × (tails ≡ Less)) → PieceStandsBefore d (piece_of x) (piece_of y)
       by (inl less) = inl less
       by (inr (same, e)) = inr (same, ends (then_less (seen_order x.from y.from) (seen_order x.to y.to) e))
 
@@ -193,10 +193,10 @@ module _ (d : Triple) (strips : List Strip) (number : Line → ℕ) (are : AreNu
       clear (inl k)
 
   -- the one that doesn't come after the other stands before it
-  pub stands_first : AreSeparate x y → ¬ (stretch_order x y ≡ Greater) → StandsBefore d (piece_of x) (piece_of y)
+  pub stands_first : AreSeparate x y → ¬ (stretch_order x y ≡ Greater) → PieceStandsBefore d (piece_of x) (piece_of y)
   stands_first separate h = by (stretch_order x y) refl
     where
-      by : (r : Ordering) → stretch_order x y ≡ r → StandsBefore d (piece_of x) (piece_of y)
+      by : (r : Ordering) → stretch_order x y ≡ r → PieceStandsBefore d (piece_of x) (piece_of y)
       by Less e = stands d x y along_x.from.seen along_x.to.seen along_y.from.seen along_y.to.seen e
       by Equal e =
           let (same, k, l) = stands_level d x y along_x.from.seen along_x.to.seen along_y.from.seen along_y.to.seen e in

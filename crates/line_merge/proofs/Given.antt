@@ -22,7 +22,7 @@ use Rattle.line_merge.proofs.Lists.{filter_map}
 use Rattle.line_merge.proofs.Zips.{zip_left, zip_right, zip_map}
 
 -- ---- one strip
-between_turned : (d : Triple) (a b : Spot) (p : Point) → LiesBetween d a b p → LiesBetween d b a p
+pub between_turned : (d : Triple) (a b : Spot) (p : Point) → LiesBetween d a b p → LiesBetween d b a p
 between_turned d a b p (i, j, some, seen) = (j, i, omega arith, subst (λ (q : Point). OnOneSight d q p) (sum_turned a b i j) seen)
 
 module _ (d : Triple) (strips : List Strip) (number : Line → ℕ) (x : Strip) (there : Contains strips x) (i : Interval SeenEnd) (h : IsIntervalOf d (numbered_by number x) i) where

@@ -19,7 +19,7 @@ use Rattle.lattice.specs.declared.pieces.Style.{Style}
 use Rattle.lattice.specs.declared.pieces.Style.TheVariants.{Solid, Dashed, Chain}
 use Rattle.lattice.specs.Triple.{Triple}
 use Rattle.lattice.specs.Points.{Point, IsPoint, of_spot, OnOneSight}
-use Rattle.geometry.specs.Pieces.{rank_of, LiesBetween, LiesOn, LiesOnStyle, StandsBefore, ArePiecesParallel, ShareAnEnd, IsBefore}
+use Rattle.geometry.specs.Pieces.{rank_of, LiesBetween, LiesOn, LiesOnStyle, PieceStandsBefore, ArePiecesParallel, ShareAnEnd, IsBefore}
 use Rattle.line_merge.specs.declared.ends.SeenEnd.{SeenEnd}
 use Rattle.line_merge.specs.inner.Kinds.{is_up_to}
 use Rattle.line_merge.specs.inner.Ends.{end_order}
@@ -302,8 +302,8 @@ module _ (d : Triple) (strips : List Strip) (number : Line → ℕ) (are : AreNu
       order = record {
         ends = all_ascend;
         order =
-            pairs_map (StandsBefore d) piece_of sorted
-            (pairs_of (λ x y. StandsBefore d (piece_of x) (piece_of y)) (λ x y drawn_x drawn_y apart h. stands_first d strips number are x y (along x drawn_x) (along y drawn_y) apart h));
+            pairs_map (PieceStandsBefore d) piece_of sorted
+            (pairs_of (λ x y. PieceStandsBefore d (piece_of x) (piece_of y)) (λ x y drawn_x drawn_y apart h. stands_first d strips number are x y (along x drawn_x) (along y drawn_y) apart h));
       };
     }
 

@@ -1,5 +1,5 @@
 -- Strips in another order are put together to the same pieces.
-use Rattle.std.proofs.Common.{◌≡◌, ℕ, ◌↔◌, List, Contains, map, IsPermutation, IsSorted, refl, subst}
+use Rattle.std.proofs.Common.{ℕ, List, Contains, map, IsPermutation, IsSorted, refl, subst}
 use Rattle.std.specs.List.{All}
 use Rattle.std.proofs.lemmas.List.Elements.{All-contains, Contains-get_or}
 use Rattle.std.proofs.lemmas.List.Sorted.{All-permutation, Contains-permutation, IsPermutation-sym, IsPermutation-trans}

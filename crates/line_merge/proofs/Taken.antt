@@ -2,7 +2,7 @@
 use Rattle.std.proofs.Common.{◌≡◌, ℕ, ◌+◌, ◌<◌, ◌≤◌, List, [], ◌∷◌, ◌++◌, Contains, length, map, take, get_or, IsPermutation, IsSorted, sym, subst, ap, ◌∙◌, append-nil}
 use Rattle.std.specs.List.{All}
 use Rattle.std.proofs.lemmas.List.{append_assoc, map-append, take_more, take_all}
-use Rattle.std.proofs.lemmas.List.Elements.{All-append, All-contains, All-push, All-take, Contains-get_or}
+use Rattle.std.proofs.lemmas.List.Elements.{All-contains, All-push, Contains-get_or}
 use Rattle.lattice.specs.declared.lines.Line.{Line}
 use Rattle.lattice.specs.declared.pieces.Piece.{Piece}
 use Rattle.lattice.specs.declared.pieces.Strip.{Strip}
@@ -10,7 +10,7 @@ use Rattle.lattice.specs.Lines.{AreStripEnds}
 use Rattle.lattice.specs.Triple.{Triple}
 use Rattle.line_merge.specs.declared.by_line.LineMerge.{LineMerge}
 use Rattle.line_merge.specs.declared.numbering.Numbered.{Numbered}
-use Rattle.line_merge.specs.Merging.{AreStrips, AreMerged}
+use Rattle.line_merge.specs.Merging.{AreMerged}
 use Rattle.line_merge.specs.Numbers.{IsNumbering}
 use Rattle.line_merge.specs.Taken.{AreTaken, MayBeTaken}
 use Rattle.line_merge.specs.inner.Numbering.{numbered_by}

@@ -14,7 +14,7 @@ use Rattle.meeting.specs.declared.course.Course.{Course}
 use Rattle.meeting.specs.Touching.{Touch}
 use Rattle.meeting.specs.inner.Heights.{height_of, AreOnOneSide}
 use Rattle.meeting.specs.inner.Courses.{IsCourseOf}
-use Rattle.meeting.specs.inner.Places.{Place}
+use Rattle.meeting.specs.inner.Places.{CoursePlace}
 use Rattle.meeting.proofs.InPlane.{sum_pos, sum_neg}
 use Rattle.meeting.proofs.Weights.{facing-round, weights-sum, weigh_x, weigh_y, weigh_z, level-at, weight-at}
 
@@ -67,7 +67,7 @@ off-plane a b c p q side t =
     less-not-zero z h e = omega (arith, ints)
 
 module _ (d : Triple) (a b c p q : Corner) (x : Course) (is : IsCourseOf d a b c p q x) (front : pos 0 <ℤ facing_of d a b c) where
-  pub place-of-touch : Touch a b c p q → Place x
+  pub place-of-touch : Touch a b c p q → CoursePlace x
   place-of-touch t =
       let (i, j, some, e) = t.on_edge in
       let (k, l, m, some_face, f) = t.on_face in
@@ -85,7 +85,7 @@ module _ (d : Triple) (a b c p q : Corner) (x : Course) (is : IsCourseOf d a b c
         ab = not_negative_at _ _ ((λ s. (pos i *ℤ is.ab.start s) +ℤ (pos j *ℤ is.ab.end s)) ∙ weight-ab d a b c p q i j k l m same) (least m);
       }
 
-  module _ (r : Place x) where
+  module _ (r : CoursePlace x) where
     abbrev F : ℤ
     F = facing_of d a b c
 

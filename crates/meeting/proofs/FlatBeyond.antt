@@ -14,7 +14,7 @@ use Rattle.lattice.proofs.Vectors.{Letters, letters, dots}
 use Rattle.geometry.specs.Faces.{IsFlat, edge_sum, face_sum, IsPointOfEdge, IsPointOfFace}
 use Rattle.meeting.specs.inner.Edges.{IsOneWay}
 use Rattle.meeting.specs.Touching.{TouchBeyond}
-use Rattle.meeting.proofs.Letters.{ways}
+use Rattle.lattice.proofs.PointLetters.{ways}
 use Rattle.meeting.proofs.Balance.{zero-of-square, square-of-product, along_x, along_y, along_z}
 use Rattle.meeting.proofs.EdgeWeights.{face-of-second}
 use Rattle.meeting.proofs.Beyond.{alike-point, alike-of-point, off-start}

@@ -7,7 +7,7 @@ use Rattle.integers.proofs.Ring.{Expr, var, con, ◌⊕◌, ◌⊖◌, ◌⊗◌
 use Rattle.integers.proofs.Signs.{mul_nonneg, mul_pos, nonneg_of_mul}
 use Rattle.meeting.specs.declared.course.Offset.{Offset}
 use Rattle.meeting.specs.declared.course.Course.{Course}
-use Rattle.meeting.specs.inner.Places.{Place, IsLeftSomewhere, IsInOrder, Agree}
+use Rattle.meeting.specs.inner.Places.{CoursePlace, IsLeftSomewhere, IsInOrder, Agree}
 
 abbrev O : Expr
 O = con (pos 0)
@@ -198,17 +198,17 @@ module _ (x y z : Offset) (xy : Agree x y) (yz : Agree y z) (zx : Agree z x) whe
       regroup : Held (λ i j. (IsMet x i j × IsSafe z i j) × IsMet y i j) → Held (λ i j. (IsMet x i j × IsMet y i j) × IsSafe z i j)
       regroup h = record { i = h.i; j = h.j; i_least = h.i_least; j_least = h.j_least; some = h.some; holds = ((h.holds.0.0, h.holds.1), h.holds.0.1) }
 
-pub flat-place : (x : Course) → x.above.start ≡ pos 0 → x.above.end ≡ pos 0 → Place x ↔ (Agree x.bc x.ca × Agree x.ca x.ab × Agree x.ab x.bc)
+pub flat-place : (x : Course) → x.above.start ≡ pos 0 → x.above.end ≡ pos 0 → CoursePlace x ↔ (Agree x.bc x.ca × Agree x.ca x.ab × Agree x.ab x.bc)
 flat-place x e f = (to, from)
   where
-    to : Place x → Agree x.bc x.ca × Agree x.ca x.ab × Agree x.ab x.bc
+    to : CoursePlace x → Agree x.bc x.ca × Agree x.ca x.ab × Agree x.ab x.bc
     to r = (
       agree_of x.bc x.ca r.i r.j r.i_least r.j_least r.some r.bc r.ca,
       agree_of x.ca x.ab r.i r.j r.i_least r.j_least r.some r.ca r.ab,
       agree_of x.ab x.bc r.i r.j r.i_least r.j_least r.some r.ab r.bc,
     )
 
-    from : Agree x.bc x.ca × Agree x.ca x.ab × Agree x.ab x.bc → Place x
+    from : Agree x.bc x.ca × Agree x.ca x.ab × Agree x.ab x.bc → CoursePlace x
     from (first_two, last_two, outer) =
         let h = third x.bc x.ca x.ab first_two last_two outer in
         record {
@@ -224,5 +224,5 @@ flat-place x e f = (to, from)
         }
 
 -- an edge above the plane
-pub not-above : (x : Course) → pos 0 <ℤ x.above.start → pos 0 <ℤ x.above.end → ¬ Place x
+pub not-above : (x : Course) → pos 0 <ℤ x.above.start → pos 0 <ℤ x.above.end → ¬ CoursePlace x
 not-above x h k r = positive_not_zero _ (sum_pos r.i r.j x.above.start x.above.end r.i_least r.j_least r.some h k) r.level

@@ -1,10 +1,11 @@
 -- A triangle, an edge and a direction as expressions for `ring`.
 use Rattle.std.proofs.Common.{List, ◌∷◌}
 use Rattle.std.specs.Prelude.{ℤ}
-use Rattle.integers.proofs.Ring.{Expr, ◌⊖◌}
+use Rattle.integers.proofs.Ring.{Expr}
 use Rattle.lattice.specs.declared.points.Corner.{Corner}
 use Rattle.lattice.specs.Triple.{Triple}
-use Rattle.lattice.proofs.Vectors.{Letters, letters, dots, crosses}
+use Rattle.lattice.proofs.PointLetters.{ways, normals}
+use Rattle.lattice.proofs.Vectors.{Letters, letters, dots}
 
 -- the direction, the triangle's corners and the edge's
 abbrev pub D : Letters
@@ -24,13 +25,6 @@ P = letters 12
 
 abbrev pub Q : Letters
 Q = letters 15
-
--- from one corner to another
-abbrev pub ways : Letters → Letters → Letters
-ways a b = record { x = b.x ⊖ a.x; y = b.y ⊖ a.y; z = b.z ⊖ a.z }
-
-abbrev pub normals : Letters → Letters → Letters → Letters
-normals a b c = crosses (ways a b) (ways a c)
 
 abbrev pub heights : Letters → Letters → Letters → Letters → Expr
 heights a b c p = dots (ways a p) (normals a b c)

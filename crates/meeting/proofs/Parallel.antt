@@ -12,7 +12,7 @@ use Rattle.lattice.specs.Points.{Point, difference}
 use Rattle.lattice.proofs.Vectors.{Letters, letters, dots, crosses}
 use Rattle.geometry.specs.Faces.{edge_sum}
 use Rattle.meeting.specs.inner.Edges.{EdgesTouch, IsBetween}
-use Rattle.meeting.proofs.Letters.{ways}
+use Rattle.lattice.proofs.PointLetters.{ways}
 use Rattle.meeting.proofs.InPlane.{sum_pos}
 use Rattle.meeting.proofs.Balance.{balance, square-least, square-of-product}
 use Rattle.meeting.proofs.EdgeWeights.{touch-of-sum}

@@ -8,7 +8,7 @@ use Rattle.integers.proofs.Signs.{mul_nonneg, mul_pos, nonneg_of_mul}
 use Rattle.meeting.specs.declared.course.Course.{Course}
 use Rattle.meeting.specs.declared.course.Heights.{Heights}
 use Rattle.meeting.specs.declared.course.Offset.{Offset}
-use Rattle.meeting.specs.inner.Places.{Place, GoesThrough, IsLeftInPlane}
+use Rattle.meeting.specs.inner.Places.{CoursePlace, HasBothSides, IsLeftInPlane}
 
 -- k is positive where the edge goes up, and negative where it goes down
 module _ (k : ℤ) (x : Course) (start : pos 0 ≤ℤ (pos 0 -ℤ (k *ℤ x.above.start))) (end : pos 0 ≤ℤ (k *ℤ x.above.end)) (changes : pos 0 <ℤ (k *ℤ (x.above.end -ℤ x.above.start))) where
@@ -20,7 +20,7 @@ module _ (k : ℤ) (x : Course) (start : pos 0 ≤ℤ (pos 0 -ℤ (k *ℤ x.abov
   value-is f g = ring (k ∷ x.above.start ∷ x.above.end ∷ f ∷ g ∷ [])
       (((var 0 ⊗ var 2) ⊗ var 3) ⊕ ((con (pos 0) ⊖ (var 0 ⊗ var 1)) ⊗ var 4)) (var 0 ⊗ ((var 2 ⊗ var 3) ⊖ (var 1 ⊗ var 4))) refl
 
-  from : (pos 0 ≤ℤ value x.bc.start x.bc.end) × (pos 0 ≤ℤ value x.ca.start x.ca.end) × (pos 0 ≤ℤ value x.ab.start x.ab.end) → Place x
+  from : (pos 0 ≤ℤ value x.bc.start x.bc.end) × (pos 0 ≤ℤ value x.ca.start x.ca.end) × (pos 0 ≤ℤ value x.ab.start x.ab.end) → CoursePlace x
   from (bc, ca, ab) = record {
     i = k *ℤ x.above.end;
     j = pos 0 -ℤ (k *ℤ x.above.start);
@@ -34,7 +34,7 @@ module _ (k : ℤ) (x : Course) (start : pos 0 ≤ℤ (pos 0 -ℤ (k *ℤ x.abov
   }
 
   -- each place in the plane is that one
-  module _ (r : Place x) where
+  module _ (r : CoursePlace x) where
     one-place : (f g : ℤ) → (r.i +ℤ r.j) *ℤ value f g ≡ (k *ℤ (x.above.end -ℤ x.above.start)) *ℤ ((r.i *ℤ f) +ℤ (r.j *ℤ g))
     one-place f g = by_one _ _ ((r.i *ℤ x.above.start) +ℤ (r.j *ℤ x.above.end)) (pos 0) (k *ℤ (f -ℤ g))
         (ring (k ∷ x.above.start ∷ x.above.end ∷ f ∷ g ∷ r.i ∷ r.j ∷ [])
@@ -44,11 +44,11 @@ module _ (k : ℤ) (x : Course) (start : pos 0 ≤ℤ (pos 0 -ℤ (k *ℤ x.abov
     nonneg : (f g : ℤ) → pos 0 ≤ℤ ((r.i *ℤ f) +ℤ (r.j *ℤ g)) → pos 0 ≤ℤ value f g
     nonneg f g h = nonneg_of_mul (r.i +ℤ r.j) (value f g) r.some (not_negative_at _ _ (one-place f g) (mul_nonneg _ _ (not_negative_of_positive _ changes) h))
 
-  pub through : Place x ↔ ((pos 0 ≤ℤ value x.bc.start x.bc.end) × (pos 0 ≤ℤ value x.ca.start x.ca.end) × (pos 0 ≤ℤ value x.ab.start x.ab.end))
+  pub through : CoursePlace x ↔ ((pos 0 ≤ℤ value x.bc.start x.bc.end) × (pos 0 ≤ℤ value x.ca.start x.ca.end) × (pos 0 ≤ℤ value x.ab.start x.ab.end))
   through = (λ r. (nonneg r x.bc.start x.bc.end r.bc, nonneg r x.ca.start x.ca.end r.ca, nonneg r x.ab.start x.ab.end r.ab), from)
 
 -- by how much the height changes, for k
-pub in_plane : (x : Course) → GoesThrough x.above → Place x ↔ (IsLeftInPlane x.above x.bc × IsLeftInPlane x.above x.ca × IsLeftInPlane x.above x.ab)
+pub in_plane : (x : Course) → HasBothSides x.above → CoursePlace x ↔ (IsLeftInPlane x.above x.bc × IsLeftInPlane x.above x.ca × IsLeftInPlane x.above x.ab)
 in_plane x goes = through (x.above.end -ℤ x.above.start) x (start x.above.start x.above.end goes) (end x.above.start x.above.end goes) (changes x.above.start x.above.end goes)
   where
     Between : ℤ → ℤ → Type 0
@@ -77,7 +77,7 @@ in_plane x goes = through (x.above.end -ℤ x.above.start) x (start x.above.star
         (mul_pos (s -ℤ e) (s -ℤ e) (gap_of_less e s less) (gap_of_less e s less))
 
 -- where it doesn't go up, it goes down
-pub falls : (h : Heights) → GoesThrough h → (h.start <ℤ h.end → ⊥) → h.end <ℤ h.start
+pub falls : (h : Heights) → HasBothSides h → (h.start <ℤ h.end → ⊥) → h.end <ℤ h.start
 falls h (inl (low, high, less)) never = absurd (never less)
 falls h (inr (high, low, less)) never = less
 

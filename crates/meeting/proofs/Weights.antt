@@ -8,7 +8,8 @@ use Rattle.lattice.specs.Points.{Point, difference}
 use Rattle.lattice.proofs.Vectors.{Letters, crosses}
 use Rattle.geometry.specs.Faces.{normal, facing_of, edge_sum, face_sum}
 use Rattle.meeting.specs.inner.Heights.{height_of}
-use Rattle.meeting.proofs.Letters.{D, A, B, C, P, Q, ways, normals, heights, facings, values}
+use Rattle.lattice.proofs.PointLetters.{ways, normals}
+use Rattle.meeting.proofs.Letters.{D, A, B, C, P, Q, heights, facings, values}
 
 -- ---- one corner
 module _ (d : Triple) (a b c p : Corner) where

@@ -1,12 +1,12 @@
 // Whether an edge has a place in a triangle.
 ghost use Rattle.std.specs.Prelude.{◌≡◌, ◌↔◌, pos, IsTrue};
-ghost use Rattle.meeting.specs.inner.Places.{Place, GoesThrough, IsLeftInPlane, IsLeftSomewhere, IsInOrder, Agree};
+ghost use Rattle.meeting.specs.inner.Places.{CoursePlace, HasBothSides, IsLeftInPlane, IsLeftSomewhere, IsInOrder, Agree};
 
 use crate::course::{Course, Heights, Offset};
 
 /// Whether the edge has a place in the plane that is to the right of no side.
 pub(crate) fn crosses(x: &Course) -> bool
-    ensures { IsTrue result ↔ Place x.now }
+    ensures { IsTrue result ↔ CoursePlace x.now }
 {
     if x.above.start < 0 {
         if x.above.end < 0 {
@@ -28,8 +28,8 @@ pub(crate) fn crosses(x: &Course) -> bool
 
 /// The same, of an edge that goes through the plane, or has one end in it.
 fn goes_through(x: &Course) -> bool
-    requires { GoesThrough x.now.above }
-    ensures { IsTrue result ↔ Place x.now }
+    requires { HasBothSides x.now.above }
+    ensures { IsTrue result ↔ CoursePlace x.now }
 {
     is_left(&x.above, &x.bc) && is_left(&x.above, &x.ca) && is_left(&x.above, &x.ab)
 }
@@ -38,14 +38,14 @@ fn goes_through(x: &Course) -> bool
 fn stays(x: &Course) -> bool
     requires start { x.now.above.start ≡ pos 0 }
     requires end { x.now.above.end ≡ pos 0 }
-    ensures { IsTrue result ↔ Place x.now }
+    ensures { IsTrue result ↔ CoursePlace x.now }
 {
     agree(&x.bc, &x.ca) && agree(&x.ca, &x.ab) && agree(&x.ab, &x.bc)
 }
 
 /// Where the edge goes through the plane, it is not to the right of the side.
 fn is_left(above: &Heights, side: &Offset) -> bool
-    requires { GoesThrough above.now }
+    requires { HasBothSides above.now }
     ensures { IsTrue result ↔ IsLeftInPlane above.now side.now }
 {
     let of_start = above.end * side.start;

@@ -9,7 +9,7 @@ use Rattle.lattice.specs.Triangles.{IsBelow}
 use Rattle.mend_core.specs.Writing.{ReadsSound, texts_for}
 use Rattle.mend_words.specs.Names.{Goal, said, file}
 use Rattle.off_writer.specs.OffTexts.{raw_of}
-use Rattle.one_answer.proofs.SoundWeld.{sound_weld, all_gone}
+use Rattle.answers_unique.proofs.SoundWeld.{sound_weld, all_gone}
 use Rattle.part_input.specs.Parts.{ReadsText, TakesSoupOr, WeldsPart}
 use Rattle.part_input.specs.Reading.{ReadsPartText}
 use Rattle.part_input.specs.declared.fault.Fault.{Fault}

@@ -2,8 +2,8 @@
 use Rattle.std.proofs.Common.{◌≡◌, inl, inr, ℕ, List, Option, Some, None, IfSome, Result, Ok, Err, refl, sym, subst}
 use Rattle.desk.specs.Files.{Files, Rose}
 use Rattle.geometry.specs.Parts.{Part}
-use Rattle.mend_core.specs.Mending.{Made, IsRefused}
-use Rattle.mend_core.specs.Run.{AnswersTaken, IsAnswerTo, IsOfSurface, MendsAsked, Runs, Takes}
+use Rattle.mend_core.specs.Mending.{Made, IsPartRefused}
+use Rattle.mend_core.specs.Run.{AnswersTaken, IsAnswerTo, IsOfSurface, MendsAsked, RunsMend, Takes}
 use Rattle.mend_core.proofs.OneAnswer.{one_taking}
 use Rattle.mend_words.specs.Names.{Asks, help, version, mend, asked_by}
 use Rattle.part_input.specs.Faults.{CountsReads}
@@ -20,7 +20,7 @@ ComesToSome {A} steps None = (x : A) × steps (Ok x)
 ComesToSome {A} steps (Some e) = Unit {0}
 
 -- a refusal of the surface is one for its surface
-surface : (limit : ℕ) (given : Part) (e : Fault) → IsRefused limit given e → IsOfSurface e
+surface : (limit : ℕ) (given : Part) (e : Fault) → IsPartRefused limit given e → IsOfSurface e
 surface limit given e (inl (same, _)) = subst IsOfSurface (sym same) tt
 surface limit given e (inr (fault, same, _)) = subst IsOfSurface (sym same) tt
 
@@ -54,7 +54,7 @@ module _ (words : List (List ℕ)) (files : Files) where
   taken version is x h = (None, (version, is, refl))
   taken (mend named) is x (made, (part, read, mended), same) = (Some part, (mend named, is, (part, read, refl)))
 
-  given : (x : Option Made) → Runs words files (Ok x) → IsAnswerTo (Takes words files) None
+  given : (x : Option Made) → RunsMend words files (Ok x) → IsAnswerTo (Takes words files) None
   given x (asks, is, h) r also =
       let (o, so) = taken asks is x h in
       by_taken (Ok o) r so also None (some_of o)
@@ -71,23 +71,23 @@ module _ (words : List (List ℕ)) (files : Files) where
       by_taken (Ok (Some part)) r (mend named, is, (part, read, refl)) also (Some e) (inr (inr (unsound, surface named.limit part e why)))
   refused_asked (mend named) is e (inr (made, _, h)) r also = absurd (not_given (Some made) e h)
 
-  refused : (e : Fault) → Runs words files (Err e) → IsAnswerTo (Takes words files) (Some e)
+  refused : (e : Fault) → RunsMend words files (Err e) → IsAnswerTo (Takes words files) (Some e)
   refused e (inl h) r also = by_taken (Err e) r (inl h) also (Some e) (inl refl)
   refused e (inr (asks, is, h)) r also = refused_asked asks is e h r also
 
-  by_steps : (e : Fault) → IsOfSteps (Runs words files) e → IsAnswerTo (Takes words files) (Some e)
+  by_steps : (e : Fault) → IsOfSteps (RunsMend words files) e → IsAnswerTo (Takes words files) (Some e)
   by_steps e (inl h) r also = refused e h r also
   by_steps e (inr want) r also = subst (λ (f : Fault). AnswersTaken r (Some f)) (sym want) (short_of r)
 
   -- no fault of reading or writing was counted
-  pub answered : (fault : Option Fault) (read read' write write' : ℕ) → ComesToSome (Runs words files) fault → IfSome fault (Refuses (Runs words files)) → CountsReads fault read read' → CountsWrites fault write write'
+  pub answered : (fault : Option Fault) (read read' write write' : ℕ) → ComesToSome (RunsMend words files) fault → IfSome fault (Refuses (RunsMend words files)) → CountsReads fault read read' → CountsWrites fault write write'
       → (Rose read read' → ⊥) → (Rose write write' → ⊥) → IsAnswerTo (Takes words files) fault
   answered None read read' write write' some h reads writes no_reads no_writes = given some.0 some.1
   answered (Some (WriteFault target)) read read' write write' some h reads writes no_reads no_writes = absurd (no_writes writes)
   answered (Some (ReadFault input)) read read' write write' some h reads writes no_reads no_writes = absurd (no_reads reads)
-  answered (Some e) read read' write write' some h reads writes no_reads no_writes = by_steps e (of_steps (Runs words files) e tt h)
+  answered (Some e) read read' write write' some h reads writes no_reads no_writes = by_steps e (of_steps (RunsMend words files) e tt h)
 
   -- on a steady desk
-  pub steadily : (fault : Option Fault) → ComesToSome (Runs words files) fault → IfSome fault (Refuses (Runs words files)) → IfSome fault (IsMissing (Runs words files)) → HasNoWriteFault fault → IsAnswerTo (Takes words files) fault
+  pub steadily : (fault : Option Fault) → ComesToSome (RunsMend words files) fault → IfSome fault (Refuses (RunsMend words files)) → IfSome fault (IsMissing (RunsMend words files)) → HasNoWriteFault fault → IsAnswerTo (Takes words files) fault
   steadily None some h m w = given some.0 some.1
-  steadily (Some e) some h m w = by_steps e (of_steady (Runs words files) e (not_written e w) m h)
+  steadily (Some e) some h m w = by_steps e (of_steady (RunsMend words files) e (not_written e w) m h)

@@ -7,7 +7,7 @@ use Rattle.fault_lines.specs.Lines.{fault_line}
 use Rattle.geometry.specs.Sound.{IsSound}
 use Rattle.mend_core.specs.Lines.{mend_line}
 use Rattle.mend_core.specs.Mending.{Made, IsOfMending}
-use Rattle.mend_core.specs.Run.{AnswersNamed, ComesTo, IsOfNamed, IsWritten, MendsAsked, Runs, RunsInOrder}
+use Rattle.mend_core.specs.Run.{AnswersNamed, ComesTo, IsOfNamed, IsWritten, MendsAsked, RunsMend, RunsInOrder}
 use Rattle.mend_core.specs.Seen.{made_seen}
 use Rattle.mend_core.specs.declared.lines.TheConstants.{USAGE}
 use Rattle.mend_core.specs.declared.made.Mended.{Mended}
@@ -126,15 +126,15 @@ module _ {T : Type 0} where
 
 -- ---- what the words ask for
 module _ (words : List (List ℕ)) (files : Files) (asks : Asks) (is : asked_by words ≡ Some asks) where
-  pub refuses : (fault : Option Fault) → IfSome fault (Refuses (MendsAsked files asks)) → IfSome fault (Refuses (Runs words files))
+  pub refuses : (fault : Option Fault) → IfSome fault (Refuses (MendsAsked files asks)) → IfSome fault (Refuses (RunsMend words files))
   refuses None h = tt
-  refuses (Some e) h = refuses_as (MendsAsked files asks) (Runs words files) (λ e h. inr (asks, is, h)) e h
+  refuses (Some e) h = refuses_as (MendsAsked files asks) (RunsMend words files) (λ e h. inr (asks, is, h)) e h
 
-  pub misses : (fault : Option Fault) → IfSome fault (IsMissing (MendsAsked files asks)) → IfSome fault (IsMissing (Runs words files))
+  pub misses : (fault : Option Fault) → IfSome fault (IsMissing (MendsAsked files asks)) → IfSome fault (IsMissing (RunsMend words files))
   misses None h = tt
-  misses (Some e) h = missing_as (MendsAsked files asks) (Runs words files) (λ e h. inr (asks, is, h)) e h
+  misses (Some e) h = missing_as (MendsAsked files asks) (RunsMend words files) (λ e h. inr (asks, is, h)) e h
 
-  pub comes_to : (fault : Option Fault) → ComesToSome (MendsAsked files asks) fault → ComesToSome (Runs words files) fault
+  pub comes_to : (fault : Option Fault) → ComesToSome (MendsAsked files asks) fault → ComesToSome (RunsMend words files) fault
   comes_to None (x, h) = (x, (asks, is, h))
   comes_to (Some e) h = tt
 

@@ -8,8 +8,8 @@ use Rattle.geometry.specs.Sound.{IsSound}
 use Rattle.lattice.specs.declared.soup.Tri.{Tri}
 use Rattle.mend_core.specs.Mending.{Made, Makes, Mends, Told, sound_already, by_flips, IsUnmended}
 use Rattle.mend_core.specs.inner.Repairs.{ChecksRepair, IsRepair, Repairs}
-use Rattle.one_answer.proofs.OneFault.{none_sound}
-use Rattle.part_input.specs.Steps.{Gives}
+use Rattle.answers_unique.proofs.OneFault.{none_sound}
+use Rattle.part_input.specs.Steps.{GivesInput}
 use Rattle.part_input.specs.declared.fault.Fault.{Fault}
 use Rattle.part_input.proofs.Chains.{refuses_as}
 use Rattle.solid_mesh.specs.Faults.{HasFault}
@@ -67,6 +67,6 @@ module _ (limit : ℕ) (given : Part) (unsound : IsSound given → ⊥) where
 -- ---- steps
 -- what some steps give or refuse is an answer of others that have all their answers
 module _ {A : Type 0} (steps others : Result A Fault → Type 0) (also : (r : Result A Fault) → steps r → others r) where
-  pub gives_as : {X : Type 0} (view : X → A) (r : Result X Fault) → Gives view steps r → Gives view others r
+  pub gives_as : {X : Type 0} (view : X → A) (r : Result X Fault) → GivesInput view steps r → GivesInput view others r
   gives_as view (Ok x) h = also (Ok (view x)) h
   gives_as view (Err e) h = refuses_as steps others (λ e h. also (Err e) h) e h

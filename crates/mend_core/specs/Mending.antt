@@ -1,6 +1,6 @@
 -- What is made of a part: itself where its surface is sound, and else what flips of slivers make sound.
 use Rattle.std.specs.Prelude.{◌≡◌, ◌⊎◌, ℕ, ◌*◌, ◌<◌, ◌≤◌, List, [], length, Result, Ok, Err}
-use Rattle.flip_bounds.specs.Near.{AreNearSurfaces}
+use Rattle.flip_slivers.specs.Near.{AreNearSurfaces}
 use Rattle.flip_slivers.specs.Flipped.{IsFlipped}
 use Rattle.flip_slivers.specs.Pairs.{IsWithoutPairs}
 use Rattle.geometry.specs.Parts.{Part, part_with}
@@ -48,14 +48,14 @@ pub record IsUnmended (limit : ℕ) (given : Part) (fault : MeshFault) : Type 0 
   pub has : HasFault made fault
 
 -- all triangles went in pairs, or the surface that was left isn't sound
-abbrev pub IsRefused : ℕ → Part → Fault → Type 0
-IsRefused limit given e =
+abbrev pub IsPartRefused : ℕ → Part → Fault → Type 0
+IsPartRefused limit given e =
     ((e ≡ Nothing) × IsWithoutPairs given.triangles []) ⊎ ((fault : MeshFault) × (e ≡ Mesh fault) × IsUnmended limit given fault)
 
 -- a sound part is made of the part, or it isn't sound and refused
 abbrev pub Mends : ℕ → Part → Result Made Fault → Type 0
 Mends limit given (Ok made) = Makes limit given made.told made.part × IsSound made.part
-Mends limit given (Err e) = (IsSound given → ⊥) × IsRefused limit given e
+Mends limit given (Err e) = (IsSound given → ⊥) × IsPartRefused limit given e
 
 -- the faults of mending
 abbrev pub IsOfMending : Fault → Type 0

@@ -46,8 +46,8 @@ MendsAsked files (mend named) r = (MendsPart files named and_then λ made answer
 abbrev pub Takes : List (List ℕ) → Files → Result (Option Part) Fault → Type 0
 Takes words files = AsksFor words and_then TakesAsked files
 
-abbrev pub Runs : List (List ℕ) → Files → Result (Option Made) Fault → Type 0
-Runs words files = AsksFor words and_then MendsAsked files
+abbrev pub RunsMend : List (List ℕ) → Files → Result (Option Made) Fault → Type 0
+RunsMend words files = AsksFor words and_then MendsAsked files
 
 -- ---- answers
 -- a fault of the surface
@@ -87,12 +87,12 @@ IsOfAsked (Some version) target = target ≡ Out
 IsOfAsked (Some (mend named)) target = IsOfTarget named.out target
 
 -- on every desk the words are refused exactly so, unless memory ran out, and the part is at fault only as it may be
-abbrev pub AnswersWords : Option Asks → Option Fault → Type 0
-AnswersWords asked (Some Usage) = asked ≡ None
-AnswersWords asked (Some Memory) = Unit {0}
-AnswersWords asked (Some (WriteFault target)) = IsOfAsked asked target
-AnswersWords asked (Some fault) = AsksMendAnd asked (λ named. IsOfNamed named fault)
-AnswersWords asked None = IsSome asked
+abbrev pub AnswersMendWords : Option Asks → Option Fault → Type 0
+AnswersMendWords asked (Some Usage) = asked ≡ None
+AnswersMendWords asked (Some Memory) = Unit {0}
+AnswersMendWords asked (Some (WriteFault target)) = IsOfAsked asked target
+AnswersMendWords asked (Some fault) = AsksMendAnd asked (λ named. IsOfNamed named fault)
+AnswersMendWords asked None = IsSome asked
 
 -- the run comes to reading a part that isn't a sample, and no job
 abbrev pub ComesTo : List ℕ → Input → Type 0

@@ -5,25 +5,14 @@ ghost use Rattle.geometry.specs.Sound.{IsSound};
 ghost use Rattle.mend_core.specs.Mending.{IsOfMending, Mends};
 ghost use Rattle.mend_core.specs.Seen.{made_seen};
 ghost use Rattle.mend_core.specs.inner.Repairs.{ChecksRepair, Repairs, repair_of};
-ghost use Rattle.part_input.specs.Steps.{Gives};
+ghost use Rattle.part_input.specs.Steps.{GivesInput};
 
 use crate::made::{Mended, Report};
-use exact_frac::OutOfMemory;
 use flip_slivers::{Flipped, flip_slivers, without_pairs};
 use lattice::Soup;
 use part_input::Fault;
 use solid_mesh::{MeshError, Solid};
 use std::alloc::Global;
-
-/// A copy of a soup.
-fn copy_of(alloc: Global, soup: &Soup) -> Result<Soup, OutOfMemory>
-    ensures { IfOk result (λ copy. part_of copy ≡ part_of soup.now) }
-{
-    Ok(Soup {
-        corners: soup.corners.to_vec(alloc)?,
-        triangles: soup.triangles.to_vec(alloc)?,
-    })
-}
 
 /// A part after flips, which isn't checked yet.
 #[derive(Drop)]
@@ -38,7 +27,7 @@ fn repaired(alloc: Global, soup: Soup, limit: u32) -> Result<Repair, Fault>
     requires few_corners { length (part_of soup).corners ≤ 60000 }
     requires few_triangles { length (part_of soup).triangles ≤ 20000 }
     requires limit { limit ≤ 100 }
-    ensures answer { Gives repair_of (Repairs limit (part_of soup)) result }
+    ensures answer { GivesInput repair_of (Repairs limit (part_of soup)) result }
     ensures of_mending { IfErr result IsOfMending }
     ensures some_triangle { IfOk result (λ r. 0 < length (part_of r.soup).triangles) }
     ensures few_corners { IfOk result (λ r. length (part_of r.soup).corners ≤ 60000) }
@@ -77,7 +66,7 @@ fn checked(alloc: Global, repair: Repair) -> Result<Mended, Fault>
     requires some_triangle { 0 < length (part_of repair.soup).triangles }
     requires few_corners { length (part_of repair.soup).corners ≤ 60000 }
     requires few_triangles { length (part_of repair.soup).triangles ≤ 20000 }
-    ensures answer { Gives made_seen (ChecksRepair (repair_of repair)) result }
+    ensures answer { GivesInput made_seen (ChecksRepair (repair_of repair)) result }
     ensures of_mending { IfErr result IsOfMending }
 {
     let Repair { soup, flips, moved } = repair;
@@ -97,7 +86,7 @@ fn mended_by_flips(alloc: Global, soup: Soup, limit: u32) -> Result<Mended, Faul
     requires few_corners { length (part_of soup).corners ≤ 60000 }
     requires few_triangles { length (part_of soup).triangles ≤ 20000 }
     requires limit { limit ≤ 100 }
-    ensures answer { Gives made_seen (Mends limit (part_of soup)) result }
+    ensures answer { GivesInput made_seen (Mends limit (part_of soup)) result }
     ensures of_mending { IfErr result IsOfMending }
 {
     match repaired(alloc, soup, limit) {
@@ -116,10 +105,10 @@ pub fn mended(alloc: Global, soup: Soup, limit: u32) -> Result<Mended, Fault>
     requires few_corners { length (part_of soup).corners ≤ 60000 }
     requires few_triangles { length (part_of soup).triangles ≤ 20000 }
     requires limit { limit ≤ 100 }
-    ensures answer { Gives made_seen (Mends limit (part_of soup)) result }
+    ensures answer { GivesInput made_seen (Mends limit (part_of soup)) result }
     ensures of_mending { IfErr result IsOfMending }
 {
-    let kept = match copy_of(alloc, &soup) {
+    let kept = match soup.copy(alloc) {
         Ok(kept) => kept,
         Err(_) => return Err(Fault::Memory),
     };

@@ -11,7 +11,7 @@ ghost use Rattle.put_texts.specs.Puts.{IsPut, one_text, way_seen};
 use crate::lines::{MEMORY_LINE, PART_LINE, SUMMARY_LINE};
 use crate::texts::Texts;
 use desk::Desk;
-use mend_words::{Out, Request};
+use mend_words::{MendRequest, Out};
 use part_input::{Fault, Target};
 use put_texts::{Way, note, put_text, unless_said};
 
@@ -34,7 +34,7 @@ fn summary_way(out: &Out) -> Way<'_>
 
 /// Puts a text of a request where it goes, and tells why it couldn't, of which it warns by a line.
 fn put_one<D: Desk>(
-    request: &Request,
+    request: &MendRequest,
     way: Way<'_>,
     bytes: &[u8],
     line: &str,
@@ -49,7 +49,7 @@ fn put_one<D: Desk>(
 }
 
 /// Says the summary of a request, or warns by it, and tells why it couldn't be said.
-fn put_summary<D: Desk>(request: &Request, summary: &str, desk: &mut D) -> Option<Fault>
+fn put_summary<D: Desk>(request: &MendRequest, summary: &str, desk: &mut D) -> Option<Fault>
     ensures put { IsPut (mend_line (Some (mend (named_seen request.now)))) (one_text (summary_way (named_seen request.now).out) Target.Summary summary.now) result
         (D.state desk.old) (D.state desk.new) }
     ensures noted { (D.state desk.old).tells_warned ≡ true →
@@ -77,7 +77,7 @@ fn put_summary<D: Desk>(request: &Request, summary: &str, desk: &mut D) -> Optio
 
 /// Puts the part and the summary of a request where they go, one after the other up to the first that can't be written, and tells why
 /// it couldn't. A summary that isn't said is warned by; that it isn't heard is no fault.
-pub(crate) fn put<D: Desk>(request: &Request, texts: &Texts, desk: &mut D) -> Option<Fault>
+pub(crate) fn put<D: Desk>(request: &MendRequest, texts: &Texts, desk: &mut D) -> Option<Fault>
     ensures put { IsPut (mend_line (Some (mend (named_seen request.now)))) (texts_for (named_seen request.now).out texts.now.part.items (string_bytes texts.now.summary)) result
         (D.state desk.old) (D.state desk.new) }
     ensures noted { (D.state desk.old).tells_warned ≡ true →

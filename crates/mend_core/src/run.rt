@@ -4,7 +4,7 @@ ghost use Rattle.desk.specs.Files.{Rose};
 ghost use Rattle.draw_words.specs.Seen.{texts};
 ghost use Rattle.geometry.specs.Sound.{IsSound};
 ghost use Rattle.mend_core.specs.Lines.{Warns, WarnsWhole};
-ghost use Rattle.mend_core.specs.Run.{AnswersNamed, AnswersWords, HasFilesAsked, HasMended, IsAnswerTo, IsWritten, MendsAsked, Runs, RunsInOrder, Takes};
+ghost use Rattle.mend_core.specs.Run.{AnswersNamed, AnswersMendWords, HasFilesAsked, HasMended, IsAnswerTo, IsWritten, MendsAsked, RunsMend, RunsInOrder, Takes};
 ghost use Rattle.mend_core.specs.Seen.{made_seen};
 ghost use Rattle.mend_core.specs.Writing.{IsQuietIfAsked, SpeaksIfTold, TellsAsked, Writes, WritesAsked, summary_way};
 ghost use Rattle.mend_core.specs.inner.Faults.{IsOfTelling, IsOfWriting};
@@ -26,7 +26,7 @@ use crate::take::take;
 use crate::texts::texts_of;
 use desk::{Desk, DeskFault};
 use draw_words::WordsError;
-use mend_words::{Asked, Request, read_words};
+use mend_words::{Asked, MendRequest, read_words};
 use part_input::{Fault, Target};
 use std::alloc::Global;
 
@@ -61,7 +61,7 @@ fn tell<D: Desk>(text: &str, desk: &mut D) -> MendOutcome
 /// Writes a mended part where it goes, and tells of it.
 fn write_part<D: Desk>(
     alloc: Global,
-    request: &Request,
+    request: &MendRequest,
     mended: Mended,
     desk: &mut D,
 ) -> MendOutcome
@@ -95,7 +95,7 @@ fn write_part<D: Desk>(
 }
 
 /// Mends the part that was named, and writes it.
-fn mend_part<D: Desk>(alloc: Global, request: &Request, desk: &mut D) -> MendOutcome
+fn mend_part<D: Desk>(alloc: Global, request: &MendRequest, desk: &mut D) -> MendOutcome
     ensures status { result.status ≡ status_of result.fault }
     ensures answer { (D.state desk.old).tells ≡ true →
         IfSome result.fault (Refuses (MendsAsked (D.state desk.old).files (of_mend (named_seen request.now)))) }
@@ -142,8 +142,8 @@ pub fn mend<D: Desk>(alloc: Global, words: &[String], desk: &mut D) -> MendOutco
     // The answer is that of the run's steps, in their order.
     ensures status { result.status ≡ status_of result.fault }
     ensures answer { (D.state desk.old).tells ≡ true →
-        IfSome result.fault (Refuses (Runs (texts words.now) (D.state desk.old).files)) }
-    ensures words { AnswersWords (asked_by (texts words.now)) result.fault }
+        IfSome result.fault (Refuses (RunsMend (texts words.now) (D.state desk.old).files)) }
+    ensures words { AnswersMendWords (asked_by (texts words.now)) result.fault }
     ensures order { IfSome result.fault (RunsInOrder (asked_by (texts words.now))) }
 
     // A fault of the desk is answered exactly where it counted one.
@@ -152,7 +152,7 @@ pub fn mend<D: Desk>(alloc: Global, words: &[String], desk: &mut D) -> MendOutco
 
     // A steady desk fails only where a file is missing.
     ensures missing { (D.state desk.old).steady ≡ true →
-        IfSome result.fault (IsMissing (Runs (texts words.now) (D.state desk.old).files)) }
+        IfSome result.fault (IsMissing (RunsMend (texts words.now) (D.state desk.old).files)) }
     ensures steady { (D.state desk.old).steady ≡ true → HasNoWriteFault result.fault }
 
     // Where no fault of reading or writing was counted, the answer is one to the part that was taken, and want of memory besides. Only
@@ -174,7 +174,7 @@ pub fn mend<D: Desk>(alloc: Global, words: &[String], desk: &mut D) -> MendOutco
     // The part is that of the steps, from the texts at entry, and sound on every desk.
     ensures made { HasMended (asked_by (texts words.now)) result.fault (is_some result.mended) }
     ensures part { (D.state desk.old).tells ≡ true →
-        IfSome result.mended (λ m. Runs (texts words.now) (D.state desk.old).files (Ok (Some (made_seen m)))) }
+        IfSome result.mended (λ m. RunsMend (texts words.now) (D.state desk.old).files (Ok (Some (made_seen m)))) }
     ensures sound { IfSome result.mended (λ m. IsSound (solid_part m.solid)) }
 
     // Its text, which reads as the very part, and as a sound one once that is welded, is put where the words say, and then the line that

@@ -9,7 +9,7 @@ ghost use Rattle.mend_core.specs.Seen.{made_seen};
 ghost use Rattle.mend_words.specs.Seen.{named_seen};
 ghost use Rattle.part_input.specs.Faults.{CountsReads};
 ghost use Rattle.part_input.specs.Parts.{HasSampleOr, HasSize, IsOfSoup, sample_size};
-ghost use Rattle.part_input.specs.Steps.{Gives, IsMissing};
+ghost use Rattle.part_input.specs.Steps.{GivesInput, IsMissing};
 
 use crate::made::Mended;
 use crate::mending::mended;
@@ -18,7 +18,7 @@ use desk::Desk;
 use exact_frac::OutOfMemory;
 use job_file::Job;
 use lattice::Soup;
-use mend_words::Request;
+use mend_words::MendRequest;
 use part_input::{Fault, fetch_soup};
 use std::alloc::Global;
 
@@ -35,9 +35,9 @@ fn job_with(alloc: Global, decimals: u8) -> Result<Job, OutOfMemory>
 }
 
 /// The soup of the part that a request names.
-fn take_soup<D: Desk>(alloc: Global, request: &Request, desk: &mut D) -> Result<Soup, Fault>
+fn take_soup<D: Desk>(alloc: Global, request: &MendRequest, desk: &mut D) -> Result<Soup, Fault>
     ensures answer { (D.state desk.old).tells ≡ true →
-        Gives part_of (TakesPart (D.state desk.old).files (named_seen request.now)) result }
+        GivesInput part_of (TakesPart (D.state desk.old).files (named_seen request.now)) result }
     ensures of_soup { IfErr result (IsOfSoup (named_seen request.now).part) }
     ensures sized { IfOk result (λ _. HasSize (named_seen request.now).part) }
     ensures some_triangle { IfOk result (λ soup. 0 < length (part_of soup).triangles) }
@@ -58,9 +58,13 @@ fn take_soup<D: Desk>(alloc: Global, request: &Request, desk: &mut D) -> Result<
 }
 
 /// The part that a request names, mended.
-pub(crate) fn take<D: Desk>(alloc: Global, request: &Request, desk: &mut D) -> Result<Mended, Fault>
+pub(crate) fn take<D: Desk>(
+    alloc: Global,
+    request: &MendRequest,
+    desk: &mut D,
+) -> Result<Mended, Fault>
     ensures answer { (D.state desk.old).tells ≡ true →
-        Gives made_seen (MendsPart (D.state desk.old).files (named_seen request.now)) result }
+        GivesInput made_seen (MendsPart (D.state desk.old).files (named_seen request.now)) result }
     ensures of_named { IfErr result (IsOfNamed (named_seen request.now)) }
     ensures reads { CountsReads (result_err result) (D.state desk.old).read_faults (D.state desk.new).read_faults }
     ensures missing { (D.state desk.old).steady ≡ true →

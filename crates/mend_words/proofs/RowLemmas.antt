@@ -10,6 +10,8 @@ use Rattle.clap.specs.declared.parser.matches.ValueSource.TheVariants.{CommandLi
 use Rattle.mend_words.specs.inner.Seen.{given_in}
 use Rattle.mend_words.specs.Grammar.{Given, Role, as_decimals, as_limit, as_out, as_part, text_as, with_text}
 use Rattle.mend_words.proofs.WordLemmas.{IsFault, id_of, rule_as}
+use Rattle.draw_words.proofs.RowLemmas.{at_row-missing, new_row}
+use Rattle.sheet_words.proofs.RowLemmas.{row_with, has_row-is, is_some-map, row_at_end, other_at_end}
 
 -- ---- rows
 abbrev pub row : Role → Text → Row
@@ -21,43 +23,14 @@ row role text = record {
   reading = reading_by (rule_as as_part);
 }
 
-abbrev row_with : Text → List Row → Option Row
-row_with id rows = find (λ r. bytes_eq r.id id) rows
-
 -- each role has the row of its text, if it has one
 abbrev pub Holds : Given → List Row → Type 0
 Holds g rows = (role : Role) → row_with (id_of role) rows ≡ option_map (row role) (text_as role g)
-
-has_row-is : (id : Text) (rows : List Row) → has_row id rows ≡ is_some (row_with id rows)
-has_row-is id [] = refl
-has_row-is id (r ∷ rows) = go (bytes_eq r.id id) refl (has_row-is id rows)
-  where
-    go : (t : Bool) → bytes_eq r.id id ≡ t → has_row id rows ≡ is_some (row_with id rows) → has_row id (r ∷ rows) ≡ is_some (row_with id (r ∷ rows))
-    go true e later = rw e refl
-    go false e later = rw e later
-
-is_some-map : {X Y : Type 0} (f : X → Y) (o : Option X) → is_some (option_map f o) ≡ is_some o
-is_some-map f None = refl
-is_some-map f (Some x) = refl
 
 held_row : (role : Role) (g : Given) (rows : List Row) → Holds g rows → has_row (id_of role) rows ≡ is_some (text_as role g)
 held_row role g rows holds = has_row-is (id_of role) rows ∙ ap is_some (holds role) ∙ is_some-map (row role) (text_as role g)
 
 -- ---- one more row
-at_row-missing : (id : Text) (change : Row → List Row) (missing rows : List Row) → has_row id rows ≡ false → at_row id change missing rows ≡ rows ++ missing
-at_row-missing id change missing [] none = refl
-at_row-missing id change missing (r ∷ rows) none = go (bytes_eq r.id id) refl (at_row-missing id change missing rows)
-  where
-    go : (t : Bool) → bytes_eq r.id id ≡ t → (has_row id rows ≡ false → at_row id change missing rows ≡ rows ++ missing)
-        → at_row id change missing (r ∷ rows) ≡ r ∷ rows ++ missing
-    go true e later = absurd (true≢false (rw e at none))
-    go false e later = rw e (ap (λ (rest : List Row). r ∷ rest) (later (rw e at none)))
-
-new_row : (id : Text) (how : Reading) (v : Text) (rows : List Row) → has_row id rows ≡ false
-    → with_values id how CommandLine (v ∷ []) (without id rows) ≡ rows ++ (record { id = id; values = v ∷ []; count = None; source = Some CommandLine; reading = how }) ∷ []
-new_row id how v rows none =
-    let kept : without id rows ≡ rows = at_row-missing id (λ _. []) [] rows none ∙ append-nil rows in
-    ap (with_values id how CommandLine (v ∷ [])) kept ∙ at_row-missing id (more_values CommandLine (v ∷ [])) _ rows none
 
 -- the first use of an argument adds its row at the end
 used_first : (role : Role) (v : Text) (rows : List Row) → has_row (id_of role) rows ≡ false → used (rule_as role) (v ∷ []) rows ≡ rows ++ row role v ∷ []
@@ -65,22 +38,6 @@ used_first as_part v rows none = new_row (id_of as_part) (reading_by (rule_as as
 used_first as_out v rows none = new_row (id_of as_out) (reading_by (rule_as as_part)) v rows none
 used_first as_decimals v rows none = new_row (id_of as_decimals) (reading_by (rule_as as_part)) v rows none
 used_first as_limit v rows none = new_row (id_of as_limit) (reading_by (rule_as as_part)) v rows none
-
-row_at_end : (id : Text) (rows : List Row) (r : Row) → row_with id rows ≡ None → bytes_eq r.id id ≡ true → row_with id (rows ++ r ∷ []) ≡ Some r
-row_at_end id [] r none is = rw is refl
-row_at_end id (x ∷ rows) r none is = go (bytes_eq x.id id) refl (row_at_end id rows r)
-  where
-    go : (t : Bool) → bytes_eq x.id id ≡ t → (row_with id rows ≡ None → bytes_eq r.id id ≡ true → row_with id (rows ++ r ∷ []) ≡ Some r) → row_with id (x ∷ rows ++ r ∷ []) ≡ Some r
-    go true e later = absurd (true≢false (ap is_some (rw e at none)))
-    go false e later = rw e (later (rw e at none) is)
-
-other_at_end : (id : Text) (rows : List Row) (r : Row) → bytes_eq r.id id ≡ false → row_with id (rows ++ r ∷ []) ≡ row_with id rows
-other_at_end id [] r other = rw other refl
-other_at_end id (x ∷ rows) r other = go (bytes_eq x.id id) refl (other_at_end id rows r other)
-  where
-    go : (t : Bool) → bytes_eq x.id id ≡ t → row_with id (rows ++ r ∷ []) ≡ row_with id rows → row_with id (x ∷ rows ++ r ∷ []) ≡ row_with id (x ∷ rows)
-    go true e later = rw e refl
-    go false e later = rw e later
 
 holds_more : (role : Role) (v : Text) (g : Given) (rows : List Row) → Holds g rows → row_with (id_of role) rows ≡ None → Holds (with_text role v g) (rows ++ row role v ∷ [])
 holds_more as_part v g rows old none as_part = row_at_end (id_of as_part) rows (row as_part v) none refl

@@ -13,13 +13,12 @@ use Rattle.clap.specs.Lexer.{has_byte, long_of}
 use Rattle.clap.specs.Simple.{Shape, built}
 use Rattle.clap.specs.Walk.{Held, Rule, Text, arg_by_long}
 use Rattle.draw_words.specs.Grammar.{behind, is_marked}
-use Rattle.draw_words.proofs.WordLemmas.{is_end}
+use Rattle.draw_words.proofs.WordLemmas.{is_end, ReadsPlain}
 use Rattle.sheet_words.specs.Grammar.{Question, for_help, for_version}
 use Rattle.sheet_words.specs.inner.App.{part_rule}
-use Rattle.sheet_words.proofs.WordLemmas.{ReadsPlain}
 use Rattle.mend_words.specs.inner.App.{mend_app}
 use Rattle.mend_words.specs.inner.Seen.{reading_by}
-use Rattle.mend_words.specs.Grammar.{Kind, Reading, Role, as_decimals, as_limit, as_out, as_part, ends, gives, kind_of, opens, option_or, plain, refused, unknown_option, wants}
+use Rattle.mend_words.specs.Grammar.{Kind, Reading, Role, as_decimals, as_limit, as_out, as_part, ends, gives, mend_word_kind, opens, option_or, plain, refused, unknown_option, wants}
 
 -- ---- the command as it is built
 abbrev pub top : Shape
@@ -183,7 +182,7 @@ kind_cut word =
     (question_cut for_help (codes "help") word
     (question_cut for_version (codes "version") word unknown_option))))
 
-kind_is_cut : (d : ℕ) (ds : Text) → kind_of (45 ∷ 45 ∷ d ∷ ds) ≡ kind_cut (d ∷ ds)
+kind_is_cut : (d : ℕ) (ds : Text) → mend_word_kind (45 ∷ 45 ∷ d ∷ ds) ≡ kind_cut (d ∷ ds)
 kind_is_cut d ds =
     let word : Text = d ∷ ds in
     let version = question_or-cut for_version unknown_option (codes "version") word (refl, (refl, (refl, (refl, (refl, (refl, (refl, tt))))))) in
@@ -238,7 +237,7 @@ module _ (rest n : Text) (no_end : is_end (45 ∷ 45 ∷ rest) ≡ false) where
   marked (Some x) long false false false false true a b c e f = record { marked = refl; no_end = no_end; fault = λ held none. rw (long, a, b, c, e, f) refl }
   marked value long false false false false false a b c e f = record { marked = refl; no_end = no_end; fault = λ held none. rw (long, a, b, c, e, f) refl }
 
-two_marks : (word : Text) → Reads (kind_of (45 ∷ 45 ∷ word)) (45 ∷ 45 ∷ word)
+two_marks : (word : Text) → Reads (mend_word_kind (45 ∷ 45 ∷ word)) (45 ∷ 45 ∷ word)
 two_marks [] = (refl, refl)
 two_marks (d ∷ ds) =
     let n = before_first is_equals (d ∷ ds) in
@@ -246,23 +245,23 @@ two_marks (d ∷ ds) =
     (marked (d ∷ ds) n refl (cut (d ∷ ds)) refl (bytes_eq (codes "out") n) (bytes_eq (codes "decimals") n) (bytes_eq (codes "limit") n) (bytes_eq (codes "help") n) (bytes_eq (codes "version") n)
     refl refl refl refl refl)
 
-one_mark : (c : ℕ) (word : Text) → IsUtf8 (45 ∷ c ∷ word) → Reads (kind_of (45 ∷ c ∷ word)) (45 ∷ c ∷ word)
+one_mark : (c : ℕ) (word : Text) → IsUtf8 (45 ∷ c ∷ word) → Reads (mend_word_kind (45 ∷ c ∷ word)) (45 ∷ c ∷ word)
 one_mark c word utf8 = go (c == 45) refl
   where
-    go : (t : Bool) → (c == 45) ≡ t → Reads (kind_of (45 ∷ c ∷ word)) (45 ∷ c ∷ word)
+    go : (t : Bool) → (c == 45) ≡ t → Reads (mend_word_kind (45 ∷ c ∷ word)) (45 ∷ c ∷ word)
     go true e = rw (eqb-true c 45 e) (two_marks word)
     go false e = rw e (record { marked = refl; no_end = rw e refl; fault = λ h none. rw (e, e) (bundle_faults c word h utf8 none) })
 
-pub reads : (word : Text) → IsUtf8 word → Reads (kind_of word) word
+pub reads : (word : Text) → IsUtf8 word → Reads (mend_word_kind word) word
 reads [] utf8 = record { unmarked = refl; no_end = refl; long = refl; short = refl }
 reads (b ∷ []) utf8 = go (b == 45) refl
   where
-    go : (t : Bool) → (b == 45) ≡ t → Reads (kind_of (b ∷ [])) (b ∷ [])
+    go : (t : Bool) → (b == 45) ≡ t → Reads (mend_word_kind (b ∷ [])) (b ∷ [])
     go true e = rw (eqb-true b 45 e) (record { unmarked = refl; no_end = refl; long = refl; short = refl })
     go false e = rw e (record { unmarked = refl; no_end = rw e refl; long = rw e refl; short = rw e refl })
 reads (b ∷ c ∷ word) utf8 = go (b == 45) refl
   where
-    go : (t : Bool) → (b == 45) ≡ t → Reads (kind_of (b ∷ c ∷ word)) (b ∷ c ∷ word)
+    go : (t : Bool) → (b == 45) ≡ t → Reads (mend_word_kind (b ∷ c ∷ word)) (b ∷ c ∷ word)
     go true e =
         let is = eqb-true b 45 e in
         rw is (one_mark c word (rw is at utf8))

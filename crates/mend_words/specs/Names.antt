@@ -1,10 +1,8 @@
 -- What the words ask for.
-use Rattle.std.specs.Prelude.{ℕ, nat_le, ◌&&◌, ◌||◌, List, length, Option, Some, None, if◌then◌else◌, codes, option_map, unwrap_or}
-use Rattle.std.specs.Char.{is_ascii_digit}
-use Rattle.std.specs.List.{list_all}
+use Rattle.std.specs.Prelude.{ℕ, nat_le, ◌||◌, List, Option, Some, None, if◌then◌else◌, codes, option_map, unwrap_or}
 use Rattle.std.specs.Str.{bytes_eq}
-use Rattle.dec_text.specs.Numbers.{value_of}
-use Rattle.draw_words.specs.Names.{is_empty}
+use Rattle.dec_text.specs.Numbers.{digits_value}
+use Rattle.draw_words.specs.Names.{is_empty_value}
 use Rattle.sheet_words.specs.Grammar.{for_help, for_version}
 use Rattle.mend_words.specs.Grammar.{Given, Reading, all_given, asks, reading_of, refused}
 
@@ -34,10 +32,6 @@ goal_named name = if bytes_eq name (codes "-") then said else file name
 abbrev pub goal_of : Option (List ℕ) → Goal
 goal_of out = goal_named (unwrap_or out (codes "mended.off"))
 
--- what 1 to `most` digits stand for
-abbrev pub digits_value : ℕ → List ℕ → Option ℕ
-digits_value most text = if nat_le 1 (length text) && nat_le (length text) most && list_all is_ascii_digit text then Some (value_of text) else None
-
 -- a number, where it is at most `greatest`
 abbrev pub up_to : ℕ → Option ℕ → Option ℕ
 up_to greatest None = None
@@ -59,7 +53,7 @@ named_by _ _ _ _ = None
 -- there is a part, no name is empty, and each number is one that its option can have
 abbrev pub named : Given → Option Named
 named given =
-    if is_empty given.part || is_empty given.out then None
+    if is_empty_value given.part || is_empty_value given.out then None
     else named_by given.part (goal_of given.out) (decimals_of given.decimals) (limit_of given.limit)
 
 -- by what the words come to

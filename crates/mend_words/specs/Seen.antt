@@ -4,7 +4,7 @@ use Rattle.mend_words.specs.declared.request.Asked.{Asked}
 use Rattle.mend_words.specs.declared.request.Asked.TheVariants.{Help, Version, Mend}
 use Rattle.mend_words.specs.declared.request.Out.{Out}
 use Rattle.mend_words.specs.declared.request.Out.TheVariants.{Said, File}
-use Rattle.mend_words.specs.declared.request.Request.{Request}
+use Rattle.mend_words.specs.declared.request.MendRequest.{MendRequest}
 
 -- where the part goes
 abbrev pub goal_seen : Out → Goal
@@ -12,7 +12,7 @@ goal_seen Said = said
 goal_seen (File name) = file name
 
 -- what a request names
-abbrev pub named_seen : Request → Named
+abbrev pub named_seen : MendRequest → Named
 named_seen r = record { part = r.part; out = goal_seen r.out; decimals = r.decimals; limit = r.limit }
 
 -- what is asked for

@@ -8,5 +8,5 @@ mod request;
 mod tests;
 mod words;
 
-pub use request::{Asked, Out, Request};
+pub use request::{Asked, MendRequest, Out};
 pub use words::read_words;

@@ -14,7 +14,7 @@ pub enum Out {
 
 /// Which part is mended, where it goes, with how many decimals it is read, and how far its surface may move, in units.
 #[derive(Debug, Drop)]
-pub struct Request {
+pub struct MendRequest {
     pub part: Name,
     pub out: Out,
     /// At most 6.
@@ -30,5 +30,5 @@ pub struct Request {
 pub enum Asked {
     Help,
     Version,
-    Mend(Request),
+    Mend(MendRequest),
 }

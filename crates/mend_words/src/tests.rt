@@ -1,5 +1,5 @@
 // What words give where an option is there, and where it isn't; what is refused.
-use crate::{Asked, Out, Request, read_words};
+use crate::{Asked, MendRequest, Out, read_words};
 use draw_words::WordsError;
 use std::alloc::{AllocError, Global};
 use std::test::Fail;
@@ -14,7 +14,7 @@ fn words_of(alloc: Global, line: &str) -> Result<Vec<String>, AllocError> {
 }
 
 // The request is for this part and name, and has these numbers.
-fn is_request(request: &Request, part: &str, out: &str, decimals: u8, limit: u32) -> bool {
+fn is_request(request: &MendRequest, part: &str, out: &str, decimals: u8, limit: u32) -> bool {
     let goes = match &request.out {
         Out::Said => out == "-",
         Out::File(name) => name.as_str() == out,

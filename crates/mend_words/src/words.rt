@@ -1,22 +1,22 @@
 // What the words of a run ask for.
 ghost use Rattle.std.specs.Prelude.{◌≡◌, IfOk, IsErrOf, Some, None, option_copied};
-ghost use Rattle.draw_words.specs.Names.{is_empty};
+ghost use Rattle.draw_words.specs.Names.{is_empty_value};
 ghost use Rattle.draw_words.specs.Seen.{texts};
 ghost use Rattle.mend_words.specs.Names.{asked_by, goal_named, named};
 ghost use Rattle.mend_words.specs.Seen.{asked_seen, goal_seen, named_seen};
 ghost use Rattle.mend_words.specs.inner.Seen.{found_seen};
 
-use crate::command::{Found, Sentence, read};
+use crate::command::{MendSentence, MendTexts, read};
 use crate::numbers::number;
-use crate::request::{Asked, Out, Request};
+use crate::request::{Asked, MendRequest, Out};
 use dec_text::Name;
 use draw_words::WordsError;
 use exact_frac::OutOfMemory;
 use std::alloc::Global;
 
 /// There is a text, and it is empty.
-fn is_empty(text: Option<&str>) -> bool
-    ensures { result ≡ is_empty (option_copied text.entry) }
+fn is_empty_value(text: Option<&str>) -> bool
+    ensures { result ≡ is_empty_value (option_copied text.entry) }
 {
     match text {
         Some(text) => text.is_empty(),
@@ -36,11 +36,11 @@ fn out_named(alloc: Global, name: &str) -> Result<Out, OutOfMemory>
 }
 
 /// What is asked for by the texts that the words give.
-fn request_of(alloc: Global, found: Found<'_>) -> Result<Request, WordsError>
+fn request_of(alloc: Global, found: MendTexts<'_>) -> Result<MendRequest, WordsError>
     ensures named { IfOk result (λ r. named (found_seen found.entry) ≡ Some (named_seen r)) }
     ensures usage { IsErrOf result WordsError.Usage → named (found_seen found.entry) ≡ None }
 {
-    if is_empty(found.part) || is_empty(found.out) {
+    if is_empty_value(found.part) || is_empty_value(found.out) {
         return Err(WordsError::Usage);
     }
     let Some(part) = found.part else {
@@ -52,7 +52,7 @@ fn request_of(alloc: Global, found: Found<'_>) -> Result<Request, WordsError>
     let Some(limit) = number(found.limit.unwrap_or("4").as_bytes(), 3, 100) else {
         return Err(WordsError::Usage);
     };
-    Ok(Request {
+    Ok(MendRequest {
         part: Name::new(alloc, part)?,
         out: out_named(alloc, found.out.unwrap_or("mended.off"))?,
         decimals: decimals as u8,
@@ -72,8 +72,8 @@ pub fn read_words(alloc: Global, words: &[String]) -> Result<Asked, WordsError>
     ensures usage { IsErrOf result WordsError.Usage → asked_by (texts words.now) ≡ None }
 {
     match read(alloc, words)? {
-        Sentence::Help => Ok(Asked::Help),
-        Sentence::Version => Ok(Asked::Version),
-        Sentence::Texts(found) => Ok(Asked::Mend(request_of(alloc, found)?)),
+        MendSentence::Help => Ok(Asked::Help),
+        MendSentence::Version => Ok(Asked::Version),
+        MendSentence::Texts(found) => Ok(Asked::Mend(request_of(alloc, found)?)),
     }
 }

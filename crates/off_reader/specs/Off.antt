@@ -10,7 +10,7 @@ use Rattle.weld.specs.declared.fault.PartKind.TheVariants.{Binary, Prefixed, Too
 use Rattle.weld.specs.declared.fault.Want.TheVariants as want
 use Rattle.weld.specs.declared.raw_part.RawPart.{RawPart}
 use Rattle.weld.specs.Raw.{Raw}
-use Rattle.part_text.specs.Steps.{Reading, Step, fault_at, Gives, ◌then◌, Times, Computes, Check}
+use Rattle.part_text.specs.Steps.{Reading, Step, fault_at, StepGives, ◌then◌, Times, Computes, Check}
 use Rattle.part_text.specs.Texts.{ReadsText, AnswersText}
 use Rattle.part_text.specs.Words.{text_of, NextToken, is_word, ends_with}
 use Rattle.part_text.specs.Vertices.{end, Vertex, SkipLine}
@@ -37,7 +37,7 @@ module _ (bytes : List ℕ) where
 
   -- the counts of vertices and of faces; that of edges may be any token
   abbrev pub Header : Step (ℕ × ℕ)
-  Header = Computes keyword then λ _. Limited 60000 then λ vertices. Limited 20000 then λ faces. NextToken (end bytes) want.Count then λ _. Gives (vertices, faces)
+  Header = Computes keyword then λ _. Limited 60000 then λ vertices. Limited 20000 then λ faces. NextToken (end bytes) want.Count then λ _. StepGives (vertices, faces)
 
 -- ---- faces
 module _ (bytes : List ℕ) where
@@ -60,7 +60,7 @@ fan_read number line None tokens = Err (fault_at line (FaceUnseen number))
 
 -- the triangles of the face with this number, whose corner count is on this line
 abbrev pub Triangles : List Triple → ℕ → ℕ → List ℕ → Step (List Tri)
-Triangles vertices number line (a ∷ b ∷ c ∷ []) = Gives (record { a = a; b = b; c = c } ∷ [])
+Triangles vertices number line (a ∷ b ∷ c ∷ []) = StepGives (record { a = a; b = b; c = c } ∷ [])
 Triangles vertices number line numbers =
     λ tokens r. (fan : Option (List Tri)) × IsFan numbers (corners_at vertices numbers) fan × (r ≡ fan_read number line fan tokens)
 
@@ -72,9 +72,9 @@ module _ (bytes : List ℕ) where
 
   -- so many faces more, from the one with this number on
   abbrev pub Faces : List Triple → ℕ → ℕ → ℕ → Step (List Tri)
-  Faces vertices zero number before = Gives []
+  Faces vertices zero number before = StepGives []
   Faces vertices (suc more) number before =
-      Face vertices number before then λ triangles. Faces vertices more (number + 1) (before + length triangles) then λ others. Gives (triangles ++ others)
+      Face vertices number before then λ triangles. Faces vertices more (number + 1) (before + length triangles) then λ others. StepGives (triangles ++ others)
 
 -- ---- the whole
 abbrev pub at_end : Raw → List Token → Reading Raw

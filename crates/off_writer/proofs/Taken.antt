@@ -5,7 +5,7 @@ use Rattle.dec_text.specs.declared.number.Length.TheVariants.{Millimetre}
 use Rattle.lex_lines.specs.declared.token.Token.{Token}
 use Rattle.weld.specs.declared.fault.PartKind.{PartKind}
 use Rattle.weld.specs.declared.fault.Want.{Want}
-use Rattle.part_text.specs.Steps.{Step, Gives, ◌then◌, checked, Check}
+use Rattle.part_text.specs.Steps.{Step, StepGives, ◌then◌, checked, Check}
 use Rattle.part_text.specs.Words.{text_of, NextToken, Units}
 use Rattle.part_text.specs.Vertices.{Coordinate, SkipLine}
 use Rattle.off_reader.specs.Counts.{count_of, CountOf, Count}
@@ -28,7 +28,7 @@ gets_then {x = x} next g more =
     let h = more g.rest g.spelled in
     record { rest = h.rest; made = (Ok (x, g.rest), g.made, h.made); spelled = h.spelled }
 
-pub gets_given : {X : Type 0} (bytes : List ℕ) (x : X) (line : ℕ) (words : List Word) (tokens : List Token) → Spells bytes line words tokens → Gets bytes (Gives x) tokens x line words
+pub gets_given : {X : Type 0} (bytes : List ℕ) (x : X) (line : ℕ) (words : List Word) (tokens : List Token) → Spells bytes line words tokens → Gets bytes (StepGives x) tokens x line words
 gets_given bytes x line words tokens s = record { rest = tokens; made = refl; spelled = s }
 
 -- a test that passes

@@ -8,12 +8,12 @@ use Rattle.out_grid.proofs.CourseNumbers.{under_quotient, quotient_least}
 use Rattle.out_grid.proofs.CourseRows.{weak, through, step_positive, right_within, rising_leave, falling_leave}
 use Rattle.out_grid.proofs.CourseSums.{rising_rows, falling_rows}
 
-ordered : (a b low high : ℕ) → AreInOrder a b low high → low ≤ high
-ordered a b low high (inl (h, l, g)) = omega arith
-ordered a b low high (inr (h, l, g)) = omega arith
+pub in_order : (a b low high : ℕ) → AreInOrder a b low high → low ≤ high
+in_order a b low high (inl (h, l, g)) = omega arith
+in_order a b low high (inr (h, l, g)) = omega arith
 
 pub low_below_high : (c : Course) (k low high : ℕ) → AreRows c k low high → low ≤ high
-low_below_high c k low high rows = ordered rows.enter rows.leave low high rows.in_order
+low_below_high c k low high rows = in_order rows.enter rows.leave low high rows.in_order
 
 pub none_before : (c : Course) → AreBefore c (first_column c) 0
 none_before c row enter = omega arith

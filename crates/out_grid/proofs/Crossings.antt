@@ -10,10 +10,10 @@ use Rattle.lattice.proofs.SightLines.{sight_of_along}
 use Rattle.geometry.specs.Faces.{IsPointOfEdge, edge_sum, share_point}
 use Rattle.geometry.specs.Parts.{Part, Edge}
 use Rattle.geometry.proofs.FacePoints.{edge_point-at_share}
-use Rattle.hiding.proofs.SidePoints.{natural}
-use Rattle.counting.specs.Counts.{orientation_of}
-use Rattle.counting.specs.Shares.{Changes, denominator_of, numerator_of, height_numerator_of}
-use Rattle.face_counts.proofs.CrossingPlaces.{IsAcross, goes_across, parts_x, parts_y, parts_z, ends_turn, coordinate, least, most}
+use Rattle.hiding_laws.proofs.SidePoints.{natural}
+use Rattle.geometry.specs.Counts.{orientation_of}
+use Rattle.geometry.specs.Shares.{Changes, denominator_of, numerator_of, height_numerator_of}
+use Rattle.hiding_laws.proofs.CrossingPlaces.{IsAcross, goes_across, parts_x, parts_y, parts_z, ends_turn, coordinate, least, most}
 
 -- the weights of the outline's corners are not both 0
 some_of : (i j : ℕ) (u v σ t c : ℤ) → pos i ≡ u → pos j ≡ v → u ≡ (σ *ℤ c) +ℤ (σ *ℤ t) → v ≡ pos 0 -ℤ (σ *ℤ t) → pos 0 <ℤ (σ *ℤ c) → 0 < i + j

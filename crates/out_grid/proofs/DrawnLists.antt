@@ -14,7 +14,7 @@ use Rattle.out_grid.specs.inner.Courses.{Course, IsCourse, Meets}
 use Rattle.out_grid.specs.inner.Lists.{AreHeld, IsGrown, IsInSome}
 use Rattle.out_grid.specs.inner.Places.{IsCourseOf, IsInside}
 use Rattle.out_grid.proofs.Bridges.{meets}
-use Rattle.out_grid.proofs.Marks.{none_in}
+use Rattle.out_grid.proofs.Stamps.{none_in}
 use Rattle.out_grid.proofs.Passing.{met_inside}
 
 -- ---- the list of one edge
@@ -64,10 +64,10 @@ module _ (d : Triple) (r : Raster) (s : Part) (halves outlines : List ℕ) (n : 
           (grown x).1 (inr (column, row, m, ((cell column row m).exactly x o c numbered).1 g))
 
 -- ---- one edge after another
--- the marks of one edge are below those of the later ones
-pub marks_next : (xs marks : List ℕ) (i x : ℕ) → IsStrictlyIncreasing xs → x ≡ get_or xs i 0 → All (λ m. m ≤ x + 1) marks → (j : ℕ) → i + 1 ≤ j → j < length xs → All (λ m. m < get_or xs j 0 + 1) marks
-marks_next xs marks i x rising is all j later within =
-    All-weaker (λ m. m ≤ x + 1) (λ m. m < get_or xs j 0 + 1) (λ m h. less m h) marks all
+-- the stamps of one edge are below those of the later ones
+pub stamps_next : (xs stamps : List ℕ) (i x : ℕ) → IsStrictlyIncreasing xs → x ≡ get_or xs i 0 → All (λ m. m ≤ x + 1) stamps → (j : ℕ) → i + 1 ≤ j → j < length xs → All (λ m. m < get_or xs j 0 + 1) stamps
+stamps_next xs stamps i x rising is all j later within =
+    All-weaker (λ m. m ≤ x + 1) (λ m. m < get_or xs j 0 + 1) (λ m h. less m h) stamps all
   where
     above : get_or xs i 0 < get_or xs j 0
     above = AllPairs-from_increasing xs rising i j 0 (omega arith) within

@@ -2,13 +2,13 @@
 use Rattle.std.proofs.Common.{◌≡◌, ◌⊎◌, ◌↔◌, inl, inr, ℕ, ◌+◌, ◌<◌, ◌≤◌, List, [], All, Contains, length, get_or, refl, sym, ap, subst, ◌∙◌, arith, Vec, Global}
 use Rattle.std.proofs.lemmas.Bool.{cases_lt}
 use Rattle.std.proofs.lemmas.List.{get_or-map, length-map}
-use Rattle.solid_mesh.specs.inner.Stars.{lists_of}
+use Rattle.solid_mesh.specs.Stars.{lists_of}
 use Rattle.out_grid.specs.Grids.{cell_at}
 use Rattle.out_grid.specs.inner.Courses.{Course, IsCourse, Meets, first_column, last_column, AreRows}
 use Rattle.out_grid.specs.inner.Lists.{IsGrown, IsInSome}
 use Rattle.out_grid.proofs.CourseCells.{rows_exact}
 use Rattle.out_grid.proofs.CourseSums.{columns_exact}
-use Rattle.out_grid.proofs.Marks.{grown_none, grown_more, grown_same}
+use Rattle.out_grid.proofs.Stamps.{grown_none, grown_more, grown_same}
 
 -- ---- one of the lists
 module _ (lists : List (Vec ℕ Global)) (i : ℕ) (within : i < length lists) where

@@ -7,7 +7,7 @@ use Rattle.geometry.specs.Parts.{Part, Edge, IsNumbered}
 use Rattle.out_grid.specs.Cells.{Raster, HasPointIn}
 use Rattle.out_grid.specs.Grids.{cell_at, HoldsThose}
 use Rattle.out_grid.specs.inner.Lists.{IsPut, AreHeld}
-use Rattle.out_grid.proofs.Marks.{none_in}
+use Rattle.out_grid.proofs.Stamps.{none_in}
 
 -- an empty list holds those of no outlines
 pub holds_none : {s : Part} (halves : List ℕ) (P : Edge s → Type 0) (list : List ℕ) → list ≡ [] → HoldsThose {s = s} halves [] P list

@@ -11,8 +11,8 @@ use Rattle.geometry.proofs.Sights.{sight_back}
 use Rattle.solid_mesh.specs.Solids.{solid_part, edge_halves}
 use Rattle.solid_mesh.specs.declared.solid.Solid.{Solid}
 use Rattle.solid_mesh.proofs.Facts.{edge_there}
-use Rattle.counting.specs.Shares.{Changes}
-use Rattle.counting.specs.Turns.{IsNearerOver}
+use Rattle.geometry.specs.Shares.{Changes}
+use Rattle.geometry.specs.Turns.{IsNearerOver}
 use Rattle.edge_pick.specs.declared.Picked.{Picked}
 use Rattle.span_count.specs.Finders.{IsFinder}
 use Rattle.out_grid.specs.declared.grid.GridOutlines.{GridOutlines}

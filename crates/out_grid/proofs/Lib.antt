@@ -17,7 +17,7 @@ pub mod Gathering
 pub mod Held
 pub mod Laws
 pub mod Making
-pub mod Marks
+pub mod Stamps
 pub mod NearCells
 pub mod Passing
 pub mod PointCells

@@ -8,7 +8,7 @@ use Rattle.lattice.specs.Triple.{Triple}
 use Rattle.lattice.specs.Points.{point_of}
 use Rattle.geometry.specs.Parts.{Part, Edge, IsNumbered}
 use Rattle.edge_pick.specs.declared.Picked.{Picked}
-use Rattle.solid_mesh.specs.inner.Stars.{lists_of}
+use Rattle.solid_mesh.specs.Stars.{lists_of}
 use Rattle.out_grid.specs.declared.grid.GridOutlines.{GridOutlines}
 use Rattle.out_grid.specs.Cells.{Raster, IsRaster, HasPointIn, ShareCell}
 use Rattle.out_grid.specs.Grids.{cell_list, along_list, over_list, IsCornerIn, HoldsThose, IsInCell, IsGridOf}

@@ -12,7 +12,7 @@ use Rattle.lattice.specs.Points.{Point, IsPoint, point_of, scaled, across_of, up
 use Rattle.geometry.specs.Faces.{IsPointOfEdge, edge_sum}
 use Rattle.geometry.specs.Parts.{Part, Edge}
 use Rattle.geometry.proofs.FacePoints.{dot-edge_sum}
-use Rattle.hiding.proofs.SidePoints.{natural}
+use Rattle.hiding_laws.proofs.SidePoints.{natural}
 use Rattle.out_grid.specs.Cells.{Raster, IsRaster, IsInStep}
 use Rattle.out_grid.specs.Grids.{IsInCell}
 use Rattle.out_grid.proofs.Bridges.{corner_cell}

@@ -11,6 +11,7 @@ use Rattle.out_grid.specs.inner.Places.{IsCourseOf}
 use Rattle.out_grid.proofs.Bridges.{meets_column, meets_row}
 use Rattle.out_grid.proofs.CourseNumbers.{under_quotient, quotient_least}
 use Rattle.out_grid.proofs.CourseSums.{columns_exact, course_rows}
+use Rattle.out_grid.proofs.CourseCounts.{in_order}
 
 -- ---- those from one number to another
 module _ (P : ℕ → Type 0) (low high : ℕ) (order : low ≤ high) (within : (k : ℕ) → P k ↔ ((low ≤ k) × (k ≤ high))) where
@@ -57,10 +58,6 @@ ordered a b = by (cases_lt a b)
     by : (a < b) ⊎ (b ≤ a) → (low : ℕ) × (high : ℕ) × AreInOrder a b low high
     by (inl h) = (a, b, inl (omega arith, refl, refl))
     by (inr h) = (b, a, inr (h, refl, refl))
-
-in_order : (a b low high : ℕ) → AreInOrder a b low high → low ≤ high
-in_order a b low high (inl (h, l, g)) = omega arith
-in_order a b low high (inr (h, l, g)) = omega arith
 
 apart_is : (a b low high : ℕ) → AreInOrder a b low high → high - low ≡ apart a b
 apart_is a b low high (inl (h, l, g)) = omega arith

@@ -5,7 +5,7 @@ use Rattle.lattice.specs.Triple.{Triple}
 use Rattle.lattice.specs.Points.{Point, point_of}
 use Rattle.geometry.specs.Parts.{Part, Edge, IsNumbered}
 use Rattle.edge_pick.specs.declared.Picked.{Picked}
-use Rattle.solid_mesh.specs.inner.Stars.{lists_of}
+use Rattle.solid_mesh.specs.Stars.{lists_of}
 use Rattle.out_grid.specs.declared.grid.GridOutlines.{GridOutlines}
 use Rattle.out_grid.specs.Cells.{Raster, IsRaster, IsInColumn, IsInRow, HasPointIn, ShareCell}
 use Rattle.out_grid.specs.Near.{near_list}

@@ -2,7 +2,7 @@
 use Rattle.std.specs.Prelude.{ℕ, List, [], Contains, length, slice_index_or}
 use Rattle.lattice.specs.Triple.{Triple}
 use Rattle.geometry.specs.Parts.{Part}
-use Rattle.solid_mesh.specs.inner.Stars.{lists_of}
+use Rattle.solid_mesh.specs.Stars.{lists_of}
 use Rattle.span_count.specs.Finders.{AreAllNear}
 use Rattle.out_grid.specs.declared.near.TriangleCells.{TriangleCells}
 

@@ -2,7 +2,7 @@
 ghost use Rattle.std.specs.Prelude.{◌≡◌, ℕ, ◌+◌, ◌*◌, ◌/◌, ◌%◌, ◌<◌, ◌≤◌, ◌^◌, [], All, Some, length, slice_get, vec_len, OnOk};
 ghost use Rattle.lattice.specs.declared.soup.Tri.{Tri};
 ghost use Rattle.solid_mesh.specs.Solids.{solid_part};
-ghost use Rattle.solid_mesh.specs.inner.Stars.{lists_of};
+ghost use Rattle.solid_mesh.specs.Stars.{lists_of};
 ghost use Rattle.out_grid.specs.Grids.{list_at};
 ghost use Rattle.out_grid.specs.inner.Lists.{IsPut};
 ghost use Rattle.out_grid.specs.inner.Triangles.{IsAmong, IsInBox, AreFilled};

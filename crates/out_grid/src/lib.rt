@@ -9,7 +9,7 @@
 //! An edge is walked from column to column (as a line is drawn on a raster, Foley and van Dam), each time over the rows between
 //! that in which it comes in and that in which it leaves, by whole numbers. So no cell is looked at that holds no point of it, and
 //! there are at most as many as its columns and rows less one. An edge's list is made without a search in it: each outline has a
-//! mark, the last edge that took it.
+//! stamp, the last edge that took it.
 //!
 //! A second grid has the triangles, each in the cells that the box of its U and V meets; near a corner are those of its cell. Its
 //! columns are so few that the boxes meet at most eight cells for each triangle, on an average, where there is more than one.

@@ -5,13 +5,13 @@ ghost use Rattle.std.specs.List.Sorted.{IsStrictlyIncreasing};
 ghost use Rattle.lattice.specs.Points.{of_dir};
 ghost use Rattle.geometry.specs.Parts.{Edge, IsNumbered};
 ghost use Rattle.solid_mesh.specs.Solids.{solid_part, edge_halves};
-ghost use Rattle.solid_mesh.specs.inner.Stars.{lists_of};
+ghost use Rattle.solid_mesh.specs.Stars.{lists_of};
 ghost use Rattle.edge_pick.specs.Picked.{IsPicked};
 ghost use Rattle.out_grid.specs.Cells.{IsRaster, ShareCell};
 ghost use Rattle.out_grid.specs.Bounds.{IsSpanAt};
 ghost use Rattle.out_grid.specs.Grids.{list_at, HoldsThose};
 ghost use Rattle.out_grid.specs.inner.Courses.{span_of, Meets};
-ghost use Rattle.out_grid.specs.inner.Lists.{AreHeld, IsMarked, IsGrown, IsInSome};
+ghost use Rattle.out_grid.specs.inner.Lists.{AreHeld, IsStamped, IsGrown, IsInSome};
 ghost use Rattle.out_grid.specs.inner.Places.{raster_of, course_of, IsInside};
 
 use crate::course::{Course, Rows};
@@ -25,7 +25,7 @@ use lattice::Dir;
 use solid_mesh::Solid;
 use std::alloc::Global;
 
-/// For each edge of the solid the list of the outlines that share a cell with it, if it is drawn, and else an empty list. A mark
+/// For each edge of the solid the list of the outlines that share a cell with it, if it is drawn, and else an empty list. A stamp
 /// at each outline tells the last edge that took it, so each is taken once without a search in the list.
 pub(crate) fn lists_along(
     alloc: Global,
@@ -53,32 +53,40 @@ pub(crate) fn lists_along(
         meter.new.cells ≤ meter.old.cells + sum spans }
 {
     let mut lists = empty_lists(alloc, solid.edges())?;
-    let mut marks = no_marks(alloc, solid.edges())?;
+    let mut stamps = no_stamps(alloc, solid.edges())?;
     for edge in &picked.drawn {
         let course = course_along(solid, d, raster, columns, *edge);
-        let list = list_course(alloc, &mut marks, *edge + 1, &course, columns, cells, meter)?;
+        let list = list_course(
+            alloc,
+            &mut stamps,
+            *edge + 1,
+            &course,
+            columns,
+            cells,
+            meter,
+        )?;
         lists[*edge as usize] = list;
     }
     Ok(lists)
 }
 
-/// A mark for each edge, which no edge left.
-fn no_marks(alloc: Global, count: u32) -> Result<Vec<u32>, OutOfMemory>
-    ensures for_each { IfOk result (λ marks. length marks.items ≡ count) }
-    ensures none { IfOk result (λ marks. All (λ m. m ≡ 0) marks.items) }
+/// A stamp for each edge, which no edge left.
+fn no_stamps(alloc: Global, count: u32) -> Result<Vec<u32>, OutOfMemory>
+    ensures for_each { IfOk result (λ stamps. length stamps.items ≡ count) }
+    ensures none { IfOk result (λ stamps. All (λ m. m ≡ 0) stamps.items) }
 {
-    let mut marks = Vec::new(alloc);
+    let mut stamps = Vec::new(alloc);
     for _ in 0..count {
-        marks.push(0)?;
+        stamps.push(0)?;
     }
-    Ok(marks)
+    Ok(stamps)
 }
 
-/// The outlines in the cells of a course, each once. They get this mark, which is above all others.
+/// The outlines in the cells of a course, each once. They get this stamp, which is above all others.
 fn list_course(
     alloc: Global,
-    marks: &mut Vec<u32>,
-    mark: u32,
+    stamps: &mut Vec<u32>,
+    stamp: u32,
     course: &Course,
     columns: u32,
     cells: &[Vec<u32>],
@@ -87,11 +95,11 @@ fn list_course(
     requires few { columns ≤ 256 }
     requires inside { IsInside columns (course_of course.now) }
     requires long { length cells.now ≡ columns * columns }
-    requires marks_below { All (λ m. m < mark) marks.old.items }
-    requires in_range { All (All (λ k. k < length marks.old.items)) (lists_of cells.now) }
+    requires stamps_below { All (λ m. m < stamp) stamps.old.items }
+    requires in_range { All (All (λ k. k < length stamps.old.items)) (lists_of cells.now) }
     requires room { meter.old.cells + span_of (course_of course.now) < 2 ^ 64 }
-    ensures marks_long { length marks.new.items ≡ length marks.old.items }
-    ensures marked { IfOk result (λ list. IsMarked mark marks.new.items list.items) }
+    ensures stamps_long { length stamps.new.items ≡ length stamps.old.items }
+    ensures stamped { IfOk result (λ list. IsStamped stamp stamps.new.items list.items) }
     ensures right { IfOk result (λ list. IsGrown (IsInSome (Meets (course_of course.now)) columns (lists_of cells.now)) [] list.items) }
     ensures counted_some { OnOk result (meter.old.cells + 1 ≤ meter.new.cells) }
     ensures counted_on { meter.old.cells ≤ meter.new.cells }
@@ -102,8 +110,8 @@ fn list_course(
         let rows = course.rows_in(column);
         list_column(
             &mut list,
-            marks,
-            mark,
+            stamps,
+            stamp,
             columns,
             column as u32,
             rows,
@@ -117,8 +125,8 @@ fn list_course(
 /// Adds the outlines of a column's cells in these rows that are not yet in the list.
 fn list_column(
     list: &mut Vec<u32>,
-    marks: &mut Vec<u32>,
-    mark: u32,
+    stamps: &mut Vec<u32>,
+    stamp: u32,
     columns: u32,
     column: u32,
     rows: Rows,
@@ -129,11 +137,11 @@ fn list_column(
     requires column { column < columns }
     requires rows { rows.high < columns }
     requires long { length cells.now ≡ columns * columns }
-    requires in_range { All (All (λ k. k < length marks.old.items)) (lists_of cells.now) }
-    requires marked { IsMarked mark marks.old.items list.old.items }
+    requires in_range { All (All (λ k. k < length stamps.old.items)) (lists_of cells.now) }
+    requires stamped { IsStamped stamp stamps.old.items list.old.items }
     requires room { meter.old.cells + ((rows.high - rows.low) + 1) < 2 ^ 64 }
-    ensures marks_long { length marks.new.items ≡ length marks.old.items }
-    ensures marked { OnOk result (IsMarked mark marks.new.items list.new.items) }
+    ensures stamps_long { length stamps.new.items ≡ length stamps.old.items }
+    ensures stamped { OnOk result (IsStamped stamp stamps.new.items list.new.items) }
     ensures right { OnOk result (IsGrown (IsInSome (λ c r. (c ≡ column) × (rows.low ≤ r) × (r ≤ rows.high)) columns (lists_of cells.now)) list.old.items list.new.items) }
     ensures counted_each { OnOk result (meter.old.cells + ((rows.high - rows.low) + 1) ≤ meter.new.cells) }
     ensures counted_on { meter.old.cells ≤ meter.new.cells }
@@ -141,27 +149,32 @@ fn list_column(
 {
     for row in rows.low as u32..rows.high as u32 + 1 {
         meter.cells += 1;
-        add_new(list, marks, mark, &cells[(column * columns + row) as usize])?;
+        add_new(
+            list,
+            stamps,
+            stamp,
+            &cells[(column * columns + row) as usize],
+        )?;
     }
     Ok(())
 }
 
-/// Adds those of these outlines that do not have the mark, and gives it to them.
+/// Adds those of these outlines that do not have the stamp, and gives it to them.
 fn add_new(
     list: &mut Vec<u32>,
-    marks: &mut Vec<u32>,
-    mark: u32,
+    stamps: &mut Vec<u32>,
+    stamp: u32,
     outlines: &[u32],
 ) -> Result<(), OutOfMemory>
-    requires in_range { All (λ k. k < length marks.old.items) outlines.now }
-    requires marked { IsMarked mark marks.old.items list.old.items }
-    ensures marks_long { length marks.new.items ≡ length marks.old.items }
-    ensures marked { OnOk result (IsMarked mark marks.new.items list.new.items) }
+    requires in_range { All (λ k. k < length stamps.old.items) outlines.now }
+    requires stamped { IsStamped stamp stamps.old.items list.old.items }
+    ensures stamps_long { length stamps.new.items ≡ length stamps.old.items }
+    ensures stamped { OnOk result (IsStamped stamp stamps.new.items list.new.items) }
     ensures right { OnOk result (IsGrown (Contains outlines.now) list.old.items list.new.items) }
 {
     for outline in outlines {
-        if marks[*outline as usize] != mark {
-            marks[*outline as usize] = mark;
+        if stamps[*outline as usize] != stamp {
+            stamps[*outline as usize] = stamp;
             list.push(*outline)?;
         }
     }

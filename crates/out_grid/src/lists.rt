@@ -1,6 +1,6 @@
 // Lists of numbers that have numbers themselves.
 ghost use Rattle.std.specs.Prelude.{◌≡◌, ℕ, ◌+◌, ◌<◌, ◌^◌, [], ◌∷◌, ◌++◌, slice_get, slice_index_or, slice_set, vec_len, OnOk, OnErr, IfOk};
-ghost use Rattle.solid_mesh.specs.inner.Stars.{lists_of};
+ghost use Rattle.solid_mesh.specs.Stars.{lists_of};
 ghost use Rattle.out_grid.specs.Grids.{list_at};
 
 use crate::meter::CellMeter;

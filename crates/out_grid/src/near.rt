@@ -3,7 +3,7 @@ ghost use Rattle.std.specs.Prelude.{◌≡◌, ℕ, ◌-◌, ◌<◌, ◌≤◌,
 ghost use Rattle.std.specs.List.Sorted.{IsNonDecreasing};
 ghost use Rattle.lattice.specs.Points.{of_dir};
 ghost use Rattle.solid_mesh.specs.Solids.{solid_part};
-ghost use Rattle.solid_mesh.specs.inner.Stars.{lists_of};
+ghost use Rattle.solid_mesh.specs.Stars.{lists_of};
 ghost use Rattle.span_count.specs.Finders.{IsNext};
 
 use crate::boxes::put_triangles;

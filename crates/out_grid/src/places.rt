@@ -8,7 +8,7 @@ ghost use Rattle.out_grid.specs.Cells.{IsRaster};
 ghost use Rattle.out_grid.specs.inner.Places.{raster_of, course_of, AreEnds, IsAt, IsCourseOf, IsInside};
 
 use crate::course::Course;
-use crate::raster::{Place, Raster};
+use crate::raster::{Raster, RasterPlace};
 use lattice::{Dir, Spot, across, upward};
 use sheet_plan::extent;
 use solid_mesh::Solid;
@@ -39,7 +39,13 @@ fn cell_size(least: i64, greatest: i64, columns: u32) -> u64
 }
 
 /// The place of a corner of the solid.
-pub(crate) fn place_of(solid: &Solid, d: &Dir, raster: &Raster, columns: u32, corner: u32) -> Place
+pub(crate) fn place_of(
+    solid: &Solid,
+    d: &Dir,
+    raster: &Raster,
+    columns: u32,
+    corner: u32,
+) -> RasterPlace
     requires corner { corner < length (solid_part solid.now).corners }
     requires raster { IsRaster (of_dir d.now) (solid_part solid.now).corners columns (raster_of raster.now) }
     requires some { 1 ≤ columns }
@@ -48,7 +54,7 @@ pub(crate) fn place_of(solid: &Solid, d: &Dir, raster: &Raster, columns: u32, co
     ensures row { result.v / raster.now.height < columns }
 {
     let p = Spot::at(&solid.corner(corner));
-    Place {
+    RasterPlace {
         u: distance(raster.left, across(d, &p).num),
         v: distance(raster.bottom, upward(d, &p).num),
     }
@@ -86,7 +92,7 @@ pub(crate) fn course_along(
 }
 
 /// The course between two places.
-fn between(raster: &Raster, a: Place, b: Place) -> Course
+fn between(raster: &Raster, a: RasterPlace, b: RasterPlace) -> Course
     ensures ends { AreEnds a.u a.v b.u b.v (course_of result) }
     ensures width { result.width ≡ raster.now.width }
     ensures height { result.height ≡ raster.now.height }
@@ -99,7 +105,7 @@ fn between(raster: &Raster, a: Place, b: Place) -> Course
 }
 
 /// The course from one place to another that is not to its left.
-fn ordered(raster: &Raster, from: Place, to: Place) -> Course
+fn ordered(raster: &Raster, from: RasterPlace, to: RasterPlace) -> Course
     requires { from.u ≤ to.u }
     ensures { course_of result ≡ record { from_u = from.u; from_v = from.v; to_u = to.u; to_v = to.v; width = raster.now.width; height = raster.now.height } }
 {

@@ -4,7 +4,7 @@ ghost use Rattle.std.specs.List.{AllZip};
 ghost use Rattle.std.specs.List.Sorted.{IsStrictlyIncreasing};
 ghost use Rattle.lattice.specs.Points.{of_dir};
 ghost use Rattle.solid_mesh.specs.Solids.{solid_part, edge_halves};
-ghost use Rattle.solid_mesh.specs.inner.Stars.{lists_of};
+ghost use Rattle.solid_mesh.specs.Stars.{lists_of};
 ghost use Rattle.out_grid.specs.Cells.{IsRaster};
 ghost use Rattle.out_grid.specs.Bounds.{IsSpanAt};
 ghost use Rattle.out_grid.specs.inner.Courses.{span_of, Meets};

@@ -18,7 +18,7 @@ pub(crate) struct Raster {
 
 /// How far a corner is to the right of the raster's left border, and above its lower one.
 #[derive(Clone, Copy)]
-pub(crate) struct Place {
+pub(crate) struct RasterPlace {
     pub(crate) u: u64,
     pub(crate) v: u64,
     ghost u_small: { u < 2 ^ 31 },
@@ -27,7 +27,7 @@ pub(crate) struct Place {
 
 impl Raster {
     /// The number of the cell that a place is in: column by column, from the lowest row on.
-    pub(crate) fn cell_of(&self, place: Place, columns: u32) -> u32
+    pub(crate) fn cell_of(&self, place: RasterPlace, columns: u32) -> u32
         requires few { columns ≤ 256 }
         requires column { place.u / self.now.width < columns }
         requires row { place.v / self.now.height < columns }

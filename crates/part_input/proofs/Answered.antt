@@ -4,7 +4,7 @@ use Rattle.std.specs.Prelude.{IfErr}
 use Rattle.std.specs.Result.{result_err}
 use Rattle.desk.specs.Files.{Rose}
 use Rattle.part_input.specs.Faults.{CountsReads}
-use Rattle.part_input.specs.Steps.{Refuses, Gives, IsMissing, Answers, IsAnswerOf}
+use Rattle.part_input.specs.Steps.{Refuses, GivesInput, IsMissing, Answers, IsAnswerOf}
 use Rattle.part_input.specs.declared.fault.Fault.{Fault}
 use Rattle.part_input.specs.declared.fault.Fault.TheVariants.{ReadFault, WriteFault, Memory}
 use Rattle.part_input.proofs.Singles.{IsSingle}
@@ -63,14 +63,14 @@ module _ {A : Type 0} (steps : Result A Fault → Type 0) (single : IsSingle ste
 
   -- the answer of a call
   module _ {X : Type 0} (view : X → A) where
-    pub complete : (r : Result X Fault) (old new : ℕ) → IfErr r IsOfNoWriting → Gives view steps r → CountsReads (result_err r) old new → (Rose old new → ⊥) → IsAnswerOf steps (result_err r)
+    pub complete : (r : Result X Fault) (old new : ℕ) → IfErr r IsOfNoWriting → GivesInput view steps r → CountsReads (result_err r) old new → (Rose old new → ⊥) → IsAnswerOf steps (result_err r)
     complete (Ok x) old new w is counts none = given (view x) None is (inl refl)
     complete (Err e) old new w is counts none = refused e (Some e) (inl refl) (of_steps steps e (uncounted e old new w counts none) is)
 
-    pub undisturbed : (r : Result X Fault) → IfErr r IsOfNoDesk → Gives view steps r → IsAnswerOf steps (result_err r)
+    pub undisturbed : (r : Result X Fault) → IfErr r IsOfNoDesk → GivesInput view steps r → IsAnswerOf steps (result_err r)
     undisturbed (Ok x) none is = given (view x) None is (inl refl)
     undisturbed (Err e) none is = refused e (Some e) (inl refl) (of_steps steps e none is)
 
-    pub exact : (r : Result X Fault) → IfErr r IsOfNoWriting → Gives view steps r → IfErr r (IsMissing steps) → IsAnswerOf steps (result_err r)
+    pub exact : (r : Result X Fault) → IfErr r IsOfNoWriting → GivesInput view steps r → IfErr r (IsMissing steps) → IsAnswerOf steps (result_err r)
     exact (Ok x) w is m = given (view x) None is (inl refl)
     exact (Err e) w is m = refused e (Some e) (inl refl) (of_steady steps e w m is)

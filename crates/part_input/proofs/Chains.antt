@@ -3,7 +3,7 @@ use Rattle.std.proofs.Common.{inl, inr}
 use Rattle.std.specs.Prelude.{Result, Ok, Err}
 use Rattle.part_input.specs.declared.fault.Fault.{Fault}
 use Rattle.part_input.specs.declared.fault.Fault.TheVariants.{ReadFault, WriteFault, Memory}
-use Rattle.part_input.specs.Steps.{◌and_then◌, Refuses, Gives, IsMissing}
+use Rattle.part_input.specs.Steps.{◌and_then◌, Refuses, GivesInput, IsMissing}
 
 -- what is refused by some steps is refused by others that refuse at least as much
 pub refuses_as : {A B : Type 0} (steps : Result A Fault → Type 0) (others : Result B Fault → Type 0) → ((e : Fault) → steps (Err e) → others (Err e))
@@ -24,7 +24,7 @@ module _ {A B : Type 0} (first : Result A Fault → Type 0) (next : A → Result
   goes_on (Ok y) h = (x, so_far, h)
   goes_on (Err e) h = inr (x, so_far, h)
 
-  pub gives_next : {X : Type 0} (view : X → B) (r : Result X Fault) → Gives view (next x) r → Gives view (first and_then next) r
+  pub gives_next : {X : Type 0} (view : X → B) (r : Result X Fault) → GivesInput view (next x) r → GivesInput view (first and_then next) r
   gives_next view (Ok y) h = (x, so_far, h)
   gives_next view (Err e) h = refuses_as (next x) (first and_then next) (λ e h. inr (x, so_far, h)) e h
 

@@ -5,7 +5,7 @@ use Rattle.std.proofs.lemmas.List.FromFn.{length-range_with_len}
 use Rattle.lattice.specs.declared.points.Corner.{Corner}
 use Rattle.lattice.specs.declared.soup.Tri.{Tri}
 use Rattle.lattice.specs.Points.{of_corner}
-use Rattle.sample_part.specs.Boxes.{Place, below, cubes, cube_corners, cube_triangles, corners_of, triangles_of}
+use Rattle.sample_part.specs.Boxes.{CubePlace, below, cubes, cube_corners, cube_triangles, corners_of, triangles_of}
 use Rattle.part_input.specs.Parts.{cubes_along}
 
 -- each element gives m
@@ -21,7 +21,7 @@ length_below n = length-range_with_len 0 n
 
 length_cubes : (n : ℕ) → length (cubes n) ≡ n * n * n
 length_cubes n =
-    let row : ℕ → ℕ → List Place = λ i j. map (λ h. record { i = i; j = j; h = h }) (below n) in
+    let row : ℕ → ℕ → List CubePlace = λ i j. map (λ h. record { i = i; j = j; h = h }) (below n) in
     let in_row : (i j : ℕ) → length (row i j) ≡ n = λ i j. length-map (below n) (λ h. record { i = i; j = j; h = h }) ∙ length_below n in
     let in_layer : (i : ℕ) → length (flat_map (row i) (below n)) ≡ n * n = λ i. length_each (row i) n (in_row i) (below n) ∙ ap (λ (k : ℕ). n * k) (length_below n) in
     length_each (λ i. flat_map (row i) (below n)) (n * n) in_layer (below n) ∙ ap (λ (k : ℕ). n * n * k) (length_below n)

@@ -9,9 +9,9 @@ use Rattle.weld.specs.Raw.{Raw}
 use Rattle.weld.specs.declared.fault.PartFault.{PartFault}
 use Rattle.off_reader.proofs.OneReading as off
 use Rattle.stl_reader.proofs.OneReading as stl
-use Rattle.one_answer.proofs.OneCorner.{same_corners}
-use Rattle.one_answer.proofs.OneWeld.{one_corners, one_triangles, some_proper}
-use Rattle.one_answer.proofs.OneFault.{one_fault, none_sound}
+use Rattle.answers_unique.proofs.OneCorner.{same_corners}
+use Rattle.answers_unique.proofs.OneWeld.{one_corners, one_triangles, some_proper}
+use Rattle.answers_unique.proofs.OneFault.{one_fault, none_sound}
 use Rattle.part_input.specs.Jobs.{limit_of, TakesFile, TakesJob, ReadsJob, TakesReadJob}
 use Rattle.part_input.specs.Parts.{ReadsText, WeldsPart, ReadsPart, ChecksPart, sample_size, cubes_along, IsSample, MakesSample, TakesSoupOr, TakesSoup, TakesSolid}
 use Rattle.part_input.specs.Reading.{begins_solid, ReadsAs, ReadsPartText}

@@ -26,9 +26,9 @@ Refuses steps (Mesh fault) = steps (Err (Mesh fault))
 Refuses steps (DoesNotFit need_w need_h have_w have_h) = steps (Err (DoesNotFit need_w need_h have_w have_h))
 
 -- a step's result, seen by view
-abbrev pub Gives : {X Y : Type 0} → (X → Y) → (Result Y Fault → Type 0) → Result X Fault → Type 0
-Gives view steps (Ok x) = steps (Ok (view x))
-Gives view steps (Err e) = Refuses steps e
+abbrev pub GivesInput : {X Y : Type 0} → (X → Y) → (Result Y Fault → Type 0) → Result X Fault → Type 0
+GivesInput view steps (Ok x) = steps (Ok (view x))
+GivesInput view steps (Err e) = Refuses steps e
 
 -- a fault of reading is that of the steps, as on a steady desk: the file is missing
 abbrev pub IsMissing : {A : Type 0} → (Result A Fault → Type 0) → Fault → Type 0

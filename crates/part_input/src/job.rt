@@ -5,7 +5,7 @@ ghost use Rattle.desk.specs.Files.{OnlyReads, Rose};
 ghost use Rattle.job_file.specs.Seen.{job_seen};
 ghost use Rattle.part_input.specs.Faults.{CountsReads};
 ghost use Rattle.part_input.specs.Jobs.{ReadsJob, TakesReadJob, IsOfJobFile};
-ghost use Rattle.part_input.specs.Steps.{Gives, IsAnswerOf};
+ghost use Rattle.part_input.specs.Steps.{GivesInput, IsAnswerOf};
 
 use crate::fault::{Fault, Input};
 use crate::fetch::{FetchFault, fetch_all};
@@ -19,7 +19,7 @@ const JOB_LIMIT: usize = 65_536;
 
 /// The job that these bytes say.
 fn job_of(alloc: Global, bytes: &[u8]) -> Result<Job, Fault>
-    ensures answer { Gives job_seen (ReadsJob bytes.now) result }
+    ensures answer { GivesInput job_seen (ReadsJob bytes.now) result }
     ensures of_job { IfErr result IsOfJobFile }
     ensures no_read { IsErrOf result (Fault.ReadFault Input.Job) → ⊥ }
 {
@@ -33,7 +33,7 @@ fn job_of(alloc: Global, bytes: &[u8]) -> Result<Job, Fault>
 /// The job of the file with this name, and what was answered where it was fetched.
 fn job_of_file<D: Desk>(alloc: Global, name: &Name, desk: &mut D) -> Result<Job, Fault>
     ensures answer { (D.state desk.old).tells ≡ true →
-        Gives job_seen (TakesReadJob (D.state desk.old).files (Some name.now)) result }
+        GivesInput job_seen (TakesReadJob (D.state desk.old).files (Some name.now)) result }
     ensures of_job { IfErr result IsOfJobFile }
     ensures reads { CountsReads (result_err result) (D.state desk.old).read_faults (D.state desk.new).read_faults }
     ensures missing { (D.state desk.old).steady ≡ true →
@@ -52,7 +52,7 @@ fn job_of_file<D: Desk>(alloc: Global, name: &Name, desk: &mut D) -> Result<Job,
 pub fn fetch_job<D: Desk>(alloc: Global, name: &Name, desk: &mut D) -> Result<Job, Fault>
     // The job is that of the file at entry, and each other fault than one of reading comes only where the file has it.
     ensures answer { (D.state desk.old).tells ≡ true →
-        Gives job_seen (TakesReadJob (D.state desk.old).files (Some name.now)) result }
+        GivesInput job_seen (TakesReadJob (D.state desk.old).files (Some name.now)) result }
     ensures of_job { IfErr result IsOfJobFile }
 
     // Where no fault of reading was counted, the answer is that of the file, or want of memory; on a steady desk always.

@@ -2,7 +2,7 @@
 ghost use Rattle.std.specs.Prelude.{◌≡◌, ◌<◌, ◌≤◌, length, option_copied, IfOk, IfErr, IsSome};
 ghost use Rattle.geometry.specs.Parts.{part_of};
 ghost use Rattle.part_input.specs.Parts.{sample_size, cubes_along, MakesSample, IsOfSize};
-ghost use Rattle.part_input.specs.Steps.{Gives};
+ghost use Rattle.part_input.specs.Steps.{GivesInput};
 
 use crate::fault::Fault;
 use lattice::Soup;
@@ -28,7 +28,7 @@ fn cubes_along(size: &str) -> Option<u32>
 
 /// The sample of this size.
 pub(crate) fn sample_soup(alloc: Global, size: &str) -> Result<Soup, Fault>
-    ensures answer { Gives part_of (MakesSample size.now) result }
+    ensures answer { GivesInput part_of (MakesSample size.now) result }
     ensures of_size { IfErr result (IsOfSize size.now) }
     ensures sized { IfOk result (λ _. IsSome (cubes_along size.now)) }
     ensures some_triangle { IfOk result (λ soup. 0 < length (part_of soup).triangles) }

@@ -6,7 +6,7 @@ ghost use Rattle.geometry.specs.Parts.{part_of};
 ghost use Rattle.solid_mesh.specs.Solids.{solid_part};
 ghost use Rattle.part_input.specs.Faults.{CountsReads};
 ghost use Rattle.part_input.specs.Parts.{ChecksPart, TakesSoupOr, TakesSoup, TakesSolid, sample_size, HasSize, IsOfPartText, IsOfSoup, IsOfPart, HasSampleOr};
-ghost use Rattle.part_input.specs.Steps.{Gives, IsAnswerOf};
+ghost use Rattle.part_input.specs.Steps.{GivesInput, IsAnswerOf};
 ghost use Rattle.part_input.specs.inner.Texts.{IsOfMesh};
 
 use crate::fault::{Fault, Input};
@@ -33,7 +33,7 @@ fn file_soup<D: Desk>(
 ) -> Result<Soup, Fault>
     requires { decimals ≤ 6 }
     ensures answer { (D.state desk.old).tells ≡ true →
-        Gives part_of (TakesSoupOr None (D.state desk.old).files name.now decimals unit) result }
+        GivesInput part_of (TakesSoupOr None (D.state desk.old).files name.now decimals unit) result }
     ensures of_text { IfErr result IsOfPartText }
     ensures some_triangle { IfOk result (λ soup. 0 < length (part_of soup).triangles) }
     ensures few_corners { IfOk result (λ soup. length (part_of soup).corners ≤ 60000) }
@@ -59,8 +59,8 @@ fn sample_or_file<D: Desk>(
     desk: &mut D,
 ) -> Result<Soup, Fault>
     ensures answer { (D.state desk.old).tells ≡ true →
-        Gives part_of (TakesSoup (D.state desk.old).files name.now job.now.decimals job.now.unit) result }
-    ensures sample { IsSome (sample_size name.now) → (files : Files) → Gives part_of (TakesSoup files name.now job.now.decimals job.now.unit) result }
+        GivesInput part_of (TakesSoup (D.state desk.old).files name.now job.now.decimals job.now.unit) result }
+    ensures sample { IsSome (sample_size name.now) → (files : Files) → GivesInput part_of (TakesSoup files name.now job.now.decimals job.now.unit) result }
     ensures of_soup { IfErr result (IsOfSoup name.now) }
     ensures sized { IfOk result (λ _. HasSize name.now) }
     ensures some_triangle { IfOk result (λ soup. 0 < length (part_of soup).triangles) }
@@ -87,12 +87,12 @@ pub fn fetch_soup<D: Desk>(
 ) -> Result<Soup, Fault>
     // The soup is that of the name, from the files at entry, and each other fault than one of reading comes only where these have it.
     ensures answer { (D.state desk.old).tells ≡ true →
-        Gives part_of (TakesSoup (D.state desk.old).files name.now job.now.decimals job.now.unit) result }
+        GivesInput part_of (TakesSoup (D.state desk.old).files name.now job.now.decimals job.now.unit) result }
     ensures of_soup { IfErr result (IsOfSoup name.now) }
 
     // A sample is that of its size on every desk, whatever files there are.
     ensures sample { IsSome (sample_size name.now) → (files : Files) →
-        Gives part_of (TakesSoup files name.now job.now.decimals job.now.unit) result }
+        GivesInput part_of (TakesSoup files name.now job.now.decimals job.now.unit) result }
 
     // It may be checked.
     ensures sized { IfOk result (λ _. HasSize name.now) }
@@ -123,7 +123,7 @@ fn checked(alloc: Global, soup: Soup) -> Result<Solid, Fault>
     requires some_triangle { 0 < length (part_of soup).triangles }
     requires few_corners { length (part_of soup).corners ≤ 60000 }
     requires few_triangles { length (part_of soup).triangles ≤ 20000 }
-    ensures answer { Gives solid_part (ChecksPart (part_of soup)) result }
+    ensures answer { GivesInput solid_part (ChecksPart (part_of soup)) result }
     ensures of_mesh { IfErr result IsOfMesh }
 {
     match Solid::check(alloc, soup) {
@@ -143,13 +143,13 @@ pub fn fetch_solid<D: Desk>(
 ) -> Result<Solid, Fault>
     // The solid is that of the name, from the files at entry, and each other fault than one of reading comes only where these have it.
     ensures answer { (D.state desk.old).tells ≡ true →
-        Gives solid_part (TakesSolid (D.state desk.old).files name.now job.now.decimals job.now.unit) result }
+        GivesInput solid_part (TakesSolid (D.state desk.old).files name.now job.now.decimals job.now.unit) result }
     ensures of_part { IfErr result (IsOfPart name.now) }
     ensures sized { IfOk result (λ _. HasSize name.now) }
 
     // A sample is that of its size on every desk, whatever files there are.
     ensures sample { IsSome (sample_size name.now) → (files : Files) →
-        Gives solid_part (TakesSolid files name.now job.now.decimals job.now.unit) result }
+        GivesInput solid_part (TakesSolid files name.now job.now.decimals job.now.unit) result }
 
     // Where no fault of reading was counted, the answer is that of the name, or want of memory; on a steady desk always.
     ensures complete { (D.state desk.old).tells ≡ true →

@@ -5,7 +5,7 @@ ghost use Rattle.lex_lines.specs.declared.token.Token.{Token};
 ghost use Rattle.lex_lines.specs.Places.{AreTokens};
 ghost use Rattle.part_input.specs.Parts.{ReadsPart, IsOfPartText};
 ghost use Rattle.part_input.specs.Reading.{begins_solid};
-ghost use Rattle.part_input.specs.Steps.{Gives};
+ghost use Rattle.part_input.specs.Steps.{GivesInput};
 ghost use Rattle.part_input.specs.inner.Texts.{AnswersPart};
 
 use crate::fault::{Fault, Input};
@@ -51,7 +51,7 @@ pub(crate) fn soup_of(
 ) -> Result<Soup, Fault>
     requires short { length bytes.now ≤ 16777216 }
     requires few { decimals ≤ 6 }
-    ensures answer { Gives part_of (ReadsPart decimals unit bytes.now) result }
+    ensures answer { GivesInput part_of (ReadsPart decimals unit bytes.now) result }
     ensures of_text { IfErr result IsOfPartText }
     ensures no_read { IsErrOf result (Fault.ReadFault Input.Part) → ⊥ }
     ensures some_triangle { IfOk result (λ soup. 0 < length (part_of soup).triangles) }

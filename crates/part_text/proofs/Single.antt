@@ -7,7 +7,7 @@ use Rattle.lex_lines.specs.declared.token.Token.{Token}
 use Rattle.weld.specs.declared.fault.PartKind.{PartKind}
 use Rattle.weld.specs.declared.fault.Want.{Want}
 use Rattle.weld.specs.declared.fault.Want.TheVariants as want
-use Rattle.part_text.specs.Steps.{Reading, Step, Gives, Fails, After, ◌then◌, Times, Computes}
+use Rattle.part_text.specs.Steps.{Reading, Step, StepGives, Fails, After, ◌then◌, Times, Computes}
 use Rattle.part_text.specs.Words.{text_of, NextToken, Units}
 use Rattle.part_text.specs.Vertices.{end, Coordinate, Vertex, SkipLine}
 
@@ -23,7 +23,7 @@ IsSingle step = AreSame step step
 pub one_computed : {X : Type 0} (f : List Token → Reading X) → IsSingle (Computes f)
 one_computed f = record { one = λ tokens r s e h. e ∙ sym h }
 
-pub one_given : {X : Type 0} (x : X) → IsSingle (Gives x)
+pub one_given : {X : Type 0} (x : X) → IsSingle (StepGives x)
 one_given x = record { one = λ tokens r s e h. e ∙ sym h }
 
 pub one_failed : {X : Type 0} (line : ℕ) (kind : PartKind) → IsSingle (Fails {X = X} line kind)

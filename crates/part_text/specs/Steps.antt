@@ -16,8 +16,8 @@ abbrev pub fault_at : ℕ → PartKind → PartFault
 fault_at line kind = record { line = line; kind = kind }
 
 -- the value, with no token taken
-abbrev pub Gives : {X : Type 0} → X → Step X
-Gives x tokens r = r ≡ Ok (x, tokens)
+abbrev pub StepGives : {X : Type 0} → X → Step X
+StepGives x tokens r = r ≡ Ok (x, tokens)
 
 abbrev pub Fails : {X : Type 0} → ℕ → PartKind → Step X
 Fails line kind tokens r = r ≡ Err (fault_at line kind)
@@ -33,8 +33,8 @@ abbrev pub ◌then◌ : {X Y : Type 0} → Step X → (X → Step Y) → Step Y
 
 -- so many times the step, one after the other
 abbrev pub Times : {X : Type 0} → ℕ → Step X → Step (List X)
-Times zero one = Gives []
-Times (suc n) one = one then λ x. Times n one then λ xs. Gives (x ∷ xs)
+Times zero one = StepGives []
+Times (suc n) one = one then λ x. Times n one then λ xs. StepGives (x ∷ xs)
 
 -- what a function makes of the tokens
 abbrev pub Computes : {X : Type 0} → (List Token → Reading X) → Step X

@@ -14,10 +14,10 @@ use Rattle.job_file.specs.Seen.{direction_seen}
 use Rattle.job_file.specs.declared.job.Job.{Job}
 use Rattle.sheet_plan.specs.Sheets.{mark_of, HasValue}
 use Rattle.solid_mesh.specs.declared.solid.Solid.{Solid}
-use Rattle.one_drawing.specs.Alike.{AreAlike}
+use Rattle.drawing_laws.specs.Alike.{AreAlike}
 use Rattle.piece_verify.specs.Checked.{IsRightList, IsGoodIn, DiffersAt}
 use Rattle.piece_verify.specs.Stands.{StandsFor, AgreeAt}
-use Rattle.list_lines.specs.declared.line.Entry.{Entry}
+use Rattle.piece_verify.specs.declared.line.Entry.{Entry}
 use Rattle.piece_verify.specs.inner.Comparing.{IsFirstUnlike}
 
 -- ---- one entry

@@ -5,12 +5,13 @@ use Rattle.std.specs.List.{concat}
 use Rattle.std.specs.Fmt.{signed_decimal}
 use Rattle.std.proofs.lemmas.Bool.{ne_eqb}
 use Rattle.sheet_plan.specs.declared.sheet.Stroke.{Stroke}
-use Rattle.plot_rack.specs.Lists.{mark_word, frac_text, column, page_line, stroke_line}
-use Rattle.list_lines.specs.Columns.{IsFree}
-use Rattle.list_lines.specs.Lines.{IsListedPage, IsListed}
-use Rattle.list_lines.proofs.Parts.{free-append}
-use Rattle.list_lines.proofs.Heads.{free_number, free_short, free_word}
-use Rattle.list_lines.proofs.Numerals.{free_natural}
+use Rattle.sheet_plan.specs.LineKinds.{word_of}
+use Rattle.plot_rack.specs.Lists.{frac_text, column, page_line, stroke_line}
+use Rattle.piece_verify.specs.Columns.{IsFree}
+use Rattle.piece_verify.specs.ListLines.{IsListedPage, IsListed}
+use Rattle.piece_verify.proofs.Parts.{free-append}
+use Rattle.piece_verify.proofs.Heads.{free_number, free_short, free_word}
+use Rattle.piece_verify.proofs.Numerals.{free_natural}
 use Rattle.piece_verify.specs.Lists.{begun_by, pieces_of, lines_of}
 
 -- ---- one line and what stands behind it
@@ -70,7 +71,7 @@ more front text h k = free-append 10 front (column text) h (free_column text k)
 
 pub a_stroke_line : (s : Stroke) → IsListed s → IsLine (stroke_line s)
 a_stroke_line s h =
-    let a = more (signed_decimal (pos s.view)) (mark_word s.mark) (free_natural 10 s.view (lit< tt) (omega (arith, h.view))) (free_word 10 (lit< tt) s.mark) in
+    let a = more (signed_decimal (pos s.view)) (word_of s.mark) (free_natural 10 s.view (lit< tt) (omega (arith, h.view))) (free_word 10 (lit< tt) s.mark) in
     let b = more _ (frac_text s.u1) a (free_short 10 (lit< tt) s.u1 h.u1) in
     let c = more _ (frac_text s.v1) b (free_short 10 (lit< tt) s.v1 h.v1) in
     let d = more _ (frac_text s.u2) c (free_short 10 (lit< tt) s.u2 h.u2) in

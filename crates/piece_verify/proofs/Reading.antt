@@ -7,9 +7,9 @@ use Rattle.std.proofs.lemmas.List.Elements.{All-nil, All-cons, All-head, All-tai
 use Rattle.std.proofs.lemmas.List.Kept.{AllPairs-cons}
 use Rattle.sheet_plan.specs.declared.sheet.Stroke.{Stroke}
 use Rattle.plot_rack.specs.Lists.{page_line, stroke_line, list_of}
-use Rattle.list_lines.specs.declared.line.Entry.{Entry}
-use Rattle.list_lines.specs.Lines.{IsListedPage, IsListed, IsEntryOf, IsPageAt, HasNoPage, IsEntryAt, HasNoEntry}
-use Rattle.list_lines.proofs.Alike.{same_view, same_entry}
+use Rattle.piece_verify.specs.declared.line.Entry.{Entry}
+use Rattle.piece_verify.specs.ListLines.{IsListedPage, IsListed, IsEntryOf, IsPageAt, HasNoPage, IsEntryAt, HasNoEntry}
+use Rattle.piece_verify.proofs.Alike.{same_view, same_entry}
 use Rattle.piece_verify.specs.Lists.{pieces_of, lines_of, IsList, BeginsList, IsFaultLine}
 use Rattle.piece_verify.proofs.Lines.{IsLine, pieces_of_line, pieces_joined, lines_of_line, a_page_line, a_stroke_line}
 

@@ -11,7 +11,7 @@ use Rattle.lattice.specs.declared.pieces.Piece.{Piece}
 use Rattle.lattice.specs.Triple.{Triple}
 use Rattle.line_merge.proofs.Zips.{zip_more}
 use Rattle.piece_verify.specs.Stands.{StandsFor, AgreeAt}
-use Rattle.list_lines.specs.declared.line.Entry.{Entry}
+use Rattle.piece_verify.specs.declared.line.Entry.{Entry}
 use Rattle.piece_verify.specs.inner.Comparing.{IsFirstUnlike}
 
 longer : (m n k : ℕ) → k ≤ m → k ≤ n → m ≤ k → (m ≡ n → ⊥) → k < n

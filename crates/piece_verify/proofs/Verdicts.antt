@@ -21,7 +21,7 @@ use Rattle.piece_verify.specs.Stands.{StandsFor, is_piece_in, pieces_in}
 use Rattle.piece_verify.specs.declared.check.Difference.{Difference}
 use Rattle.piece_verify.specs.declared.check.Verdict.{Verdict}
 use Rattle.piece_verify.specs.declared.check.Verdict.TheVariants.{Right, Stranger, Differs}
-use Rattle.list_lines.specs.declared.line.Entry.{Entry}
+use Rattle.piece_verify.specs.declared.line.Entry.{Entry}
 use Rattle.piece_verify.specs.inner.Comparing.{IsFirstUnlike}
 use Rattle.piece_verify.proofs.Judging.{good_of, differs_of}
 use Rattle.piece_verify.proofs.ViewPieces.{kept_view, one_view}

@@ -21,10 +21,10 @@ use Rattle.job_file.specs.Seen.{direction_seen}
 use Rattle.job_file.specs.declared.job.Job.{Job}
 use Rattle.solid_mesh.specs.Solids.{solid_part}
 use Rattle.solid_mesh.specs.declared.solid.Solid.{Solid}
-use Rattle.drawn_strips.specs.Planes.{planes_in}
-use Rattle.one_drawing.specs.Alike.{AreAlike}
-use Rattle.one_drawing.proofs.Alikes.{right_alike, order_alike}
-use Rattle.one_drawing.proofs.OneView.{one_plain, one_cut}
+use Rattle.job_file.specs.ShownCuts.{planes_in}
+use Rattle.drawing_laws.specs.Alike.{AreAlike}
+use Rattle.drawing_laws.proofs.Alikes.{right_alike, order_alike}
+use Rattle.drawing_laws.proofs.OneView.{one_plain, one_cut}
 use Rattle.piece_verify.specs.Checked.{IsRightList}
 
 module _ (solid : Solid) (job : Job) where

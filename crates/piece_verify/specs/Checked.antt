@@ -9,11 +9,11 @@ use Rattle.job_file.specs.declared.job.Job.{Job}
 use Rattle.job_file.specs.declared.view.JobView.{JobView}
 use Rattle.solid_mesh.specs.Solids.{solid_part}
 use Rattle.solid_mesh.specs.declared.solid.Solid.{Solid}
-use Rattle.drawn_strips.specs.Planes.{planes_in}
+use Rattle.job_file.specs.ShownCuts.{planes_in}
 use Rattle.drawn_strips.specs.Views.{IsRightView, IsOrderedView}
-use Rattle.one_drawing.specs.Alike.{AreAlike}
+use Rattle.drawing_laws.specs.Alike.{AreAlike}
 use Rattle.piece_verify.specs.Stands.{StandsFor, AgreeAt, pieces_in}
-use Rattle.list_lines.specs.declared.line.Entry.{Entry}
+use Rattle.piece_verify.specs.declared.line.Entry.{Entry}
 use Rattle.piece_verify.specs.declared.check.Verdict.{Verdict}
 use Rattle.piece_verify.specs.declared.check.Verdict.TheVariants.{Right, Stranger, Differs}
 

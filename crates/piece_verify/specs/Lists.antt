@@ -2,7 +2,7 @@
 use Rattle.std.specs.Prelude.{◌≡◌, ◌==◌, ◌<◌, ◌≤◌, ℕ, ℤ, if◌then◌else◌, List, [], ◌∷◌, take, All, AllPairs}
 use Rattle.sheet_plan.specs.declared.sheet.Stroke.{Stroke}
 use Rattle.plot_rack.specs.Lists.{list_of}
-use Rattle.list_lines.specs.Lines.{IsListedPage, IsListed}
+use Rattle.piece_verify.specs.ListLines.{IsListedPage, IsListed}
 
 -- ---- the lines of a text
 -- these lines with a byte before the first

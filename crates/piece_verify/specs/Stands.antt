@@ -7,7 +7,7 @@ use Rattle.lattice.specs.Triple.{Triple}
 use Rattle.sheet_plan.specs.Sheets.{mark_of, HasValue}
 use Rattle.sheet_plan.specs.declared.sheet.Mark.{Mark}
 use Rattle.sheet_plan.specs.declared.sheet.Mark.TheVariants as mark
-use Rattle.list_lines.specs.declared.line.Entry.{Entry}
+use Rattle.piece_verify.specs.declared.line.Entry.{Entry}
 
 -- the entry stands for the piece: the mark of its style, and U and V of its ends
 pub record StandsFor (d : Triple) (e : Entry) (l : Piece) : Type 0 where

@@ -7,7 +7,7 @@ ghost use Rattle.sheet_plan.specs.Sheets.{mark_of, HasValue};
 ghost use Rattle.piece_verify.specs.Stands.{StandsFor};
 ghost use Rattle.piece_verify.specs.inner.Comparing.{IsFirstUnlike};
 
-use crate::list::Entry;
+use crate::line::Entry;
 use exact_frac::Frac;
 use lattice::{Dir, Piece, Spot, Style, across, upward};
 use sheet_plan::Mark;
@@ -16,11 +16,7 @@ use sheet_plan::Mark;
 fn is_mark_of(mark: Mark, style: Style) -> bool
     ensures { IsTrue result ↔ (mark ≡ mark_of style) }
 {
-    match style {
-        Style::Solid => matches!(mark, Mark::Solid),
-        Style::Dashed => matches!(mark, Mark::Dashed),
-        Style::Chain => matches!(mark, Mark::Chain),
-    }
+    mark == Mark::of(style)
 }
 
 /// The two fractions have one value.

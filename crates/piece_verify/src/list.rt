@@ -2,12 +2,11 @@
 ghost use Rattle.std.specs.Prelude.{◌≡◌, ◌<◌, ◌≤◌, ◌^◌, length, List, Err, IfOk};
 ghost use Rattle.std.specs.List.{AllZip};
 ghost use Rattle.sheet_plan.specs.declared.sheet.Stroke.{Stroke};
-ghost use Rattle.list_lines.specs.Lines.{IsEntryOf};
+ghost use Rattle.piece_verify.specs.ListLines.{IsEntryOf};
 ghost use Rattle.piece_verify.specs.Lists.{IsList, IsFaultLine};
 
+use crate::line::{Entry, read_entry, read_page};
 use exact_frac::OutOfMemory;
-pub use list_lines::Entry;
-use list_lines::{read_entry, read_page};
 use std::alloc::{AllocError, AllocFailed, Global};
 
 /// What a list says of its strokes, in order. They are fewer than 2^32.

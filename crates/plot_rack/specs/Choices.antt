@@ -19,6 +19,6 @@ pub record IsFirstMissing {B : Type 0} (suffix_of : B → List ℕ) (boxes : Lis
   pub earlier : (k : ℕ) (name : List ℕ) → k < place → slice_get names k ≡ Some name → IsSome (first_with suffix_of boxes name)
 
 -- why names choose no boxes
-abbrev pub IsRefused : {B : Type 0} → (B → List ℕ) → List B → List (List ℕ) → RackError → Type 0
-IsRefused suffix_of boxes names (NoPlotter place) = IsFirstMissing suffix_of boxes names place
-IsRefused suffix_of boxes names (Memory none) = Unit {0}
+abbrev pub IsPlotterRefused : {B : Type 0} → (B → List ℕ) → List B → List (List ℕ) → RackError → Type 0
+IsPlotterRefused suffix_of boxes names (NoPlotter place) = IsFirstMissing suffix_of boxes names place
+IsPlotterRefused suffix_of boxes names (Memory none) = Unit {0}

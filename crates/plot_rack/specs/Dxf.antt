@@ -2,15 +2,8 @@
 use Rattle.std.specs.Prelude.{ℕ, ℤ, pos, negsuc, ◌-ℤ◌, ◌/◌, ◌%◌, unsigned_abs, List, [], ◌++◌, codes}
 use Rattle.std.specs.List.{flat_map}
 use Rattle.std.specs.Fmt.{decimal}
-use Rattle.sheet_plan.specs.declared.sheet.Mark.{Mark}
-use Rattle.sheet_plan.specs.declared.sheet.Mark.TheVariants.{Solid, Dashed, Chain, Hatch}
+use Rattle.sheet_plan.specs.LineKinds.{line_kind}
 use Rattle.sheet_plan.specs.declared.sheet.Stroke.{Stroke}
-
-abbrev pub layer_of : Mark → List ℕ
-layer_of Solid = codes "SOLID"
-layer_of Dashed = codes "DASHED"
-layer_of Hatch = codes "HATCH"
-layer_of Chain = codes "CHAIN"
 
 abbrev pub sign_of : ℤ → List ℕ
 sign_of (pos n) = []
@@ -31,7 +24,7 @@ point_text across upward height x y = group across (length_text x) ++ group upwa
 -- a straight line on the layer of its mark
 abbrev pub line_text : ℤ → Stroke → List ℕ
 line_text height s =
-    codes "0\nLINE\n" ++ (group (codes "8") (layer_of s.mark)
+    codes "0\nLINE\n" ++ (group (codes "8") (line_kind s.mark).layer
     ++ (point_text (codes "10") (codes "20") height s.x1 s.y1 ++ point_text (codes "11") (codes "21") height s.x2 s.y2))
 
 abbrev pub dxf_of : ℤ × ℤ → List Stroke → List ℕ

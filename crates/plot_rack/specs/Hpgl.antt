@@ -1,16 +1,10 @@
 -- The text of a page for pen plotters, in the manner of HP-GL.
-use Rattle.std.specs.Prelude.{ℕ, ℤ, pos, ◌-ℤ◌, ◌*ℤ◌, ◌==◌, if◌then◌else◌, List, [], ◌∷◌, ◌++◌, codes, Option, None, Some}
+use Rattle.std.specs.Prelude.{ℕ, ℤ, pos, ◌-ℤ◌, ◌*ℤ◌, if◌then◌else◌, List, [], ◌∷◌, ◌++◌, codes, Option, None, Some}
 use Rattle.std.specs.Fmt.{decimal, signed_decimal}
+use Rattle.sheet_plan.specs.LineKinds.{is_same_mark, pen_of}
 use Rattle.sheet_plan.specs.Numbers.{nearest}
 use Rattle.sheet_plan.specs.declared.sheet.Mark.{Mark}
-use Rattle.sheet_plan.specs.declared.sheet.Mark.TheVariants.{Solid, Dashed, Chain, Hatch}
 use Rattle.sheet_plan.specs.declared.sheet.Stroke.{Stroke}
-
-abbrev pub pen_of : Mark → ℕ
-pen_of Solid = 1
-pen_of Dashed = 2
-pen_of Hatch = 3
-pen_of Chain = 4
 
 -- hundredths of a millimetre in units of 0.025 mm: the nearest whole number, and of two the greater
 abbrev pub units_of : ℤ → ℤ
@@ -26,7 +20,7 @@ pen_text mark = codes "SP" ++ (decimal (pen_of mark) ++ codes ";")
 -- the pen is chosen for the first stroke, and where the one before has another
 abbrev pub choice_text : Option Mark → Mark → List ℕ
 choice_text None mark = pen_text mark
-choice_text (Some before) mark = if pen_of before == pen_of mark then [] else pen_text mark
+choice_text (Some before) mark = if is_same_mark before mark then [] else pen_text mark
 
 -- the pen is up to the first end of the stroke, and down to the second
 abbrev pub move_text : ℤ → Stroke → List ℕ

@@ -3,15 +3,8 @@ use Rattle.std.specs.Prelude.{ℕ, ℤ, pos, ◌==◌, unsigned_abs, if◌then�
 use Rattle.std.specs.List.{flat_map}
 use Rattle.std.specs.Fmt.{signed_decimal}
 use Rattle.exact_frac.specs.declared.Frac.{Frac}
-use Rattle.sheet_plan.specs.declared.sheet.Mark.{Mark}
-use Rattle.sheet_plan.specs.declared.sheet.Mark.TheVariants.{Solid, Dashed, Chain, Hatch}
+use Rattle.sheet_plan.specs.LineKinds.{word_of}
 use Rattle.sheet_plan.specs.declared.sheet.Stroke.{Stroke}
-
-abbrev pub mark_word : Mark → List ℕ
-mark_word Solid = codes "solid"
-mark_word Dashed = codes "dashed"
-mark_word Chain = codes "chain"
-mark_word Hatch = codes "hatch"
 
 -- a fraction in lowest terms, as `n` where it is whole, and else as `n/d`
 abbrev pub frac_text : Frac → List ℕ
@@ -27,7 +20,7 @@ page_line page = codes "page" ++ column (signed_decimal page.0) ++ column (signe
 -- view and mark, U and V of both ends, and where they stand on the sheet
 abbrev pub stroke_line : Stroke → List ℕ
 stroke_line s =
-    signed_decimal (pos s.view) ++ column (mark_word s.mark)
+    signed_decimal (pos s.view) ++ column (word_of s.mark)
     ++ column (frac_text s.u1) ++ column (frac_text s.v1) ++ column (frac_text s.u2) ++ column (frac_text s.v2)
     ++ column (signed_decimal s.x1) ++ column (signed_decimal s.y1) ++ column (signed_decimal s.x2) ++ column (signed_decimal s.y2)
     ++ codes "\n"

@@ -1,19 +1,19 @@
 // The plotter that writes for CAD programs.
 ghost use Rattle.std.specs.Prelude.{◌≡◌, codes, ◌++◌, string_bytes, IfOk};
 ghost use Rattle.std.specs.Option.{ForSome};
-ghost use Rattle.plot_rack.specs.Dxf.{layer_of, sign_of, length_text, group, point_text, line_text, dxf_of};
+ghost use Rattle.plot_rack.specs.Dxf.{sign_of, length_text, group, point_text, line_text, dxf_of};
 
 use crate::Plotter;
 use crate::paper::{height_of, push_before, upward, without_strokes};
 use exact_frac::OutOfMemory;
-use sheet_plan::{Mark, Stroke};
+use sheet_plan::Stroke;
 use std::alloc::{AllocError, Global};
 
 /// What stands after the last stroke.
 const ENDING: &str = "0\nENDSEC\n0\nEOF\n";
 
 /// A text for CAD programs, in the manner of DXF, with the suffix `dxf`: each group code and each value is a line. Between the
-/// head and the end of its one section each stroke is a `LINE` on the layer `SOLID`, `DASHED`, `HATCH` or `CHAIN`, in millimetres with
+/// head and the end of its one section each stroke is a `LINE` on the layer of its mark, in millimetres with
 /// two digits after the point; y goes up from the page's lower edge.
 #[derive(Drop)]
 pub struct DxfPlotter {
@@ -73,18 +73,6 @@ impl Plotter for DxfPlotter {
     }
 }
 
-/// The layer of a mark.
-fn layer_of(mark: Mark) -> &'static str
-    ensures { result.now ≡ layer_of mark }
-{
-    match mark {
-        Mark::Solid => "SOLID",
-        Mark::Dashed => "DASHED",
-        Mark::Hatch => "HATCH",
-        Mark::Chain => "CHAIN",
-    }
-}
-
 /// The sign of a length.
 fn sign_of(length: i128) -> &'static str
     ensures { result.now ≡ sign_of length }
@@ -128,7 +116,7 @@ fn point_of(
 fn line_of(alloc: Global, height: i64, stroke: &Stroke) -> Result<String, AllocError>
     ensures { IfOk result (λ text. string_bytes text ≡ line_text height stroke.now) }
 {
-    let layer = group(alloc, "8", layer_of(stroke.mark))?;
+    let layer = group(alloc, "8", stroke.mark.layer())?;
     let from = point_of(alloc, "10", "20", height, stroke.x1, stroke.y1)?;
     let to = point_of(alloc, "11", "21", height, stroke.x2, stroke.y2)?;
     format!(in alloc; "0\nLINE\n{layer}{from}{to}")

@@ -1,7 +1,7 @@
 // The plotter that writes for pen plotters.
 ghost use Rattle.std.specs.Prelude.{◌≡◌, ◌<◌, ◌^◌, unsigned_abs, [], ◌++◌, codes, if◌then◌else◌, None, string_bytes, IfOk};
 ghost use Rattle.std.specs.Option.{ForSome};
-ghost use Rattle.plot_rack.specs.Hpgl.{pen_of, pen_text, units_of, point_text, choice_text, move_text, hpgl_of};
+ghost use Rattle.plot_rack.specs.Hpgl.{pen_text, units_of, point_text, choice_text, move_text, hpgl_of};
 ghost use Rattle.plot_rack.specs.inner.Marks.{last_mark};
 
 use crate::Plotter;
@@ -14,8 +14,8 @@ use std::alloc::{AllocError, Global};
 const ENDING: &str = "PU0,0;\n";
 
 /// A text for pen plotters, in the manner of HP-GL, with the suffix `hpgl`: one line of `IN;`, then for each stroke `SP{pen};` where it
-/// is the first or its pen isn't that of the stroke before, and `PU{x1},{y1};PD{x2},{y2};`, and last `PU0,0;`. Pen 1 draws solid
-/// lines, 2 dashed ones, 3 hatch lines, and 4 chain lines. Lengths are in units of 0.025 mm, each rounded to the nearest, and halves
+/// is the first or its pen isn't that of the stroke before, and `PU{x1},{y1};PD{x2},{y2};`, and last `PU0,0;`. Each mark has a pen
+/// of its own. Lengths are in units of 0.025 mm, each rounded to the nearest, and halves
 /// up; y goes up from the page's lower edge.
 #[derive(Drop)]
 pub struct HpglPlotter {
@@ -82,24 +82,12 @@ fn last_mark(strokes: &[Stroke]) -> Option<Mark>
     strokes.last().map(|stroke| stroke.mark)
 }
 
-/// The number of the pen for a mark.
-fn pen_of(mark: Mark) -> u8
-    ensures { result ≡ pen_of mark }
-{
-    match mark {
-        Mark::Solid => 1,
-        Mark::Dashed => 2,
-        Mark::Hatch => 3,
-        Mark::Chain => 4,
-    }
-}
-
 /// The pen for a mark is the one that was chosen for the mark of the stroke before.
 fn is_chosen(before: Option<Mark>, mark: Mark) -> bool
     ensures { choice_text before mark ≡ (if result then [] else pen_text mark) }
 {
     match before {
-        Some(before) => pen_of(before) == pen_of(mark),
+        Some(before) => before == mark,
         None => false,
     }
 }
@@ -137,7 +125,7 @@ fn choice_of(alloc: Global, before: Option<Mark>, mark: Mark) -> Result<String, 
     if is_chosen(before, mark) {
         return Ok(String::new(alloc));
     }
-    let pen = pen_of(mark);
+    let pen = mark.pen();
     format!(in alloc; "SP{pen};")
 }
 

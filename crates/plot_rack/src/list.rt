@@ -3,16 +3,16 @@ ghost use Rattle.std.specs.Prelude.{◌≡◌, ◌++◌, IfOk, OnOk};
 ghost use Rattle.std.specs.Option.{ForSome};
 ghost use Rattle.std.specs.Fmt.{signed_decimal};
 ghost use Rattle.exact_frac.specs.Frac.{IsLowest};
-ghost use Rattle.plot_rack.specs.Lists.{column, mark_word, frac_text, page_line, stroke_line, list_of};
+ghost use Rattle.plot_rack.specs.Lists.{column, frac_text, page_line, stroke_line, list_of};
 
 use crate::Plotter;
 use dec_text::{push_frac, push_int};
 use exact_frac::{Frac, OutOfMemory};
-use sheet_plan::{Mark, Stroke};
+use sheet_plan::Stroke;
 use std::alloc::Global;
 
 /// A list of the strokes, with the suffix `pieces`: a line `page {width} {height}`, and then for each stroke a line
-/// `{view} {mark} {u1} {v1} {u2} {v2} {x1} {y1} {x2} {y2}`. A mark is `solid`, `dashed`, `chain` or `hatch`. U and V are fractions
+/// `{view} {mark} {u1} {v1} {u2} {v2} {x1} {y1} {x2} {y2}`. A mark is written by its word. U and V are fractions
 /// in lowest terms, `n` where they are whole and else `n/d`.
 #[derive(Drop)]
 pub struct ListPlotter {
@@ -89,7 +89,7 @@ fn line_of_stroke(alloc: Global, stroke: &Stroke) -> Result<Vec<u8>, OutOfMemory
 {
     let mut line = Vec::new(alloc);
     push_int(&mut line, i128::from(stroke.view))?;
-    push_text(&mut line, mark_word(stroke.mark))?;
+    push_text(&mut line, stroke.mark.word())?;
     push_fraction(&mut line, &stroke.u1)?;
     push_fraction(&mut line, &stroke.v1)?;
     push_fraction(&mut line, &stroke.u2)?;
@@ -100,18 +100,6 @@ fn line_of_stroke(alloc: Global, stroke: &Stroke) -> Result<Vec<u8>, OutOfMemory
     push_number(&mut line, stroke.y2)?;
     line.push(b'\n')?;
     Ok(line)
-}
-
-/// The word of a mark.
-fn mark_word(mark: Mark) -> &'static str
-    ensures { result.now ≡ mark_word mark }
-{
-    match mark {
-        Mark::Solid => "solid",
-        Mark::Dashed => "dashed",
-        Mark::Chain => "chain",
-        Mark::Hatch => "hatch",
-    }
 }
 
 /// Writes a text as one more column.

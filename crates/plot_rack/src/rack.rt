@@ -2,7 +2,7 @@
 ghost use Rattle.std.specs.Prelude.{◌≡◌, ◌≢◌, ◌<◌, ◌^◌, ℕ, List, Some, None, IsSome, IfOk, IfErr, IfSome, IfNone, OnOk, OnErr, length, slice_get, option_map};
 ghost use Rattle.std.specs.List.{AllPairs};
 ghost use Rattle.std.specs.Str.{bytes_eq};
-ghost use Rattle.plot_rack.specs.Choices.{first_with, AreChosen, IsRefused};
+ghost use Rattle.plot_rack.specs.Choices.{first_with, AreChosen, IsPlotterRefused};
 ghost use Rattle.plot_rack.specs.inner.Places.{IsFirstPlace};
 ghost use Rattle.plot_rack.specs.Plotters.{begun, with_stroke, text_of, drawn, IsPartlyDrawn, AreDrawn, AreDrawnInPart};
 ghost use Rattle.plot_rack.specs.declared.rack.RackError.TheVariants.{Memory};
@@ -56,7 +56,7 @@ impl Rack {
         requires different { AllPairs (λ a b. a ≢ b) names.now }
         requires few { length names.now < 2 ^ 32 }
         ensures ok { IfOk result (λ rack. AreChosen (λ b. (plot b).suffix) boxes.items names.now (boxes_of rack)) }
-        ensures err { IfErr result (IsRefused (λ b. (plot b).suffix) boxes.items names.now) }
+        ensures err { IfErr result (IsPlotterRefused (λ b. (plot b).suffix) boxes.items names.now) }
     {
         let mut chosen = Vec::new(alloc);
         for (i, name) in names.iter().enumerate() {

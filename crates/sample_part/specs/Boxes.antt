@@ -9,7 +9,7 @@ abbrev pub IsOutOfRange : ℕ → Type 0
 IsOutOfRange n = (n < 1) ⊎ (8 < n)
 
 -- how many cubes stand before a cube, along each axis
-pub record Place : Type 0 where
+pub record CubePlace : Type 0 where
   pub i : ℕ
   pub j : ℕ
   pub h : ℕ
@@ -19,11 +19,11 @@ abbrev pub below : ℕ → List ℕ
 below n = range_with_len 0 n
 
 -- n cubes along each axis: h grows first, then j, then i
-abbrev pub cubes : ℕ → List Place
+abbrev pub cubes : ℕ → List CubePlace
 cubes n = flat_map (λ i. flat_map (λ j. map (λ h. record { i = i; j = j; h = h }) (below n)) (below n)) (below n)
 
 -- cubes are 20,000 units apart, and 10,000 units long
-abbrev pub corner_of : Place → ℕ → ℕ → ℕ → Triple
+abbrev pub corner_of : CubePlace → ℕ → ℕ → ℕ → Triple
 corner_of p x y z = record {
   x = pos (20000 * p.i + 10000 * x);
   y = pos (20000 * p.j + 10000 * y);
@@ -31,7 +31,7 @@ corner_of p x y z = record {
 }
 
 -- in the order in which a cube's triangles use its corners first
-abbrev pub cube_corners : Place → List Triple
+abbrev pub cube_corners : CubePlace → List Triple
 cube_corners p =
     corner_of p 0 0 0 ∷ corner_of p 0 1 0 ∷ corner_of p 1 1 0 ∷ corner_of p 1 0 0
     ∷ corner_of p 0 0 1 ∷ corner_of p 1 0 1 ∷ corner_of p 1 1 1 ∷ corner_of p 0 1 1 ∷ []

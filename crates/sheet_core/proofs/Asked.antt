@@ -11,7 +11,7 @@ use Rattle.part_input.specs.declared.fault.Target.{Target}
 use Rattle.part_input.specs.declared.fault.Fault.TheVariants.{Usage, ReadFault, WriteFault, Memory}
 use Rattle.part_input.proofs.Chains.{refuses_as, missing_as}
 use Rattle.put_texts.specs.Faults.{CountsWrites, HasNoWriteFault}
-use Rattle.sheet_core.specs.Run.{Draws, Runs, AnswersNamed, AnswersWords, IsOfFiles, IsOfJob, ReadsInOrder, RunsInOrder, IsWritten}
+use Rattle.sheet_core.specs.Run.{Draws, RunsSheet, AnswersNamed, AnswersSheetWords, IsOfFiles, IsOfJob, ReadsInOrder, RunsInOrder, IsWritten}
 use Rattle.sheet_core.specs.inner.Faults.{IsOfWriting}
 use Rattle.sheet_core.proofs.Putting.{by_writing}
 use Rattle.sheet_core.proofs.Answered.{ComesToSome}
@@ -83,23 +83,23 @@ written_of named None is = refl
 written_of named (Some e) is = write_drawn named e is
 
 module _ (words : List (List ℕ)) (files : Files) (asks : Asks) (is : asked_by words ≡ Some asks) where
-  pub refuses : (fault : Option Fault) → IfSome fault (Refuses (Draws files asks)) → IfSome fault (Refuses (Runs words files))
+  pub refuses : (fault : Option Fault) → IfSome fault (Refuses (Draws files asks)) → IfSome fault (Refuses (RunsSheet words files))
   refuses None h = tt
-  refuses (Some e) h = refuses_as (Draws files asks) (Runs words files) (λ e h. inr (asks, is, h)) e h
+  refuses (Some e) h = refuses_as (Draws files asks) (RunsSheet words files) (λ e h. inr (asks, is, h)) e h
 
-  pub misses : (fault : Option Fault) → IfSome fault (IsMissing (Draws files asks)) → IfSome fault (IsMissing (Runs words files))
+  pub misses : (fault : Option Fault) → IfSome fault (IsMissing (Draws files asks)) → IfSome fault (IsMissing (RunsSheet words files))
   misses None h = tt
-  misses (Some e) h = missing_as (Draws files asks) (Runs words files) (λ e h. inr (asks, is, h)) e h
+  misses (Some e) h = missing_as (Draws files asks) (RunsSheet words files) (λ e h. inr (asks, is, h)) e h
 
-  pub comes_to : (fault : Option Fault) → ComesToSome (Draws files asks) fault → ComesToSome (Runs words files) fault
+  pub comes_to : (fault : Option Fault) → ComesToSome (Draws files asks) fault → ComesToSome (RunsSheet words files) fault
   comes_to None (x, h) = (x, (asks, is, h))
   comes_to (Some e) h = tt
 
-  pub draws : (made : Option Drawing) → IfSome made (λ d. Draws files asks (Ok (Some (drawn_in d)))) → IfSome made (λ d. Runs words files (Ok (Some (drawn_in d))))
+  pub draws : (made : Option Drawing) → IfSome made (λ d. Draws files asks (Ok (Some (drawn_in d)))) → IfSome made (λ d. RunsSheet words files (Ok (Some (drawn_in d))))
   draws None h = tt
   draws (Some d) h = (asks, is, h)
 
-pub answers_words : (named : Named) (fault : Option Fault) → AnswersNamed named fault → AnswersWords (Some (sheet named)) fault
+pub answers_words : (named : Named) (fault : Option Fault) → AnswersNamed named fault → AnswersSheetWords (Some (sheet named)) fault
 answers_words named None h = refl
 answers_words named (Some Usage) h = absurd h
 answers_words named (Some Memory) h = tt

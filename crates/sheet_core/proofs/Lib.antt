@@ -7,3 +7,4 @@ pub mod PageItems
 pub mod Putting
 pub mod Taking
 pub mod Warned
+pub mod Digits

@@ -7,7 +7,7 @@ use Rattle.part_input.specs.Jobs.{TakesReadJob}
 use Rattle.part_input.specs.Parts.{TakesSolid}
 use Rattle.part_input.specs.Steps.{◌and_then◌}
 use Rattle.part_input.proofs.Singles.{IsSingle, single_then, none_some, same_some, named_job_single, solid_single}
-use Rattle.sheet_core.specs.Run.{AsksFor, DrawsPart, Draws, Runs}
+use Rattle.sheet_core.specs.Run.{AsksFor, DrawsPart, Draws, RunsSheet}
 use Rattle.sheet_words.specs.Names.{Asks, help, version, sheet, asked_by}
 
 asks_single : (words : List (List ℕ)) → IsSingle (AsksFor words)
@@ -27,5 +27,5 @@ draws_single files version r s e h = e ∙ sym h
 draws_single files (sheet named) r s e h =
     single_then (DrawsPart files named.part named.job) (λ drawn answer. answer ≡ Ok (Some drawn)) (draws_part_single files named.part named.job) (λ drawn a b p q. p ∙ sym q) r s e h
 
-pub one_answer : (words : List (List ℕ)) (files : Files) → IsSingle (Runs words files)
+pub one_answer : (words : List (List ℕ)) (files : Files) → IsSingle (RunsSheet words files)
 one_answer words files = single_then (AsksFor words) (Draws files) (asks_single words) (draws_single files)

@@ -4,15 +4,15 @@ use Rattle.std.specs.Prelude.{ℤ, pos, negsuc}
 use Rattle.std.specs.List.{All, flat_map}
 use Rattle.std.proofs.lemmas.List.Elements.{All-nil, All-cons, All-append, All-filter, All-map, All-weaker}
 use Rattle.std.proofs.lemmas.Slice.Zip.{AllZip-long}
-use Rattle.centring.specs.Centred.{IsPlannedFor, IsMovedPlace, IsCentred}
+use Rattle.sheet_plan.specs.Centred.{IsPlannedFor, IsMovedPlace, IsCentred}
 use Rattle.cut_marks.specs.declared.figures.Heading.{Heading}
-use Rattle.cut_marks.specs.declared.figures.Mark.{Mark}
+use Rattle.cut_marks.specs.declared.figures.CutMark.{CutMark}
 use Rattle.cut_marks.specs.declared.figures.MarkEnd.{MarkEnd}
-use Rattle.cut_marks.specs.declared.figures.Place.{Place}
+use Rattle.cut_marks.specs.declared.figures.SheetPoint.{SheetPoint}
 use Rattle.cut_marks.specs.declared.views.ViewMarks.{ViewMarks}
 use Rattle.draw_core.specs.Drawing.{IsDrawing}
-use Rattle.mark_items.specs.Items.{rule_to, head_at, letter_item, beside_items, arrow_items, end_items, items_of_mark, heading_item, heading_items, items_of_view, items_of_marks}
-use Rattle.title_block.specs.Corners.{IsInCorner}
+use Rattle.cut_marks.specs.Items.{rule_to, head_at, letter_item, beside_items, arrow_items, end_items, items_of_mark, heading_item, heading_items, items_of_view, items_of_marks}
+use Rattle.sheet_page.specs.Corners.{IsInCorner}
 use Rattle.lattice.specs.declared.points.Corner.{Corner}
 use Rattle.sheet_plan.specs.declared.sheet.Sheet.{Sheet}
 use Rattle.solid_mesh.specs.Solids.{solid_part}
@@ -57,17 +57,17 @@ module _ (n : ℕ) where
   of_block width height items h = All-weaker (IsInCorner width height) (IsInView n) (block_item width height) items h
 
   -- nor is what tells the cuts
-  of_beside : (beside : Option ℕ) (p : Place) → All (IsInView n) (beside_items beside p)
+  of_beside : (beside : Option ℕ) (p : SheetPoint) → All (IsInView n) (beside_items beside p)
   of_beside None p = All-nil (IsInView n)
   of_beside (Some letter) p = one (letter_item letter p) tt
 
-  of_end : (m : Mark) (e : MarkEnd) → All (IsInView n) (end_items m e)
+  of_end : (m : CutMark) (e : MarkEnd) → All (IsInView n) (end_items m e)
   of_end m e =
       All-append (IsInView n) (arrow_items e) (letter_item m.letter e.letter ∷ beside_items m.beside e.beside)
       (three (rule_to pen.Strong e.tail e.tip) (rule_to pen.Strong e.tip (head_at e (negsuc 39))) (rule_to pen.Strong e.tip (head_at e (pos 40))) tt tt tt)
       (All-cons (IsInView n) (letter_item m.letter e.letter) (beside_items m.beside e.beside) tt (of_beside m.beside e.beside))
 
-  of_mark : (m : Mark) → All (IsInView n) (items_of_mark m)
+  of_mark : (m : CutMark) → All (IsInView n) (items_of_mark m)
   of_mark m = All-cons (IsInView n) (rule_to pen.Chain m.first.tail m.second.tail) (end_items m m.first ++ end_items m m.second) tt (All-append (IsInView n) (end_items m m.first) (end_items m m.second) (of_end m m.first) (of_end m m.second))
 
   of_heading : (h : Option Heading) → All (IsInView n) (heading_items h)

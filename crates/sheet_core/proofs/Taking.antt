@@ -19,7 +19,7 @@ use Rattle.sheet_core.specs.Lines.{IsPlaceFor}
 use Rattle.sheet_core.specs.Run.{IsOfJob}
 use Rattle.sheet_core.specs.inner.Taking.{IsPlaceIn, IsRefusalOf, fault_in}
 use Rattle.sheet_core.specs.declared.take.Refusal.{Refusal}
-use Rattle.sheet_lines.specs.declared.place.Place.{Place}
+use Rattle.sheet_core.specs.declared.place.FaultPlace.{FaultPlace}
 use Rattle.sheet_words.specs.Names.{Named}
 
 -- ---- no place
@@ -29,7 +29,7 @@ module _ (named : Option Named) (old : DeskState) where
   job_no_place (Some name) (Mesh fault) h = absurd h
   job_no_place name e h = refl
 
-  sheet_place : (e : Fault) (place : Option Place) → IsOfSheet e → place ≡ None → IsPlaceFor named old e place
+  sheet_place : (e : Fault) (place : Option FaultPlace) → IsOfSheet e → place ≡ None → IsPlaceFor named old e place
   sheet_place (Mesh fault) place h none = absurd h
   sheet_place e place h none = none
 
@@ -47,7 +47,7 @@ soup_no_place name decimals unit old e h = refl
 
 -- ---- a surface
 module _ (name : List ℕ) (decimals : ℕ) (unit : Length) (old : DeskState) (part : Part) (taken : old.tells ≡ true → TakesSoup old.files name decimals unit (Ok part)) where
-  placed : (e : Fault) (place : Option Place) → IsRefusalOf part decimals e place → IsPlaceIn name decimals unit old e place
+  placed : (e : Fault) (place : Option FaultPlace) → IsRefusalOf part decimals e place → IsPlaceIn name decimals unit old e place
   placed (Mesh fault) None h = absurd h
   placed (Mesh fault) (Some place) h = record { part = part; is = h; of_files = taken }
   placed e place h = h
@@ -58,7 +58,7 @@ module _ (name : List ℕ) (decimals : ℕ) (unit : Length) (old : DeskState) (p
 
 -- the job was taken before
 module _ (named : Named) (old between : DeskState) (same : OnlyReads old between) (values : JobValues) (job : old.tells ≡ true → TakesReadJob old.files named.job (Ok values)) where
-  pub place_for : (e : Fault) (place : Option Place) → IsPlaceIn named.part values.decimals values.unit between e place → IsPlaceFor (Some named) old e place
+  pub place_for : (e : Fault) (place : Option FaultPlace) → IsPlaceIn named.part values.decimals values.unit between e place → IsPlaceFor (Some named) old e place
   place_for (Mesh fault) None h = absurd h
   place_for (Mesh fault) (Some place) h = record {
     part = h.part;

@@ -13,8 +13,8 @@ use Rattle.sheet_core.specs.Summary.{summary_of}
 use Rattle.sheet_core.specs.Writing.{Writes, summary_way}
 use Rattle.sheet_core.specs.inner.Faults.{IsOfWriting}
 use Rattle.sheet_core.proofs.Putting.{by_writing}
-use Rattle.sheet_lines.specs.Lines.{fault_line}
-use Rattle.sheet_lines.specs.declared.place.Place.{Place}
+use Rattle.sheet_core.specs.Refusals.{fault_line}
+use Rattle.sheet_core.specs.declared.place.FaultPlace.{FaultPlace}
 use Rattle.sheet_words.specs.Names.{Named}
 
 -- what is heard from the writing on is heard of the whole run
@@ -44,7 +44,7 @@ module _ (named : Named) (old between new : DeskState) (same : OnlyReads old bet
   warns_writing_whole (Some f) is h = (None, no_place f is, subst (λ (w : List ℕ). new.warned ≡ w ++ fault_line (Some named) None f) warned_same h)
 
   -- ---- a refusal has the place that came with it
-  module _ (e : Fault) (place : Option Place) (there : IsPlaceFor (Some named) old e place) where
+  module _ (e : Fault) (place : Option FaultPlace) (there : IsPlaceFor (Some named) old e place) where
     pub warns_refused : (fault : Option Fault) → (fault ≡ Some e) ⊎ (fault ≡ Some Memory) → IfSome fault (λ f. AppendsFront between.warned new.warned (fault_line (Some named) place f))
         → IfSome fault (Warns (Some named) old new)
     warns_refused None is h = tt

@@ -5,3 +5,6 @@ pub mod Run
 pub mod Summary
 pub mod Writing
 pub mod inner
+pub mod Refusals
+pub mod Places
+pub mod Unread

@@ -10,8 +10,8 @@ use Rattle.part_input.specs.declared.fault.Fault.{Fault}
 use Rattle.part_input.specs.declared.fault.Fault.TheVariants.{Mesh}
 use Rattle.solid_mesh.specs.Faults.{HasFault}
 use Rattle.solid_mesh.specs.declared.faults.MeshFault.{MeshFault}
-use Rattle.sheet_lines.specs.Lines.{fault_line}
-use Rattle.sheet_lines.specs.declared.place.Place.{Place}
+use Rattle.sheet_core.specs.Refusals.{fault_line}
+use Rattle.sheet_core.specs.declared.place.FaultPlace.{FaultPlace}
 use Rattle.sheet_words.specs.Names.{Asks, Named, help, version, sheet}
 
 -- the names that the words give, where they ask for a sheet
@@ -29,21 +29,21 @@ pub record IsPartNamed (named : Named) (files : Files) (part : Part) (decimals :
   pub same : decimals ≡ values.decimals
 
 -- a part has the fault there; on a desk that tells its files it is the one that was named
-pub record IsFaultThere (named : Named) (old : DeskState) (fault : MeshFault) (place : Place) : Type 0 where
+pub record IsFaultThere (named : Named) (old : DeskState) (fault : MeshFault) (place : FaultPlace) : Type 0 where
   pub part : Part
   pub has : HasFault part fault
   pub there : IsPlaceOf part fault place.corner
   pub of_files : old.tells ≡ true → IsPartNamed named old.files part place.decimals
 
 -- the place that the line of a fault tells: of a surface the place of the fault, and else none
-abbrev pub IsPlaceFor : Option Named → DeskState → Fault → Option Place → Type 0
+abbrev pub IsPlaceFor : Option Named → DeskState → Fault → Option FaultPlace → Type 0
 IsPlaceFor named old (Mesh fault) place = IsSomeAnd named (λ n. IsSomeAnd place (IsFaultThere n old fault))
 IsPlaceFor named old fault place = place ≡ None
 
 -- what a run with a fault adds to what was warned: a prefix of the fault's line, with its place
 abbrev pub Warns : Option Named → DeskState → DeskState → Fault → Type 0
-Warns named old new fault = (place : Option Place) × IsPlaceFor named old fault place × AppendsFront old.warned new.warned (fault_line named place fault)
+Warns named old new fault = (place : Option FaultPlace) × IsPlaceFor named old fault place × AppendsFront old.warned new.warned (fault_line named place fault)
 
 -- and where no warning fails, the whole line
 abbrev pub WarnsWhole : Option Named → DeskState → DeskState → Fault → Type 0
-WarnsWhole named old new fault = (place : Option Place) × IsPlaceFor named old fault place × (new.warned ≡ old.warned ++ fault_line named place fault)
+WarnsWhole named old new fault = (place : Option FaultPlace) × IsPlaceFor named old fault place × (new.warned ≡ old.warned ++ fault_line named place fault)

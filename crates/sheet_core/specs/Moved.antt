@@ -1,7 +1,7 @@
 -- Strokes that are moved on their sheet.
 use Rattle.std.specs.Prelude.{◌≡◌, ℤ, ◌+ℤ◌, List}
 use Rattle.std.specs.List.{AllZip}
-use Rattle.centring.specs.Centred.{IsMoved}
+use Rattle.sheet_plan.specs.Centred.{IsMoved}
 use Rattle.draw_core.specs.Strokes.{AreStrokes}
 use Rattle.draw_core.specs.declared.drawing.Drawing.{Drawing}
 use Rattle.lattice.specs.Points.{IsRatio}

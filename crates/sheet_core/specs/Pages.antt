@@ -3,18 +3,19 @@
 use Rattle.std.specs.Prelude.{◌≡◌, ℕ, Bool, true, false, not, ◌||◌, pos, ℤ, ◌-ℤ◌, List, ◌∷◌, ◌++◌, length, map, slice_get}
 use Rattle.std.specs.List.{filter}
 use Rattle.std.specs.Option.{option_map_or}
-use Rattle.centring.specs.Centred.{IsCentred, ViewsStayWithin, ViewsStayApart}
+use Rattle.sheet_plan.specs.Centred.{IsCentred, ViewsStayWithin, ViewsStayApart}
 use Rattle.cut_marks.specs.Areas.{NoneTouch}
-use Rattle.cut_marks.specs.Letters.{cuts_in}
+use Rattle.job_file.specs.ShownCuts.{cuts_in}
 use Rattle.cut_marks.specs.Marks.{AreMarked}
 use Rattle.cut_marks.specs.Reach.{AreInReach}
 use Rattle.cut_marks.specs.declared.views.ViewMarks.{ViewMarks}
 use Rattle.job_file.specs.declared.view.JobView.{JobView}
-use Rattle.mark_items.specs.Items.{items_of_marks}
+use Rattle.cut_marks.specs.Items.{items_of_marks}
 use Rattle.lattice.specs.declared.pieces.ViewSpec.{ViewSpec}
 use Rattle.lattice.specs.declared.pieces.ViewSpec.TheVariants.{Plain, Section}
+use Rattle.sheet_plan.specs.LineKinds.{is_same_mark}
 use Rattle.sheet_plan.specs.declared.sheet.Mark.{Mark}
-use Rattle.sheet_plan.specs.declared.sheet.Mark.TheVariants.{Solid, Dashed, Chain, Hatch}
+use Rattle.sheet_plan.specs.declared.sheet.Mark.TheVariants.{Dashed}
 use Rattle.sheet_plan.specs.declared.sheet.Sheet.{Sheet}
 use Rattle.sheet_plan.specs.declared.sheet.Stroke.{Stroke}
 use Rattle.draw_core.specs.Strokes.{AreStrokes}
@@ -26,7 +27,7 @@ use Rattle.sheet_page.specs.declared.page.Item.TheVariants as item
 use Rattle.sheet_page.specs.declared.page.Page.{Page}
 use Rattle.sheet_core.specs.Moved.{AreMovedTogether}
 use Rattle.solid_mesh.specs.Solids.{solid_part}
-use Rattle.title_block.specs.Blocks.{block_of}
+use Rattle.sheet_page.specs.Blocks.{block_of}
 use Rattle.sheet_words.specs.declared.words.Hidden.{Hidden}
 use Rattle.sheet_words.specs.declared.words.Hidden.TheVariants as hide
 
@@ -34,12 +35,6 @@ use Rattle.sheet_words.specs.declared.words.Hidden.TheVariants as hide
 abbrev pub is_cut : ViewSpec → Bool
 is_cut (Plain direction) = false
 is_cut (Section cut) = true
-
-abbrev pub is_dashed : Mark → Bool
-is_dashed Solid = false
-is_dashed Dashed = true
-is_dashed Chain = false
-is_dashed Hatch = false
 
 -- hidden lines are drawn in a view of this kind
 abbrev pub draws_hidden : Hidden → ViewSpec → Bool
@@ -49,7 +44,7 @@ draws_hidden hide.Never spec = false
 
 -- a path of a mark is drawn in the view of a job with this number: each is, but for hidden lines where they aren't drawn
 abbrev pub is_shown : Hidden → List JobView → ℕ → Mark → Bool
-is_shown hidden views view mark = not (is_dashed mark) || option_map_or (λ (v : JobView). draws_hidden hidden v.spec) (slice_get views view) true
+is_shown hidden views view mark = not (is_same_mark mark Dashed) || option_map_or (λ (v : JobView). draws_hidden hidden v.spec) (slice_get views view) true
 
 abbrev pub shown_paths : Hidden → List JobView → List Path → List Path
 shown_paths hidden views paths = filter (λ p. is_shown hidden views p.view p.mark) paths

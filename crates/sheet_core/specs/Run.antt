@@ -33,8 +33,8 @@ Draws files version r = r ≡ Ok None
 Draws files (sheet named) r = (DrawsPart files named.part named.job and_then λ drawn answer. answer ≡ Ok (Some drawn)) r
 
 -- a run: what is drawn, or the refusal
-abbrev pub Runs : List (List ℕ) → Files → Result (Option Drawn) Fault → Type 0
-Runs words files = AsksFor words and_then Draws files
+abbrev pub RunsSheet : List (List ℕ) → Files → Result (Option Drawn) Fault → Type 0
+RunsSheet words files = AsksFor words and_then Draws files
 
 -- ---- answers
 -- the faults of the usual job, and those of a named one
@@ -62,12 +62,12 @@ IsOfAsked (Some version) target = target ≡ Out
 IsOfAsked (Some (sheet named)) target = IsOfTarget named target
 
 -- on every desk the words are refused exactly so, unless memory ran out, and the job and the part are at fault only as they may be
-abbrev pub AnswersWords : Option Asks → Option Fault → Type 0
-AnswersWords asked (Some Usage) = asked ≡ None
-AnswersWords asked (Some Memory) = Unit {0}
-AnswersWords asked (Some (WriteFault target)) = IsOfAsked asked target
-AnswersWords asked (Some fault) = AsksSheetAnd asked (λ named. IsOfFiles named.part named.job fault)
-AnswersWords asked None = IsSome asked
+abbrev pub AnswersSheetWords : Option Asks → Option Fault → Type 0
+AnswersSheetWords asked (Some Usage) = asked ≡ None
+AnswersSheetWords asked (Some Memory) = Unit {0}
+AnswersSheetWords asked (Some (WriteFault target)) = IsOfAsked asked target
+AnswersSheetWords asked (Some fault) = AsksSheetAnd asked (λ named. IsOfFiles named.part named.job fault)
+AnswersSheetWords asked None = IsSome asked
 
 -- the run comes to reading the job where it is named, and to a part that isn't a sample once the job was taken
 abbrev pub ComesTo : Files → List ℕ → Option (List ℕ) → Input → Type 0

@@ -4,17 +4,18 @@ ghost use Rattle.desk.specs.Files.{AppendsFront, OnlyWarns};
 ghost use Rattle.part_input.specs.Faults.{status_of};
 ghost use Rattle.put_texts.specs.Desks.{HearsAll};
 ghost use Rattle.sheet_core.specs.inner.Faults.{IsOfReading};
-ghost use Rattle.sheet_lines.specs.Lines.{fault_line};
-ghost use Rattle.sheet_lines.specs.Unread.{AreUnreadLines};
+ghost use Rattle.sheet_core.specs.Refusals.{fault_line};
+ghost use Rattle.sheet_core.specs.Unread.{AreUnreadLines};
 ghost use Rattle.sheet_words.specs.Seen.{named_seen};
 
+use crate::refusals::{MEMORY_LINE, line_of};
 use crate::take::Refusal;
+use crate::unread::UnreadLines;
 use desk::Desk;
 use draw_core::Outcome;
 use part_input::Fault;
 use put_texts::warn;
-use sheet_lines::{MEMORY_LINE, UnreadLines, line_of};
-use sheet_words::Request;
+use sheet_words::SheetRequest;
 use std::alloc::Global;
 
 /// Ends a run with a fault and no drawing, and warns by this line.
@@ -40,7 +41,7 @@ pub(crate) fn end_by<D: Desk>(line: &str, fault: Fault, desk: &mut D) -> Outcome
 /// is want of memory; the lines of faults of reading are there.
 pub(crate) fn refuse<D: Desk>(
     alloc: Global,
-    request: &Request,
+    request: &SheetRequest,
     unread: &UnreadLines,
     refusal: Refusal,
     desk: &mut D,

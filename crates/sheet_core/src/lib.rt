@@ -1,21 +1,27 @@
 //! The program `sheet`: from the words and a desk to a sheet for paper and screen.
 //!
 //! It shows the drawing that `draw` makes, with its strokes joined to paths and dashes that are fitted to them, as SVG or as PDF, and
-//! lists its strokes for programs where that is asked for.
+//! lists its strokes for programs where that is asked for. Of a fault it tells one line, with the file's name and the fault's place.
 #![tactic(auto)]
 
 mod end;
+mod jobs;
 mod lines;
+mod millimetres;
 mod page;
+mod parts;
+mod place;
 mod put;
+mod refusals;
 mod run;
 mod summary;
 mod take;
 mod texts;
+mod unread;
 
 pub use draw_core::{Drawing, Outcome};
 pub use lines::{HELP, VERSION};
 pub use page::page_of;
 pub use part_input::{Fault, Input, Target};
+pub use refusals::MEMORY_LINE;
 pub use run::sheet;
-pub use sheet_lines::MEMORY_LINE;

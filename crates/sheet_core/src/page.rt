@@ -3,24 +3,21 @@ ghost use Rattle.std.specs.Prelude.{◌≡◌, ◌<◌, ◌≤◌, ◌++◌, ℕ
 ghost use Rattle.std.specs.List.{All};
 ghost use Rattle.draw_core.specs.Drawing.{IsDrawing};
 ghost use Rattle.sheet_page.specs.Pages.{IsInView};
-ghost use Rattle.title_block.specs.Blocks.{block_of};
+ghost use Rattle.sheet_page.specs.Blocks.{block_of};
 ghost use Rattle.sheet_page.specs.declared.page.Item.TheVariants as item;
-ghost use Rattle.sheet_core.specs.Pages.{is_cut, is_dashed, draws_hidden, is_shown, shown_paths, shown_strokes, frame_of, items_of, IsPageOf, IsPageWith};
+ghost use Rattle.sheet_core.specs.Pages.{is_cut, draws_hidden, is_shown, shown_paths, shown_strokes, frame_of, items_of, IsPageOf, IsPageWith};
 
-use centring::centred;
-use cut_marks::{ViewMarks, marks};
+use cut_marks::{ViewMarks, mark_items, marks};
 use dec_text::Name;
 use draw_core::{Drawing, strokes_of};
 use exact_frac::OutOfMemory;
 use job_file::JobView;
 use lattice::ViewSpec;
-use mark_items::mark_items;
-use sheet_page::{Frame, Item, Page};
-use sheet_plan::{Mark, Sheet, Stroke};
+use sheet_page::{Frame, Item, Page, title_block};
+use sheet_plan::{Mark, Sheet, Stroke, centred};
 use sheet_words::Hidden;
 use std::alloc::Global;
 use stroke_paths::{Path, paths};
-use title_block::title_block;
 
 /// It is a view of what a cut leaves.
 fn is_cut(spec: &ViewSpec) -> bool
@@ -43,20 +40,11 @@ fn draws_hidden(hidden: Hidden, spec: &ViewSpec) -> bool
     }
 }
 
-fn is_dashed(mark: Mark) -> bool
-    ensures { result ≡ is_dashed mark }
-{
-    match mark {
-        Mark::Dashed => true,
-        Mark::Solid | Mark::Chain | Mark::Hatch => false,
-    }
-}
-
 /// A path of this mark is drawn in the view with this number.
 fn is_shown(hidden: Hidden, views: &[JobView], view: u32, mark: Mark) -> bool
     ensures { result ≡ is_shown hidden views.now view mark }
 {
-    if !is_dashed(mark) {
+    if mark != Mark::Dashed {
         return true;
     }
     match views.get(view as usize) {

@@ -5,19 +5,19 @@ ghost use Rattle.put_texts.specs.Noting.{IsQuiet, Notes, NotesWhole};
 ghost use Rattle.put_texts.specs.Puts.{IsPut, one_text, way_seen};
 ghost use Rattle.sheet_core.specs.Writing.{list_way, summary_way, texts_for, way_of};
 ghost use Rattle.sheet_core.specs.inner.Puts.{texts_after_sheet};
-ghost use Rattle.sheet_lines.specs.Lines.{fault_line, list_line, write_line};
+ghost use Rattle.sheet_core.specs.Refusals.{fault_line, list_line, write_line};
 ghost use Rattle.sheet_words.specs.Seen.{goal_seen, named_seen};
 
+use crate::refusals::{MEMORY_LINE, SAID_LINE};
 use crate::texts::Texts;
 use desk::Desk;
 use part_input::{Fault, Target};
 use put_texts::{Way, note, put_text, unless_said};
-use sheet_lines::{MEMORY_LINE, SAID_LINE};
-use sheet_words::{ListOut, Out, Request};
+use sheet_words::{ListOut, Out, SheetRequest};
 
 /// Puts a text of a request where it goes, and tells why it couldn't, of which it warns by a line.
 fn put_asked<D: Desk>(
-    request: &Request,
+    request: &SheetRequest,
     way: Way<'_>,
     bytes: &[u8],
     line: &str,
@@ -43,7 +43,7 @@ fn way_of(out: &Out) -> Way<'_>
 }
 
 /// The way of its list.
-fn list_way(request: &Request) -> Way<'_>
+fn list_way(request: &SheetRequest) -> Way<'_>
     ensures { way_seen result ≡ list_way (named_seen request.now).list }
 {
     match &request.list {
@@ -54,7 +54,7 @@ fn list_way(request: &Request) -> Way<'_>
 }
 
 /// The way of what is told of both.
-fn summary_way(request: &Request) -> Way<'_>
+fn summary_way(request: &SheetRequest) -> Way<'_>
     ensures { way_seen result ≡ summary_way (named_seen request.now) }
 {
     let list = unless_said(list_way(request), Way::Aloud);
@@ -62,7 +62,7 @@ fn summary_way(request: &Request) -> Way<'_>
 }
 
 /// Says the summary of a request, or warns by it, and tells why it couldn't be said.
-fn put_summary<D: Desk>(request: &Request, summary: &str, desk: &mut D) -> Option<Fault>
+fn put_summary<D: Desk>(request: &SheetRequest, summary: &str, desk: &mut D) -> Option<Fault>
     ensures put { IsPut (fault_line (Some (named_seen request.now)) None) (one_text (summary_way (named_seen request.now)) Target.Summary summary.now) result
         (D.state desk.old) (D.state desk.new) }
     ensures noted { (D.state desk.old).tells_warned ≡ true →
@@ -89,7 +89,7 @@ fn put_summary<D: Desk>(request: &Request, summary: &str, desk: &mut D) -> Optio
 }
 
 /// Puts the list and the summary of a request where they go, and tells why it couldn't.
-fn put_list<D: Desk>(request: &Request, texts: &Texts, desk: &mut D) -> Option<Fault>
+fn put_list<D: Desk>(request: &SheetRequest, texts: &Texts, desk: &mut D) -> Option<Fault>
     requires { string_bytes texts.now.unlisted ≡ list_line (named_seen request.now).list }
     ensures put { IsPut (fault_line (Some (named_seen request.now)) None) (texts_after_sheet (named_seen request.now) texts.now.list.items (string_bytes texts.now.summary)) result
         (D.state desk.old) (D.state desk.new) }
@@ -115,7 +115,7 @@ fn put_list<D: Desk>(request: &Request, texts: &Texts, desk: &mut D) -> Option<F
 
 /// Puts the sheet, the list and the summary of a request where they go, one after the other up to the first that can't be written, and
 /// tells why it couldn't. A summary that isn't said is warned by; that it isn't heard is no fault.
-pub(crate) fn put<D: Desk>(request: &Request, texts: &Texts, desk: &mut D) -> Option<Fault>
+pub(crate) fn put<D: Desk>(request: &SheetRequest, texts: &Texts, desk: &mut D) -> Option<Fault>
     requires sheet { string_bytes texts.now.unwritten ≡ write_line (named_seen request.now).out }
     requires list { string_bytes texts.now.unlisted ≡ list_line (named_seen request.now).list }
     ensures put { IsPut (fault_line (Some (named_seen request.now)) None) (texts_for (named_seen request.now) texts.now.page.items texts.now.list.items (string_bytes texts.now.summary)) result

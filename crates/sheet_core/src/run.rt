@@ -10,24 +10,25 @@ ghost use Rattle.put_texts.specs.Faults.{CountsWrites, HasNoWriteFault};
 ghost use Rattle.put_texts.specs.Noting.{IsQuiet};
 ghost use Rattle.put_texts.specs.Order.{SaysAlone};
 ghost use Rattle.sheet_core.specs.Lines.{named_in, Warns, WarnsWhole};
-ghost use Rattle.sheet_core.specs.Run.{Draws, Runs, AnswersNamed, AnswersWords, ReadsInOrder, RunsInOrder, HasFilesAsked, IsWritten, HasDrawing};
+ghost use Rattle.sheet_core.specs.Run.{Draws, RunsSheet, AnswersNamed, AnswersSheetWords, ReadsInOrder, RunsInOrder, HasFilesAsked, IsWritten, HasDrawing};
 ghost use Rattle.sheet_core.specs.Writing.{IsQuietIfAsked, SpeaksIfTold, TellsAsked, Writes, WritesAsked, summary_way};
 ghost use Rattle.sheet_core.specs.inner.Faults.{IsOfTelling, IsOfWriting};
-ghost use Rattle.sheet_lines.specs.Lines.{fault_line};
+ghost use Rattle.sheet_core.specs.Refusals.{fault_line};
 ghost use Rattle.sheet_words.specs.Names.{asked_by, sheet as of_sheet};
 ghost use Rattle.sheet_words.specs.Seen.{named_seen};
 
 use crate::end::{end_by, refuse};
 use crate::lines::{HELP, VERSION};
 use crate::put::put;
+use crate::refusals::{MEMORY_LINE, SAID_LINE, USAGE_LINE};
 use crate::take::take;
 use crate::texts::texts_of;
+use crate::unread::unread_lines;
 use desk::{Desk, DeskFault};
 use draw_core::{Drawing, Outcome};
 use draw_words::WordsError;
 use part_input::{Fault, Target};
-use sheet_lines::{MEMORY_LINE, SAID_LINE, USAGE_LINE, unread_lines};
-use sheet_words::{Asked, Request, read_words};
+use sheet_words::{Asked, SheetRequest, read_words};
 use std::alloc::Global;
 
 /// The end of a run that says a text.
@@ -59,7 +60,12 @@ fn tell<D: Desk>(text: &str, desk: &mut D) -> Outcome
 }
 
 /// Writes the sheet of a drawing and its list where they go, and tells of them.
-fn write_sheet<D: Desk>(alloc: Global, request: &Request, drawing: Drawing, desk: &mut D) -> Outcome
+fn write_sheet<D: Desk>(
+    alloc: Global,
+    request: &SheetRequest,
+    drawing: Drawing,
+    desk: &mut D,
+) -> Outcome
     requires { IsDrawing drawing }
     ensures status { result.status ≡ status_of result.fault }
     ensures fault { IfSome result.fault (IsOfWriting (named_seen request.now)) }
@@ -91,7 +97,7 @@ fn write_sheet<D: Desk>(alloc: Global, request: &Request, drawing: Drawing, desk
 }
 
 /// Draws what was asked for, and writes its sheet and its list.
-fn draw_sheet<D: Desk>(alloc: Global, request: Request, desk: &mut D) -> Outcome
+fn draw_sheet<D: Desk>(alloc: Global, request: SheetRequest, desk: &mut D) -> Outcome
     ensures status { result.status ≡ status_of result.fault }
     ensures answer { (D.state desk.old).tells ≡ true →
         IfSome result.fault (Refuses (Draws (D.state desk.old).files (of_sheet (named_seen request)))) }
@@ -145,8 +151,8 @@ pub fn sheet<D: Desk>(alloc: Global, words: &[String], desk: &mut D) -> Outcome
     // The answer is that of the run's steps, in their order.
     ensures status { result.status ≡ status_of result.fault }
     ensures answer { (D.state desk.old).tells ≡ true →
-        IfSome result.fault (Refuses (Runs (texts words.now) (D.state desk.old).files)) }
-    ensures words { AnswersWords (asked_by (texts words.now)) result.fault }
+        IfSome result.fault (Refuses (RunsSheet (texts words.now) (D.state desk.old).files)) }
+    ensures words { AnswersSheetWords (asked_by (texts words.now)) result.fault }
     ensures order { (D.state desk.old).tells ≡ true →
         IfSome result.fault (RunsInOrder (asked_by (texts words.now)) (D.state desk.old).files) }
 
@@ -156,18 +162,18 @@ pub fn sheet<D: Desk>(alloc: Global, words: &[String], desk: &mut D) -> Outcome
 
     // A steady desk fails only where a file is missing.
     ensures missing { (D.state desk.old).steady ≡ true →
-        IfSome result.fault (IsMissing (Runs (texts words.now) (D.state desk.old).files)) }
+        IfSome result.fault (IsMissing (RunsSheet (texts words.now) (D.state desk.old).files)) }
     ensures steady { (D.state desk.old).steady ≡ true → HasNoWriteFault result.fault }
 
     // Where no fault of reading or writing was counted, the answer is that of the steps, or want of memory.
     ensures complete { (D.state desk.old).tells ≡ true →
         (Rose (D.state desk.old).read_faults (D.state desk.new).read_faults → ⊥) →
         (Rose (D.state desk.old).write_faults (D.state desk.new).write_faults → ⊥) →
-        IsAnswerOf (Runs (texts words.now) (D.state desk.old).files) result.fault }
+        IsAnswerOf (RunsSheet (texts words.now) (D.state desk.old).files) result.fault }
 
     // On a steady desk it is so whatever was counted.
     ensures exact { (D.state desk.old).steady ≡ true →
-        IsAnswerOf (Runs (texts words.now) (D.state desk.old).files) result.fault }
+        IsAnswerOf (RunsSheet (texts words.now) (D.state desk.old).files) result.fault }
 
     // A steady desk that has the files that the words name to be read counts no fault.
     ensures held { (D.state desk.old).steady ≡ true →
@@ -177,7 +183,7 @@ pub fn sheet<D: Desk>(alloc: Global, words: &[String], desk: &mut D) -> Outcome
     // The drawing shows the part by the job, from the texts at entry.
     ensures drawn { HasDrawing (asked_by (texts words.now)) result.fault (is_some result.drawing) }
     ensures part { (D.state desk.old).tells ≡ true →
-        IfSome result.drawing (λ d. Runs (texts words.now) (D.state desk.old).files (Ok (Some (drawn_in d)))) }
+        IfSome result.drawing (λ d. RunsSheet (texts words.now) (D.state desk.old).files (Ok (Some (drawn_in d)))) }
     ensures shows { IfSome result.drawing IsDrawing }
 
     // The texts of one page that shows it are put where the words say, one after the other: the sheet, its list, and the summary.

@@ -1,6 +1,6 @@
 // What a run says of a sheet that it has drawn.
 ghost use Rattle.std.specs.Prelude.{◌≡◌, IfOk, count_by, string_bytes};
-ghost use Rattle.sheet_core.specs.Summary.{is_mark, is_path_of, paper_text, paths_of, paths_text, sheet_text, summary_of};
+ghost use Rattle.sheet_core.specs.Summary.{is_path_of, paths_of, paths_text, sheet_text, summary_of};
 
 use cut_marks::{ViewMarks, notes};
 use draw_core::Drawing;
@@ -10,35 +10,12 @@ use sheet_page::{Item, Page};
 use sheet_plan::Mark;
 use std::alloc::{AllocError, Global};
 
-fn paper_text(paper: Paper) -> &'static str
-    ensures { result.now ≡ paper_text paper }
-{
-    match paper {
-        Paper::A0 => "A0",
-        Paper::A1 => "A1",
-        Paper::A2 => "A2",
-        Paper::A3 => "A3",
-        Paper::A4 => "A4",
-    }
-}
-
-fn is_mark(mark: Mark, other: Mark) -> bool
-    ensures { result ≡ is_mark mark other }
-{
-    match mark {
-        Mark::Solid => matches!(other, Mark::Solid),
-        Mark::Dashed => matches!(other, Mark::Dashed),
-        Mark::Chain => matches!(other, Mark::Chain),
-        Mark::Hatch => matches!(other, Mark::Hatch),
-    }
-}
-
 /// It is a path of this mark.
 fn is_path_of(mark: Mark, item: &Item) -> bool
     ensures { result ≡ is_path_of mark item.now }
 {
     match item {
-        Item::Path(path) => is_mark(mark, path.mark),
+        Item::Path(path) => path.mark == mark,
         _ => false,
     }
 }
@@ -65,7 +42,7 @@ fn sheet_text(
 ) -> Result<String, AllocError>
     ensures { IfOk result (λ text. string_bytes text ≡ sheet_text paper scale.now views) }
 {
-    let (paper, num, den) = (paper_text(paper), scale.num, scale.den);
+    let (paper, num, den) = (paper.name(), scale.num, scale.den);
     format!(in alloc; "sheet {paper} scale {num}:{den} views {views}")
 }
 

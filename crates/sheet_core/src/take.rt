@@ -7,7 +7,7 @@ ghost use Rattle.job_file.specs.Seen.{job_seen};
 ghost use Rattle.part_input.specs.Faults.{CountsReads};
 ghost use Rattle.part_input.specs.Jobs.{TakesReadJob};
 ghost use Rattle.part_input.specs.Parts.{ChecksPart, IsOfPart, TakesSolid, sample_size};
-ghost use Rattle.part_input.specs.Steps.{Gives, IsMissing};
+ghost use Rattle.part_input.specs.Steps.{GivesInput, IsMissing};
 ghost use Rattle.part_input.specs.inner.Texts.{IsOfMesh};
 ghost use Rattle.draw_core.specs.Drawing.{drawn_in, IsDrawing};
 ghost use Rattle.draw_core.specs.Run.{IsOfSheet, IsOfUsualJob, PlansSheet};
@@ -18,16 +18,15 @@ ghost use Rattle.sheet_core.specs.Run.{DrawsPart, IsOfJob, IsOfFiles, ReadsInOrd
 ghost use Rattle.sheet_core.specs.inner.Taking.{IsPlaceIn, IsRefusalOf, fault_in};
 ghost use Rattle.sheet_words.specs.Seen.{named_seen};
 
+use crate::place::FaultPlace;
 use dec_text::Name;
 use desk::Desk;
 use draw_core::{Drawing, drawing_of};
-use exact_frac::OutOfMemory;
 use fault_place::fault_place;
 use job_file::Job;
 use lattice::Soup;
 use part_input::{Fault, Input, fetch_job, fetch_soup};
-use sheet_lines::Place;
-use sheet_words::Request;
+use sheet_words::SheetRequest;
 use solid_mesh::{MeshError, MeshFault, Solid};
 use std::alloc::Global;
 
@@ -35,12 +34,12 @@ use std::alloc::Global;
 #[derive(Drop)]
 pub(crate) struct Refusal {
     pub(crate) fault: Fault,
-    pub(crate) place: Option<Place>,
+    pub(crate) place: Option<FaultPlace>,
 }
 
 /// The usual job.
 fn usual_job(alloc: Global) -> Result<Job, Fault>
-    ensures answer { (files : Files) → Gives job_seen (TakesReadJob files None) result }
+    ensures answer { (files : Files) → GivesInput job_seen (TakesReadJob files None) result }
     ensures of_job { IfErr result IsOfUsualJob }
 {
     match Job::usual(alloc) {
@@ -52,7 +51,7 @@ fn usual_job(alloc: Global) -> Result<Job, Fault>
 /// The job of the file with this name, or with no name the usual one.
 fn take_job<D: Desk>(alloc: Global, name: &Option<Name>, desk: &mut D) -> Result<Job, Fault>
     ensures answer { (D.state desk.old).tells ≡ true →
-        Gives job_seen (TakesReadJob (D.state desk.old).files name.now) result }
+        GivesInput job_seen (TakesReadJob (D.state desk.old).files name.now) result }
     ensures of_job { IfErr result (IsOfJob name.now) }
     ensures reads { CountsReads (result_err result) (D.state desk.old).read_faults (D.state desk.new).read_faults }
     ensures missing { (D.state desk.old).steady ≡ true →
@@ -65,16 +64,6 @@ fn take_job<D: Desk>(alloc: Global, name: &Option<Name>, desk: &mut D) -> Result
     }
 }
 
-/// A copy of a soup.
-fn copy_of(alloc: Global, soup: &Soup) -> Result<Soup, OutOfMemory>
-    ensures { IfOk result (λ copy. part_of copy ≡ part_of soup.now) }
-{
-    Ok(Soup {
-        corners: soup.corners.to_vec(alloc)?,
-        triangles: soup.triangles.to_vec(alloc)?,
-    })
-}
-
 /// The refusal of a surface, with the place of its fault.
 fn at_place(alloc: Global, soup: &Soup, decimals: u8, fault: MeshFault) -> Refusal
     requires fault { HasFault (part_of soup.now) fault }
@@ -85,7 +74,7 @@ fn at_place(alloc: Global, soup: &Soup, decimals: u8, fault: MeshFault) -> Refus
     match fault_place(alloc, soup, &fault) {
         Ok(corner) => Refusal {
             fault: Fault::Mesh(fault),
-            place: Some(Place { corner, decimals }),
+            place: Some(FaultPlace { corner, decimals }),
         },
         Err(_) => Refusal {
             fault: Fault::Memory,
@@ -100,11 +89,11 @@ fn sound(alloc: Global, soup: Soup, decimals: u8) -> Result<Solid, Refusal>
     requires some_triangle { 0 < length (part_of soup).triangles }
     requires few_corners { length (part_of soup).corners ≤ 60000 }
     requires few_triangles { length (part_of soup).triangles ≤ 20000 }
-    ensures answer { Gives solid_part (ChecksPart (part_of soup)) (fault_in result) }
+    ensures answer { GivesInput solid_part (ChecksPart (part_of soup)) (fault_in result) }
     ensures of_mesh { IfErr (fault_in result) IsOfMesh }
     ensures placed { IfErr result (λ r. IsRefusalOf (part_of soup) decimals r.fault r.place) }
 {
-    let kept = match copy_of(alloc, &soup) {
+    let kept = match soup.copy(alloc) {
         Ok(kept) => kept,
         Err(_) => return Err(Refusal {
             fault: Fault::Memory,
@@ -129,7 +118,7 @@ fn take_solid<D: Desk>(
     desk: &mut D,
 ) -> Result<Solid, Refusal>
     ensures answer { (D.state desk.old).tells ≡ true →
-        Gives solid_part (TakesSolid (D.state desk.old).files name.now job.now.decimals job.now.unit) (fault_in result) }
+        GivesInput solid_part (TakesSolid (D.state desk.old).files name.now job.now.decimals job.now.unit) (fault_in result) }
     ensures of_part { IfErr (fault_in result) (IsOfPart name.now) }
     ensures placed { IfErr result (λ r. IsPlaceIn name.now job.now.decimals job.now.unit (D.state desk.old) r.fault r.place) }
     ensures reads { CountsReads (result_err (fault_in result)) (D.state desk.old).read_faults (D.state desk.new).read_faults }
@@ -145,7 +134,7 @@ fn take_solid<D: Desk>(
 
 /// The drawing of a solid by a job.
 fn drawn(alloc: Global, solid: Solid, job: Job) -> Result<Drawing, Refusal>
-    ensures answer { Gives drawn_in (PlansSheet (job_seen job) (solid_part solid)) (fault_in result) }
+    ensures answer { GivesInput drawn_in (PlansSheet (job_seen job) (solid_part solid)) (fault_in result) }
     ensures of_sheet { IfErr (fault_in result) IsOfSheet }
     ensures shows { IfOk result IsDrawing }
     ensures placed { IfErr result (λ r. r.place ≡ None) }
@@ -159,11 +148,11 @@ fn drawn(alloc: Global, solid: Solid, job: Job) -> Result<Drawing, Refusal>
 /// The drawing of the part by the job that a request names.
 pub(crate) fn take<D: Desk>(
     alloc: Global,
-    request: &Request,
+    request: &SheetRequest,
     desk: &mut D,
 ) -> Result<Drawing, Refusal>
     ensures answer { (D.state desk.old).tells ≡ true →
-        Gives drawn_in (DrawsPart (D.state desk.old).files (named_seen request.now).part (named_seen request.now).job) (fault_in result) }
+        GivesInput drawn_in (DrawsPart (D.state desk.old).files (named_seen request.now).part (named_seen request.now).job) (fault_in result) }
     ensures of_files { IfErr (fault_in result) (IsOfFiles (named_seen request.now).part (named_seen request.now).job) }
     ensures placed { IfErr result (λ r. IsPlaceFor (Some (named_seen request.now)) (D.state desk.old) r.fault r.place) }
     ensures shows { IfOk result IsDrawing }

@@ -10,13 +10,13 @@ ghost use Rattle.sheet_page.specs.Pages.{IsInView};
 ghost use Rattle.sheet_words.specs.Seen.{goal_seen, named_seen};
 
 use crate::page::{Shown, show, shown_strokes};
+use crate::refusals::{list_line, write_line};
 use crate::summary::summary_of;
 use draw_core::Drawing;
 use exact_frac::OutOfMemory;
-use sheet_lines::{list_line, write_line};
 use sheet_list::list_text;
 use sheet_page::{Page, pdf, svg};
-use sheet_words::{Out, Request};
+use sheet_words::{Out, SheetRequest};
 use std::alloc::Global;
 
 /// The text of a drawing's page, the list of its strokes, what is said of it, and the lines that tell that the page or the list couldn't
@@ -44,7 +44,7 @@ fn page_text(alloc: Global, out: &Out, page: &Page) -> Result<Vec<u8>, OutOfMemo
 /// The list of the strokes of a drawing that are shown, where the request asks for one.
 fn listed(
     alloc: Global,
-    request: &Request,
+    request: &SheetRequest,
     drawing: &Drawing,
     shown: &Shown,
 ) -> Result<Vec<u8>, OutOfMemory>
@@ -65,7 +65,7 @@ fn listed(
 /// What is written of a drawing by a request.
 pub(crate) fn texts_of(
     alloc: Global,
-    request: &Request,
+    request: &SheetRequest,
     drawing: &Drawing,
 ) -> Result<Texts, OutOfMemory>
     requires { IsDrawing drawing.now }

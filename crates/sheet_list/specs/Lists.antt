@@ -1,7 +1,7 @@
 -- The text of the list of a sheet's strokes.
 use Rattle.std.specs.Prelude.{ℕ, List, [], ◌∷◌, ◌++◌, length, codes}
 use Rattle.std.specs.Fmt.{decimal, signed_decimal}
-use Rattle.cut_marks.specs.Letters.{cuts_in}
+use Rattle.job_file.specs.ShownCuts.{cuts_in}
 use Rattle.job_file.specs.declared.job.Job.{Job}
 use Rattle.job_file.specs.declared.job.Scale.{Scale}
 use Rattle.job_file.specs.declared.view.JobView.{JobView}

@@ -2,7 +2,6 @@
 ghost use Rattle.std.specs.Prelude.{◌≡◌, ◌<◌, ◌≤◌, ◌++◌, [], Some, length, codes, string_bytes, IfOk, OnOk};
 ghost use Rattle.std.specs.Fmt.{decimal, signed_decimal};
 ghost use Rattle.svg_page.specs.Texts.{◌⊕◌};
-ghost use Rattle.cut_marks.specs.Letters.{cuts_of};
 ghost use Rattle.plot_rack.specs.Lists.{list_of};
 ghost use Rattle.plot_rack.specs.ListPlotter.{piece_list, plot_of};
 ghost use Rattle.sheet_list.specs.Lists.{head_text, view_line, lines_behind, list_text};
@@ -10,7 +9,6 @@ ghost use Rattle.sheet_list.specs.Lists.{head_text, view_line, lines_behind, lis
 use crate::shown::add_shown;
 use exact_frac::OutOfMemory;
 use job_file::{Job, JobView, Scale};
-use lattice::ViewSpec;
 use plot_rack::{ListPlotter, Plotter};
 use sheet_plan::{Sheet, Spread, Stroke};
 use std::alloc::{AllocError, Global};
@@ -56,17 +54,6 @@ fn add_view(
     Ok(())
 }
 
-/// How many cuts a view shows: one or none.
-fn count_of(spec: &ViewSpec) -> usize
-    ensures value { result ≡ length (cuts_of spec.now) }
-    ensures size { result ≤ 1 }
-{
-    match spec {
-        ViewSpec::Plain(_) => 0,
-        ViewSpec::Section(_) => 1,
-    }
-}
-
 /// Adds the lines of the views in their places.
 fn add_views(
     alloc: Global,
@@ -82,7 +69,7 @@ fn add_views(
     for i in 0..views.len() {
         let view = &views[i];
         add_view(alloc, text, i, cuts, view, &places[i])?;
-        cuts += count_of(&view.spec);
+        cuts += view.spec.cuts();
     }
     Ok(())
 }

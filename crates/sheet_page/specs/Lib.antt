@@ -5,3 +5,11 @@ pub mod Pdf
 pub mod PdfContent
 pub mod PdfWords
 pub mod Svg
+pub mod Blocks
+pub mod Corners
+pub mod Labels
+pub mod BlockNames
+pub mod RuleLooks
+pub mod Rules
+pub mod Symbols
+pub mod inner

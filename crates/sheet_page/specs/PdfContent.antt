@@ -1,7 +1,8 @@
 -- What a page's items are in PDF.
-use Rattle.std.specs.Prelude.{ℕ, Bool, true, false, ◌+◌, ◌*◌, ◌/◌, ℤ, unsigned_abs, List, [], ◌∷◌, ◌++◌, Option, Some, None, codes}
+use Rattle.std.specs.Prelude.{ℕ, Bool, true, false, ◌+◌, ◌*◌, ◌/◌, ℤ, unsigned_abs, List, [], ◌∷◌, ◌++◌, Option, Some, None, codes, if◌then◌else◌}
 use Rattle.std.specs.Fmt.{decimal, signed_decimal}
 use Rattle.std.specs.List.{flat_map}
+use Rattle.sheet_plan.specs.LineKinds.{Look, frame_look, look_of}
 use Rattle.sheet_plan.specs.declared.sheet.Mark.{Mark}
 use Rattle.sheet_plan.specs.declared.sheet.Mark.TheVariants.{Solid, Dashed, Chain, Hatch}
 use Rattle.stroke_paths.specs.declared.path.Path.{Path}
@@ -10,6 +11,7 @@ use Rattle.svg_page.specs.Texts.{◌⊕◌}
 use Rattle.sheet_page.specs.Chains.{phase_between, phase_of}
 use Rattle.sheet_page.specs.Dashes.{length_of, fitted, with_decimals}
 use Rattle.sheet_page.specs.PdfWords.{words_of}
+use Rattle.sheet_page.specs.RuleLooks.{rule_look}
 use Rattle.sheet_page.specs.declared.dashes.Dashes.{Dashes}
 use Rattle.sheet_page.specs.declared.page.Circle.{Circle}
 use Rattle.sheet_page.specs.declared.page.Frame.{Frame}
@@ -25,10 +27,17 @@ use Rattle.sheet_page.specs.declared.page.Rule.{Rule}
 abbrev pub points : ℤ → List ℕ
 points n = with_decimals ((72000 * unsigned_abs n + 127) / 254)
 
+-- the pen of a line, before its dashes, which begin so far into their pattern; and one without dashes
+abbrev pub pen_start : Look → List ℕ
+pen_start look = look.width ⊕ codes " w " ⊕ (if look.round then codes "1" else codes "0") ⊕ codes " J ["
+
+abbrev pub plain_pen : Look → List ℕ
+plain_pen look = pen_start look ⊕ codes "] 0 d"
+
 -- a rectangle that is drawn
 abbrev pub frame_line : Frame → List ℕ
 frame_line f =
-    codes "70 w 0 J [] 0 d " ⊕ signed_decimal f.x ⊕ codes " " ⊕ signed_decimal f.y
+    plain_pen frame_look ⊕ codes " " ⊕ signed_decimal f.x ⊕ codes " " ⊕ signed_decimal f.y
     ⊕ codes " " ⊕ signed_decimal f.width ⊕ codes " " ⊕ signed_decimal f.height ⊕ codes " re S\n"
 
 -- a text at a point, upright where y goes down
@@ -40,19 +49,19 @@ label_line l = before_words l ++ words_of l.text ++ codes ") Tj ET\n"
 
 -- a pen with dashes, or with none
 abbrev pub dashed_pen : Option Dashes → List ℕ
-dashed_pen (Some d) = codes "35 w 0 J [" ⊕ with_decimals d.dash ⊕ codes " " ⊕ with_decimals d.gap ⊕ codes "] 0 d\n"
-dashed_pen None = codes "35 w 0 J [] 0 d\n"
+dashed_pen (Some d) = pen_start (look_of Dashed) ⊕ with_decimals d.dash ⊕ codes " " ⊕ with_decimals d.gap ⊕ codes "] 0 d\n"
+dashed_pen None = plain_pen (look_of Dashed) ⊕ codes "\n"
 
 -- a pen for chain lines, so far into its pattern
 abbrev pub chain_pen : ℤ → List ℕ
-chain_pen n = codes "25 w 0 J [600 150 75 150] " ⊕ signed_decimal n ⊕ codes " d\n"
+chain_pen n = pen_start (look_of Chain) ⊕ (look_of Chain).dashes ⊕ codes "] " ⊕ signed_decimal n ⊕ codes " d\n"
 
 -- the pen of a mark, where dashes are these and a chain line begins so far into its pattern
 abbrev pub pen : Mark → Option Dashes → ℤ → List ℕ
-pen Solid dashes n = codes "50 w 1 J [] 0 d\n"
+pen Solid dashes n = plain_pen (look_of Solid) ⊕ codes "\n"
 pen Dashed dashes n = dashed_pen dashes
 pen Chain dashes n = chain_pen n
-pen Hatch dashes n = codes "18 w 0 J [] 0 d\n"
+pen Hatch dashes n = plain_pen (look_of Hatch) ⊕ codes "\n"
 
 -- a step to a point
 abbrev pub point_line : List ℕ → Point → List ℕ
@@ -78,18 +87,18 @@ path_lines path =
 
 -- the pen of a rule, where a chain line begins so far into its pattern
 abbrev pub rule_pen : Pen → ℤ → List ℕ
-rule_pen rule.Thin n = codes "25 w 0 J [] 0 d\n"
-rule_pen rule.Strong n = codes "35 w 1 J [] 0 d\n"
+rule_pen rule.Thin n = plain_pen (rule_look rule.Thin) ⊕ codes "\n"
+rule_pen rule.Strong n = plain_pen (rule_look rule.Strong) ⊕ codes "\n"
 rule_pen rule.Chain n = chain_pen n
 
 -- a straight line
 abbrev pub rule_lines : Rule → List ℕ
 rule_lines r = rule_pen r.pen (phase_between r.from r.to) ++ point_line (codes " m\n") r.from ++ point_line (codes " l\n") r.to ++ stroke false
 
--- the pen of a circle, its centre as the origin, and its right end, where it begins
+-- the pen of a circle, as wide as that of a strong rule, its centre as the origin, and its right end, where it begins
 abbrev pub circle_start : Circle → List ℕ
 circle_start c =
-    codes "35 w 0 J [] 0 d q 1 0 0 1 " ⊕ signed_decimal c.x ⊕ codes " " ⊕ signed_decimal c.y ⊕ codes " cm\n" ⊕ decimal c.radius ⊕ codes " 0 m "
+    (rule_look rule.Strong).width ⊕ codes " w 0 J [] 0 d q 1 0 0 1 " ⊕ signed_decimal c.x ⊕ codes " " ⊕ signed_decimal c.y ⊕ codes " cm\n" ⊕ decimal c.radius ⊕ codes " 0 m "
 
 -- a circle of four arcs around the origin, y going down; k is how far the points that lead an arc are beside its ends
 abbrev pub lower_right : ℕ → ℕ → List ℕ

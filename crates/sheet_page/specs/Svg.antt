@@ -4,6 +4,7 @@ use Rattle.std.specs.List.{flat_map}
 use Rattle.std.specs.Fmt.{decimal, signed_decimal}
 use Rattle.sheet_page.specs.Chains.{phase_between, phase_of}
 use Rattle.sheet_page.specs.Dashes.{own_dashes, with_decimals}
+use Rattle.sheet_page.specs.RuleLooks.{rule_look}
 use Rattle.sheet_page.specs.declared.dashes.Dashes.{Dashes}
 use Rattle.sheet_page.specs.declared.page.Circle.{Circle}
 use Rattle.sheet_page.specs.declared.page.Frame.{Frame}
@@ -14,6 +15,7 @@ use Rattle.sheet_page.specs.declared.page.Page.{Page}
 use Rattle.sheet_page.specs.declared.page.Pen.{Pen}
 use Rattle.sheet_page.specs.declared.page.Pen.TheVariants as pen
 use Rattle.sheet_page.specs.declared.page.Rule.{Rule}
+use Rattle.sheet_plan.specs.LineKinds.{Look, frame_look, look_of}
 use Rattle.sheet_plan.specs.declared.sheet.Mark.{Mark}
 use Rattle.sheet_plan.specs.declared.sheet.Mark.TheVariants.{Solid, Dashed, Chain, Hatch}
 use Rattle.stroke_paths.specs.declared.path.Path.{Path}
@@ -21,13 +23,23 @@ use Rattle.stroke_paths.specs.declared.path.Point.{Point}
 use Rattle.svg_page.specs.Svg.{millimetres, opening, escaped}
 use Rattle.svg_page.specs.Texts.{◌⊕◌}
 
--- how each class of lines is drawn; only a trace has dashes of its class
+-- how a class of lines is drawn, with what else its style says
+abbrev pub style_of : Look → List ℕ → List ℕ
+style_of look more =
+    codes "." ⊕ look.class ⊕ codes "{stroke-width:" ⊕ look.width ⊕ (if look.round then codes ";stroke-linecap:round" else []) ⊕ more ⊕ codes "}\n"
+
+-- the lines of a path are joined by round corners
+abbrev pub round_joins : List ℕ
+round_joins = codes ";stroke-linejoin:round"
+
+-- each class; only a trace has dashes of its class
 unfoldable pub classes : List ℕ
 classes =
-    codes "path,line,circle,.frame{fill:none;stroke:black}\n" ⊕ codes "text{font-family:sans-serif}\n" ⊕ codes ".frame{stroke-width:70}\n"
-    ⊕ codes ".thin{stroke-width:25}\n" ⊕ codes ".strong{stroke-width:35;stroke-linecap:round}\n"
-    ⊕ codes ".visible{stroke-width:50;stroke-linecap:round;stroke-linejoin:round}\n" ⊕ codes ".hidden{stroke-width:35;stroke-linejoin:round}\n"
-    ⊕ codes ".trace{stroke-width:25;stroke-linejoin:round;stroke-dasharray:600 150 75 150}\n" ⊕ codes ".hatch{stroke-width:18}\n</style>\n"
+    codes "path,line,circle,.frame{fill:none;stroke:black}\n" ⊕ codes "text{font-family:sans-serif}\n"
+    ⊕ style_of frame_look [] ⊕ style_of (rule_look pen.Thin) [] ⊕ style_of (rule_look pen.Strong) []
+    ⊕ style_of (look_of Solid) round_joins ⊕ style_of (look_of Dashed) round_joins
+    ⊕ style_of (look_of Chain) (round_joins ⊕ codes ";stroke-dasharray:" ⊕ (look_of Chain).dashes)
+    ⊕ style_of (look_of Hatch) [] ⊕ codes "</style>\n"
 
 -- a sheet of w by h millimetres is printed as large as it is
 unfoldable pub paper : ℤ → ℤ → List ℕ
@@ -45,19 +57,14 @@ head width height =
 -- the line of a frame
 abbrev pub frame_line : Frame → List ℕ
 frame_line f =
-    codes "<rect class=\"frame\" x=\"" ⊕ signed_decimal f.x ⊕ codes "\" y=\"" ⊕ signed_decimal f.y ⊕ codes "\" width=\""
+    codes "<rect class=\"" ⊕ frame_look.class ⊕ codes "\" x=\"" ⊕ signed_decimal f.x ⊕ codes "\" y=\"" ⊕ signed_decimal f.y ⊕ codes "\" width=\""
     ⊕ signed_decimal f.width ⊕ codes "\" height=\"" ⊕ signed_decimal f.height ⊕ codes "\"/>\n"
 
 -- how far into its pattern a chain line begins
 abbrev pub dash_offset : ℤ → List ℕ
 dash_offset n = codes " stroke-dashoffset=\"" ⊕ signed_decimal n ⊕ codes "\""
 
--- the class of a rule, and a chain line's place in its pattern
-abbrev pub pen_class : Pen → List ℕ
-pen_class pen.Thin = codes "thin"
-pen_class pen.Strong = codes "strong"
-pen_class pen.Chain = codes "trace"
-
+-- a chain line's place in its pattern
 abbrev pub pen_offset : Pen → ℤ → List ℕ
 pen_offset pen.Thin n = []
 pen_offset pen.Strong n = []
@@ -69,7 +76,7 @@ rule_offset r = pen_offset r.pen (phase_between r.from r.to)
 -- the line of a rule
 abbrev pub rule_start : Rule → List ℕ
 rule_start r =
-    codes "<line class=\"" ⊕ pen_class r.pen ⊕ codes "\" x1=\"" ⊕ signed_decimal r.from.x ⊕ codes "\" y1=\"" ⊕ signed_decimal r.from.y
+    codes "<line class=\"" ⊕ (rule_look r.pen).class ⊕ codes "\" x1=\"" ⊕ signed_decimal r.from.x ⊕ codes "\" y1=\"" ⊕ signed_decimal r.from.y
     ⊕ codes "\" x2=\"" ⊕ signed_decimal r.to.x ⊕ codes "\" y2=\"" ⊕ signed_decimal r.to.y ⊕ codes "\""
 
 abbrev pub rule_line : Rule → List ℕ
@@ -78,7 +85,7 @@ rule_line r = rule_start r ++ rule_offset r ++ codes "/>\n"
 -- the line of a circle
 abbrev pub circle_line : Circle → List ℕ
 circle_line c =
-    codes "<circle class=\"strong\" cx=\"" ⊕ signed_decimal c.x ⊕ codes "\" cy=\"" ⊕ signed_decimal c.y ⊕ codes "\" r=\"" ⊕ decimal c.radius ⊕ codes "\"/>\n"
+    codes "<circle class=\"" ⊕ (rule_look pen.Strong).class ⊕ codes "\" cx=\"" ⊕ signed_decimal c.x ⊕ codes "\" cy=\"" ⊕ signed_decimal c.y ⊕ codes "\" r=\"" ⊕ decimal c.radius ⊕ codes "\"/>\n"
 
 -- what stands before a text in its line
 abbrev pub before_text : Label → List ℕ
@@ -97,13 +104,6 @@ standing (variant.Circle circle) = circle_line circle
 standing (variant.Label label) = label_line label
 standing (variant.Path path) = []
 
--- the class of a path
-abbrev pub class_of : Mark → List ℕ
-class_of Solid = codes "visible"
-class_of Dashed = codes "hidden"
-class_of Chain = codes "trace"
-class_of Hatch = codes "hatch"
-
 -- dashes, in hundredths of a millimetre; of a path that is drawn whole, nothing
 abbrev pub dash_array : Option Dashes → List ℕ
 dash_array None = []
@@ -118,7 +118,7 @@ own_offset Hatch points = []
 
 -- a path begins with its class
 unfoldable pub path_start : Mark → List ℕ
-path_start mark = codes "<path class=\"" ⊕ class_of mark ⊕ codes "\""
+path_start mark = codes "<path class=\"" ⊕ (look_of mark).class ⊕ codes "\""
 
 -- to a point, by this letter
 abbrev pub to_point : List ℕ → Point → List ℕ

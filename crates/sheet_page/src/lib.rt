@@ -1,17 +1,25 @@
-//! A page: what stands on a sheet of paper, and its text as SVG and as PDF.
+//! A page: what stands on a sheet of paper, its title block among it, and its text as SVG and as PDF.
 //!
-//! Lengths are in hundredths of a millimetre; x goes to the right and y goes down, from the upper left corner.
+//! Lengths are in hundredths of a millimetre; x goes to the right and y goes down, from the upper left corner. The title block stands
+//! in the lower right corner of the sheet's frame, 180 mm wide and 22 mm high. Nothing of it is outside, and no view comes near to it,
+//! not even with the marks of cuts, which reach 7 mm beyond a view (lemma `clear_of_views`).
 #![tactic(auto)]
 
+mod block;
+mod block_names;
 mod chains;
 mod dashes;
+mod labels;
 mod page;
 mod pdf_content;
 mod pdf_objects;
 mod pdf_text;
 mod pdf_words;
+mod rules;
 mod svg_text;
+mod symbol;
 
+pub use block::title_block;
 pub use dashes::{Dashes, dashes_of};
 pub use page::{Circle, Frame, Item, Label, Page, Pen, Rule};
 pub use pdf_text::pdf;

@@ -1,11 +1,11 @@
 // The text of a page as SVG.
 ghost use Rattle.std.specs.Prelude.{◌≡◌, ◌<◌, ◌^◌, ◌++◌, pos, ◌≤ℤ◌, unsigned_abs, IfOk, OnOk, string_bytes};
 ghost use Rattle.std.specs.List.{All, flat_map};
-ghost use Rattle.svg_page.specs.Svg.{escaped, opening};
 ghost use Rattle.sheet_page.specs.Chains.{phase_between, phase_of};
 ghost use Rattle.sheet_page.specs.Dashes.{own_dashes};
 ghost use Rattle.sheet_page.specs.Pages.{IsInView};
-ghost use Rattle.sheet_page.specs.Svg.{classes, paper, ground, head, frame_line, dash_offset, pen_class, rule_offset, rule_start, rule_line, circle_line, before_text, label_line, standing, class_of, dash_array, own_offset, to_point, route, path_line, drawn_in, group, group_start, path_start, svg_of};
+ghost use Rattle.sheet_page.specs.RuleLooks.{rule_look};
+ghost use Rattle.sheet_page.specs.Svg.{classes, paper, ground, head, frame_line, dash_offset, rule_offset, rule_start, rule_line, circle_line, before_text, label_line, standing, dash_array, own_offset, to_point, route, path_line, drawn_in, group, group_start, path_start, svg_of};
 
 use crate::chains::{phase_between, phase_of};
 use crate::dashes::{Dashes, dashes_of, with_decimals};
@@ -14,6 +14,7 @@ use exact_frac::OutOfMemory;
 use sheet_plan::Mark;
 use std::alloc::{AllocError, Global};
 use stroke_paths::{Path, Point};
+use svg_page::{add_escaped, opening};
 
 /// The text of a page in SVG (version 1.1): what isn't a path, and for each view a group of its paths, which a program can
 /// show or hide. A hidden path's dashes are fitted to it. Each path is of one of the page's views.
@@ -47,16 +48,6 @@ fn add_head(alloc: Global, text: &mut Vec<u8>, width: i64, height: i64) -> Resul
     text.extend_from_slice(classes().as_bytes())?;
     text.extend_from_slice(ground(alloc, width, height)?.as_bytes())?;
     Ok(())
-}
-
-/// The beginning of a sheet of `w` by `h` millimetres.
-fn opening(alloc: Global, w: i64, h: i64, width: i64, height: i64) -> Result<String, AllocError>
-    ensures { IfOk result (λ text. string_bytes text ≡ opening w h width height) }
-{
-    format!(in alloc;
-        "<?xml version=\"1.0\" encoding=\"UTF-8\"?>\n\
-         <svg xmlns=\"http://www.w3.org/2000/svg\" width=\"{w}mm\" height=\"{h}mm\" viewBox=\"0 0 {width} {height}\">\n"
-    )
 }
 
 /// How large a sheet of `w` by `h` millimetres is printed.
@@ -122,12 +113,12 @@ fn frame_line(alloc: Global, frame: &Frame) -> Result<String, AllocError>
 
 /// The class of a rule.
 fn pen_class(pen: Pen) -> &'static str
-    ensures { result.now ≡ pen_class pen }
+    ensures { result.now ≡ (rule_look pen).class }
 {
     match pen {
         Pen::Thin => "thin",
         Pen::Strong => "strong",
-        Pen::Chain => "trace",
+        Pen::Chain => Mark::Chain.class(),
     }
 }
 
@@ -194,30 +185,6 @@ fn before_text(alloc: Global, label: &Label) -> Result<String, AllocError>
     format!(in alloc; "<text x=\"{x}\" y=\"{y}\" font-size=\"{size}\">")
 }
 
-/// Adds a text, each byte by its name where it has one in XML.
-fn add_escaped(text: &mut Vec<u8>, written: &str) -> Result<(), OutOfMemory>
-    ensures { OnOk result (text.new.items ≡ text.old.items ++ flat_map escaped written.now) }
-{
-    for byte in written.as_bytes() {
-        add_byte(text, *byte)?;
-    }
-    Ok(())
-}
-
-/// Adds a byte of a text.
-fn add_byte(text: &mut Vec<u8>, byte: u8) -> Result<(), OutOfMemory>
-    ensures { OnOk result (text.new.items ≡ text.old.items ++ escaped byte) }
-{
-    match byte {
-        b'&' => text.extend_from_slice("&amp;".as_bytes())?,
-        b'<' => text.extend_from_slice("&lt;".as_bytes())?,
-        b'>' => text.extend_from_slice("&gt;".as_bytes())?,
-        b'"' => text.extend_from_slice("&quot;".as_bytes())?,
-        _ => text.push(byte)?,
-    }
-    Ok(())
-}
-
 /// Adds the group of a view.
 fn add_group(
     alloc: Global,
@@ -271,20 +238,8 @@ fn add_path(alloc: Global, text: &mut Vec<u8>, path: &Path) -> Result<(), OutOfM
 fn path_start(alloc: Global, mark: Mark) -> Result<String, AllocError>
     ensures { IfOk result (λ text. string_bytes text ≡ path_start mark) }
 {
-    let class = class_of(mark);
+    let class = mark.class();
     format!(in alloc; "<path class=\"{class}\"")
-}
-
-/// The class of a path.
-fn class_of(mark: Mark) -> &'static str
-    ensures { result.now ≡ class_of mark }
-{
-    match mark {
-        Mark::Solid => "visible",
-        Mark::Dashed => "hidden",
-        Mark::Chain => "trace",
-        Mark::Hatch => "hatch",
-    }
 }
 
 /// Adds the dashes of a path, if it has some of its own.

@@ -4,11 +4,17 @@ pub mod Bands
 pub mod BoxPlaces
 pub mod CellNames
 pub mod Extremes
+pub mod Greatest
 pub mod InLine
+pub mod Lengths
 pub mod Listed
+pub mod Moves
+pub mod OneKinds
 pub mod Ordered
+pub mod PlannedBoxes
 pub mod Rooms
 pub mod Roots
 pub mod Rounding
 pub mod Scales
 pub mod Sums
+pub mod Taken

@@ -10,7 +10,7 @@ use Rattle.sheet_plan.specs.declared.errors.PlanError.{PlanError}
 use Rattle.sheet_plan.specs.declared.errors.PlanError.TheVariants.{DoesNotFit, Memory}
 use Rattle.sheet_plan.specs.Layout.{shapes_of, need_w, need_h, have_w, have_h, HaveRoom}
 use Rattle.sheet_plan.specs.Numbers.{Measure}
-use Rattle.sheet_plan.specs.Plans.{sheet_width, sheet_height, job_shapes, FitsAt, fit_dens, NoneFits, HasNoRoom, HasNoScale, IsRefused}
+use Rattle.sheet_plan.specs.Plans.{sheet_width, sheet_height, job_shapes, FitsAt, fit_dens, NoneFits, HasNoRoom, HasNoScale, IsSheetRefused}
 use Rattle.sheet_plan.specs.inner.Refusals.{IsRefusedAt}
 
 pub length_shapes_of : (third : Bool) (m : Measure) (vs : List JobView) (es : List Extent) → length vs ≡ length es → length (shapes_of third m vs es) ≡ length vs
@@ -68,7 +68,7 @@ module _ (job : Job) (extents : List Extent) (num den : ℕ) (none : job.scale �
       by_cases (suc (suc (suc (suc (suc (suc zero)))))) d h at = let e : 100 ≡ d = cc in subst (λ (n : ℕ). ¬ FitsAt job extents 1 n) e fails
       by_cases (suc (suc (suc (suc (suc (suc (suc j))))))) d h at = absurd (omega arith)
 
-  pub refused_last : (e : PlanError) → IsRefusedAt job extents num den e → IsRefused job extents e
+  pub refused_last : (e : PlanError) → IsRefusedAt job extents num den e → IsSheetRefused job extents e
   refused_last (DoesNotFit w h a b) r =
       let s = at_hundred w h a b r in
       subst (λ (z : Option Scale). HasNoScale z job extents w h a b) (sym none) (none_fits s.not_fit, s)

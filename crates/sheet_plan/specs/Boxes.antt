@@ -7,9 +7,10 @@ use Rattle.job_file.specs.declared.view.JobView.{JobView}
 use Rattle.job_file.specs.declared.view.Principal.{Principal}
 use Rattle.job_file.specs.declared.view.Principal.TheVariants.{Front, Back, Left, Right, Above, Below}
 use Rattle.sheet_plan.specs.declared.bounds.Extent.{Extent}
+use Rattle.sheet_plan.specs.declared.boxes.ViewBox.{ViewBox}
 use Rattle.sheet_plan.specs.declared.sheet.Sheet.{Sheet}
 use Rattle.sheet_plan.specs.declared.sheet.Spread.{Spread}
-use Rattle.sheet_plan.specs.Extents.{AreExtents}
+use Rattle.sheet_plan.specs.Extents.{IsExtent, AreExtents}
 use Rattle.sheet_plan.specs.Layout.{gap, margin, across_at, upward_at}
 use Rattle.sheet_plan.specs.Numbers.{Measure, measure_of}
 use Rattle.sheet_plan.specs.Sheets.{IsPlaceOf}
@@ -20,6 +21,9 @@ pub record Box : Type 0 where
   pub right : ℤ
   pub top : ℤ
   pub bottom : ℤ
+
+abbrev pub box_of : ViewBox → Box
+box_of b = record { left = b.left; right = b.right; top = b.top; bottom = b.bottom }
 
 -- what a view takes at this place, from its least to its greatest U and V
 abbrev pub box_at : Measure → Spread → Extent → Box
@@ -32,7 +36,15 @@ box_at m place e =
       bottom = place.y0 -ℤ upward_at m d e.v_min;
     }
 
--- the view with this number has this box
+-- the view with this number, which shows a part with these corners, takes this box
+pub record TakesBox (sheet : Sheet) (corners : List Corner) (view : ℕ) (box : Box) : Type 0 where
+  pub place : Spread
+  pub extent : Extent
+  pub stands : IsPlaceOf sheet view place
+  pub reaches : IsExtent (of_dir place.d) corners extent
+  pub is : box ≡ box_at (measure_of sheet.scale sheet.decimals) place extent
+
+-- the same where only the views' extents are known
 pub record IsBoxOf (sheet : Sheet) (extents : List Extent) (view : ℕ) (box : Box) : Type 0 where
   pub place : Spread
   pub extent : Extent
@@ -41,11 +53,11 @@ pub record IsBoxOf (sheet : Sheet) (extents : List Extent) (view : ℕ) (box : B
   pub is : box ≡ box_at (measure_of sheet.scale sheet.decimals) place extent
 
 -- the first is to the left of the second or above it, with the gap between them
-abbrev pub StandsBefore : Box → Box → Type 0
-StandsBefore a b = ((a.right +ℤ gap) ≤ℤ b.left) ⊎ ((a.bottom +ℤ gap) ≤ℤ b.top)
+abbrev pub BoxStandsBefore : Box → Box → Type 0
+BoxStandsBefore a b = ((a.right +ℤ gap) ≤ℤ b.left) ⊎ ((a.bottom +ℤ gap) ≤ℤ b.top)
 
 abbrev pub AreApart : Box → Box → Type 0
-AreApart a b = StandsBefore a b ⊎ StandsBefore b a
+AreApart a b = BoxStandsBefore a b ⊎ BoxStandsBefore b a
 
 -- no two views are nearer to one another than the gap
 abbrev pub ViewsAreApart : List Extent → Sheet → Type 0

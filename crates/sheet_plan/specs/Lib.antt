@@ -1,6 +1,8 @@
 pub mod Boxes
+pub mod Centred
 pub mod Extents
 pub mod Layout
+pub mod LineKinds
 pub mod Numbers
 pub mod Plans
 pub mod Sheets

@@ -91,6 +91,6 @@ HasNoScale (Some scale) job extents w h room_w room_h = HasNoRoom job extents sc
 HasNoScale None job extents w h room_w room_h = NoneFits job extents 7 × HasNoRoom job extents 1 100 w h room_w room_h
 
 -- why a job has no sheet
-abbrev pub IsRefused : Job → List Extent → PlanError → Type 0
-IsRefused job extents (DoesNotFit w h room_w room_h) = HasNoScale job.scale job extents w h room_w room_h
-IsRefused job extents (Memory e) = Unit {0}
+abbrev pub IsSheetRefused : Job → List Extent → PlanError → Type 0
+IsSheetRefused job extents (DoesNotFit w h room_w room_h) = HasNoScale job.scale job extents w h room_w room_h
+IsSheetRefused job extents (Memory e) = Unit {0}

@@ -11,9 +11,9 @@ use solid_mesh::Solid;
 
 /// From where to where a solid reaches along an axis.
 #[derive(Clone, Copy)]
-struct Reach {
-    least: i64,
-    greatest: i64,
+pub struct Reach {
+    pub least: i64,
+    pub greatest: i64,
 }
 
 /// How far the solid reaches, seen from `d`. Goes twice over the corners.
@@ -31,8 +31,8 @@ pub fn extent(solid: &Solid, d: &Dir) -> Extent
     }
 }
 
-/// The least and the greatest product of a corner with the axis.
-fn reach_along(solid: &Solid, axis: &Vector) -> Reach
+/// The least and the greatest product of a corner with the axis. Goes once over the corners.
+pub fn reach_along(solid: &Solid, axis: &Vector) -> Reach
     requires { IsWithin 162 (of_vector axis.now) }
     ensures least { IsLeast (λ c. dot (of_vector axis.now) (scaled (point_of c))) (solid_part solid.now).corners result.least }
     ensures greatest { IsGreatest (λ c. dot (of_vector axis.now) (scaled (point_of c))) (solid_part solid.now).corners result.greatest }

@@ -2,13 +2,20 @@
 //!
 //! Lengths on the sheet are in hundredths of a millimetre, rounded to the nearest whole number, exactly. x goes to the right
 //! and y goes down, from the sheet's upper left corner.
+//!
+//! `plan` puts the views at the upper left of what a sheet has for them, from 20 mm from its left and upper edge to 20 mm from its right
+//! and 40 mm from its lower edge. `centred` moves them to the right and down, by half of what is left there: all by the same, so that
+//! they stay in line, and still apart and within the margins.
 #![tactic(auto)]
 
 mod bounds;
+mod boxes;
 mod cells;
+mod centring;
 mod errors;
 mod extents;
 mod formats;
+mod kinds;
 mod layout;
 mod numbers;
 mod planning;
@@ -17,8 +24,10 @@ mod sheet;
 mod strokes;
 
 pub use bounds::Extent;
+pub use boxes::ViewBox;
+pub use centring::centred;
 pub use errors::PlanError;
-pub use extents::extent;
+pub use extents::{Reach, extent, reach_along};
 pub use numbers::Ruler;
 pub use planning::plan;
 pub use sheet::{Mark, Sheet, Spread, Stroke};

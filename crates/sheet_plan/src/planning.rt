@@ -4,7 +4,7 @@ ghost use Rattle.sheet_plan.specs.Boxes.{ViewsAreApart, ViewsAreWithinMargins, S
 ghost use Rattle.sheet_plan.specs.Layout.{HaveRoom};
 ghost use Rattle.sheet_plan.specs.Numbers.{measure_of};
 ghost use Rattle.sheet_plan.specs.inner.Sizes.{AreShapes};
-ghost use Rattle.sheet_plan.specs.Plans.{paper_width, paper_height, sheet_width, sheet_height, fit_dens, IsSheetAt, IsPlanned, IsRefused};
+ghost use Rattle.sheet_plan.specs.Plans.{paper_width, paper_height, sheet_width, sheet_height, fit_dens, IsSheetAt, IsPlanned, IsSheetRefused};
 ghost use Rattle.sheet_plan.specs.inner.Refusals.{IsRefusedAt};
 
 use crate::bounds::Extent;
@@ -31,7 +31,7 @@ use std::alloc::Global;
 pub fn plan(alloc: Global, job: &Job, extents: &[Extent]) -> Result<Sheet, PlanError>
     requires { length job.now.views.items ≡ length extents.now }
     ensures planned { IfOk result (IsPlanned job.now extents.now) }
-    ensures refused { IfErr result (IsRefused job.now extents.now) }
+    ensures refused { IfErr result (IsSheetRefused job.now extents.now) }
     ensures apart { IfOk result (ViewsAreApart extents.now) }
     ensures within_margins { IfOk result (ViewsAreWithinMargins extents.now) }
     ensures columns { IfOk result (StandInColumn job.now extents.now) }
@@ -48,7 +48,7 @@ fn fit(alloc: Global, job: &Job, extents: &[Extent]) -> Result<Sheet, PlanError>
     requires none { job.now.scale ≡ None }
     requires count { length job.now.views.items ≡ length extents.now }
     ensures planned { IfOk result (IsPlanned job.now extents.now) }
-    ensures refused { IfErr result (IsRefused job.now extents.now) }
+    ensures refused { IfErr result (IsSheetRefused job.now extents.now) }
 {
     for i in 0..6 {
         match plan_at(alloc, job, extents, fit_scale(i)) {

@@ -111,7 +111,7 @@ fn whole(number: i64) -> Frac
 }
 
 /// U of a corner, on the sheet.
-fn across_at(ruler: &Ruler, d: &Dir, u: i64) -> i64
+pub(crate) fn across_at(ruler: &Ruler, d: &Dir, u: i64) -> i64
     requires { unsigned_abs u < 2 ^ 29 }
     ensures value { result ≡ across_at (measure_of ruler.now.scale ruler.now.decimals) (of_dir d.now) u }
     ensures size { unsigned_abs result ≤ 2 ^ 45 }
@@ -120,7 +120,7 @@ fn across_at(ruler: &Ruler, d: &Dir, u: i64) -> i64
 }
 
 /// V of a corner, on the sheet.
-fn upward_at(ruler: &Ruler, d: &Dir, v: i64) -> i64
+pub(crate) fn upward_at(ruler: &Ruler, d: &Dir, v: i64) -> i64
     requires { unsigned_abs v < 2 ^ 29 }
     ensures value { result ≡ upward_at (measure_of ruler.now.scale ruler.now.decimals) (of_dir d.now) v }
     ensures size { unsigned_abs result ≤ 2 ^ 45 }

@@ -1,10 +1,9 @@
 // Where spots stand on a sheet, and the strokes of pieces and of hatch lines.
 ghost use Rattle.std.specs.Prelude.{◌≡◌, ◌<◌, ◌≤◌, length};
-ghost use Rattle.sheet_plan.specs.Sheets.{mark_of};
 
 use crate::numbers::Ruler;
 use crate::sheet::{Mark, Sheet, Spread, Stroke};
-use lattice::{HatchLine, Piece, Spot, Style, across, upward};
+use lattice::{HatchLine, Piece, Spot, across, upward};
 
 impl Sheet {
     ghost use Rattle.lattice.specs.Points.{of_spot};
@@ -25,7 +24,7 @@ impl Sheet {
         requires { view < length self.now.places.items }
         ensures { (place : Spread) → IsPlaceOf self.now view place → IsStrokeAt self.now view place piece.now result }
     {
-        let mark = mark_of(piece.style);
+        let mark = Mark::of(piece.style);
         self.stroke_between(view, &self.places[view as usize], mark, &piece.a, &piece.b)
     }
 
@@ -84,16 +83,5 @@ impl Sheet {
             x2,
             y2,
         }
-    }
-}
-
-/// The mark of a style.
-fn mark_of(style: Style) -> Mark
-    ensures { result ≡ mark_of style }
-{
-    match style {
-        Style::Solid => Mark::Solid,
-        Style::Dashed => Mark::Dashed,
-        Style::Chain => Mark::Chain,
     }
 }

@@ -10,6 +10,7 @@ use Rattle.clap.specs.declared.parser.matches.ValueSource.TheVariants.{CommandLi
 use Rattle.sheet_words.specs.inner.Seen.{given_in}
 use Rattle.sheet_words.specs.Grammar.{Given, Role, as_hidden, as_job, as_list, as_out, as_part, text_as, with_text}
 use Rattle.sheet_words.proofs.WordLemmas.{IsFault, id_of, rule_as}
+use Rattle.draw_words.proofs.RowLemmas.{at_row-missing, new_row}
 
 -- ---- rows
 abbrev pub row : Role → Text → Row
@@ -21,14 +22,14 @@ row role text = record {
   reading = reading_by (rule_as as_part);
 }
 
-abbrev row_with : Text → List Row → Option Row
+abbrev pub row_with : Text → List Row → Option Row
 row_with id rows = find (λ r. bytes_eq r.id id) rows
 
 -- each role has the row of its text, if it has one
 abbrev pub Holds : Given → List Row → Type 0
 Holds g rows = (role : Role) → row_with (id_of role) rows ≡ option_map (row role) (text_as role g)
 
-has_row-is : (id : Text) (rows : List Row) → has_row id rows ≡ is_some (row_with id rows)
+pub has_row-is : (id : Text) (rows : List Row) → has_row id rows ≡ is_some (row_with id rows)
 has_row-is id [] = refl
 has_row-is id (r ∷ rows) = go (bytes_eq r.id id) refl (has_row-is id rows)
   where
@@ -36,7 +37,7 @@ has_row-is id (r ∷ rows) = go (bytes_eq r.id id) refl (has_row-is id rows)
     go true e later = rw e refl
     go false e later = rw e later
 
-is_some-map : {X Y : Type 0} (f : X → Y) (o : Option X) → is_some (option_map f o) ≡ is_some o
+pub is_some-map : {X Y : Type 0} (f : X → Y) (o : Option X) → is_some (option_map f o) ≡ is_some o
 is_some-map f None = refl
 is_some-map f (Some x) = refl
 
@@ -44,20 +45,6 @@ held_row : (role : Role) (g : Given) (rows : List Row) → Holds g rows → has_
 held_row role g rows holds = has_row-is (id_of role) rows ∙ ap is_some (holds role) ∙ is_some-map (row role) (text_as role g)
 
 -- ---- one more row
-at_row-missing : (id : Text) (change : Row → List Row) (missing rows : List Row) → has_row id rows ≡ false → at_row id change missing rows ≡ rows ++ missing
-at_row-missing id change missing [] none = refl
-at_row-missing id change missing (r ∷ rows) none = go (bytes_eq r.id id) refl (at_row-missing id change missing rows)
-  where
-    go : (t : Bool) → bytes_eq r.id id ≡ t → (has_row id rows ≡ false → at_row id change missing rows ≡ rows ++ missing)
-        → at_row id change missing (r ∷ rows) ≡ r ∷ rows ++ missing
-    go true e later = absurd (true≢false (rw e at none))
-    go false e later = rw e (ap (λ (rest : List Row). r ∷ rest) (later (rw e at none)))
-
-new_row : (id : Text) (how : Reading) (v : Text) (rows : List Row) → has_row id rows ≡ false
-    → with_values id how CommandLine (v ∷ []) (without id rows) ≡ rows ++ (record { id = id; values = v ∷ []; count = None; source = Some CommandLine; reading = how }) ∷ []
-new_row id how v rows none =
-    let kept : without id rows ≡ rows = at_row-missing id (λ _. []) [] rows none ∙ append-nil rows in
-    ap (with_values id how CommandLine (v ∷ [])) kept ∙ at_row-missing id (more_values CommandLine (v ∷ [])) _ rows none
 
 -- the first use of an argument adds its row at the end
 used_first : (role : Role) (v : Text) (rows : List Row) → has_row (id_of role) rows ≡ false → used (rule_as role) (v ∷ []) rows ≡ rows ++ row role v ∷ []
@@ -67,7 +54,7 @@ used_first as_out v rows none = new_row (id_of as_out) (reading_by (rule_as as_p
 used_first as_list v rows none = new_row (id_of as_list) (reading_by (rule_as as_part)) v rows none
 used_first as_hidden v rows none = new_row (id_of as_hidden) (reading_by (rule_as as_part)) v rows none
 
-row_at_end : (id : Text) (rows : List Row) (r : Row) → row_with id rows ≡ None → bytes_eq r.id id ≡ true → row_with id (rows ++ r ∷ []) ≡ Some r
+pub row_at_end : (id : Text) (rows : List Row) (r : Row) → row_with id rows ≡ None → bytes_eq r.id id ≡ true → row_with id (rows ++ r ∷ []) ≡ Some r
 row_at_end id [] r none is = rw is refl
 row_at_end id (x ∷ rows) r none is = go (bytes_eq x.id id) refl (row_at_end id rows r)
   where
@@ -75,7 +62,7 @@ row_at_end id (x ∷ rows) r none is = go (bytes_eq x.id id) refl (row_at_end id
     go true e later = absurd (true≢false (ap is_some (rw e at none)))
     go false e later = rw e (later (rw e at none) is)
 
-other_at_end : (id : Text) (rows : List Row) (r : Row) → bytes_eq r.id id ≡ false → row_with id (rows ++ r ∷ []) ≡ row_with id rows
+pub other_at_end : (id : Text) (rows : List Row) (r : Row) → bytes_eq r.id id ≡ false → row_with id (rows ++ r ∷ []) ≡ row_with id rows
 other_at_end id [] r other = rw other refl
 other_at_end id (x ∷ rows) r other = go (bytes_eq x.id id) refl (other_at_end id rows r other)
   where

@@ -17,7 +17,7 @@ use Rattle.draw_words.specs.Grammar.{is_marked}
 use Rattle.draw_words.specs.Seen.{texts}
 use Rattle.sheet_words.specs.inner.App.{sheet_app}
 use Rattle.sheet_words.specs.inner.Seen.{given_in, reading_by, sentence_seen}
-use Rattle.sheet_words.specs.declared.command.Sentence.{Sentence}
+use Rattle.sheet_words.specs.declared.command.SheetSentence.{SheetSentence}
 use Rattle.sheet_words.specs.Grammar as grammar
 use Rattle.sheet_words.specs.Grammar.{Given, Kind, Question, Reading, Role, all_given, as_hidden, as_job, as_list, as_out, as_part, asks, ends, gives, giving, nothing, opens, plain, plain_from, read_at, read_from, reading_of, refused, text_as, unknown_option, wants, with_text}
 use Rattle.sheet_words.proofs.WordLemmas.{Fails, IsFault, Reads, id_of, is_option, reads, rule_as, rules, top}
@@ -143,9 +143,9 @@ unsettled [] has_part h utf8 f none = fault_at_end (standing idle has_part false
 unsettled (word ∷ words) has_part h utf8 f none = go (is_marked word) refl
   where
     go : (b : Bool) → is_marked word ≡ b → IsFault (left_fault (standing idle has_part false h) (word ∷ words))
-    go true marked = unsettled_mark (grammar.kind_of word) word words idle has_part h (reads word utf8.0) marked f none
+    go true marked = unsettled_mark (grammar.sheet_word_kind word) word words idle has_part h (reads word utf8.0) marked f none
     go false unmarked = turn_fails refused (standing idle has_part false h) word words
-        (plain_fails false has_part word h (is_plain (grammar.kind_of word) word (reads word utf8.0) unmarked) (second_or_fault has_part (settle_fault rules false h) f))
+        (plain_fails false has_part word h (is_plain (grammar.sheet_word_kind word) word (reads word utf8.0) unmarked) (second_or_fault has_part (settle_fault rules false h) f))
 
 -- ---- a plain word, before `--` or behind it
 module _ (ended : Bool) (word : Text) (words : List Text) (g : Given) (h : Held) (next : Given → Reading) where
@@ -236,8 +236,8 @@ module _ (role : Role) (word : Text) (words : List Text) (g : Given) (rows : Lis
     where
       go : (b : Bool) → is_marked word ≡ b → TellsFrom (if b then refused else giving role word g (λ more. read_from None more words)) here (word ∷ words)
       go true marked =
-          unsettled_mark (grammar.kind_of word) word words (option (id_of role)) (is_part g) (waits role rows) (reads word utf8) marked (waiting_fault role rows) refl
-      go false unmarked = taken_word are (is_plain (grammar.kind_of word) word (reads word utf8) unmarked) later
+          unsettled_mark (grammar.sheet_word_kind word) word words (option (id_of role)) (is_part g) (waits role rows) (reads word utf8) marked (waiting_fault role rows) refl
+      go false unmarked = taken_word are (is_plain (grammar.sheet_word_kind word) word (reads word utf8) unmarked) later
 
 tells : (words : List Text) → AreUtf8 words → Later words
 unfolding AreUtf8
@@ -245,7 +245,7 @@ tells [] utf8 None g h c = closed_end false g h c
 tells [] utf8 (Some role) g h s =
     let held : waits role h.rows ≡ h = λ i. record { rows = h.rows; pending = sym s.pending i; skip = sym s.skip i } in
     fault_at_end (standing (option (id_of role)) (is_part g) false h) (subst (λ (held : Held). IsFault (settle_fault rules false held)) held (waiting_fault role h.rows))
-tells (word ∷ words) utf8 None g h c = closed_word (grammar.kind_of word) word words g h (reads word utf8.0) c (tells words utf8.1)
+tells (word ∷ words) utf8 None g h c = closed_word (grammar.sheet_word_kind word) word words g h (reads word utf8.0) c (tells words utf8.1)
 tells (word ∷ words) utf8 (Some role) g h s =
     let held : waits role h.rows ≡ h = λ i. record { rows = h.rows; pending = sym s.pending i; skip = sym s.skip i } in
     subst (λ (held : Held). TellsFrom (read_from (Some role) g (word ∷ words)) (standing (option (id_of role)) (is_part g) false held) (word ∷ words)) held
@@ -312,7 +312,7 @@ answered_words words e said (inl memory) is = absurd (true≢false (sym (ap is_s
 answered_words words e said (inr among) is =
     read_kind (reading_of (texts words)) (fault_of sheet_app (texts words)) (matches_of sheet_app (texts words)) (kind_of e) said (sentence words) among is
 
-pub answered_sentence : (words : List (String Global)) (e : Error) (k : ErrorKind) (r : Result Sentence WordsError) → HasKind (fault_of sheet_app (texts words)) e → k ≡ kind_of e
+pub answered_sentence : (words : List (String Global)) (e : Error) (k : ErrorKind) (r : Result SheetSentence WordsError) → HasKind (fault_of sheet_app (texts words)) e → k ≡ kind_of e
     → IfOk r (λ s. reading_by k ≡ Some (sentence_seen s)) → IfOk r (λ s. reading_of (texts words) ≡ sentence_seen s)
 answered_sentence words e k (Ok s) has same is = answered_words words e (sentence_seen s) has (sym (ap reading_by same) ∙ is)
 answered_sentence words e k (Err w) has same is = is

@@ -7,19 +7,16 @@ use Rattle.clap.specs.Lexer.{long_of}
 use Rattle.clap.specs.Walk.{Held, Row, Rule, Step, Text, Waiting, Walk, after_flag, after_step, finished, has_row, idle, is_pending, long_met, long_or_other, next, option, reacted, settled, short_or_plain, trailing, value, walked, with_default, word_met}
 use Rattle.clap.specs.declared.error.kind.ErrorKind.TheVariants.{DisplayHelp, DisplayVersion, UnknownArgument}
 use Rattle.clap.specs.declared.error.kind.ErrorKind.{ErrorKind}
-use Rattle.draw_words.proofs.WordLemmas.{is_end}
+use Rattle.draw_words.proofs.WordLemmas.{is_end, ReadsPlain}
 use Rattle.sheet_words.specs.Grammar.{Question, Reading, Role, as_hidden, as_job, as_list, as_out, as_part, asks, for_help, for_version}
-use Rattle.sheet_words.proofs.WordLemmas.{Fails, IsFault, ReadsFlag, ReadsPlain, ReadsUnknown, id_of, rule_as, rule_for, rules, top}
+use Rattle.sheet_words.proofs.WordLemmas.{Fails, IsFault, ReadsFlag, ReadsUnknown, id_of, rule_as, rule_for, rules, top}
+use Rattle.draw_words.proofs.TurnLemmas.{or_else-assoc, and_false, HasNoDefaults, same_rows, with_default-none, or_true, default_fault-none, all_defaults-none}
 
 -- ---- faults, one after the other
 pub first_fails : (r : Reading) (a b : Kinds) → Fails r a → Fails r (or_else a b)
 first_fails r [] b h = absurd h
 first_fails r (k ∷ []) b h = h
 first_fails r (k ∷ other ∷ ks) b h = absurd h
-
-or_else-assoc : (a b c : Kinds) → or_else (or_else a b) c ≡ or_else a (or_else b c)
-or_else-assoc [] b c = refl
-or_else-assoc (k ∷ ks) b c = refl
 
 -- ---- the walk from here on
 -- where it stands: what waits, whether there is a plain word, whether `--` was met, and what is held
@@ -59,9 +56,6 @@ move_passes w to word words m =
     turned w word words ∙ ap (λ (k : Kinds). or_else k (left_fault (walked rules [] w word) words)) m.passes ∙ ap (λ (v : Walk). left_fault v words) m.walked_to
 
 -- ---- one word
-and_false : (b : Bool) → (b && false) ≡ false
-and_false true = refl
-and_false false = refl
 
 word_fault_is : (waiting : Waiting) (word : Text) (h : Held) → word_fault top [] false waiting word h ≡ (if is_end word then [] else flag_word_fault rules false (long_of word) word h)
 word_fault_is Waiting.idle word h = refl
@@ -172,7 +166,7 @@ end_moves waiting has_part word h e =
     }
 
 -- ---- `--help` and `--version`
-abbrev answer : Question → ErrorKind
+abbrev pub answer : Question → ErrorKind
 answer for_help = DisplayHelp
 answer for_version = DisplayVersion
 
@@ -290,33 +284,11 @@ pub left_end : (w : Walk) → left_fault w [] ≡ end_fault w.held
 unfolding walk_fault
 left_end w = refl
 
-abbrev HasNoDefaults : List Rule → Type 0
-HasNoDefaults [] = Unit {0}
-HasNoDefaults (r ∷ rs) = (r.defaults ≡ []) × HasNoDefaults rs
-
-same_rows : (b : Bool) (rows : List Row) → cond b rows rows ≡ rows
-same_rows true rows = refl
-same_rows false rows = refl
-
-with_default-none : (r : Rule) (rows : List Row) → r.defaults ≡ [] → with_default rows r ≡ rows
-with_default-none r rows none = rw none (same_rows (has_row r.id rows) rows)
-
-or_true : (b : Bool) → (b || true) ≡ true
-or_true true = refl
-or_true false = refl
-
-default_fault-none : (r : Rule) (rows : List Row) → r.defaults ≡ [] → default_fault rows r ≡ []
-default_fault-none r rows none = rw (none, or_true (has_row r.id rows)) refl
-
 defaults_fault-none : (rs : List Rule) (rows : List Row) → HasNoDefaults rs → defaults_fault rows rs ≡ []
 unfolding defaults_fault
 defaults_fault-none [] rows none = refl
 defaults_fault-none (r ∷ rs) rows none =
     ap₂ or_else (default_fault-none r rows none.0) (ap (λ (rest : List Row). defaults_fault rest rs) (with_default-none r rows none.0) ∙ defaults_fault-none rs rows none.1)
-
-all_defaults-none : (rs : List Rule) (rows : List Row) → HasNoDefaults rs → fold with_default rows rs ≡ rows
-all_defaults-none [] rows none = refl
-all_defaults-none (r ∷ rs) rows none = ap (λ (rest : List Row). fold with_default rest rs) (with_default-none r rows none.0) ∙ all_defaults-none rs rows none.1
 
 no_defaults : HasNoDefaults rules
 no_defaults = (refl, (refl, (refl, (refl, (refl, (refl, (refl, tt)))))))

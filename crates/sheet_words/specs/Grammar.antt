@@ -38,8 +38,8 @@ option_or role name word other =
     if bytes_eq word name then opens role else option_map_or (gives role) (behind (name ++ codes "=") word) other
 
 -- by its bytes alone
-abbrev pub kind_of : List ℕ → Kind
-kind_of word =
+abbrev pub sheet_word_kind : List ℕ → Kind
+sheet_word_kind word =
     if bytes_eq word (codes "--") then ends
     else option_or as_job (codes "--job") word
     (option_or as_out (codes "--out") word
@@ -107,7 +107,7 @@ read_at plain word words given next = giving as_part word given (next None)
 abbrev pub read_from : Option Role → Given → List (List ℕ) → Reading
 read_from None given [] = all_given given
 read_from (Some role) given [] = refused
-read_from None given (word ∷ words) = read_at (kind_of word) word words given (λ pending more. read_from pending more words)
+read_from None given (word ∷ words) = read_at (sheet_word_kind word) word words given (λ pending more. read_from pending more words)
 read_from (Some role) given (word ∷ words) = if is_marked word then refused else giving role word given (λ more. read_from None more words)
 
 -- what all the words come to

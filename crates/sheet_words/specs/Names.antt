@@ -2,7 +2,7 @@
 use Rattle.std.specs.Prelude.{ℕ, Bool, true, false, ◌||◌, List, Option, Some, None, if◌then◌else◌, codes, nat_eq, option_map, unwrap_or}
 use Rattle.std.specs.List.{ends_with}
 use Rattle.std.specs.Str.{bytes_eq}
-use Rattle.draw_words.specs.Names.{is_empty}
+use Rattle.draw_words.specs.Names.{is_empty_value}
 use Rattle.sheet_words.specs.Grammar.{Given, Reading, all_given, asks, for_help, for_version, reading_of, refused}
 use Rattle.sheet_words.specs.declared.words.Hidden.{Hidden}
 use Rattle.sheet_words.specs.declared.words.Hidden.TheVariants.{All, Plain, Never}
@@ -78,7 +78,7 @@ named_by _ _ _ _ _ = None
 -- there is a part, no name is empty, each value is one of those that its option has, and the list has a place of its own
 abbrev pub named : Given → Option Named
 named given =
-    if is_empty given.part || is_empty given.job || is_empty given.list then None
+    if is_empty_value given.part || is_empty_value given.job || is_empty_value given.list then None
     else named_by given.part given.job (goal_of given.out) (option_map list_named given.list) (hidden_of given.hidden)
 
 -- by what the words come to

@@ -7,7 +7,7 @@ use Rattle.sheet_words.specs.declared.words.ListOut.{ListOut}
 use Rattle.sheet_words.specs.declared.words.ListOut.TheVariants as list
 use Rattle.sheet_words.specs.declared.words.Out.{Out}
 use Rattle.sheet_words.specs.declared.words.Out.TheVariants.{Said, Svg, Pdf}
-use Rattle.sheet_words.specs.declared.words.Request.{Request}
+use Rattle.sheet_words.specs.declared.words.SheetRequest.{SheetRequest}
 
 -- where the sheet goes
 abbrev pub goal_seen : Out → Goal
@@ -21,7 +21,7 @@ list_seen list.Said = list_said
 list_seen (list.File name) = list_file name
 
 -- what a request names
-abbrev pub named_seen : Request → Named
+abbrev pub named_seen : SheetRequest → Named
 named_seen r = record { part = r.part; job = r.job; out = goal_seen r.out; list = option_map list_seen r.list; hidden = r.hidden }
 
 -- what is asked for

@@ -16,7 +16,7 @@ use std::alloc::{AllocError, Global};
 
 /// What the words give: the one that is plain, and the values of the options.
 #[derive(Clone, Copy)]
-pub struct Found<'a> {
+pub struct SheetTexts<'a> {
     pub part: Option<&'a str>,
     pub job: Option<&'a str>,
     pub out: Option<&'a str>,
@@ -26,10 +26,10 @@ pub struct Found<'a> {
 
 /// What words come to.
 #[derive(Clone, Copy)]
-pub enum Sentence<'a> {
+pub enum SheetSentence<'a> {
     Help,
     Version,
-    Texts(Found<'a>),
+    Texts(SheetTexts<'a>),
 }
 
 /// The plain word. It may be missing here, so that all that is looked at behind the last word is looked at in one place.
@@ -87,10 +87,10 @@ fn first_value<'a>(matches: &ArgMatches<'a>, name: &str) -> Option<&'a str>
 }
 
 /// What was found.
-fn all_found<'a>(matches: &ArgMatches<'a>) -> Found<'a>
+fn all_found<'a>(matches: &ArgMatches<'a>) -> SheetTexts<'a>
     ensures { found_seen result ≡ given_in (rows_of (found_of matches.now)) }
 {
-    Found {
+    SheetTexts {
         part: first_value(matches, "part"),
         job: first_value(matches, "job"),
         out: first_value(matches, "out"),
@@ -100,26 +100,26 @@ fn all_found<'a>(matches: &ArgMatches<'a>) -> Found<'a>
 }
 
 /// What an error of this kind says of the words: it may be the answer to words that ask.
-fn asked<'a>(kind: ErrorKind) -> Result<Sentence<'a>, WordsError>
+fn asked<'a>(kind: ErrorKind) -> Result<SheetSentence<'a>, WordsError>
     ensures said { IfOk result (λ s. reading_by kind ≡ Some (sentence_seen s)) }
     ensures usage { IsErrOf result WordsError.Usage → reading_by kind ≡ Some refused }
 {
     match kind {
-        ErrorKind::DisplayHelp => Ok(Sentence::Help),
-        ErrorKind::DisplayVersion => Ok(Sentence::Version),
+        ErrorKind::DisplayHelp => Ok(SheetSentence::Help),
+        ErrorKind::DisplayVersion => Ok(SheetSentence::Version),
         ErrorKind::OutOfMemory => Err(WordsError::Memory(OutOfMemory)),
         _ => Err(WordsError::Usage),
     }
 }
 
 /// What the words come to. The time goes with their length.
-pub fn read<'a>(alloc: Global, words: &'a [String]) -> Result<Sentence<'a>, WordsError>
+pub fn read<'a>(alloc: Global, words: &'a [String]) -> Result<SheetSentence<'a>, WordsError>
     ensures read { IfOk result (λ s. reading_of (texts words.entry.now) ≡ sentence_seen s) }
     ensures usage { IsErrOf result WordsError.Usage → reading_of (texts words.entry.now) ≡ refused }
 {
     let command = sheet_command(alloc)?;
     match command.try_get_matches_from(words) {
-        Ok(matches) => Ok(Sentence::Texts(all_found(&matches))),
+        Ok(matches) => Ok(SheetSentence::Texts(all_found(&matches))),
         Err(error) => asked(error.kind()),
     }
 }

@@ -5,4 +5,4 @@
 mod command;
 mod words;
 
-pub use words::{Asked, Hidden, ListOut, Out, Request, read_words};
+pub use words::{Asked, Hidden, ListOut, Out, SheetRequest, read_words};

@@ -1,12 +1,12 @@
 // What the words of a run ask for.
 ghost use Rattle.std.specs.Prelude.{◌≡◌, IfOk, IsErrOf, Some, None, option_copied, option_map};
-ghost use Rattle.draw_words.specs.Names.{is_empty};
+ghost use Rattle.draw_words.specs.Names.{is_empty_value};
 ghost use Rattle.draw_words.specs.Seen.{texts};
 ghost use Rattle.sheet_words.specs.Names.{asked_by, goal_named, shares_place, hidden_named, list_named, named};
 ghost use Rattle.sheet_words.specs.Seen.{asked_seen, goal_seen, list_seen, named_seen};
 ghost use Rattle.sheet_words.specs.inner.Seen.{found_seen};
 
-use crate::command::{Found, Sentence, read};
+use crate::command::{SheetSentence, SheetTexts, read};
 use dec_text::Name;
 use draw_words::WordsError;
 use exact_frac::OutOfMemory;
@@ -46,7 +46,7 @@ pub enum ListOut {
 /// Which part is drawn, by which job if one is named, where it goes, and its list if there is one, and which hidden lines are
 /// drawn.
 #[derive(Debug, Drop)]
-pub struct Request {
+pub struct SheetRequest {
     pub part: Name,
     pub job: Option<Name>,
     pub out: Out,
@@ -59,12 +59,12 @@ pub struct Request {
 pub enum Asked {
     Help,
     Version,
-    Sheet(Request),
+    Sheet(SheetRequest),
 }
 
 /// There is a text, and it is empty.
-fn is_empty(text: Option<&str>) -> bool
-    ensures { result ≡ is_empty (option_copied text.entry) }
+fn is_empty_value(text: Option<&str>) -> bool
+    ensures { result ≡ is_empty_value (option_copied text.entry) }
 {
     match text {
         Some(text) => text.is_empty(),
@@ -133,11 +133,11 @@ fn hidden_named(word: &str) -> Option<Hidden>
 }
 
 /// What is asked for by the texts that the words give.
-fn request_of(alloc: Global, found: Found<'_>) -> Result<Request, WordsError>
+fn request_of(alloc: Global, found: SheetTexts<'_>) -> Result<SheetRequest, WordsError>
     ensures named { IfOk result (λ r. named (found_seen found.entry) ≡ Some (named_seen r)) }
     ensures usage { IsErrOf result WordsError.Usage → named (found_seen found.entry) ≡ None }
 {
-    if is_empty(found.part) || is_empty(found.job) || is_empty(found.list) {
+    if is_empty_value(found.part) || is_empty_value(found.job) || is_empty_value(found.list) {
         return Err(WordsError::Usage);
     }
     let Some(part) = found.part else {
@@ -151,7 +151,7 @@ fn request_of(alloc: Global, found: Found<'_>) -> Result<Request, WordsError>
     if shares_place(&list, &out) {
         return Err(WordsError::Usage);
     }
-    Ok(Request {
+    Ok(SheetRequest {
         part: Name::new(alloc, part)?,
         job: job_name(alloc, found.job)?,
         out,
@@ -174,8 +174,8 @@ pub fn read_words(alloc: Global, words: &[String]) -> Result<Asked, WordsError>
     ensures usage { IsErrOf result WordsError.Usage → asked_by (texts words.now) ≡ None }
 {
     match read(alloc, words)? {
-        Sentence::Help => Ok(Asked::Help),
-        Sentence::Version => Ok(Asked::Version),
-        Sentence::Texts(found) => Ok(Asked::Sheet(request_of(alloc, found)?)),
+        SheetSentence::Help => Ok(Asked::Help),
+        SheetSentence::Version => Ok(Asked::Version),
+        SheetSentence::Texts(found) => Ok(Asked::Sheet(request_of(alloc, found)?)),
     }
 }

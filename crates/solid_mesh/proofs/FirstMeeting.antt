@@ -9,11 +9,11 @@ use Rattle.solid_mesh.specs.Faults.{MeetsAt}
 use Rattle.solid_mesh.specs.Meetings.{MeetApart, HaveCommonBox, HaveCommonX, IsAtMostPairs}
 use Rattle.solid_mesh.specs.inner.Searches.{AtHalf, ComesBefore, IsMeeting, Searched, IsFirst}
 use Rattle.solid_mesh.specs.declared.search.Meeting.{Meeting}
-use Rattle.solid_mesh.specs.declared.search.Found.{Found}
+use Rattle.solid_mesh.specs.declared.search.SearchResult.{SearchResult}
 use Rattle.solid_mesh.proofs.Apart.{apart_of_meets, meets_of_apart, none_meets}
 use Rattle.solid_mesh.proofs.Meets.{box_of_apart, x_of_box}
 
-module _ (s : Part) (halves : List ℕ) (x y : Found) (h : Searched s halves (λ p. AtHalf (HaveCommonX s) halves p) x y) where
+module _ (s : Part) (halves : List ℕ) (x y : SearchResult) (h : Searched s halves (λ p. AtHalf (HaveCommonX s) halves p) x y) where
   pub boxes_at_most : x.meter.boxes ≡ 0 → IsAtMostPairs (HaveCommonX s) halves y.meter.boxes
   boxes_at_most e = record { pairs = h.boxes.pairs; hold = h.boxes.hold; differ = h.boxes.differ; most = omega (arith, h.boxes.by, e) }
 

@@ -58,6 +58,14 @@ pub left_read : (pu qu pv qv : ℤ) {pu' qu' pv' qv' : ℤ} → pu' ≡ pu → q
 left_read pu qu pv qv {pu'} {qu'} {pv'} {qv'} e f g h u v left =
     subst (λ (z : ℤ). AreLeft z qu pv qv u v) e (subst (λ (z : ℤ). AreLeft pu' z pv qv u v) f (subst (λ (z : ℤ). AreLeft pu' qu' z qv u v) g (subst (λ (z : ℤ). AreLeft pu' qu' pv' z u v) h left)))
 
+-- left by the least of both products
+pub left_by_sum : (pu qu pv qv u v l r : ℤ) → l ≤ℤ ((qu -ℤ pu) *ℤ (v -ℤ pv)) → r ≤ℤ ((pv -ℤ qv) *ℤ (u -ℤ pu)) → pos 0 <ℤ (l +ℤ r) → pos 0 <ℤ left_of_line pu qu pv qv u v
+left_by_sum pu qu pv qv u v l r h g more =
+    together _ _ _ l r (ring (pu ∷ pv ∷ qv ∷ u ∷ []) ((var 1 ⊖ var 2) ⊗ (var 3 ⊖ var 0)) (con (pos 0) ⊖ ((var 2 ⊖ var 1) ⊗ (var 3 ⊖ var 0))) refl) h g more
+  where
+    together : (x y z l r : ℤ) → y ≡ pos 0 -ℤ z → l ≤ℤ x → r ≤ℤ y → pos 0 <ℤ (l +ℤ r) → pos 0 <ℤ (x -ℤ z)
+    together x y z l r e h g more = omega (arith, ints)
+
 -- the ends of a line are on it
 on_line : (pu qu pv qv hu hv : ℤ) → ((hu ≡ pu) × (hv ≡ pv)) ⊎ ((hu ≡ qu) × (hv ≡ qv)) → left_of_line pu qu pv qv hu hv ≡ pos 0
 on_line pu qu pv qv hu hv (inl (e, f)) =

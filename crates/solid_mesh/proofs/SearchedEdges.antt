@@ -14,7 +14,7 @@ use Rattle.solid_mesh.specs.declared.placed.Placed.{Placed}
 use Rattle.solid_mesh.specs.declared.subtrees.Subtree.{Subtree}
 use Rattle.solid_mesh.specs.declared.search.Meeting.{Meeting}
 use Rattle.solid_mesh.specs.declared.search.Reach.{Reach}
-use Rattle.solid_mesh.specs.declared.search.Found.{Found}
+use Rattle.solid_mesh.specs.declared.search.SearchResult.{SearchResult}
 use Rattle.solid_mesh.proofs.BoundLemmas.{bounds_of_apart, meet_around}
 use Rattle.solid_mesh.proofs.CornerLemmas.{apart_by_bounds}
 use Rattle.solid_mesh.proofs.Placing.{places_differ, place_there}
@@ -26,10 +26,10 @@ module _ (s : Part) (halves : List ℕ) where
     abbrev At : ℕ → ℕ → (ℕ × ℕ) → Type 0
     At first end p = IsOfPlaces s halves edge placed first end p
 
-    pub places_none : (n : ℕ) (x : Found) → Searched s halves (At n n) x x
+    pub places_none : (n : ℕ) (x : SearchResult) → Searched s halves (At n n) x x
     places_none n x = searched-apart s halves (At n n) (λ p (j, y, low, high, at, pair) meets. omega (arith, low, high)) x
 
-    pub places_one : (k : ℕ) (x : Placed) → slice_get placed k ≡ Some x → (old new : Found) → Searched s halves (IsPair s halves edge x.tri) old new → Searched s halves (At k (k + 1)) old new
+    pub places_one : (k : ℕ) (x : Placed) → slice_get placed k ≡ Some x → (old new : SearchResult) → Searched s halves (IsPair s halves edge x.tri) old new → Searched s halves (At k (k + 1)) old new
     places_one k x at old new h =
         searched-as s halves (IsPair s halves edge x.tri) (At k (k + 1))
         (λ p pair. (k, x, omega arith, omega arith, at, pair))
@@ -38,19 +38,19 @@ module _ (s : Part) (halves : List ℕ) where
 
     -- a subtree of which no triangle meets the edge
     pub places_apart : (k : ℕ) (t : Subtree) → ((j : ℕ) (x : Placed) → t.first ≤ j → j ≤ k → slice_get placed j ≡ Some x → AtHalf (MeetApart s) halves (edge, x.tri) → ⊥)
-        → (x : Found) → Searched s halves (At t.first (k + 1)) x x
+        → (x : SearchResult) → Searched s halves (At t.first (k + 1)) x x
     places_apart k t apart x =
         searched-apart s halves (At t.first (k + 1))
         (λ p (j, y, low, high, at, pair) meets. apart j y low (omega (arith, high)) at (subst (λ (q : ℕ × ℕ). AtHalf (MeetApart s) halves q) pair.0 meets)) x
 
     module _ (reach : Reach) (of_edge : IsReachOf s halves edge reach) (each : (x : Placed) (k : ℕ) → slice_get placed k ≡ Some x → IsPlaced s x) (k : ℕ) (t : Subtree) (subtree : IsSubtree placed k t) where
       -- one that the edge's bounds miss
-      pub places_missed : (BoundsMeet t.around reach.bounds → ⊥) → (x : Found) → Searched s halves (At t.first (k + 1)) x x
+      pub places_missed : (BoundsMeet t.around reach.bounds → ⊥) → (x : SearchResult) → Searched s halves (At t.first (k + 1)) x x
       places_missed miss = places_apart k t
           (λ j y low high at meets. miss (meet_around y.bounds t.around reach.bounds (subtree.around j y low high at) (bounds_of_apart s halves edge reach of_edge y (each y j at) meets)))
 
       -- one from which bounds tell that the edge is apart
-      pub places_beside : (own : Placed) → slice_get placed k ≡ Some own → IsApart reach t.around t.corner own.at t.rim → (x : Found) → Searched s halves (At t.first (k + 1)) x x
+      pub places_beside : (own : Placed) → slice_get placed k ≡ Some own → IsApart reach t.around t.corner own.at t.rim → (x : SearchResult) → Searched s halves (At t.first (k + 1)) x x
       places_beside own here apart = places_apart k t
           (λ j y low high at meets.
           apart_by_bounds s halves edge reach of_edge y (each y j at) t.around (subtree.around j y low high at) t.corner own.at
@@ -61,7 +61,7 @@ module _ (s : Part) (halves : List ℕ) where
           t.rim (subtree.rim j y low high at) apart meets)
 
     pub places_more : AreAllPlaced s placed → (low middle high : ℕ) → low ≤ middle → middle ≤ high
-        → (x y z : Found) → Searched s halves (At middle high) x y → Searched s halves (At low middle) y z → Searched s halves (At low high) x z
+        → (x y z : SearchResult) → Searched s halves (At middle high) x y → Searched s halves (At low middle) y z → Searched s halves (At low high) x z
     places_more all low middle high before after x y z =
         searched-then s halves (At middle high) (At low middle) (At low high)
         (λ p (j, a, from_j, to_j, at_j, pair) (k, b, from_k, to_k, at_k, other). places_differ s placed all k j b a (omega (arith, to_k, from_j)) at_k at_j (ap (λ (q : ℕ × ℕ). q.1) (sym other.0 ∙ pair.0)))
@@ -76,7 +76,7 @@ module _ (s : Part) (halves : List ℕ) where
         ]
 
     -- all places: the whole edge
-    pub places_all : AreAllPlaced s placed → (n : ℕ) → n ≡ length placed → (x y : Found) → Searched s halves (At 0 n) x y → Searched s halves (IsOfEdge s halves edge) x y
+    pub places_all : AreAllPlaced s placed → (n : ℕ) → n ≡ length placed → (x y : SearchResult) → Searched s halves (At 0 n) x y → Searched s halves (IsOfEdge s halves edge) x y
     places_all all n whole x y h = searched-as s halves (At 0 n) (IsOfEdge s halves edge) to back x y h
       where
         to : (p : ℕ × ℕ) → At 0 n p → IsOfEdge s halves edge p
@@ -96,10 +96,10 @@ module _ (s : Part) (halves : List ℕ) where
   abbrev pub IsBelowEdge : ℕ → (ℕ × ℕ) → Type 0
   IsBelowEdge n p = (p.0 < n) × AtHalf (HaveCommonX s) halves p
 
-  pub edges_none : (x : Found) → Searched s halves (IsBelowEdge 0) x x
+  pub edges_none : (x : SearchResult) → Searched s halves (IsBelowEdge 0) x x
   edges_none x = searched-apart s halves (IsBelowEdge 0) (λ p (less, common) meets. omega (arith, less)) x
 
-  pub edges_more : (n : ℕ) (x y z : Found) → Searched s halves (IsBelowEdge n) x y → Searched s halves (IsOfEdge s halves n) y z → Searched s halves (IsBelowEdge (n + 1)) x z
+  pub edges_more : (n : ℕ) (x y z : SearchResult) → Searched s halves (IsBelowEdge n) x y → Searched s halves (IsOfEdge s halves n) y z → Searched s halves (IsBelowEdge (n + 1)) x z
   edges_more n x y z =
       searched-then s halves (IsBelowEdge n) (IsOfEdge s halves n) (IsBelowEdge (n + 1))
       (λ p (less, common) (here, other). omega (arith, less, here))
@@ -107,13 +107,13 @@ module _ (s : Part) (halves : List ℕ) where
       (λ p (here, common). (omega (arith, here), common))
       (λ p (less, common). elim (cases_lt p.0 n) [ inl below ↦ inl (below, common) | inr above ↦ inr (omega (arith, less, above), common) ]) x y z
 
-  pub edges_all : (n : ℕ) → n ≡ length halves → (x y : Found) → Searched s halves (IsBelowEdge n) x y → Searched s halves Common x y
+  pub edges_all : (n : ℕ) → n ≡ length halves → (x y : SearchResult) → Searched s halves (IsBelowEdge n) x y → Searched s halves Common x y
   edges_all n whole x y h = searched-as s halves (IsBelowEdge n) Common
       (λ p (less, common). common)
       (λ p (half, at, common). (omega (arith, whole, slice_get_within halves p.0 half at), (half, at, common))) x y h
 
   -- no later edge is before the one that was found
-  pub edges_stopped : (n : ℕ) (x y : Found) (m : Meeting) → y.first ≡ Some m → m.edge ≡ n → Searched s halves (IsBelowEdge (n + 1)) x y → Searched s halves Common x y
+  pub edges_stopped : (n : ℕ) (x y : SearchResult) (m : Meeting) → y.first ≡ Some m → m.edge ≡ n → Searched s halves (IsBelowEdge (n + 1)) x y → Searched s halves Common x y
   edges_stopped n x y m is here h = record {
     boxes = rises-as (IsBelowEdge (n + 1)) Common (λ p q. q.1) _ _ h.boxes;
     pairs = rises-as (λ p. IsBelowEdge (n + 1) p × AtHalf (HaveCommonBox s) halves p) (λ p. Common p × AtHalf (HaveCommonBox s) halves p) (λ p (q, box). (q.1, box)) _ _ h.pairs;
@@ -130,7 +130,7 @@ module _ (s : Part) (halves : List ℕ) where
       by p common meets before (inl less) = h.least p (less, common) meets before
       by p common meets before (inr above) = later p above (subst (ComesBefore p.0 p.1) is before)
 
-  pub edges_found : (n : ℕ) (x y : Found) → is_some y.first ≡ true → IfSome y.first (λ m. m.edge ≡ n) → Searched s halves (IsBelowEdge (n + 1)) x y → Searched s halves Common x y
+  pub edges_found : (n : ℕ) (x y : SearchResult) → is_some y.first ≡ true → IfSome y.first (λ m. m.edge ≡ n) → Searched s halves (IsBelowEdge (n + 1)) x y → Searched s halves Common x y
   edges_found n x y some here h = by y.first refl
     where
       by : (first : Option Meeting) → y.first ≡ first → Searched s halves Common x y

@@ -10,7 +10,7 @@ use Rattle.geometry.proofs.Listed.{same_element}
 use Rattle.solid_mesh.specs.Meetings.{HaveCommonX, HaveCommonBox, MeetApart}
 use Rattle.solid_mesh.specs.inner.Searches.{AtHalf, ComesBefore, IsMeeting, IsPair, Rises, Searched}
 use Rattle.solid_mesh.specs.declared.search.Meeting.{Meeting}
-use Rattle.solid_mesh.specs.declared.search.Found.{Found}
+use Rattle.solid_mesh.specs.declared.search.SearchResult.{SearchResult}
 
 -- ---- lists without a repetition
 module _ {X : Type 0} where
@@ -66,7 +66,7 @@ rises-then P Q R disjoint left right k m n first second = record {
 module _ (s : Part) (halves : List ℕ) where
   -- ---- searches
   -- nothing is tested where none of the pairs meets
-  pub searched-apart : (Q : (ℕ × ℕ) → Type 0) → ((p : ℕ × ℕ) → Q p → AtHalf (MeetApart s) halves p → ⊥) → (x : Found) → Searched s halves Q x x
+  pub searched-apart : (Q : (ℕ × ℕ) → Type 0) → ((p : ℕ × ℕ) → Q p → AtHalf (MeetApart s) halves p → ⊥) → (x : SearchResult) → Searched s halves Q x x
   searched-apart Q apart x = record {
     boxes = rises-none Q _ _ refl;
     pairs = rises-none _ _ _ refl;
@@ -75,7 +75,7 @@ module _ (s : Part) (halves : List ℕ) where
     right = λ h. h;
   }
 
-  pub searched-as : (P Q : (ℕ × ℕ) → Type 0) → ((p : ℕ × ℕ) → P p → Q p) → ((p : ℕ × ℕ) → Q p → P p) → (x y : Found) → Searched s halves P x y → Searched s halves Q x y
+  pub searched-as : (P Q : (ℕ × ℕ) → Type 0) → ((p : ℕ × ℕ) → P p → Q p) → ((p : ℕ × ℕ) → Q p → P p) → (x y : SearchResult) → Searched s halves P x y → Searched s halves Q x y
   searched-as P Q to from x y h = record {
     boxes = rises-as P Q to _ _ h.boxes;
     pairs = rises-as (λ p. P p × AtHalf (HaveCommonBox s) halves p) (λ p. Q p × AtHalf (HaveCommonBox s) halves p) (λ p (q, box). (to p q, box)) _ _ h.pairs;
@@ -85,7 +85,7 @@ module _ (s : Part) (halves : List ℕ) where
   }
 
   pub searched-then : (P Q R : (ℕ × ℕ) → Type 0) → ((p : ℕ × ℕ) → P p → Q p → ⊥) → ((p : ℕ × ℕ) → P p → R p) → ((p : ℕ × ℕ) → Q p → R p) → ((p : ℕ × ℕ) → R p → P p ⊎ Q p)
-      → (x y z : Found) → Searched s halves P x y → Searched s halves Q y z → Searched s halves R x z
+      → (x y z : SearchResult) → Searched s halves P x y → Searched s halves Q y z → Searched s halves R x z
   searched-then P Q R disjoint left right either x y z first second = record {
     boxes = rises-then P Q R disjoint left right _ _ _ first.boxes second.boxes;
     pairs = rises-then (λ p. P p × AtHalf (HaveCommonBox s) halves p) (λ p. Q p × AtHalf (HaveCommonBox s) halves p) (λ p. R p × AtHalf (HaveCommonBox s) halves p)
@@ -100,7 +100,7 @@ module _ (s : Part) (halves : List ℕ) where
       by p meets h (inr b) = second.least p b meets h
 
   -- ---- one test
-  module _ (edge tri : ℕ) (within : edge < length halves) (common : AtHalf (HaveCommonX s) halves (edge, tri)) (old new : Found) (one_box : new.meter.boxes ≡ old.meter.boxes + 1) where
+  module _ (edge tri : ℕ) (within : edge < length halves) (common : AtHalf (HaveCommonX s) halves (edge, tri)) (old new : SearchResult) (one_box : new.meter.boxes ≡ old.meter.boxes + 1) where
     abbrev half : ℕ
     half = get_or halves edge 0
 

@@ -8,7 +8,7 @@ use Rattle.lattice.specs.declared.soup.Tri.{Tri}
 use Rattle.lattice.specs.Triangles.{IsBelow}
 use Rattle.geometry.specs.Parts.{Part, IsCornerOf}
 use Rattle.solid_mesh.specs.Solids.{AreTrianglesAt}
-use Rattle.solid_mesh.specs.inner.Stars.{has_corner, is_at, first_at, AreStars}
+use Rattle.solid_mesh.specs.Stars.{has_corner, is_at, first_at, AreStars}
 
 abbrev none : Tri
 none = record { a = 0; b = 0; c = 0 }

@@ -4,5 +4,4 @@ pub mod Halves
 pub mod Meetings
 pub mod Pairs
 pub mod Searches
-pub mod Stars
 pub mod Trees

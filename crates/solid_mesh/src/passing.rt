@@ -61,33 +61,22 @@ fn is_left(from_u: i32, to_u: i32, from_v: i32, to_v: i32, u: &Range, v: &Range)
     requires to_v { unsigned_abs to_v ≤ 2 ^ 20 }
     ensures { IsTrue result → AreLeft from_u to_u from_v to_v u.now v.now }
 {
-    let most = greatest_product(to_v - from_v, u, from_u);
-    let least = least_product(to_u - from_u, v, from_v);
-    most < least
+    let to_left = least_product(to_u - from_u, v, from_v);
+    let not_to_right = least_product(from_v - to_v, u, from_u);
+    to_left + not_to_right > 0
 }
 
-/// A number that `factor * (n - origin)` is at least, for each number `n` of a range.
+/// The least of `factor * (n - origin)` for the numbers `n` of a range.
 fn least_product(factor: i32, range: &Range, origin: i32) -> i64
     requires factor { unsigned_abs factor ≤ 2 ^ 21 }
     requires origin { unsigned_abs origin ≤ 2 ^ 20 }
-    ensures { (n : ℤ) → IsInRange range.now n → result ≤ℤ (factor *ℤ (n -ℤ origin)) }
+    ensures least { (n : ℤ) → IsInRange range.now n → result ≤ℤ (factor *ℤ (n -ℤ origin)) }
+    ensures size { unsigned_abs result ≤ 2 ^ 54 }
 {
     if factor < 0 {
         return product(factor, range.to, origin);
     }
     product(factor, range.from, origin)
-}
-
-/// A number that it is at most.
-fn greatest_product(factor: i32, range: &Range, origin: i32) -> i64
-    requires factor { unsigned_abs factor ≤ 2 ^ 21 }
-    requires origin { unsigned_abs origin ≤ 2 ^ 20 }
-    ensures { (n : ℤ) → IsInRange range.now n → (factor *ℤ (n -ℤ origin)) ≤ℤ result }
-{
-    if factor < 0 {
-        return product(factor, range.from, origin);
-    }
-    product(factor, range.to, origin)
 }
 
 /// `factor * (n - origin)`.

@@ -39,7 +39,7 @@ pub(crate) struct Reach {
 
 /// What was tested, and the first edge and triangle that were found to meet.
 #[derive(Clone, Copy, Debug)]
-pub(crate) struct Found {
+pub(crate) struct SearchResult {
     pub meter: PairMeter,
     pub first: Option<Meeting>,
 }
@@ -49,7 +49,11 @@ pub(crate) struct Found {
 /// leaves out each subtree whose bounds miss those of the edge, or are seen beside it, and each fan that the edge leaves at its
 /// corner or goes past. So it takes the time of comparing the bounds of subtrees that meet it, and of a short test for each triangle
 /// whose bounds do: up to all, where all bounds overlap.
-pub(crate) fn find_meeting(alloc: Global, soup: &Soup, halves: &[u32]) -> Result<Found, AllocError>
+pub(crate) fn find_meeting(
+    alloc: Global,
+    soup: &Soup,
+    halves: &[u32],
+) -> Result<SearchResult, AllocError>
     requires few_edges { length halves.now ≤ 60000 }
     requires few_triangles { length (part_of soup.now).triangles ≤ 20000 }
     requires closed { IsClosed (part_of soup.now) }
@@ -63,7 +67,7 @@ pub(crate) fn find_meeting(alloc: Global, soup: &Soup, halves: &[u32]) -> Result
 {
     let placed = place_triangles(alloc, soup)?;
     let subtrees = grow_subtrees(alloc, &placed)?;
-    let mut found = Found {
+    let mut found = SearchResult {
         meter: PairMeter { boxes: 0, pairs: 0 },
         first: None,
     };
@@ -72,7 +76,13 @@ pub(crate) fn find_meeting(alloc: Global, soup: &Soup, halves: &[u32]) -> Result
 }
 
 /// Searches the edges in their order, up to the first that meets a triangle.
-fn search(soup: &Soup, halves: &[u32], placed: &[Placed], subtrees: &[Subtree], found: &mut Found)
+fn search(
+    soup: &Soup,
+    halves: &[u32],
+    placed: &[Placed],
+    subtrees: &[Subtree],
+    found: &mut SearchResult,
+)
     requires few_edges { length halves.now ≤ 60000 }
     requires few_triangles { length placed.now ≤ 20000 }
     requires halves { All (λ half. half < 3 * length (part_of soup.now).triangles) halves.now }
@@ -102,7 +112,7 @@ fn search_edge(
     edge: u32,
     placed: &[Placed],
     subtrees: &[Subtree],
-    found: &mut Found,
+    found: &mut SearchResult,
 )
     requires few { length placed.now ≤ 20000 }
     requires halves { All (λ half. half < 3 * length (part_of soup.now).triangles) halves.now }
@@ -153,7 +163,7 @@ fn visit(
     placed: &[Placed],
     subtrees: &[Subtree],
     place: usize,
-    found: &mut Found,
+    found: &mut SearchResult,
 ) -> usize
     requires halves { All (λ half. half < 3 * length (part_of soup.now).triangles) halves.now }
     requires reach { IsReachOf (part_of soup.now) halves.now edge reach.now }
@@ -193,7 +203,14 @@ fn visit(
 
 /// Tests an edge and a triangle: their boxes if their ranges of x meet, and if the boxes meet, no bounds tell that the two are apart,
 /// and the pair is before the one that was found, the pair.
-fn test(soup: &Soup, halves: &[u32], edge: u32, reach: &Reach, placed: &Placed, found: &mut Found)
+fn test(
+    soup: &Soup,
+    halves: &[u32],
+    edge: u32,
+    reach: &Reach,
+    placed: &Placed,
+    found: &mut SearchResult,
+)
     requires halves { All (λ half. half < 3 * length (part_of soup.now).triangles) halves.now }
     requires reach { IsReachOf (part_of soup.now) halves.now edge reach.now }
     requires placed { IsPlaced (part_of soup.now) placed.now }

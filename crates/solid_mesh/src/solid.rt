@@ -7,7 +7,7 @@ ghost use Rattle.geometry.specs.Sound.{IsSound};
 ghost use Rattle.solid_mesh.specs.inner.Halves.{AreTwins, lower_halves_of};
 ghost use Rattle.solid_mesh.specs.Meetings.{HaveCommonX, HaveCommonBox, IsAtMostPairs};
 ghost use Rattle.solid_mesh.specs.inner.Meetings.{HasNoMeeting};
-ghost use Rattle.solid_mesh.specs.inner.Stars.{AreStars, lists_of};
+ghost use Rattle.solid_mesh.specs.Stars.{AreStars, lists_of};
 
 use crate::edges::{find_edges, pair_sides};
 use crate::faults::MeshError;

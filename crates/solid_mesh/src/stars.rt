@@ -1,7 +1,7 @@
 // The triangles at each corner.
 ghost use Rattle.std.specs.Prelude.{◌≡◌, ℕ, ◌<◌, ◌≤◌, List, [], ◌∷◌, ◌++◌, length, slice_index_or, slice_set, vec_len, OnOk, IfOk};
 ghost use Rattle.geometry.specs.Parts.{part_of, HasNoFlatTriangle};
-ghost use Rattle.solid_mesh.specs.inner.Stars.{AreStars, lists_of};
+ghost use Rattle.solid_mesh.specs.Stars.{AreStars, lists_of};
 
 use lattice::{Soup, Tri};
 use std::alloc::{AllocError, Global};

@@ -6,15 +6,15 @@ use Rattle.std.proofs.lemmas.List.Sums.{sum_by-le}
 use Rattle.std.proofs.lemmas.List.Elements.{length_all_zip, AllZip-get_or}
 use Rattle.std.proofs.lemmas.Option.{slice_get-get_or}
 use Rattle.geometry.specs.Parts.{Face, Edge, IsNumbered}
-use Rattle.counting.specs.Counts.{Side, to_left, to_right}
-use Rattle.counting.specs.inner.CountsNext.{AreCoversOf, AreCountedNext}
-use Rattle.counting.specs.Covers.{IsCountedNext, IsOneWhere}
-use Rattle.counting.specs.Turns.{number_at, corner_at}
+use Rattle.geometry.specs.Counts.{Side, to_left, to_right}
+use Rattle.geometry.specs.inner.CountsNext.{AreCoversOf, AreCountedNext}
+use Rattle.geometry.specs.Covers.{IsCountedNext, IsOneWhere}
+use Rattle.geometry.specs.Turns.{number_at, corner_at}
 use Rattle.solid_mesh.specs.Solids.{AreTrianglesAt}
-use Rattle.face_counts.specs.inner.Sums.{total}
-use Rattle.face_counts.proofs.MeshCounts.{face_of}
-use Rattle.face_counts.proofs.CountTurned.{count_turned}
-use Rattle.face_counts.proofs.NextCounts.{counted_next}
+use Rattle.hiding_laws.specs.Sums.{total}
+use Rattle.hiding_laws.proofs.MeshCounts.{face_of}
+use Rattle.hiding_laws.proofs.CountTurned.{count_turned}
+use Rattle.hiding_laws.proofs.NextCounts.{counted_next}
 use Rattle.cross_find.specs.declared.meter.End.{End}
 use Rattle.cross_find.specs.Sights.{SightState, IsSeen}
 use Rattle.span_count.specs.declared.step.Sides.{Sides}

@@ -20,7 +20,7 @@ use Rattle.geometry.proofs.SamePlaces.{same, same_back, same_trans, same_between
 use Rattle.cross_find.specs.declared.meter.Crossing.{Crossing}
 use Rattle.span_count.specs.declared.span.CountSpan.{CountSpan}
 use Rattle.span_count.specs.CountSpans.{Follow}
-use Rattle.face_counts.specs.inner.Sums.{total}
+use Rattle.hiding_laws.specs.Sums.{total}
 use Rattle.span_count.specs.Carries.{IsSmall, change_before, IsCountOf, IsCarried, IsCrossingEnd, AreCarried}
 use Rattle.span_count.specs.inner.Steps.{IsSpanAdded, IsEndUntil}
 use Rattle.std.specs.Ordering.{int_cmp, MatchOrdering}

@@ -13,21 +13,21 @@ use Rattle.geometry.specs.Parts.{Edge, IsNumbered}
 use Rattle.geometry.specs.Places.{IsPlace, IsEarlier, point_at}
 use Rattle.geometry.specs.Views.{IsOrdinary}
 use Rattle.geometry.proofs.PlaceOrder.{between_inner, between_last}
-use Rattle.hiding.proofs.Decisions.{same_or, less_or}
-use Rattle.hiding.proofs.FrontEnds.{not-at-start, not-at-finish}
-use Rattle.counting.specs.Counts.{Side, to_left, to_right, AreCounted}
-use Rattle.face_counts.proofs.Changed.{IsCrossedBefore, HasChanged, HasChangedAlong}
-use Rattle.counting.specs.Shares.{change_of, denominator_of, numerator_of, height_numerator_of, PassesNearer}
-use Rattle.face_counts.proofs.Changed.HasChanged.{passed, not_passed}
-use Rattle.face_counts.proofs.Changed.HasChangedAlong.{along}
-use Rattle.counting.specs.inner.CountsNext.{AreCovers, AreCountedNext}
-use Rattle.face_counts.specs.inner.Sums.{total}
-use Rattle.face_counts.proofs.CountAlong.{count_listed}
-use Rattle.face_counts.proofs.Decided.{counts}
-use Rattle.face_counts.proofs.HiddenCounted.{hidden_counted}
-use Rattle.face_counts.proofs.NextAlong.{unchanged_along, next_along}
-use Rattle.face_counts.proofs.NextCounts.{counted_next}
-use Rattle.face_counts.proofs.CrossingPlaces.{crossing_not_ordinary}
+use Rattle.hiding_laws.proofs.Decisions.{same_or, less_or}
+use Rattle.hiding_laws.proofs.FrontEnds.{not-at-start, not-at-finish}
+use Rattle.geometry.specs.Counts.{Side, to_left, to_right, AreCounted}
+use Rattle.hiding_laws.proofs.Changed.{IsCrossedBefore, HasChanged, HasChangedAlong}
+use Rattle.geometry.specs.Shares.{change_of, denominator_of, numerator_of, height_numerator_of, PassesNearer}
+use Rattle.hiding_laws.proofs.Changed.HasChanged.{passed, not_passed}
+use Rattle.hiding_laws.proofs.Changed.HasChangedAlong.{along}
+use Rattle.geometry.specs.inner.CountsNext.{AreCovers, AreCountedNext}
+use Rattle.hiding_laws.specs.Sums.{total}
+use Rattle.hiding_laws.proofs.CountAlong.{count_listed}
+use Rattle.hiding_laws.proofs.Decided.{counts}
+use Rattle.hiding_laws.proofs.HiddenCounted.{hidden_counted}
+use Rattle.hiding_laws.proofs.NextAlong.{unchanged_along, next_along}
+use Rattle.hiding_laws.proofs.NextCounts.{counted_next}
+use Rattle.hiding_laws.proofs.CrossingPlaces.{crossing_not_ordinary}
 use Rattle.cross_find.specs.declared.meter.Crossing.{Crossing}
 use Rattle.cross_find.specs.Sights.{SightState, IsSeen}
 use Rattle.cross_find.specs.Crossings.{IsCrossing, IsAcross}

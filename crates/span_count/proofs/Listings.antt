@@ -3,8 +3,8 @@ use Rattle.std.proofs.Common.{◌≡◌, ◌*◌, ◌/◌, ◌<◌, ◌≤◌, �
 use Rattle.std.proofs.lemmas.List.Elements.{All-contains, Contains-get_or}
 use Rattle.std.proofs.lemmas.Option.{slice_get_within, get_or_from_slice_get}
 use Rattle.geometry.specs.Parts.{Edge}
-use Rattle.counting.specs.Turns.{number_at}
-use Rattle.face_counts.proofs.CountAlong.{outline_of}
+use Rattle.geometry.specs.Turns.{number_at}
+use Rattle.hiding_laws.proofs.CountAlong.{outline_of}
 use Rattle.edge_pick.specs.declared.Picked.{Picked}
 use Rattle.cross_find.specs.Sights.{SightState, IsSeen}
 use Rattle.span_count.specs.Finders.{IsPickedIn, IsFinder}

@@ -4,9 +4,9 @@ use Rattle.std.specs.Prelude.{pos}
 use Rattle.lattice.specs.Triple.{Triple}
 use Rattle.geometry.specs.Faces.{facing_of}
 use Rattle.geometry.specs.Parts.{Part, Face, Edge}
-use Rattle.counting.specs.Counts.{Side}
-use Rattle.counting.specs.Covers.{HidesNext, IsCountedNext}
-use Rattle.counting.specs.Turns.{corner_at, number_at}
+use Rattle.geometry.specs.Counts.{Side}
+use Rattle.geometry.specs.Covers.{HidesNext, IsCountedNext}
+use Rattle.geometry.specs.Turns.{corner_at, number_at}
 use Rattle.cross_find.specs.Ends.{IsApart}
 use Rattle.cross_find.specs.Sights.{SightState}
 use Rattle.cross_find.proofs.Apart.{never_apart}

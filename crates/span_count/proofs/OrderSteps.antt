@@ -8,7 +8,7 @@ use Rattle.std.proofs.lemmas.List.FromFn.{length-range_with_len, get_or-range_wi
 use Rattle.std.proofs.lemmas.Option.{slice_get-get_or}
 use Rattle.geometry.specs.Parts.{Edge, IsNumbered}
 use Rattle.geometry.specs.Runs.{AreRuns}
-use Rattle.counting.specs.Turns.{number_at}
+use Rattle.geometry.specs.Turns.{number_at}
 use Rattle.cross_find.specs.Sights.{SightState}
 use Rattle.edge_pick.specs.declared.Picked.{Picked}
 use Rattle.span_count.specs.Bounds.{IsRunCount}

@@ -6,12 +6,12 @@ use Rattle.std.proofs.lemmas.List.{take_all}
 use Rattle.std.proofs.lemmas.List.Sums.{sum_by_push}
 use Rattle.std.proofs.lemmas.Option.{slice_get_within}
 use Rattle.geometry.specs.Parts.{Face, Edge, IsNumbered}
-use Rattle.counting.specs.Counts.{Side, to_left, to_right}
-use Rattle.counting.specs.inner.CountsNext.{AreCoversOf}
-use Rattle.counting.specs.Covers.{IsCountedNext, IsOneWhere}
-use Rattle.counting.specs.Turns.{number_at, HasTurnedAt}
+use Rattle.geometry.specs.Counts.{Side, to_left, to_right}
+use Rattle.geometry.specs.inner.CountsNext.{AreCoversOf}
+use Rattle.geometry.specs.Covers.{IsCountedNext, IsOneWhere}
+use Rattle.geometry.specs.Turns.{number_at, HasTurnedAt}
 use Rattle.solid_mesh.specs.Solids.{AreTrianglesAt}
-use Rattle.face_counts.specs.inner.Sums.{total}
+use Rattle.hiding_laws.specs.Sums.{total}
 use Rattle.cross_find.specs.declared.meter.End.{End}
 use Rattle.cross_find.specs.Sights.{SightState, with_test}
 use Rattle.span_count.specs.declared.step.Sides.{Sides}

@@ -6,12 +6,12 @@ use Rattle.std.proofs.lemmas.Option.{slice_get_within}
 use Rattle.geometry.specs.Parts.{Part, Edge, IsNumbered, IsHalf, start_of, end_of}
 use Rattle.geometry.proofs.Listed.{same_element}
 use Rattle.lattice.specs.declared.soup.Tri.{Tri}
-use Rattle.counting.specs.Turns.{number_at}
+use Rattle.geometry.specs.Turns.{number_at}
 use Rattle.solid_mesh.specs.Solids.{AreTrianglesAt}
-use Rattle.solid_mesh.specs.inner.Stars.{first_at}
+use Rattle.solid_mesh.specs.Stars.{first_at}
 use Rattle.solid_mesh.proofs.StarLemmas.{triangles_at}
-use Rattle.face_counts.proofs.EdgeNumbers.{half_of, half_at_number, half_of_within}
-use Rattle.face_counts.proofs.HalfFaces.{edge_of}
+use Rattle.hiding_laws.proofs.EdgeNumbers.{half_of, half_at_number, half_of_within}
+use Rattle.hiding_laws.proofs.HalfFaces.{edge_of}
 use Rattle.cross_find.specs.Sights.{SightState, IsSeen}
 use Rattle.span_count.specs.Bounds.{IsEndCount}
 use Rattle.span_count.specs.inner.Rests.{IsCornerCount}

@@ -6,7 +6,7 @@ use Rattle.std.proofs.lemmas.Int.{ints}
 use Rattle.std.proofs.lemmas.List.Elements.{All-head, All-tail}
 use Rattle.std.proofs.lemmas.List.Sums.{sum_by-cons}
 use Rattle.std.proofs.lemmas.List.Sorted.{sum_by-IsPermutation}
-use Rattle.face_counts.specs.inner.Sums.{total}
+use Rattle.hiding_laws.specs.Sums.{total}
 
 -- ---- whole numbers as differences
 up : ℤ → ℕ

@@ -6,8 +6,8 @@ use Rattle.std.proofs.lemmas.Option.{slice_get_within}
 use Rattle.lattice.specs.Triple.{Triple}
 use Rattle.geometry.specs.Parts.{Part, Face, Edge, IsNumbered}
 use Rattle.geometry.specs.Views.{IsEndOn, IsOutline}
-use Rattle.counting.specs.Counts.{Side, to_left, to_right}
-use Rattle.counting.specs.Covers.{IsCountedNext, IsOneWhere}
+use Rattle.geometry.specs.Counts.{Side, to_left, to_right}
+use Rattle.geometry.specs.Covers.{IsCountedNext, IsOneWhere}
 use Rattle.std.specs.Prelude.{ℤ, pos, false, sum}
 use Rattle.cross_find.specs.declared.meter.Crossing.{Crossing}
 use Rattle.cross_find.specs.Sights.{SightState, with_test}

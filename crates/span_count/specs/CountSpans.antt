@@ -7,7 +7,7 @@ use Rattle.geometry.specs.Faces.{share_point}
 use Rattle.geometry.specs.Parts.{Part, Edge}
 use Rattle.geometry.specs.Places.{IsEarlier, IsSame, IsBetween, HasNoOrdinaryEnd}
 use Rattle.geometry.specs.Views.{IsHidden, IsOrdinary}
-use Rattle.counting.specs.Counts.{AreCounted, to_left, to_right}
+use Rattle.geometry.specs.Counts.{AreCounted, to_left, to_right}
 use Rattle.span_count.specs.declared.span.CountSpan.{CountSpan}
 
 -- the spans follow one another from a place to a place

@@ -3,8 +3,8 @@ use Rattle.std.specs.Prelude.{◌≡◌, ◌≢◌, ℕ, ◌<◌, ◌≤◌, Lis
 use Rattle.lattice.specs.declared.points.Corner.{Corner}
 use Rattle.lattice.specs.Triple.{Triple}
 use Rattle.geometry.specs.Parts.{Part, Face, Edge, IsNumbered}
-use Rattle.counting.specs.Shares.{Changes}
-use Rattle.counting.specs.Turns.{IsNearerOver}
+use Rattle.geometry.specs.Shares.{Changes}
+use Rattle.geometry.specs.Turns.{IsNearerOver}
 use Rattle.cross_find.specs.Ends.{IsApart}
 use Rattle.cross_find.specs.Sights.{SightState}
 use Rattle.edge_pick.specs.declared.Picked.{Picked}

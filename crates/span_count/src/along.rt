@@ -2,7 +2,7 @@
 ghost use Rattle.std.specs.Prelude.{◌≡◌, ◌+◌, ◌<◌, ◌^◌, ℕ, pos, false, true, not, cond, ◌+ℤ◌, ◌-ℤ◌, length, IfOk};
 ghost use Rattle.geometry.specs.Parts.{Edge, IsNumbered};
 ghost use Rattle.geometry.specs.Places.{IsPlace};
-ghost use Rattle.face_counts.specs.inner.Sums.{total};
+ghost use Rattle.hiding_laws.specs.Sums.{total};
 ghost use Rattle.cross_find.specs.Sights.{IsSeen};
 ghost use Rattle.span_count.specs.Carries.{AreSmall};
 ghost use Rattle.span_count.specs.CountSpans.{AreCountSpans};

@@ -1,7 +1,7 @@
 // What is tested at a corner: the triangles that have it, next to an end of an edge, and the outlines that pass over it.
 ghost use Rattle.std.specs.Prelude.{◌≡◌, ◌+◌, ◌<◌, ◌^◌, ℕ, length};
 ghost use Rattle.geometry.specs.Parts.{Edge, IsNumbered};
-ghost use Rattle.counting.specs.Turns.{number_at};
+ghost use Rattle.geometry.specs.Turns.{number_at};
 ghost use Rattle.cross_find.specs.Sights.{IsSeen};
 ghost use Rattle.span_count.specs.Carries.{AreSmall};
 ghost use Rattle.span_count.specs.inner.Rests.{IsCornerCount, AreOwnCounts, AreTurnsOver};

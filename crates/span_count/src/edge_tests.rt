@@ -1,7 +1,7 @@
 // The tests that are made for an edge.
 ghost use Rattle.std.specs.Prelude.{◌≡◌, false, ◌+◌, ◌<◌, ◌≤◌, ◌*◌, ◌^◌, length, vec_len, IfOk};
 ghost use Rattle.geometry.specs.Parts.{Edge, IsNumbered};
-ghost use Rattle.counting.specs.Turns.{number_at};
+ghost use Rattle.geometry.specs.Turns.{number_at};
 ghost use Rattle.span_count.specs.Finders.{AreAllNear};
 ghost use Rattle.span_count.specs.inner.Rests.{AreCountsNext};
 ghost use Rattle.span_count.specs.inner.Steps.{IsSeenEdge, AreListed, AreCrossings};

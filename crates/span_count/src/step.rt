@@ -1,7 +1,7 @@
 // From an end of an edge to the next edge at its corner, and along that edge to its other end.
 ghost use Rattle.std.specs.Prelude.{◌≡◌, false, true, ◌+◌, ◌<◌, ◌^◌, ℕ, pos, ◌+ℤ◌, ◌-ℤ◌, length, IfOk};
 ghost use Rattle.geometry.specs.Parts.{Edge, IsNumbered};
-ghost use Rattle.counting.specs.Turns.{number_at};
+ghost use Rattle.geometry.specs.Turns.{number_at};
 ghost use Rattle.cross_find.specs.Sights.{IsSeen};
 ghost use Rattle.span_count.specs.Bounds.{IsEndCount};
 ghost use Rattle.span_count.specs.CountSpans.{AreCountSpans};

@@ -23,13 +23,13 @@ pub(crate) struct Ends {
 
 /// What was found so far, for each drawn edge. Until an edge is walked it has no span, and 0 is kept.
 #[derive(Drop)]
-pub(crate) struct Found {
+pub(crate) struct SpansFound {
     pub(crate) entries: Vec<EdgeSpans>,
     pub(crate) ends: Vec<Ends>,
 }
 
 /// Before any edge of these is walked.
-pub(crate) fn nothing_found(alloc: Global, drawn: &[u32]) -> Result<Found, OutOfMemory>
+pub(crate) fn nothing_found(alloc: Global, drawn: &[u32]) -> Result<SpansFound, OutOfMemory>
     ensures entries { IfOk result (λ found. length found.entries.items ≡ length drawn.now) }
     ensures ends { IfOk result (λ found. length found.ends.items ≡ length drawn.now) }
 {
@@ -46,11 +46,11 @@ pub(crate) fn nothing_found(alloc: Global, drawn: &[u32]) -> Result<Found, OutOf
             second: none,
         })?;
     }
-    Ok(Found { entries, ends })
+    Ok(SpansFound { entries, ends })
 }
 
 /// Puts what was found at an edge to its place.
-pub(crate) fn put(found: &mut Found, place: u32, edge: u32, walked: Walked)
+pub(crate) fn put(found: &mut SpansFound, place: u32, edge: u32, walked: Walked)
     requires entries { place < length found.old.entries.items }
     requires ends { place < length found.old.ends.items }
     ensures entries { found.new.entries.items ≡ slice_set found.old.entries.items place (record { edge = edge; spans = walked.spans }) }

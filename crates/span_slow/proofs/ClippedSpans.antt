@@ -6,10 +6,11 @@ use Rattle.std.proofs.lemmas.List.Elements.{All-nil, All-cons}
 use Rattle.integers.proofs.Comparisons.{at_most_of_less}
 use Rattle.exact_frac.specs.declared.Frac.{Frac}
 use Rattle.intervals.specs.declared.interval.Interval.{Interval}
-use Rattle.span_slow.specs.declared.span.Span.{Span}
+use Rattle.lattice.specs.declared.spans.Span.{Span}
 use Rattle.geometry.specs.Places.{IsSame, IsEarlier, IsBetween}
-use Rattle.span_slow.specs.Spans.{Follow, CoverEdge, Alternate}
-use Rattle.span_slow.specs.Beyond.{IsStretch}
+use Rattle.geometry.specs.Spans.{Follow, CoverEdge}
+use Rattle.span_slow.specs.Spans.{Alternate}
+use Rattle.cut_plane.specs.Beyond.{IsStretch}
 use Rattle.span_slow.specs.inner.Steps.{IsSpanAdded, IsLaterOf, IsEarlierOf, IsClippedAdded, IsClippedEnd, IsClippedSpan, AreClipped}
 use Rattle.geometry.proofs.PlaceOrder.{less_most, most_less, IsNotLater, not_later_of_not, earlier_not_later, not_later_earlier, not_later_not_later, not_later_self, not_both, zero_not_later, not_later_one}
 use Rattle.geometry.proofs.SamePlaces.{same, same_back, same_trans, same_between, same_earlier, same_not_later}

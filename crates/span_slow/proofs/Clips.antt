@@ -7,7 +7,7 @@ use Rattle.integers.proofs.Comparisons.{at_most_of_less, gap_of_at_most, sum_not
 use Rattle.integers.proofs.Ring.{var, con, ◌⊕◌, ◌⊖◌, ◌⊗◌, ring}
 use Rattle.integers.proofs.Signs.{mul_nonneg, mul_pos}
 use Rattle.exact_frac.specs.declared.Frac.{Frac}
-use Rattle.hiding.specs.inner.Values.{value_at}
+use Rattle.hiding_laws.specs.Values.{value_at}
 use Rattle.intervals.specs.declared.interval.Interval.{Interval}
 use Rattle.span_slow.specs.declared.linear.Linear.{Linear}
 use Rattle.geometry.specs.Places.{IsPlace, IsSame, IsEarlier}

@@ -17,9 +17,9 @@ use Rattle.geometry.specs.Places.{IsPlace, IsSame, IsValue}
 use Rattle.geometry.proofs.PlaceFractions.{strict}
 use Rattle.geometry.proofs.PlaceOrder.{most_less, between_inner, between_last, zero_value, one_value}
 use Rattle.geometry.proofs.SamePlaces.{same_value}
-use Rattle.section_parity.proofs.Tested.{less_of, most_of}
-use Rattle.span_slow.specs.declared.span.Span.{Span}
-use Rattle.span_slow.specs.Beyond.{IsStretch, IsWithinAny}
+use Rattle.cut_plane.proofs.Tested.{less_of, most_of}
+use Rattle.lattice.specs.declared.spans.Span.{Span}
+use Rattle.cut_plane.specs.Beyond.{IsStretch, IsWithinAny}
 use Rattle.span_slow.specs.inner.Hidden.{IsAtEnd, IsIntervalEnd, TellsWithin, AreSpansOf}
 use Rattle.span_slow.proofs.Same.{same_known}
 

@@ -7,8 +7,8 @@ use Rattle.lattice.specs.declared.points.Corner.{Corner}
 use Rattle.lattice.specs.Triple.{Triple, dot}
 use Rattle.lattice.specs.Points.{point_of, difference}
 use Rattle.lattice.proofs.Vectors.{Letters, letters, dots}
-use Rattle.hiding.specs.inner.Values.{past_of, short_of, behind_of}
-use Rattle.hiding.proofs.Values.{offset-corner}
+use Rattle.hiding_laws.specs.Values.{past_of, short_of, behind_of}
+use Rattle.hiding_laws.proofs.Values.{offset-corner}
 
 -- the way from p to q is the way back, times -1
 abbrev onward : Letters

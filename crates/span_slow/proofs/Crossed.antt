@@ -11,7 +11,7 @@ use Rattle.std.proofs.lemmas.List.MinMax.{ranks_by}
 use Rattle.std.proofs.lemmas.List.Sorted.{sorted_far, All-permutation, Contains-permutation}
 use Rattle.std.proofs.lemmas.List.Elements.{All-contains}
 use Rattle.integers.proofs.Comparisons.{gap_of_at_most, less_not_at_most, at_most_of_less, at_most_of_same, at_most_of_gap}
-use Rattle.integers.proofs.Ring.{var, ◌⊕◌, ◌⊖◌, ◌⊗◌, ring, less_by, gap_of_less}
+use Rattle.integers.proofs.Ring.{var, ◌⊖◌, ◌⊗◌, ring}
 use Rattle.integers.proofs.Signs.{mul_nonneg}
 use Rattle.exact_frac.specs.declared.Frac.{Frac}
 use Rattle.exact_frac.specs.Frac.{order_of}
@@ -22,15 +22,15 @@ use Rattle.lattice.specs.Cuts.{Plane, toward_of}
 use Rattle.geometry.specs.Faces.{share_point}
 use Rattle.geometry.specs.Parts.{Part, Face, Edge, IsClosed}
 use Rattle.geometry.specs.Cuts.{IsInSection}
-use Rattle.hiding.proofs.CutPlanes.{ordinary-in-plain}
-use Rattle.hiding.proofs.FrontEnds.{not-at-start, not-at-finish}
-use Rattle.section_parity.specs.Crossings.{CrossesAt, IsShort, AreCrossings}
-use Rattle.section_parity.proofs.Between.{section_between, crossing_not_ordinary}
-use Rattle.section_parity.proofs.Found.{crosses_same}
+use Rattle.hiding_laws.proofs.CutPlanes.{ordinary-in-plain}
+use Rattle.hiding_laws.proofs.FrontEnds.{not-at-start, not-at-finish}
+use Rattle.cut_plane.specs.Crossings.{CrossesAt, IsShort, AreCrossings}
+use Rattle.cut_plane.proofs.Between.{section_between, crossing_not_ordinary}
+use Rattle.cut_plane.proofs.FoundCrossings.{crosses_same}
 use Rattle.geometry.specs.Places.{IsEarlier, IsBetween}
 use Rattle.span_slow.specs.inner.CutHidden.{IsOrdinaryBeyond}
 use Rattle.span_slow.specs.inner.Sections.{mediant_point, IsApartFrom}
-use Rattle.geometry.proofs.PlaceOrder.{less_most, most_less, IsNotLater, not_later_of_not, between_inner, between_last, zero_value, one_value, zero_not_later}
+use Rattle.geometry.proofs.PlaceOrder.{less_most, most_less, IsNotLater, not_later_of_not, between_inner, between_last, zero_value, one_value, zero_not_later, mediant_between}
 
 -- ---- the places in order
 -- no place is strictly between the two
@@ -86,18 +86,6 @@ not_after_finish x to most one = subst (λ v. (x.num *ℤ to.den) ≤ℤ (v *ℤ
   where
     by_den : (n m l : ℤ) → pos 0 ≤ℤ l → n ≤ℤ m → (n *ℤ l) ≤ℤ (l *ℤ m)
     by_den n m l up h = at_most_of_gap (n *ℤ l) (l *ℤ m) (subst (λ v. pos 0 ≤ℤ v) (ring (n ∷ m ∷ l ∷ []) (var 2 ⊗ (var 1 ⊖ var 0)) ((var 2 ⊗ var 1) ⊖ (var 0 ⊗ var 2)) refl) (mul_nonneg l (m -ℤ n) up (gap_of_at_most n m h)))
-
--- the mediant is strictly between
-pub mediant_between : (a b : Frac) → IsEarlier a b → IsBetween a b (a.num +ℤ b.num) (a.den +ℤ b.den)
-mediant_between a b h = (
-  less_by (a.num *ℤ (a.den +ℤ b.den)) ((a.num +ℤ b.num) *ℤ a.den) ((b.num *ℤ a.den) -ℤ (a.num *ℤ b.den))
-      (ring (a.num ∷ a.den ∷ b.num ∷ b.den ∷ []) (((var 0 ⊕ var 2) ⊗ var 1) ⊖ (var 0 ⊗ (var 1 ⊕ var 3))) ((var 2 ⊗ var 1) ⊖ (var 0 ⊗ var 3)) refl) gap,
-  less_by ((a.num +ℤ b.num) *ℤ b.den) (b.num *ℤ (a.den +ℤ b.den)) ((b.num *ℤ a.den) -ℤ (a.num *ℤ b.den))
-      (ring (a.num ∷ a.den ∷ b.num ∷ b.den ∷ []) ((var 2 ⊗ (var 1 ⊕ var 3)) ⊖ ((var 0 ⊕ var 2) ⊗ var 3)) ((var 2 ⊗ var 1) ⊖ (var 0 ⊗ var 3)) refl) gap,
-)
-  where
-    gap : pos 0 <ℤ ((b.num *ℤ a.den) -ℤ (a.num *ℤ b.den))
-    gap = gap_of_less (a.num *ℤ b.den) (b.num *ℤ a.den) h
 
 -- ---- the ends of the edge, and the crossings
 pub crossings_moved : (c : Plane) {s : Part} (e : Edge s) (places sorted : List Frac) → IsPermutation places sorted → AreCrossings c e places → AreCrossings c e sorted

@@ -11,23 +11,24 @@ use Rattle.geometry.specs.Faces.{FaceHides, facing_of, share_point}
 use Rattle.geometry.specs.Parts.{Part, Face, Edge}
 use Rattle.geometry.specs.Cuts.{FaceHidesInCut}
 use Rattle.geometry.specs.Sound.{IsSound}
-use Rattle.hiding.specs.inner.Values.{value_at, side_of, depth_of, AreCornersOf}
-use Rattle.hiding.specs.inner.CutValues.{under_of}
-use Rattle.hiding.proofs.Values.{side-share}
-use Rattle.hiding.proofs.CutFronts.{hides-in-cut, under-share, not-at-border}
-use Rattle.hiding.proofs.CutPlanes.{ordinary-in-plain}
-use Rattle.hiding.proofs.FrontEnds.{not-at-start, not-at-finish}
+use Rattle.hiding_laws.specs.Values.{value_at, side_of, depth_of, AreCornersOf}
+use Rattle.hiding_laws.specs.CutValues.{under_of}
+use Rattle.hiding_laws.proofs.Values.{side-share}
+use Rattle.hiding_laws.proofs.CutFronts.{hides-in-cut, under-share, not-at-border}
+use Rattle.hiding_laws.proofs.CutPlanes.{ordinary-in-plain}
+use Rattle.hiding_laws.proofs.FrontEnds.{not-at-start, not-at-finish}
 use Rattle.exact_frac.specs.declared.Frac.{Frac}
 use Rattle.intervals.specs.declared.interval.Interval.{Interval}
 use Rattle.span_slow.specs.declared.linear.Linear.{Linear}
 use Rattle.geometry.specs.Places.{IsEarlier}
 use Rattle.span_slow.specs.inner.Hidden.{AreNonnegative, IsWhereNonnegative, AreWhere}
 use Rattle.span_slow.specs.inner.CutHidden.{IsOrdinaryBeyond, AreWhereBeyond}
-use Rattle.span_slow.proofs.CutReads.{cut_hides_by_corners}
+use Rattle.hiding_laws.proofs.CutCorners.{cut_hides_by_corners}
 use Rattle.span_slow.proofs.Fronts.{hides_by_corners, changes, rooted, front_none, end_apart, inside}
 use Rattle.geometry.proofs.PlaceFractions.{strict}
 use Rattle.span_slow.proofs.LinearValues.{at_most_between}
-use Rattle.span_slow.proofs.Where.{Tells, told, IsRootOrEndAt, within_none, where_none, where_proper}
+use Rattle.span_slow.proofs.Where.{Tells, told, IsRootOrEndAt, where_none, where_proper}
+use Rattle.cut_plane.proofs.OneInterval.{within_none}
 
 -- what never holds at ordinary points of the plain view holds at none of the cut view
 pub none_beyond : (c : Plane) (s : Part) (e : Edge s) (P Q : Point → Type 0) → ((p : Point) → P p → Q p) → AreWhere (toward_of c) e Q [] → AreWhereBeyond c e P []

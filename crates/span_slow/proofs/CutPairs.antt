@@ -13,14 +13,14 @@ use Rattle.geometry.specs.Parts.{Part, Face, Edge, IsClosed}
 use Rattle.geometry.specs.Cuts.{FaceHidesInCut}
 use Rattle.geometry.specs.Sound.{IsSound}
 use Rattle.geometry.specs.Views.{IsOrdinary}
-use Rattle.hiding.specs.inner.Values.{value_at, past_of, short_of, behind_of, IsAhead, IsInLine, IsSideOf, WideSideHides}
-use Rattle.hiding.specs.inner.CutValues.{reach_of, WideSideReaches}
-use Rattle.hiding.proofs.Values.{past-share, short-share}
-use Rattle.hiding.proofs.CutEdgeOn.{edge-on-in-cut}
-use Rattle.hiding.proofs.CutPlanes.{square-one, cut-somewhere, ordinary-in-plain}
-use Rattle.hiding.proofs.CutSides.{reach-share, side-reaches, side-reaches-turned, not-at-reach}
-use Rattle.hiding.proofs.FrontEnds.{not-at-start, not-at-finish}
-use Rattle.hiding.proofs.SideEnds.{one-sight, in-line-over, not-at-ends}
+use Rattle.hiding_laws.specs.Values.{value_at, past_of, short_of, behind_of, IsAhead, IsInLine, IsSideOf, WideSideHides}
+use Rattle.hiding_laws.specs.CutValues.{reach_of, WideSideReaches}
+use Rattle.hiding_laws.proofs.Values.{past-share, short-share}
+use Rattle.hiding_laws.proofs.CutEdgeOn.{edge-on-in-cut}
+use Rattle.hiding_laws.proofs.CutPlanes.{square-one, cut-somewhere, ordinary-in-plain}
+use Rattle.hiding_laws.proofs.CutSides.{reach-share, side-reaches, side-reaches-turned, not-at-reach}
+use Rattle.hiding_laws.proofs.FrontEnds.{not-at-start, not-at-finish}
+use Rattle.hiding_laws.proofs.SideEnds.{one-sight, in-line-over, not-at-ends}
 use Rattle.exact_frac.specs.declared.Frac.{Frac}
 use Rattle.intervals.specs.declared.interval.Interval.{Interval}
 use Rattle.span_slow.specs.declared.linear.Linear.{Linear}
@@ -29,7 +29,7 @@ use Rattle.span_slow.specs.inner.Hidden.{AreNonnegative, IsWhereNonnegative, Are
 use Rattle.span_slow.specs.inner.CutHidden.{IsOrdinaryBeyond, AreWhereBeyond, AreAddedBeyond, PairHides, SomeSideReaches}
 use Rattle.span_slow.proofs.Axes.{level_by_sight}
 use Rattle.span_slow.proofs.CutFronts.{none_beyond}
-use Rattle.span_slow.proofs.CutReads.{cut_hides_by_corners}
+use Rattle.hiding_laws.proofs.CutCorners.{cut_hides_by_corners}
 use Rattle.geometry.proofs.PlaceFractions.{strict}
 use Rattle.span_slow.proofs.Sides.{in_line_at, turned, side_turned, side_off_line, side_end_on, side_none, inside, end_apart}
 use Rattle.span_slow.proofs.Where.{Tells, told, IsRootOrEndAt, where_none, where_alike, where_proper, added_then, added_alike}

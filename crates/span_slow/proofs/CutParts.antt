@@ -11,18 +11,19 @@ use Rattle.lattice.specs.Cuts.{Plane, toward_of, IsBeyond}
 use Rattle.geometry.specs.Faces.{share_point}
 use Rattle.geometry.specs.Parts.{Part, Edge}
 use Rattle.geometry.specs.Cuts.{IsOrdinaryInCut}
-use Rattle.hiding.specs.inner.Values.{value_at}
-use Rattle.hiding.specs.inner.CutValues.{below_of}
-use Rattle.hiding.proofs.CutPlanes.{below-beyond, below-on, corner-not-level, below-share, ordinary-in-plain}
-use Rattle.hiding.proofs.FrontEnds.{not-at-start, not-at-finish}
+use Rattle.hiding_laws.specs.Values.{value_at}
+use Rattle.hiding_laws.specs.CutValues.{below_of}
+use Rattle.hiding_laws.proofs.CutPlanes.{below-beyond, below-on, corner-not-level, below-share, ordinary-in-plain}
+use Rattle.hiding_laws.proofs.FrontEnds.{not-at-start, not-at-finish}
 use Rattle.intervals.specs.declared.interval.Interval.{Interval}
 use Rattle.span_slow.specs.declared.linear.Linear.{Linear}
 use Rattle.geometry.specs.Places.{point_at, IsPlace, IsEarlier, IsBetween, IsFromTo}
 use Rattle.span_slow.specs.inner.Hidden.{IsRootOrEnd, IsWhereNonnegative}
-use Rattle.span_slow.specs.Beyond.{IsStretch, IsPartEnd, IsPartBeyond}
+use Rattle.cut_plane.specs.Beyond.{IsStretch, IsPartEnd, IsPartBeyond}
 use Rattle.span_slow.proofs.LinearValues.{level_value}
 use Rattle.geometry.proofs.PlaceFractions.{strict, earlier_between}
-use Rattle.span_slow.proofs.Where.{Tells, told, IsRootOrEndAt, cut_at, within_none, within_one, all_one}
+use Rattle.span_slow.proofs.Where.{Tells, told, IsRootOrEndAt, cut_at}
+use Rattle.cut_plane.proofs.OneInterval.{within_none, within_one, all_one}
 
 -- ---- a value that is at least 0 on both sides of a place is 0 there only if it is 0 all along
 -- two values of what is linear

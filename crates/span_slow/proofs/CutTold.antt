@@ -11,9 +11,9 @@ use Rattle.geometry.specs.Cuts.{IsHiddenInCut, IsOrdinaryInCut}
 use Rattle.geometry.proofs.BorderSteps.{ordinary_along_cut}
 use Rattle.geometry.proofs.Shares.{one_place}
 use Rattle.intervals.specs.declared.interval.Interval.{Interval}
-use Rattle.span_slow.specs.declared.span.Span.{Span}
+use Rattle.lattice.specs.declared.spans.Span.{Span}
 use Rattle.geometry.specs.Places.{point_at, IsPlace, IsSame, IsBetween, HasNoEndAt}
-use Rattle.span_slow.specs.Beyond.{IsStretch, IsPartEnd, IsPartBeyond}
+use Rattle.cut_plane.specs.Beyond.{IsStretch, IsPartEnd, IsPartBeyond}
 use Rattle.span_slow.specs.inner.Hidden.{IsAtEnd, IsIntervalEnd, TellsWithin, AreSpansOf}
 use Rattle.span_slow.specs.inner.CutHidden.{IsOrdinaryBeyond, AreWhereBeyond}
 use Rattle.span_slow.specs.CutSpans.{IsAnswerInCut, AreCutSpans}
@@ -21,7 +21,7 @@ use Rattle.span_slow.specs.inner.Steps.{IsClippedEnd, IsClippedSpan, AreClipped}
 use Rattle.geometry.proofs.PlaceFractions.{after_start, before_finish}
 use Rattle.geometry.proofs.PlaceOrder.{between_value}
 use Rattle.span_slow.proofs.Same.{same_known}
-use Rattle.span_slow.proofs.Where.{within_one}
+use Rattle.cut_plane.proofs.OneInterval.{within_one}
 use Rattle.span_slow.proofs.CutParts.{part_end_apart}
 
 -- what is so of the point at a place is so at the same numbers

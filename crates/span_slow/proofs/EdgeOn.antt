@@ -8,12 +8,12 @@ use Rattle.lattice.specs.Points.{Point, IsPoint, difference}
 use Rattle.geometry.specs.Faces.{FaceHides, IsFlat, facing_of}
 use Rattle.geometry.specs.Parts.{Part, Face, Edge, IsClosed}
 use Rattle.geometry.specs.Views.{IsOrdinary}
-use Rattle.hiding.specs.inner.Values.{WideSideHides, SideHides}
+use Rattle.hiding_laws.specs.Values.{WideSideHides, SideHides}
 use Rattle.exact_frac.specs.declared.Frac.{Frac}
 use Rattle.intervals.specs.declared.interval.Interval.{Interval}
 use Rattle.span_slow.specs.inner.Hidden.{AreWhere}
-use Rattle.hiding.proofs.Values.{facing-turned}
-use Rattle.hiding.proofs.Hiding.{wide-side-hides, face-hides}
+use Rattle.hiding_laws.proofs.Values.{facing-turned}
+use Rattle.hiding_laws.proofs.Hiding.{wide-side-hides, face-hides}
 use Rattle.span_slow.proofs.Fronts.{hides_by_corners}
 use Rattle.span_slow.proofs.Where.{where_alike, where_either}
 

@@ -12,15 +12,15 @@ use Rattle.geometry.specs.Faces.{FaceHides, facing_of, share_point}
 use Rattle.geometry.specs.Parts.{Part, Face, Edge}
 use Rattle.geometry.specs.Views.{IsOrdinary}
 use Rattle.geometry.specs.Sound.{IsSound}
-use Rattle.hiding.specs.inner.Values.{value_at, side_of, depth_of, IsBehind, AreCornersOf}
+use Rattle.hiding_laws.specs.Values.{value_at, side_of, depth_of, IsBehind, AreCornersOf}
 use Rattle.exact_frac.specs.declared.Frac.{Frac}
 use Rattle.intervals.specs.declared.interval.Interval.{Interval}
 use Rattle.span_slow.specs.declared.linear.Linear.{Linear}
 use Rattle.geometry.specs.Places.{IsEarlier}
 use Rattle.span_slow.specs.inner.Hidden.{AreNonnegative, IsWhereNonnegative, AreWhere}
-use Rattle.hiding.proofs.Values.{side-share, depth-share}
-use Rattle.hiding.proofs.Hiding.{hides-turned, hides-front}
-use Rattle.hiding.proofs.FrontEnds.{not-at-start, not-at-finish, not-at-front-end, IsRoot}
+use Rattle.hiding_laws.proofs.Values.{side-share, depth-share}
+use Rattle.hiding_laws.proofs.Hiding.{hides-turned, hides-front}
+use Rattle.hiding_laws.proofs.FrontEnds.{not-at-start, not-at-finish, not-at-front-end, IsRoot}
 use Rattle.span_slow.proofs.LinearValues.{at_most_between, level_value}
 use Rattle.geometry.proofs.PlaceFractions.{strict}
 use Rattle.span_slow.proofs.Where.{Tells, told, IsRootOrEndAt, HasRootAt, where_none, where_proper}

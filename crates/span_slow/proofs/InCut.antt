@@ -5,7 +5,7 @@ use Rattle.lattice.specs.Triple.{Triple}
 use Rattle.lattice.specs.Points.{of_dir, of_vector, point_of}
 use Rattle.lattice.specs.Cuts.{plane_of, toward_of}
 use Rattle.geometry.specs.Parts.{Part, Edge}
-use Rattle.hiding.specs.inner.Values.{behind_of, IsAhead, IsInLine}
+use Rattle.hiding_laws.specs.Values.{behind_of, IsAhead, IsInLine}
 use Rattle.span_slow.specs.declared.cut_seen.CutEdge.{CutEdge}
 use Rattle.span_slow.specs.declared.linear.Linear.{Linear}
 use Rattle.span_slow.proofs.Sides.{ahead_at, in_line_at}

@@ -11,7 +11,7 @@ use Rattle.geometry.specs.Cuts.{IsInSection}
 use Rattle.solid_mesh.specs.Solids.{solid_part, edge_halves}
 use Rattle.solid_mesh.specs.declared.solid.Solid.{Solid}
 use Rattle.solid_mesh.proofs.Facts as facts
-use Rattle.section_parity.specs.Crossings.{IsShort, AreCrossings}
+use Rattle.cut_plane.specs.Crossings.{IsShort, AreCrossings}
 use Rattle.intervals.specs.declared.interval.Interval.{Interval}
 use Rattle.geometry.specs.Places.{IsPlace}
 use Rattle.span_slow.specs.inner.CutHidden.{IsOrdinaryBeyond, AreWhereBeyond}

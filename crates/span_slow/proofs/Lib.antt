@@ -13,7 +13,6 @@ pub mod Sides
 pub mod EdgeOn
 pub mod Numbered
 pub mod CutReads
-pub mod CutCovers
 pub mod CutParts
 pub mod CutFronts
 pub mod CutPairs

@@ -5,7 +5,7 @@ use Rattle.std.proofs.lemmas.Int.{ints}
 use Rattle.integers.proofs.Comparisons.{times_zero}
 use Rattle.integers.proofs.Ring.{Expr, var, ◌⊕◌, ◌⊖◌, ◌⊗◌, ring, by_one, gap_of_less}
 use Rattle.integers.proofs.Signs.{zero_of_mul, mul_nonpos}
-use Rattle.hiding.specs.inner.Values.{value_at}
+use Rattle.hiding_laws.specs.Values.{value_at}
 
 abbrev values : Expr → Expr → Expr
 values n m = ((m ⊖ n) ⊗ var 0) ⊕ (n ⊗ var 1)

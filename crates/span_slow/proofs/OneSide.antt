@@ -14,7 +14,7 @@ use Rattle.geometry.specs.Faces.{face_sum, share_point, IsPointOfFace, FaceHides
 use Rattle.geometry.specs.Parts.{Part, Face, Edge}
 use Rattle.geometry.specs.Cuts.{over_of, FaceHidesInCut}
 use Rattle.geometry.proofs.Borders.{face_rise, rise_beyond, over_before, over_beyond}
-use Rattle.hiding.proofs.CutPlanes.{ordinary-in-plain}
+use Rattle.hiding_laws.proofs.CutPlanes.{ordinary-in-plain}
 use Rattle.exact_frac.specs.declared.Frac.{Frac}
 use Rattle.intervals.specs.declared.interval.Interval.{Interval}
 use Rattle.span_slow.specs.inner.Hidden.{AreAdded}

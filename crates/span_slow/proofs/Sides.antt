@@ -10,15 +10,15 @@ use Rattle.geometry.specs.Faces.{share_point}
 use Rattle.geometry.specs.Parts.{Part, Face, Edge}
 use Rattle.geometry.specs.Views.{IsOrdinary}
 use Rattle.geometry.specs.Sound.{IsSound}
-use Rattle.hiding.specs.inner.Values.{value_at, past_of, short_of, behind_of, IsBehindSide, IsAhead, IsInLine, IsSideOf, WideSideHides}
+use Rattle.hiding_laws.specs.Values.{value_at, past_of, short_of, behind_of, IsBehindSide, IsAhead, IsInLine, IsSideOf, WideSideHides}
 use Rattle.exact_frac.specs.declared.Frac.{Frac}
 use Rattle.intervals.specs.declared.interval.Interval.{Interval}
 use Rattle.span_slow.specs.declared.linear.Linear.{Linear}
 use Rattle.geometry.specs.Places.{IsEarlier}
 use Rattle.span_slow.specs.inner.Hidden.{AreNonnegative, IsWhereNonnegative, AreWhere}
-use Rattle.hiding.proofs.Values.{past-share, short-share, behind-share}
-use Rattle.hiding.proofs.FrontEnds.{not-at-start, not-at-finish}
-use Rattle.hiding.proofs.SideEnds.{side-hides, in-line, one-sight, not-at-side-end, side-hides-turned}
+use Rattle.hiding_laws.proofs.Values.{past-share, short-share, behind-share}
+use Rattle.hiding_laws.proofs.FrontEnds.{not-at-start, not-at-finish}
+use Rattle.hiding_laws.proofs.SideEnds.{side-hides, in-line, one-sight, not-at-side-end, side-hides-turned}
 use Rattle.span_slow.proofs.Axes.{level_by_sight}
 use Rattle.span_slow.proofs.LinearValues.{at_most_between}
 use Rattle.geometry.proofs.PlaceFractions.{strict}

@@ -12,7 +12,7 @@ use Rattle.geometry.specs.Faces.{share_point}
 use Rattle.geometry.specs.Parts.{Part, Edge}
 use Rattle.intervals.specs.declared.interval.Interval.{Interval}
 use Rattle.geometry.specs.Places.{IsPlace, IsEarlier, IsSame, IsBetween, HasNoEndAt}
-use Rattle.span_slow.specs.Beyond.{IsWithinAny, IsStretch}
+use Rattle.cut_plane.specs.Beyond.{IsWithinAny, IsStretch}
 use Rattle.span_slow.specs.inner.Hidden.{AreWhereAt}
 use Rattle.span_slow.specs.inner.Sections.{mediant_point, IsKept, IsStretchAdded, IsApartFrom, AreWhereUpTo}
 use Rattle.geometry.proofs.PlaceOrder.{three, less_most, most_most, IsNotLater, between_earlier}

@@ -13,11 +13,12 @@ use Rattle.solid_mesh.specs.Solids.{HasNumbers}
 use Rattle.solid_mesh.specs.declared.solid.Edge.{Edge}
 use Rattle.geometry.proofs.Listed.{same_element}
 use Rattle.intervals.specs.declared.interval.Interval.{Interval}
-use Rattle.span_slow.specs.declared.span.Span.{Span}
+use Rattle.lattice.specs.declared.spans.Span.{Span}
 use Rattle.geometry.specs.Places.{point_at, IsPlace, IsSame, HasNoOrdinaryEnd}
-use Rattle.span_slow.specs.Spans.{IsAnswer, AreSpans}
+use Rattle.geometry.specs.Spans.{IsAnswer}
+use Rattle.span_slow.specs.Spans.{AreSpans}
 use Rattle.span_slow.specs.inner.Hidden.{AreWhere, IsAtEnd, IsIntervalEnd, TellsWithin, AreSpansOf}
-use Rattle.hiding.proofs.FrontEnds.{not-at-start, not-at-finish}
+use Rattle.hiding_laws.proofs.FrontEnds.{not-at-start, not-at-finish}
 use Rattle.geometry.proofs.PlaceFractions.{after_start, before_finish}
 use Rattle.geometry.proofs.Sights.{ordinary_along}
 use Rattle.geometry.proofs.Shares.{one_place}

@@ -11,10 +11,11 @@ use Rattle.exact_frac.specs.declared.Frac.{Frac}
 use Rattle.exact_frac.specs.Frac.{order_of}
 use Rattle.intervals.specs.Cuts.{AreApart}
 use Rattle.intervals.specs.declared.interval.Interval.{Interval}
-use Rattle.span_slow.specs.declared.span.Span.{Span}
+use Rattle.lattice.specs.declared.spans.Span.{Span}
 use Rattle.geometry.specs.Places.{IsPlace, IsSame, IsEarlier, IsBetween}
-use Rattle.span_slow.specs.Spans.{Follow, Alternate}
-use Rattle.span_slow.specs.Beyond.{IsStretch, IsWithinAny}
+use Rattle.geometry.specs.Spans.{Follow}
+use Rattle.span_slow.specs.Spans.{Alternate}
+use Rattle.cut_plane.specs.Beyond.{IsStretch, IsWithinAny}
 use Rattle.span_slow.specs.inner.Hidden.{IsIntervalEnd, TellsWithin, AreSpansOf}
 use Rattle.span_slow.specs.inner.Steps.{IsSpanAdded}
 use Rattle.geometry.proofs.PlaceOrder.{less_most, most_less, most_most, IsNotLater, not_later_of_not, earlier_earlier, not_later_earlier, zero_of_not_later, one_of_not_later, zero_not_later}

@@ -1,5 +1,5 @@
 -- Where along an edge something is so: lists of intervals put together, and the interval where linear values are at least 0.
-use Rattle.std.proofs.Common.{◌≡◌, ◌⊎◌, inl, inr, zero, suc, List, [], ◌∷◌, ◌++◌, All, Contains, refl, sym, subst, ap, ◌∙◌, arith, Option, Some, None}
+use Rattle.std.proofs.Common.{◌≡◌, ◌⊎◌, inl, inr, List, [], ◌∷◌, ◌++◌, Contains, refl, sym, subst, ap, ◌∙◌, arith, Option, Some, None}
 use Rattle.std.specs.Prelude.{ℤ, pos, ◌<ℤ◌, ◌≤ℤ◌, ◌↔◌, ◌≢◌, IfSome, IfNone, option_to_list}
 use Rattle.std.proofs.lemmas.List.{append_assoc}
 use Rattle.std.proofs.lemmas.List.Elements.{All-append, Contains-append_left, Contains-append_right, Contains-append_cases}
@@ -9,33 +9,17 @@ use Rattle.lattice.specs.declared.points.Corner.{Corner}
 use Rattle.lattice.specs.Points.{Point, point_of}
 use Rattle.geometry.specs.Faces.{share_point}
 use Rattle.geometry.specs.Parts.{Part, Edge}
-use Rattle.hiding.specs.inner.Values.{value_at}
+use Rattle.hiding_laws.specs.Values.{value_at}
 use Rattle.intervals.specs.declared.interval.Interval.{Interval}
 use Rattle.span_slow.specs.declared.linear.Linear.{Linear}
 use Rattle.geometry.specs.Places.{IsPlace, IsEarlier, IsValue, IsBetween, IsFromTo, HasNoEndAt}
 use Rattle.span_slow.specs.inner.Hidden.{AreNonnegative, HasRoot, IsRootOrEnd, IsWhereNonnegative, AreWhereAt, AreAddedAt}
-use Rattle.span_slow.specs.Beyond.{IsWithinAny, IsStretch}
+use Rattle.cut_plane.specs.Beyond.{IsWithinAny, IsStretch}
+use Rattle.cut_plane.proofs.OneInterval.{within_none, within_one, all_one}
 use Rattle.span_slow.proofs.LinearValues.{same_root}
 use Rattle.geometry.proofs.PlaceFractions.{strict, value_at_start, value_at_finish, earlier_between}
 
 -- ---- within lists of intervals
-pub within_none : (n m : ℤ) → ¬ IsWithinAny [] n m
-within_none n m (x, (k, h, is), between) = omega arith
-
-pub all_one : (P : Interval Frac → Type 0) (x : Interval Frac) → P x → All P (x ∷ [])
-all_one P x h zero y within = h
-all_one P x h (suc k) y within = absurd (omega arith)
-
-pub within_one : (x : Interval Frac) (n m : ℤ) → IsBetween x.from x.to n m ↔ IsWithinAny (x ∷ []) n m
-within_one x n m = (
-  (λ h. (x, (0, omega arith, refl), h)),
-  (λ (y, listed, h). only y listed h),
-)
-  where
-    only : (y : Interval Frac) → Contains (x ∷ []) y → IsBetween y.from y.to n m → IsBetween x.from x.to n m
-    only y (zero, h, is) between = subst (λ (z : Interval Frac). IsBetween z.from z.to n m) (sym is) between
-    only y (suc k, h, is) between = absurd (omega arith)
-
 within_either : (xs ys : List (Interval Frac)) (n m : ℤ) → IsWithinAny (xs ++ ys) n m ↔ (IsWithinAny xs n m ⊎ IsWithinAny ys n m)
 within_either xs ys n m = (
   (λ (x, listed, h). parts x h (Contains-append_cases xs ys x listed)),

@@ -5,7 +5,7 @@ use Rattle.std.proofs.lemmas.List.Elements.{Contains-push, Contains-push_cases, 
 use Rattle.exact_frac.specs.declared.Frac.{Frac}
 use Rattle.intervals.specs.declared.interval.Interval.{Interval}
 use Rattle.geometry.specs.Places.{IsBetween}
-use Rattle.span_slow.specs.Beyond.{IsWithinAny}
+use Rattle.cut_plane.specs.Beyond.{IsWithinAny}
 use Rattle.span_slow.specs.inner.Hidden.{IsAtEnd, IsIntervalEnd}
 
 module _ (xs : List (Interval Frac)) (x : Interval Frac) where

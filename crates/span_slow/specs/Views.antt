@@ -5,7 +5,7 @@ use Rattle.lattice.specs.Points.{of_dir}
 use Rattle.lattice.specs.Cuts.{plane_of, toward_of}
 use Rattle.geometry.specs.Parts.{Part, Edge}
 use Rattle.cut_plane.specs.Loops.{AreBorders}
-use Rattle.span_slow.specs.declared.span.Span.{Span}
+use Rattle.lattice.specs.declared.spans.Span.{Span}
 use Rattle.span_slow.specs.declared.view.View.{View}
 use Rattle.span_slow.specs.declared.view.View.TheVariants.{Plain, Section}
 use Rattle.span_slow.specs.Spans.{AreSpans}

@@ -3,14 +3,14 @@ ghost use Rattle.std.specs.Prelude.{All, IfOk, OnOk};
 ghost use Rattle.exact_frac.specs.Frac.{order_of};
 ghost use Rattle.geometry.specs.Places.{IsPlace};
 ghost use Rattle.intervals.specs.Cuts.{AreApart};
-ghost use Rattle.span_slow.specs.Beyond.{IsStretch};
+ghost use Rattle.cut_plane.specs.Beyond.{IsStretch};
 ghost use Rattle.span_slow.specs.inner.Hidden.{AreSpansOf};
 ghost use Rattle.span_slow.specs.inner.Steps.{IsSpanAdded};
 
 use crate::interval::{finish, is_earlier, start};
-use crate::span::Span;
 use exact_frac::{Frac, OutOfMemory};
 use intervals::{Interval, united};
+use lattice::Span;
 use std::alloc::Global;
 
 /// The spans of the edge: hidden within the intervals, visible elsewhere, in order and as long as can be.

@@ -1,15 +1,16 @@
 // What of the spans of an edge is within a part of it.
 ghost use Rattle.std.specs.Prelude.{IfOk, OnOk};
 ghost use Rattle.geometry.specs.Places.{IsPlace};
-ghost use Rattle.span_slow.specs.Beyond.{IsStretch};
-ghost use Rattle.span_slow.specs.Spans.{CoverEdge, Alternate};
+ghost use Rattle.cut_plane.specs.Beyond.{IsStretch};
+ghost use Rattle.geometry.specs.Spans.{CoverEdge};
+ghost use Rattle.span_slow.specs.Spans.{Alternate};
 ghost use Rattle.span_slow.specs.inner.Steps.{AreClipped, IsLaterOf, IsEarlierOf, IsClippedAdded};
 
 use crate::alternating::add_span;
 use crate::interval::is_earlier;
-use crate::span::Span;
 use exact_frac::{Frac, OutOfMemory};
 use intervals::Interval;
+use lattice::Span;
 use std::alloc::Global;
 
 /// What of the spans is within the part: they follow one another from its first place to its last, by these very numbers.

@@ -2,16 +2,16 @@
 ghost use Rattle.std.specs.Prelude.{◌≡◌, ◌<◌, ◌⊎◌, ◌↔◌, pos, ◌<ℤ◌, length, [], All, IsTrue, IsFalse, IfOk, OnOk, IfSome, IfNone, option_to_list};
 ghost use Rattle.lattice.specs.Triangles.{IsBelow};
 ghost use Rattle.lattice.specs.Triple.{dot};
-ghost use Rattle.lattice.specs.Points.{of_dir, of_vector, point_of, difference, OnOneSight};
+ghost use Rattle.lattice.specs.Points.{of_dir, of_vector, point_of, difference};
 ghost use Rattle.lattice.specs.Cuts.{plane_of, toward_of, IsBeyond, IsBeforePlane};
 ghost use Rattle.geometry.specs.Faces.{facing_of};
 ghost use Rattle.geometry.specs.Parts.{Part, Face, Edge};
 ghost use Rattle.geometry.specs.Cuts.{FaceHidesInCut};
 ghost use Rattle.geometry.specs.Sound.{IsSound};
 ghost use Rattle.solid_mesh.specs.Solids.{solid_part};
-ghost use Rattle.hiding.specs.inner.Values.{AreCornersOf, IsSideOf, WideSideHides, IsInLine};
+ghost use Rattle.hiding_laws.specs.Values.{AreCornersOf, IsSideOf, WideSideHides, IsInLine};
 ghost use Rattle.span_slow.specs.inner.Hidden.{AreWhere};
-ghost use Rattle.span_slow.specs.Beyond.{IsPartBeyond};
+ghost use Rattle.cut_plane.specs.Beyond.{IsPartBeyond};
 ghost use Rattle.span_slow.specs.inner.CutHidden.{AreWhereBeyond, AreAddedBeyond, IsHiddenByFaces, PairHides, SomeSideReaches, IsForward};
 
 use crate::cut_seen::{CutEdge, below, beyond, reach, under};
@@ -24,14 +24,6 @@ use intervals::Interval;
 use lattice::{Corner, Cut, Tri, Vector, view_cross};
 use solid_mesh::Solid;
 use std::alloc::Global;
-
-/// The part beyond the plane of an edge from one corner to another that is not seen end-on, if there is one. Takes constant time.
-pub fn beyond_plane(cut: &Cut, a: &Corner, b: &Corner) -> Option<Interval<Frac>>
-    requires { ¬ OnOneSight (toward_of (plane_of cut.now)) (point_of a.now) (point_of b.now) }
-    ensures { (s : Part) → (e : Edge s) → e.a ≡ a.now → e.b ≡ b.now → IsPartBeyond (plane_of cut.now) e (option_to_list result) }
-{
-    part_beyond(&CutEdge::new(cut, a, b))
-}
 
 /// The part of the edge that is beyond the plane, if there is one.
 pub(crate) fn part_beyond(edge: &CutEdge) -> Option<Interval<Frac>>

@@ -3,7 +3,7 @@ ghost use Rattle.std.specs.Prelude.{◌≡◌, ◌<◌, ◌≤◌, ◌^◌, pos,
 ghost use Rattle.lattice.specs.Triple.{dot};
 ghost use Rattle.lattice.specs.Points.{of_dir, of_corner, of_vector, of_normal, point_of, OnOneSight};
 ghost use Rattle.lattice.specs.Cuts.{plane_of, unit_of, toward_of, level_of};
-ghost use Rattle.hiding.specs.inner.CutValues.{below_of, under_of, reach_of};
+ghost use Rattle.hiding_laws.specs.CutValues.{below_of, under_of, reach_of};
 
 use crate::linear::Linear;
 use crate::seen::SeenEdge;
@@ -119,7 +119,7 @@ pub(crate) fn under(edge: &CutEdge, a: &Corner, b: &Corner, c: &Corner) -> Linea
 
 /// How far the point over a corner of the face's plane is below that of the cut, times twice the face's area as it is seen, which is
 /// below 0 where the face is turned away.
-pub fn under_at(cut: &Cut, a: &Corner, b: &Corner, c: &Corner, p: &Corner) -> i128
+fn under_at(cut: &Cut, a: &Corner, b: &Corner, c: &Corner, p: &Corner) -> i128
     ensures value { result ≡ under_of (plane_of cut.now) a.now b.now c.now (point_of p.now) }
     ensures small { unsigned_abs result < 2 ^ 68 }
 {

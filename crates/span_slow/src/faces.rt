@@ -8,7 +8,7 @@ ghost use Rattle.geometry.specs.Parts.{Part, Face, Edge};
 ghost use Rattle.geometry.specs.Views.{IsHidden};
 ghost use Rattle.geometry.specs.Sound.{IsSound};
 ghost use Rattle.solid_mesh.specs.Solids.{solid_part};
-ghost use Rattle.hiding.specs.inner.Values.{side_of, AreCornersOf, IsSideOf, WideSideHides, IsInLine};
+ghost use Rattle.hiding_laws.specs.Values.{side_of, AreCornersOf, IsSideOf, WideSideHides, IsInLine};
 ghost use Rattle.geometry.specs.Places.{IsEarlier};
 ghost use Rattle.span_slow.specs.inner.Hidden.{AreWhere, AreAdded};
 

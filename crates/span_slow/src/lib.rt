@@ -31,7 +31,6 @@ mod interval;
 mod linear;
 mod section;
 mod seen;
-mod span;
 mod view;
 
 use crate::alternating::spans_of;
@@ -41,15 +40,12 @@ use crate::cut_seen::CutEdge;
 use crate::faces::hidden_intervals;
 use crate::section::within_section;
 use crate::seen::SeenEdge;
-pub use cut_faces::beyond_plane;
-use cut_plane::Section;
-pub use cut_seen::under_at;
+use cut_plane::{Section, crossings};
 use exact_frac::{Frac, OutOfMemory};
 use intervals::Interval;
 use lattice::Dir;
-use section_parity::crossings;
+pub use lattice::Span;
 use solid_mesh::Solid;
-pub use span::Span;
 use std::alloc::Global;
 pub use view::View;
 

@@ -7,7 +7,7 @@ ghost use Rattle.geometry.specs.Parts.{Edge, IsNumbered};
 ghost use Rattle.geometry.specs.Cuts.{IsInSection};
 ghost use Rattle.solid_mesh.specs.Solids.{solid_part, edge_halves};
 ghost use Rattle.cut_plane.specs.Loops.{AreBorders};
-ghost use Rattle.section_parity.specs.Crossings.{IsShort, AreCrossings};
+ghost use Rattle.cut_plane.specs.Crossings.{IsShort, AreCrossings};
 ghost use Rattle.geometry.specs.Places.{IsPlace, IsEarlier};
 ghost use Rattle.span_slow.specs.inner.CutHidden.{AreWhereBeyond};
 ghost use Rattle.span_slow.specs.inner.Sections.{mediant_point, IsStretchAdded};

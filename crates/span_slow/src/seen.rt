@@ -2,7 +2,7 @@
 ghost use Rattle.std.specs.Prelude.{◌≡◌, ℕ, ◌<◌, ◌^◌, ◌↔◌, pos, ◌<ℤ◌, unsigned_abs, IsNone, IfSome};
 ghost use Rattle.lattice.specs.Triple.{Triple, IsWithin, dot, right_axis, up_axis};
 ghost use Rattle.lattice.specs.Points.{of_dir, of_vector, point_of, OnOneSight};
-ghost use Rattle.hiding.specs.inner.Values.{IsAhead, side_of, depth_of, past_of, short_of, behind_of};
+ghost use Rattle.hiding_laws.specs.Values.{IsAhead, side_of, depth_of, past_of, short_of, behind_of};
 
 use crate::linear::Linear;
 use lattice::{Corner, Dir, Vector, det3, view_cross};

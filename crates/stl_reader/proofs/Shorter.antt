@@ -10,7 +10,7 @@ use Rattle.weld.specs.declared.fault.Want.{Want}
 use Rattle.weld.specs.declared.fault.Want.TheVariants as want
 use Rattle.weld.specs.declared.fault.Word.{Word}
 use Rattle.weld.specs.declared.fault.Word.TheVariants as word
-use Rattle.part_text.specs.Steps.{Reading, Step, fault_at, Gives, ◌then◌, After, Computes, Check, checked}
+use Rattle.part_text.specs.Steps.{Reading, Step, fault_at, StepGives, ◌then◌, After, Computes, Check, checked}
 use Rattle.part_text.specs.Words.{text_of, NextToken, is_word, Units}
 use Rattle.part_text.specs.Vertices.{end, Coordinate, Vertex, SkipLine}
 use Rattle.part_text.proofs.Again.{impossible}
@@ -38,7 +38,7 @@ short_then_at first next f n tokens r (made, a, p) = short_after next n (length 
 pub short_then : {X Y : Type 0} {first : Step X} {next : X → Step Y} → IsShort first → ((x : X) → IsShort (next x)) → IsShort (first then next)
 short_then {X} {Y} {first} {next} f n = record { short = short_then_at first next f n }
 
-short_given : {X : Type 0} (x : X) → IsShort (Gives x)
+short_given : {X : Type 0} (x : X) → IsShort (StepGives x)
 short_given x = record { short = λ tokens r e. rw e (omega arith) }
 
 checked_at : {X : Type 0} (test : Bool) (x : X) (line : ℕ) (kind : PartKind) (tokens : List Token) → Within (length tokens) (checked test x line kind tokens)

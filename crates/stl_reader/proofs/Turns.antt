@@ -5,7 +5,7 @@ use Rattle.lattice.specs.Triple.{Triple}
 use Rattle.lex_lines.specs.declared.token.Token.{Token}
 use Rattle.dec_text.specs.declared.number.Length.{Length}
 use Rattle.weld.specs.declared.fault.PartFault.{PartFault}
-use Rattle.part_text.specs.Steps.{Reading, After, Gives}
+use Rattle.part_text.specs.Steps.{Reading, After, StepGives}
 use Rattle.part_text.specs.Vertices.{SkipLine}
 use Rattle.stl_reader.proofs.Checks.{skipped}
 use Rattle.stl_reader.specs.Stl.{FacetOrEnd, AnotherSolid, Facet, Facets}
@@ -23,7 +23,7 @@ behind_both : (done more : List Three) (r : Reading (List Three)) → behind don
 behind_both done more (Ok (xs, left)) = ap (λ (ys : List Three). Ok (ys, left)) (sym (append_assoc done more xs))
 behind_both done more (Err fault) = refl
 
-gives_behind : (f : Three) (r : Reading (List Three)) → After (λ others. Gives (f ∷ others)) r (behind (f ∷ []) r)
+gives_behind : (f : Three) (r : Reading (List Three)) → After (λ others. StepGives (f ∷ others)) r (behind (f ∷ []) r)
 gives_behind f (Ok (xs, left)) = refl
 gives_behind f (Err fault) = refl
 

@@ -13,7 +13,7 @@ use Rattle.weld.specs.declared.fault.Word.{Word}
 use Rattle.weld.specs.declared.fault.Word.TheVariants as word
 use Rattle.weld.specs.declared.raw_part.RawPart.{RawPart}
 use Rattle.weld.specs.Raw.{Raw}
-use Rattle.part_text.specs.Steps.{Reading, Step, fault_at, Gives, ◌then◌, Computes, Check}
+use Rattle.part_text.specs.Steps.{Reading, Step, fault_at, StepGives, ◌then◌, Computes, Check}
 use Rattle.part_text.specs.Texts.{ReadsText, AnswersText}
 use Rattle.part_text.specs.Words.{text_of, NextToken, is_word}
 use Rattle.part_text.specs.Vertices.{end, Vertex, SkipLine}
@@ -35,15 +35,15 @@ module _ (bytes : List ℕ) where
 
   -- a normal: three tokens
   abbrev pub Numbers : Step (Unit {0})
-  Numbers = Any then λ _. Any then λ _. Any then λ _. Gives tt
+  Numbers = Any then λ _. Any then λ _. Any then λ _. StepGives tt
 
   -- what stands before the corners of a facet, behind the word `facet`
   abbrev pub Opening : Step (Unit {0})
-  Opening = Keyword word.Normal then λ _. Numbers then λ _. Keyword word.Outer then λ _. Keyword word.Loop then λ _. Gives tt
+  Opening = Keyword word.Normal then λ _. Numbers then λ _. Keyword word.Outer then λ _. Keyword word.Loop then λ _. StepGives tt
 
   -- and what stands behind them
   abbrev pub Closing : Step (Unit {0})
-  Closing = Keyword word.Endloop then λ _. Keyword word.Endfacet then λ _. Gives tt
+  Closing = Keyword word.Endloop then λ _. Keyword word.Endfacet then λ _. StepGives tt
 
   -- true for `facet`, false for `endsolid`, and the line of the word
   abbrev pub facet_or_end : Token → List Token → Reading (Bool × ℕ)
@@ -57,8 +57,8 @@ module _ (bytes : List ℕ) where
 
   -- behind an `endsolid`: whether another solid follows, with the rest of its first line
   abbrev pub AnotherSolid : Step Bool
-  AnotherSolid [] r = Gives false [] r
-  AnotherSolid (t ∷ tokens) r = (WordLine word.Solid then λ _. Gives true) (t ∷ tokens) r
+  AnotherSolid [] r = StepGives false [] r
+  AnotherSolid (t ∷ tokens) r = (WordLine word.Solid then λ _. StepGives true) (t ∷ tokens) r
 
 -- ---- facets
 -- one step or the other
@@ -72,19 +72,19 @@ module _ (decimals : ℕ) (unit : Length) (bytes : List ℕ) where
   Corner = Keyword bytes word.Vertex then λ _. Vertex decimals unit bytes
 
   abbrev pub Corners : Step (Triple × Triple × Triple)
-  Corners = Corner then λ a. Corner then λ b. Corner then λ c. Gives (a, b, c)
+  Corners = Corner then λ a. Corner then λ b. Corner then λ c. StepGives (a, b, c)
 
   -- the corners of a facet whose first word is on this line, where there are so many facets before
   abbrev pub Facet : ℕ → ℕ → Step (Triple × Triple × Triple)
-  Facet before line = Check (nat_lt before 20000) line line TooMany then λ _. Opening bytes then λ _. Corners then λ f. Closing bytes then λ _. Gives f
+  Facet before line = Check (nat_lt before 20000) line line TooMany then λ _. Opening bytes then λ _. Corners then λ f. Closing bytes then λ _. StepGives f
 
   -- the facets from where `facet` or `endsolid` may stand up to the text's end, in so many turns at most; there are so many before
   abbrev pub Facets : ℕ → ℕ → Step (List (Triple × Triple × Triple))
   Facets zero before = λ tokens r. ⊥
   Facets (suc turns) before =
       FacetOrEnd bytes then λ w. Either w.0
-      (Facet before w.1 then λ f. Facets turns (before + 1) then λ others. Gives (f ∷ others))
-      (SkipLine w.1 then λ _. AnotherSolid bytes then λ more. Either more (Facets turns before) (Gives []))
+      (Facet before w.1 then λ f. Facets turns (before + 1) then λ others. StepGives (f ∷ others))
+      (SkipLine w.1 then λ _. AnotherSolid bytes then λ more. Either more (Facets turns before) (StepGives []))
 
 -- ---- the whole
 -- the corners of all facets, one after the other
@@ -100,7 +100,7 @@ raw_of facets = record { vertices = vertices_of facets; triangles = map triangle
 
 module _ (decimals : ℕ) (unit : Length) (bytes : List ℕ) where
   abbrev pub Whole : Step Raw
-  Whole tokens r = (turns : ℕ) × (WordLine bytes word.Solid then λ _. Facets decimals unit bytes turns 0 then λ facets. Gives (raw_of facets)) tokens r
+  Whole tokens r = (turns : ℕ) × (WordLine bytes word.Solid then λ _. Facets decimals unit bytes turns 0 then λ facets. StepGives (raw_of facets)) tokens r
 
   -- what the text says
   abbrev pub ReadsStl : Result Raw PartFault → Type 0

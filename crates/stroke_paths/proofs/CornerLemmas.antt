@@ -9,16 +9,17 @@ use Rattle.std.proofs.lemmas.Result.{on_ok_weaker}
 use Rattle.std.specs.Result.{OnOk}
 use Rattle.std.specs.Map.{lookup}
 use Rattle.indexmap.specs.IndexMap.{IndexMap, get}
+use Rattle.sheet_plan.proofs.OneKinds.{mark_of_pen}
 use Rattle.sheet_plan.specs.declared.sheet.Mark.{Mark}
-use Rattle.sheet_plan.specs.declared.sheet.Mark.TheVariants.{Solid, Dashed, Chain, Hatch}
+use Rattle.sheet_plan.specs.declared.sheet.Mark.TheVariants.{Hatch}
 use Rattle.sheet_plan.specs.declared.sheet.Stroke.{Stroke}
 use Rattle.stroke_paths.specs.declared.corners.Corner.{Corner}
 use Rattle.stroke_paths.specs.declared.corners.Corner.TheVariants.{One, Two, More}
-use Rattle.stroke_paths.specs.declared.corners.Place.{Place}
+use Rattle.stroke_paths.specs.declared.corners.StrokePlace.{StrokePlace}
 use Rattle.stroke_paths.specs.declared.path.End.{End}
 use Rattle.stroke_paths.specs.declared.path.Point.{Point}
 use Rattle.stroke_paths.specs.Joints.{IsDot, point_of}
-use Rattle.stroke_paths.specs.inner.Corners.{number_of, place_for, place_of, same_place, with_end, Tells, EndsBelow, AreCorners, IsNoted}
+use Rattle.stroke_paths.specs.inner.Corners.{place_for, place_of, same_place, with_end, Tells, EndsBelow, AreCorners, IsNoted}
 use Rattle.stroke_paths.specs.inner.Tables.{MayJoin}
 
 -- ---- places
@@ -27,31 +28,13 @@ decides_point p q =
     Decides-like (int_eq p.x q.x && int_eq p.y q.y) (λ (a, b). λ i. record { x = a i; y = b i }) (λ e. (ap (λ (r : Point). r.x) e, ap (λ (r : Point). r.y) e))
     (Decides-and (int_eq p.x q.x) (int_eq p.y q.y) (Decides-int_eq p.x q.x) (Decides-int_eq p.y q.y))
 
-decides_same : (p q : Place) → Decides (same_place p q) (p ≡ q)
+decides_same : (p q : StrokePlace) → Decides (same_place p q) (p ≡ q)
 decides_same p q =
     let points = int_eq p.point.x q.point.x && int_eq p.point.y q.point.y in
     Decides-like (same_place p q) (λ (a, (b, c)). λ i. record { view = a i; mark = b i; point = c i })
-    (λ e. (ap (λ (s : Place). s.view) e, (ap (λ (s : Place). s.mark) e, ap (λ (s : Place). s.point) e)))
+    (λ e. (ap (λ (s : StrokePlace). s.view) e, (ap (λ (s : StrokePlace). s.mark) e, ap (λ (s : StrokePlace). s.point) e)))
     (Decides-and (nat_eq p.view q.view) (nat_eq p.mark q.mark && points) (Decides-eqb p.view q.view)
     (Decides-and (nat_eq p.mark q.mark) points (Decides-eqb p.mark q.mark) (decides_point p.point q.point)))
-
-one_mark : (a b : Mark) → number_of a ≡ number_of b → a ≡ b
-one_mark Solid Solid e = refl
-one_mark Dashed Dashed e = refl
-one_mark Chain Chain e = refl
-one_mark Hatch Hatch e = refl
-one_mark Solid Dashed e = absurd (omega (arith, e))
-one_mark Solid Chain e = absurd (omega (arith, e))
-one_mark Solid Hatch e = absurd (omega (arith, e))
-one_mark Dashed Solid e = absurd (omega (arith, e))
-one_mark Dashed Chain e = absurd (omega (arith, e))
-one_mark Dashed Hatch e = absurd (omega (arith, e))
-one_mark Chain Solid e = absurd (omega (arith, e))
-one_mark Chain Dashed e = absurd (omega (arith, e))
-one_mark Chain Hatch e = absurd (omega (arith, e))
-one_mark Hatch Solid e = absurd (omega (arith, e))
-one_mark Hatch Dashed e = absurd (omega (arith, e))
-one_mark Hatch Chain e = absurd (omega (arith, e))
 
 -- a stroke's end is at this point, for the strokes of this view and mark
 pub record IsAt (s : Stroke) (second : Bool) (view : ℕ) (mark : Mark) (p : Point) : Type 0 where
@@ -63,9 +46,9 @@ at_of_same : (s : Stroke) (b : Bool) (view : ℕ) (mark : Mark) (p : Point) → 
 at_of_same s b view mark p h =
     let e = (decides_same (place_of b s) (place_for view mark p)).0 h in
     record {
-      view_is = ap (λ (q : Place). q.view) e;
-      mark_is = one_mark s.mark mark (ap (λ (q : Place). q.mark) e);
-      at = ap (λ (q : Place). q.point) e;
+      view_is = ap (λ (q : StrokePlace). q.view) e;
+      mark_is = mark_of_pen s.mark mark (ap (λ (q : StrokePlace). q.mark) e);
+      at = ap (λ (q : StrokePlace). q.point) e;
     }
 
 same_of_at : (s : Stroke) (b : Bool) (view : ℕ) (mark : Mark) (p : Point) → IsAt s b view mark p → same_place (place_of b s) (place_for view mark p) ≡ true
@@ -145,7 +128,7 @@ module _ (strokes : List Stroke) (i : ℕ) (s : Stroke) (listed : slice_get stro
   dot_of : (view : ℕ) (mark : Mark) (p : Point) → IsAt s false view mark p → IsAt s true view mark p → IsDot s
   dot_of view mark p h k = h.at ∙ sym k.at
 
-  module _ {S : Type 0} (old : IndexMap Place Corner S) (so_far : AreCorners strokes i old) where
+  module _ {S : Type 0} (old : IndexMap StrokePlace Corner S) (so_far : AreCorners strokes i old) where
     -- a stroke that may not be joined leaves the table
     pub none_noted : (MayJoin s → ⊥) → AreCorners strokes (i + 1) old
     none_noted alone view mark p drawn =
@@ -159,7 +142,7 @@ module _ (strokes : List Stroke) (i : ℕ) (s : Stroke) (listed : slice_get stro
             by (inr k) = absurd (alone (record { no_dot = k.no_dot; no_hatch = λ e. drawn (sym k.at.mark_is ∙ e) }))
 
     -- one that may be is noted at its first end and at its second
-    module _ (no_dot : IsDot s → ⊥) (middle after : IndexMap Place Corner S) (first : IsNoted old middle (place_of false s) (record { stroke = i; second = false }))
+    module _ (no_dot : IsDot s → ⊥) (middle after : IndexMap StrokePlace Corner S) (first : IsNoted old middle (place_of false s) (record { stroke = i; second = false }))
         (second : IsNoted middle after (place_of true s) (record { stroke = i; second = true })) where
       module _ (view : ℕ) (mark : Mark) (p : Point) (drawn : mark ≢ Hatch) where
         abbrev Was : End → Type 0
@@ -168,7 +151,7 @@ module _ (strokes : List Stroke) (i : ℕ) (s : Stroke) (listed : slice_get stro
         abbrev Is : End → Type 0
         Is = EndsBelow strokes (i + 1) view mark p
 
-        abbrev q : Place
+        abbrev q : StrokePlace
         q = place_for view mark p
 
         told : (o : Option Corner) → o ≡ get same_place old q → Tells Was o
@@ -246,18 +229,18 @@ module _ (strokes : List Stroke) (i : ℕ) (s : Stroke) (listed : slice_get stro
       both_noted view mark p drawn = at_place view mark p drawn (same_place (place_of false s) (place_for view mark p)) (same_place (place_of true s) (place_for view mark p)) refl refl
 
 -- the same, by what the two calls say
-pub both_noted_by : {S : Type 0} (strokes : List Stroke) (i : ℕ) (s : Stroke) → slice_get strokes i ≡ Some s → (old : IndexMap Place Corner S) → AreCorners strokes i old → MayJoin s → (middle after : IndexMap Place Corner S)
-    (p q : Place) → p ≡ place_of false s → q ≡ place_of true s → IsNoted old middle p (record { stroke = i; second = false })
+pub both_noted_by : {S : Type 0} (strokes : List Stroke) (i : ℕ) (s : Stroke) → slice_get strokes i ≡ Some s → (old : IndexMap StrokePlace Corner S) → AreCorners strokes i old → MayJoin s → (middle after : IndexMap StrokePlace Corner S)
+    (p q : StrokePlace) → p ≡ place_of false s → q ≡ place_of true s → IsNoted old middle p (record { stroke = i; second = false })
     → {E : Type 0} (r : Result (Unit {0}) E) → OnOk r (IsNoted middle after q (record { stroke = i; second = true })) → OnOk r (AreCorners strokes (i + 1) after)
 both_noted_by strokes i s listed old so_far may middle after p q p_is q_is first r second =
     on_ok_weaker r
     (λ k.
-    both_noted strokes i s listed old so_far may.no_dot middle after (subst (λ (x : Place). IsNoted old middle x (record { stroke = i; second = false })) p_is first)
-    (subst (λ (x : Place). IsNoted middle after x (record { stroke = i; second = true })) q_is k)) second
+    both_noted strokes i s listed old so_far may.no_dot middle after (subst (λ (x : StrokePlace). IsNoted old middle x (record { stroke = i; second = false })) p_is first)
+    (subst (λ (x : StrokePlace). IsNoted middle after x (record { stroke = i; second = true })) q_is k)) second
 
-pub no_corners : {S : Type 0} (strokes : List Stroke) (corners : IndexMap Place Corner S) → corners.entries ≡ [] → AreCorners strokes 0 corners
+pub no_corners : {S : Type 0} (strokes : List Stroke) (corners : IndexMap StrokePlace Corner S) → corners.entries ≡ [] → AreCorners strokes 0 corners
 no_corners strokes corners empty view mark p drawn =
-    subst (λ (es : List (Place × Corner)). Tells (EndsBelow strokes 0 view mark p) (lookup (same_place (place_for view mark p)) es)) (sym empty) (λ e h. absurd (omega (arith, h.below)))
+    subst (λ (es : List (StrokePlace × Corner)). Tells (EndsBelow strokes 0 view mark p) (lookup (same_place (place_for view mark p)) es)) (sym empty) (λ e h. absurd (omega (arith, h.below)))
 
-pub all_corners : {S : Type 0} (strokes : List Stroke) (i : ℕ) (corners : IndexMap Place Corner S) → i ≡ length strokes → AreCorners strokes i corners → AreCorners strokes (length strokes) corners
+pub all_corners : {S : Type 0} (strokes : List Stroke) (i : ℕ) (corners : IndexMap StrokePlace Corner S) → i ≡ length strokes → AreCorners strokes i corners → AreCorners strokes (length strokes) corners
 all_corners strokes i corners e h = subst (λ (n : ℕ). AreCorners strokes n corners) e h

@@ -7,7 +7,7 @@ use Rattle.sheet_plan.specs.declared.sheet.Mark.{Mark}
 use Rattle.sheet_plan.specs.declared.sheet.Stroke.{Stroke}
 use Rattle.stroke_paths.specs.declared.corners.Corner.{Corner}
 use Rattle.stroke_paths.specs.declared.corners.Corner.TheVariants.{One, Two, More}
-use Rattle.stroke_paths.specs.declared.corners.Place.{Place}
+use Rattle.stroke_paths.specs.declared.corners.StrokePlace.{StrokePlace}
 use Rattle.stroke_paths.specs.declared.path.End.{End}
 use Rattle.stroke_paths.specs.declared.path.Point.{Point}
 use Rattle.stroke_paths.specs.Joints.{point_of, IsDot, EndsAt, FitsSheet, GoesOn, AreJoined}
@@ -171,13 +171,13 @@ module _ (strokes : List Stroke) (e : End) (s : Stroke) (listed : slice_get stro
             )
 
 -- ---- the same, by what the calls say
-module _ {S : Type 0} (strokes : List Stroke) (corners : IndexMap Place Corner S) (all : AreCorners strokes (length strokes) corners) (place : ℕ) (second : Bool) (s : Stroke)
-    (listed : slice_get strokes place ≡ Some s) (may : MayJoin s) (q : Place) (is : q ≡ place_of second s) where
+module _ {S : Type 0} (strokes : List Stroke) (corners : IndexMap StrokePlace Corner S) (all : AreCorners strokes (length strokes) corners) (place : ℕ) (second : Bool) (s : Stroke)
+    (listed : slice_get strokes place ≡ Some s) (may : MayJoin s) (q : StrokePlace) (is : q ≡ place_of second s) where
   abbrev here : End
   here = record { stroke = place; second = second }
 
   told_here : Tells (Counts strokes here s listed) (get same_place corners q)
-  told_here = subst (λ (x : Place). Tells (Counts strokes here s listed) (get same_place corners x)) (sym is) (all s.view s.mark (point_of second s) may.no_hatch)
+  told_here = subst (λ (x : StrokePlace). Tells (Counts strokes here s listed) (get same_place corners x)) (sym is) (all s.view s.mark (point_of second s) may.no_hatch)
 
   pub none_by_corner : (r : Option End) → r ≡ None → None ≡ other_end (get same_place corners q) place → IsJoint strokes here r
   none_by_corner r none found = subst (IsJoint strokes here) (sym none) (loose_without strokes here s listed (get same_place corners q) told_here (sym found))

@@ -5,7 +5,7 @@ use Rattle.std.specs.Prelude.{not}
 use Rattle.std.specs.List.{Any}
 use Rattle.sheet_plan.specs.declared.sheet.Stroke.{Stroke}
 use Rattle.stroke_paths.specs.Joints.{AreJoined}
-use Rattle.stroke_paths.specs.Neighbours.{StandsBefore, IsNext, Continues}
+use Rattle.stroke_paths.specs.Neighbours.{StepStandsBefore, IsNext, Continues}
 use Rattle.stroke_paths.specs.Routes.{first_end, last_end, Follows, Route, steps_of, last_of, EachFollows, EndsAsItMust, IsRoute, AreRoutes}
 use Rattle.stroke_paths.specs.declared.path.End.{End}
 use Rattle.stroke_paths.specs.declared.path.Step.{Step}
@@ -15,10 +15,10 @@ use Rattle.stroke_paths.proofs.RouteSteps.{one_after, before_too}
 
 module _ (strokes : List Stroke) where
   -- ---- what follows a step comes next
-  further : (x : Step) (steps : List Step) (s t : Step) → StandsBefore steps s t → StandsBefore (x ∷ steps) s t
+  further : (x : Step) (steps : List Step) (s t : Step) → StepStandsBefore steps s t → StepStandsBefore (x ∷ steps) s t
   further x steps s t (before, after, same) = (x ∷ before, after, ap (λ (xs : List Step). x ∷ xs) same)
 
-  stands_before : (x : Step) (rest : List Step) (s t : Step) → EachFollows strokes x rest → Among (x ∷ rest) s → Follows strokes s t → StandsBefore (x ∷ rest) s t ⊎ (last_of x rest ≡ s)
+  stands_before : (x : Step) (rest : List Step) (s t : Step) → EachFollows strokes x rest → Among (x ∷ rest) s → Follows strokes s t → StepStandsBefore (x ∷ rest) s t ⊎ (last_of x rest ≡ s)
   stands_before x [] s t each (inl e) h = inr e
   stands_before x [] s t each (inr m) h = absurd m
   stands_before x (y ∷ rest) s t each (inl e) h =

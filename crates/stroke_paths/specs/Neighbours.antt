@@ -5,12 +5,12 @@ use Rattle.stroke_paths.specs.declared.path.End.{End}
 use Rattle.stroke_paths.specs.declared.path.Step.{Step}
 
 -- somewhere among the steps the one stands right before the other
-abbrev pub StandsBefore : List Step → Step → Step → Type 0
-StandsBefore steps s t = (before : List Step) × (after : List Step) × (steps ≡ before ++ s ∷ t ∷ after)
+abbrev pub StepStandsBefore : List Step → Step → Step → Type 0
+StepStandsBefore steps s t = (before : List Step) × (after : List Step) × (steps ≡ before ++ s ∷ t ∷ after)
 
 -- the one step, and then the other; after the last step of a closed route comes its first
 abbrev pub IsNext : Route → Step → Step → Type 0
-IsNext r s t = StandsBefore (steps_of r) s t ⊎ ((r.closed ≡ true) × (last_of r.first r.rest ≡ s) × (r.first ≡ t))
+IsNext r s t = StepStandsBefore (steps_of r) s t ⊎ ((r.closed ≡ true) × (last_of r.first r.rest ≡ s) × (r.first ≡ t))
 
 -- the route comes to this end of a stroke, and continues from this end of the next
 abbrev pub Continues : Route → End → End → Type 0

@@ -2,7 +2,7 @@
 ghost use Rattle.std.specs.Prelude.{◌≡◌, ◌↔◌, ◌+◌, ◌<◌, IsTrue, IfOk, OnOk, length};
 ghost use Rattle.indexmap.specs.IndexMap.{get};
 ghost use Rattle.stroke_paths.specs.Joints.{point_of, IsDot};
-ghost use Rattle.stroke_paths.specs.inner.Corners.{AreCorners, IsNoted, number_of, other_end, place_of, same_place, with_end};
+ghost use Rattle.stroke_paths.specs.inner.Corners.{AreCorners, IsNoted, other_end, place_of, same_place, with_end};
 ghost use Rattle.stroke_paths.specs.inner.Tables.{MayJoin};
 
 use crate::path::{End, Point};
@@ -11,9 +11,9 @@ use indexmap::IndexMap;
 use sheet_plan::{Mark, Stroke};
 use std::alloc::Global;
 
-/// A point, for the strokes of one view and one mark, which goes by its number.
+/// A point, for the strokes of one view and one mark, which goes by its pen.
 #[derive(Clone, Copy, PartialEq, Eq, Hash)]
-pub(crate) struct Place {
+pub(crate) struct StrokePlace {
     view: u32,
     mark: u8,
     point: Point,
@@ -31,7 +31,7 @@ pub(crate) enum Corner {
 pub(crate) fn corners(
     alloc: Global,
     strokes: &[Stroke],
-) -> Result<IndexMap<Place, Corner>, OutOfMemory>
+) -> Result<IndexMap<StrokePlace, Corner>, OutOfMemory>
     ensures { IfOk result (λ corners. AreCorners strokes.now (length strokes.now) corners) }
 {
     let mut corners = IndexMap::new(alloc);
@@ -43,7 +43,7 @@ pub(crate) fn corners(
 
 /// One more stroke, at the places of both its ends, if it may be joined.
 fn note_stroke(
-    corners: &mut IndexMap<Place, Corner>,
+    corners: &mut IndexMap<StrokePlace, Corner>,
     strokes: &[Stroke],
     i: usize,
 ) -> Result<(), OutOfMemory>
@@ -68,7 +68,11 @@ fn note_stroke(
 }
 
 /// One more end at a place.
-fn note(corners: &mut IndexMap<Place, Corner>, place: Place, end: End) -> Result<(), OutOfMemory>
+fn note(
+    corners: &mut IndexMap<StrokePlace, Corner>,
+    place: StrokePlace,
+    end: End,
+) -> Result<(), OutOfMemory>
     ensures { OnOk result (IsNoted corners.old corners.new place end) }
 {
     let corner = with_end(corners.get(&place).copied(), end);
@@ -89,8 +93,8 @@ fn with_end(corner: Option<Corner>, end: End) -> Corner
 
 /// The end at a place that isn't this stroke's, if there are two.
 pub(crate) fn other_end(
-    corners: &IndexMap<Place, Corner>,
-    place: Place,
+    corners: &IndexMap<StrokePlace, Corner>,
+    place: StrokePlace,
     stroke: usize,
 ) -> Option<End>
     ensures { result ≡ other_end (get same_place corners.now place) stroke }
@@ -108,12 +112,12 @@ pub(crate) fn other_end(
 }
 
 /// Where an end of a stroke is, and among which strokes.
-pub(crate) fn place_of(stroke: &Stroke, second: bool) -> Place
+pub(crate) fn place_of(stroke: &Stroke, second: bool) -> StrokePlace
     ensures { result ≡ place_of second stroke.now }
 {
-    Place {
+    StrokePlace {
         view: stroke.view,
-        mark: number_of(stroke.mark),
+        mark: stroke.mark.pen(),
         point: point_of(stroke, second),
     }
 }
@@ -132,18 +136,6 @@ pub(crate) fn point_of(stroke: &Stroke, second: bool) -> Point
             x: stroke.x1,
             y: stroke.y1,
         }
-    }
-}
-
-/// The number of a mark.
-fn number_of(mark: Mark) -> u8
-    ensures { result ≡ number_of mark }
-{
-    match mark {
-        Mark::Solid => 0,
-        Mark::Dashed => 1,
-        Mark::Chain => 2,
-        Mark::Hatch => 3,
     }
 }
 

@@ -3,7 +3,7 @@ ghost use Rattle.std.specs.Prelude.{◌≡◌, ◌<◌, IfOk, length};
 ghost use Rattle.stroke_paths.specs.inner.Corners.{AreCorners};
 ghost use Rattle.stroke_paths.specs.inner.Tables.{AreJoints, IsJoint};
 
-use crate::corners::{Corner, Place, corners, may_join, other_end, place_of};
+use crate::corners::{Corner, StrokePlace, corners, may_join, other_end, place_of};
 use crate::path::End;
 use crate::turns::goes_on;
 use exact_frac::OutOfMemory;
@@ -42,7 +42,11 @@ pub(crate) fn joints(alloc: Global, strokes: &[Stroke]) -> Result<Vec<Joint>, Ou
 }
 
 /// The end that a path goes on from, once it has come to this end.
-fn find_partner(strokes: &[Stroke], corners: &IndexMap<Place, Corner>, end: End) -> Option<End>
+fn find_partner(
+    strokes: &[Stroke],
+    corners: &IndexMap<StrokePlace, Corner>,
+    end: End,
+) -> Option<End>
     requires listed { end.stroke < length strokes.now }
     requires corners { AreCorners strokes.now (length strokes.now) corners.now }
     ensures { IsJoint strokes.now end result }

@@ -1,8 +1,7 @@
 -- The parts of a page, put together.
-use Rattle.std.proofs.Common.{◌≡◌, ℕ, ◌+◌, ◌++◌, List, [], ◌∷◌, length, drop, ◌≤◌, nat_eq, false, refl, sym, ap, ◌∙◌, add-one, append_assoc, codes}
+use Rattle.std.proofs.Common.{◌≡◌, ℕ, ◌+◌, ◌++◌, List, [], ◌∷◌, length, nat_eq, false, refl, ap, ◌∙◌, add-one, append_assoc, codes}
 use Rattle.std.specs.Prelude.{ℤ}
 use Rattle.std.specs.List.{flat_map}
-use Rattle.std.proofs.lemmas.List.{append-nil, drop_all}
 use Rattle.sheet_plan.specs.declared.sheet.Stroke.{Stroke}
 use Rattle.svg_page.specs.Svg.{escaped, before_title, title_line, group, groups_below}
 
@@ -20,12 +19,13 @@ pub written_title : (height : ℤ) (title : List ℕ) → nat_eq (length title) 
 written_title height [] h = absurd (cc)
 written_title height (byte ∷ bytes) h = refl
 
-pub title_end : (height : ℤ) (title new text old tail : List ℕ) (n : ℕ) → nat_eq (length title) 0 ≡ false → new ≡ text ++ tail → tail ≡ codes "</text>\n"
-    → text ++ flat_map escaped (drop n title) ≡ (old ++ before_title height) ++ flat_map escaped title → length title ≤ n → new ≡ old ++ title_line height title
-title_end height title new text old tail n some step end all last =
-    let none = ap (λ (xs : List ℕ). text ++ flat_map escaped xs) (drop_all n title last) in
-    let whole = sym (append-nil text) ∙ sym none ∙ all in
-    step ∙ (λ i. whole i ++ end i) ∙ regrouped (before_title height) (flat_map escaped title) (codes "</text>\n") ∙ ap (λ (xs : List ℕ). old ++ xs) (written_title height title some)
+pub title_end : (height : ℤ) (title old head a b new tail : List ℕ) → nat_eq (length title) 0 ≡ false → a ≡ old ++ head → head ≡ before_title height
+    → b ≡ a ++ flat_map escaped title → new ≡ b ++ tail → tail ≡ codes "</text>\n" → new ≡ old ++ title_line height title
+title_end height title old head a b new tail some first begin second third end =
+    third
+    ∙ (λ i. (second ∙ (λ j. (first ∙ (λ k. old ++ begin k)) j ++ flat_map escaped title)) i ++ end i)
+    ∙ regrouped (before_title height) (flat_map escaped title) (codes "</text>\n")
+    ∙ ap (λ (xs : List ℕ). old ++ xs) (written_title height title some)
   where
     regrouped : (b m t : List ℕ) → ((old ++ b) ++ m) ++ t ≡ old ++ ((b ++ m) ++ t)
     regrouped b m t = simp append_assoc

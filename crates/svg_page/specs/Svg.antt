@@ -3,8 +3,8 @@ use Rattle.std.specs.Prelude.{ℕ, zero, suc, ◌==◌, if◌then◌else◌, ℤ
 use Rattle.std.specs.List.{filter, flat_map}
 use Rattle.std.specs.Fmt.{signed_decimal}
 use Rattle.integers.specs.Floors.{floor_of}
+use Rattle.sheet_plan.specs.LineKinds.{frame_look, look_of}
 use Rattle.sheet_plan.specs.declared.sheet.Mark.{Mark}
-use Rattle.sheet_plan.specs.declared.sheet.Mark.TheVariants.{Solid, Dashed, Chain, Hatch}
 use Rattle.sheet_plan.specs.declared.sheet.Sheet.{Sheet}
 use Rattle.sheet_plan.specs.declared.sheet.Stroke.{Stroke}
 use Rattle.svg_page.specs.Texts.{◌⊕◌}
@@ -24,12 +24,12 @@ opening w h width height =
 abbrev pub frame : ℤ → ℤ → List ℕ
 frame width height =
     codes "<rect x=\"1000\" y=\"1000\" width=\"" ⊕ signed_decimal (width -ℤ pos 2000) ⊕ codes "\" height=\""
-    ⊕ signed_decimal (height -ℤ pos 2000) ⊕ codes "\" fill=\"none\" stroke=\"black\" stroke-width=\"70\"/>\n"
+    ⊕ signed_decimal (height -ℤ pos 2000) ⊕ codes "\" fill=\"none\" stroke=\"black\" stroke-width=\"" ⊕ frame_look.width ⊕ codes "\"/>\n"
 
 abbrev pub head : ℤ → ℤ → List ℕ
 head width height = opening (millimetres width) (millimetres height) width height ++ frame width height
 
--- a byte of the title: & < > and " by their names
+-- a byte of a text: & < > and " by their names
 abbrev pub escaped : ℕ → List ℕ
 escaped byte =
     if byte == 38 then codes "&amp;" else if byte == 60 then codes "&lt;" else if byte == 62 then codes "&gt;"
@@ -43,12 +43,14 @@ abbrev pub title_line : ℤ → List ℕ → List ℕ
 title_line height [] = []
 title_line height (byte ∷ bytes) = before_title height ++ flat_map escaped (byte ∷ bytes) ++ codes "</text>\n"
 
+-- dashes and gaps; of a line without them, nothing
+abbrev pub dash_array : List ℕ → List ℕ
+dash_array [] = []
+dash_array (byte ∷ more) = codes " stroke-dasharray=\"" ⊕ (byte ∷ more) ⊕ codes "\""
+
 -- how a line of this mark is drawn
-abbrev pub pen : Mark → List ℕ
-pen Solid = codes "stroke-width=\"50\""
-pen Dashed = codes "stroke-width=\"35\" stroke-dasharray=\"300 150\""
-pen Chain = codes "stroke-width=\"25\" stroke-dasharray=\"600 150 75 150\""
-pen Hatch = codes "stroke-width=\"18\""
+unfoldable pub pen : Mark → List ℕ
+pen mark = codes "stroke-width=\"" ⊕ (look_of mark).width ⊕ codes "\"" ⊕ dash_array (look_of mark).dashes
 
 -- the line of a stroke
 abbrev pub stroke_line : Stroke → List ℕ

@@ -1,6 +1,6 @@
 // The text of a sheet with its strokes.
 ghost use Rattle.std.specs.Prelude.{◌≡◌, ◌<◌, ◌^◌, ◌++◌, pos, ◌≤ℤ◌, unsigned_abs, length, IfOk, OnOk, string_bytes};
-ghost use Rattle.std.specs.List.{All};
+ghost use Rattle.std.specs.List.{All, flat_map};
 ghost use Rattle.svg_page.specs.Svg.{opening, frame, head, escaped, before_title, title_line, pen, stroke_line, group_begin, group_end, group, page_begin, page_end, svg_of};
 
 use dec_text::Name;
@@ -86,7 +86,7 @@ fn head(alloc: Global, width: i64, height: i64) -> Result<String, AllocError>
 }
 
 /// The beginning of a sheet of `w` by `h` millimetres.
-fn opening(alloc: Global, w: i64, h: i64, width: i64, height: i64) -> Result<String, AllocError>
+pub fn opening(alloc: Global, w: i64, h: i64, width: i64, height: i64) -> Result<String, AllocError>
     ensures { IfOk result (λ text. string_bytes text ≡ opening w h width height) }
 {
     format!(in alloc;
@@ -116,9 +116,7 @@ fn add_title(alloc: Global, text: &mut Vec<u8>, height: i64, title: &str) -> Res
         return Ok(());
     }
     text.extend_from_slice(before_title(alloc, height)?.as_bytes())?;
-    for byte in title.as_bytes() {
-        add_byte(text, *byte)?;
-    }
+    add_escaped(text, title)?;
     text.extend_from_slice("</text>\n".as_bytes())?;
     Ok(())
 }
@@ -132,7 +130,17 @@ fn before_title(alloc: Global, height: i64) -> Result<String, AllocError>
     format!(in alloc; "<text x=\"2000\" y=\"{y}\" font-family=\"sans-serif\" font-size=\"700\">")
 }
 
-/// Adds a byte of the title, by its name where it has one in XML.
+/// Adds a text, each byte by its name where it has one in XML.
+pub fn add_escaped(text: &mut Vec<u8>, written: &str) -> Result<(), OutOfMemory>
+    ensures { OnOk result (text.new.items ≡ text.old.items ++ flat_map escaped written.now) }
+{
+    for byte in written.as_bytes() {
+        add_byte(text, *byte)?;
+    }
+    Ok(())
+}
+
+/// Adds a byte of a text.
 fn add_byte(text: &mut Vec<u8>, byte: u8) -> Result<(), OutOfMemory>
     ensures { OnOk result (text.new.items ≡ text.old.items ++ escaped byte) }
 {

@@ -22,11 +22,11 @@ use Rattle.line_merge.proofs.Zips.{zip_right}
 use Rattle.span_count.specs.CountSpans as counts
 use Rattle.span_count.specs.CountSpans.{IsRight, AreCountSpans}
 use Rattle.span_count.specs.declared.span.CountSpan.{CountSpan}
-use Rattle.span_slow.specs.CutSpans as cut
-use Rattle.span_slow.specs.Spans as plain
-use Rattle.span_slow.specs.Spans.{IsAnswer}
-use Rattle.span_slow.specs.declared.span.Span.{Span}
-use Rattle.view_lines.specs.Told.{IsToldBy, AreRuns, AreToldBy}
+use Rattle.cut_plane.specs.Beyond as cut
+use Rattle.geometry.specs.Spans as plain
+use Rattle.geometry.specs.Spans.{IsAnswer}
+use Rattle.lattice.specs.declared.spans.Span.{Span}
+use Rattle.view_lines.specs.Told.{IsToldBy, AreJoined, AreToldBy}
 use Rattle.view_lines.specs.inner.Chained.{AreChained}
 use Rattle.drawn_strips.specs.Strips.{TellHidden, IsOffBorders, IsFreeAnswer, TellHiddenInCut}
 use Rattle.view_lines.proofs.Runs.{HasRun, run_of, run_no_end, runs_follow, runs_of_none, single_within}
@@ -126,7 +126,7 @@ module _ (d : Triple) {s : Part} (e : Edge s) where
 
 -- ---- in the view of a cut
 module _ (c : Plane) {s : Part} (e : Edge s) where
-  told_part : (parts : List (Interval Frac)) (xs : List CountSpan) (singles spans : List Span) → AllZip IsToldBy xs singles → AreRuns singles spans → counted.CoverPart parts xs
+  told_part : (parts : List (Interval Frac)) (xs : List CountSpan) (singles spans : List Span) → AllZip IsToldBy xs singles → AreJoined singles spans → counted.CoverPart parts xs
       → cut.CoverPart parts spans × ((y : Span) → Contains spans y → HasRun singles y)
   told_part [] xs singles spans told runs none = let empty = runs_of_none singles spans runs (no_spans xs singles told none) in
       (empty, λ y listed. absurd (let there : Contains [] y = subst (λ (ys : List Span). Contains ys y) empty listed in omega (arith, there.1)))

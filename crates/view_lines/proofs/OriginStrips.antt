@@ -26,7 +26,7 @@ use Rattle.solid_mesh.proofs.Facts.{edge_there}
 use Rattle.solid_mesh.specs.Solids.{solid_part, edge_halves}
 use Rattle.solid_mesh.specs.declared.solid.Solid.{Solid}
 use Rattle.span_count.specs.declared.span.EdgeSpans.{EdgeSpans}
-use Rattle.span_slow.specs.declared.span.Span.{Span}
+use Rattle.lattice.specs.declared.spans.Span.{Span}
 use Rattle.drawn_strips.specs.Strips.{IsStripOf, AreEdgeStrips}
 use Rattle.drawn_strips.proofs.StripPlaces.{span_ends}
 use Rattle.view_lines.proofs.CountedSpans.{told_earlier}

@@ -12,13 +12,13 @@ use Rattle.geometry.proofs.SamePlaces.{same, same_back, same_trans, same_earlier
 use Rattle.lattice.specs.Points.{Point}
 use Rattle.lattice.specs.Triple.{Triple}
 use Rattle.line_merge.proofs.Lists.{contains_first}
-use Rattle.span_slow.specs.Spans.{Follow}
-use Rattle.span_slow.specs.declared.span.Span.{Span}
-use Rattle.view_lines.specs.Told.{IsRun, AreRuns}
+use Rattle.geometry.specs.Spans.{Follow}
+use Rattle.lattice.specs.declared.spans.Span.{Span}
+use Rattle.view_lines.specs.Told.{IsJoined, AreJoined}
 use Rattle.drawn_strips.proofs.SpanPlaces.{StaysAlong, find, weak}
 
 -- ---- how they are made
-pub run_of_one : (x : Span) → IsRun (x ∷ []) x
+pub run_of_one : (x : Span) → IsJoined (x ∷ []) x
 run_of_one x = record {
   first = x;
   others = [];
@@ -32,7 +32,7 @@ run_of_one x = record {
 }
 
 -- a run goes on over one more that is hidden or visible as it is
-run_longer : (here : List Span) (y x z : Span) → IsRun here y → IsSame z.from y.from → IsSame z.to x.to → z.hidden ≡ y.hidden → y.hidden ≡ x.hidden → IsRun (here ++ x ∷ []) z
+run_longer : (here : List Span) (y x z : Span) → IsJoined here y → IsSame z.from y.from → IsSame z.to x.to → z.hidden ≡ y.hidden → y.hidden ≡ x.hidden → IsJoined (here ++ x ∷ []) z
 run_longer here y x z run from to is as_hidden = record {
   first = run.first;
   others = run.others ++ x ∷ [];
@@ -47,14 +47,14 @@ run_longer here y x z run from to is as_hidden = record {
 }
 
 -- one more that stands alone
-pub runs_more : (ys singles : List Span) (x : Span) → AreRuns singles ys → AreRuns (singles ++ x ∷ []) (ys ++ x ∷ [])
+pub runs_more : (ys singles : List Span) (x : Span) → AreJoined singles ys → AreJoined (singles ++ x ∷ []) (ys ++ x ∷ [])
 runs_more [] singles x none = (x ∷ [], [], ap (λ (xs : List Span). xs ++ x ∷ []) none, run_of_one x, refl)
 runs_more (y ∷ ys) singles x (here, rest, together, run, more) =
     (here, rest ++ x ∷ [], ap (λ (xs : List Span). xs ++ x ∷ []) together ∙ append_assoc here rest (x ∷ []), run, runs_more ys rest x more)
 
 -- one more that the last of them goes on over
-pub runs_longer : (ys singles : List Span) (y x z : Span) → AreRuns singles (ys ++ y ∷ []) → IsSame z.from y.from → IsSame z.to x.to → z.hidden ≡ y.hidden → y.hidden ≡ x.hidden
-    → AreRuns (singles ++ x ∷ []) (ys ++ z ∷ [])
+pub runs_longer : (ys singles : List Span) (y x z : Span) → AreJoined singles (ys ++ y ∷ []) → IsSame z.from y.from → IsSame z.to x.to → z.hidden ≡ y.hidden → y.hidden ≡ x.hidden
+    → AreJoined (singles ++ x ∷ []) (ys ++ z ∷ [])
 runs_longer [] singles y x z (here, rest, together, run, none) from to is as_hidden = (
   here ++ x ∷ [],
   [],
@@ -66,7 +66,7 @@ runs_longer (w ∷ ys) singles y x z (here, rest, together, run, more) from to i
     (here, rest ++ x ∷ [], ap (λ (xs : List Span). xs ++ x ∷ []) together ∙ append_assoc here rest (x ∷ []), run, runs_longer ys rest y x z more from to is as_hidden)
 
 -- nothing is in no runs
-pub runs_of_none : (singles ys : List Span) → AreRuns singles ys → singles ≡ [] → ys ≡ []
+pub runs_of_none : (singles ys : List Span) → AreJoined singles ys → singles ≡ [] → ys ≡ []
 runs_of_none singles [] runs none = refl
 runs_of_none singles (y ∷ ys) (here, rest, together, run, more) none = absurd (let long = some in omega (arith, long))
   where
@@ -98,7 +98,7 @@ record IsPart (from to : Frac) (here rest : List Span) (y : Span) : Type 0 where
   pub earlier : IsEarlier y.from y.to
   pub later : Follow y.to rest to
 
-part_of_run : (from to : Frac) (singles here rest : List Span) (y : Span) → singles ≡ here ++ rest → IsRun here y → Follow from singles to → IsPart from to here rest y
+part_of_run : (from to : Frac) (singles here rest : List Span) (y : Span) → singles ≡ here ++ rest → IsJoined here y → Follow from singles to → IsPart from to here rest y
 part_of_run from to singles here rest y together run follow = record {
   at = at;
   within = within;
@@ -122,7 +122,7 @@ part_of_run from to singles here rest y together run follow = record {
     within = from_same from y.from y.to here (same_back y.from from at)
         (to_same from run.last.to y.to here (same_back y.to run.last.to run.to) (subst (λ (xs : List Span). Follow from xs run.last.to) (sym run.ends) parts.0))
 
-pub runs_follow : (from to : Frac) (singles ys : List Span) → AreRuns singles ys → Follow from singles to → Follow from ys to
+pub runs_follow : (from to : Frac) (singles ys : List Span) → AreJoined singles ys → Follow from singles to → Follow from ys to
 runs_follow from to singles [] none follow = subst (λ (xs : List Span). Follow from xs to) none follow
 runs_follow from to singles (y ∷ ys) (here, rest, together, run, more) follow =
     let part = part_of_run from to singles here rest y together run follow in
@@ -131,11 +131,11 @@ runs_follow from to singles (y ∷ ys) (here, rest, together, run, more) follow 
 -- ---- what a run goes over
 pub record HasRun (singles : List Span) (y : Span) : Type 0 where
   pub here : List Span
-  pub run : IsRun here y
+  pub run : IsJoined here y
   pub follow : Follow y.from here y.to
   pub listed : (x : Span) → Contains here x → Contains singles x
 
-pub run_of : (from to : Frac) (singles ys : List Span) → AreRuns singles ys → Follow from singles to → (y : Span) → Contains ys y → HasRun singles y
+pub run_of : (from to : Frac) (singles ys : List Span) → AreJoined singles ys → Follow from singles to → (y : Span) → Contains ys y → HasRun singles y
 run_of from to singles [] none follow y (k, within, is) = absurd (omega (arith, within))
 run_of from to singles (w ∷ ys) (here, rest, together, run, more) follow y (zero, within, is) =
     let part = part_of_run from to singles here rest w together run follow in

@@ -5,7 +5,7 @@ use Rattle.geometry.specs.Parts.{Part, Edge, IsNumbered}
 use Rattle.geometry.specs.Places.{IsSame}
 use Rattle.span_count.specs.declared.span.CountSpan.{CountSpan}
 use Rattle.span_count.specs.declared.span.EdgeSpans.{EdgeSpans}
-use Rattle.span_slow.specs.declared.span.Span.{Span}
+use Rattle.lattice.specs.declared.spans.Span.{Span}
 
 -- the span is hidden exactly where the two counts are not both 0
 pub record IsToldBy (x : CountSpan) (span : Span) : Type 0 where
@@ -15,7 +15,7 @@ pub record IsToldBy (x : CountSpan) (span : Span) : Type 0 where
 
 -- the span goes over these: from where the first of them begins to where the last of them ends, and where it is hidden all of them are,
 -- where it is visible none is
-pub record IsRun (here : List Span) (span : Span) : Type 0 where
+pub record IsJoined (here : List Span) (span : Span) : Type 0 where
   pub first : Span
   pub others : List Span
   pub begins : here ≡ first ∷ others
@@ -27,13 +27,13 @@ pub record IsRun (here : List Span) (span : Span) : Type 0 where
   pub hidden : All (λ x. x.hidden ≡ span.hidden) here
 
 -- the spans go over these, one after the other, and together over all of them
-abbrev pub AreRuns : List Span → List Span → Type 0
-AreRuns singles [] = singles ≡ []
-AreRuns singles (y ∷ ys) = (here : List Span) × (rest : List Span) × (singles ≡ here ++ rest) × IsRun here y × AreRuns rest ys
+abbrev pub AreJoined : List Span → List Span → Type 0
+AreJoined singles [] = singles ≡ []
+AreJoined singles (y ∷ ys) = (here : List Span) × (rest : List Span) × (singles ≡ here ++ rest) × IsJoined here y × AreJoined rest ys
 
 -- the spans are those that the counts tell, each over neighbours that are all hidden or all visible
 abbrev pub AreToldBy : List CountSpan → List Span → Type 0
-AreToldBy counts spans = (singles : List Span) × AllZip IsToldBy counts singles × AreRuns singles spans
+AreToldBy counts spans = (singles : List Span) × AllZip IsToldBy counts singles × AreJoined singles spans
 
 -- the spans are those that the counts of an entry of the edge tell
 pub record AreTold (entries : List EdgeSpans) (halves : List ℕ) {s : Part} (e : Edge s) (spans : List Span) : Type 0 where

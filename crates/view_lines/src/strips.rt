@@ -6,16 +6,15 @@ ghost use Rattle.geometry.specs.Views.{IsEndOn};
 ghost use Rattle.edge_pick.specs.Edges.{OfEdge};
 ghost use Rattle.solid_mesh.specs.Solids.{edge_halves};
 ghost use Rattle.geometry.specs.Places.{IsSame};
-ghost use Rattle.view_lines.specs.Told.{IsToldBy, AreRuns, AreToldBy};
+ghost use Rattle.view_lines.specs.Told.{IsToldBy, AreJoined, AreToldBy};
 ghost use Rattle.view_lines.specs.inner.Chained.{AreChained};
 ghost use Rattle.view_lines.specs.inner.Sources.{AreEntryStrips};
 
 use drawn_strips::add_strips;
 use exact_frac::OutOfMemory;
-use lattice::{Dir, Strip};
+use lattice::{Dir, Span, Strip};
 use solid_mesh::Solid;
 use span_count::{CountSpan, EdgeSpans};
-use span_slow::Span;
 use std::alloc::Global;
 
 /// Some face is counted to the left or to the right.
@@ -52,8 +51,8 @@ fn over_both(first: &Span, next: &Span) -> Span
 /// Takes the next span. Where both are hidden or both visible, the last one is lengthened to its end; else the last one is added, and
 /// the next one is the last. The answer is the last span, which isn't added yet.
 fn go_on(spans: &mut Vec<Span>, last: Span, next: Span) -> Result<Span, OutOfMemory>
-    ensures { IfOk result (λ longer. (singles : List Span) → AreRuns singles (spans.old.items ++ last ∷ []) →
-        AreRuns (singles ++ next ∷ []) (spans.new.items ++ longer ∷ [])) }
+    ensures { IfOk result (λ longer. (singles : List Span) → AreJoined singles (spans.old.items ++ last ∷ []) →
+        AreJoined (singles ++ next ∷ []) (spans.new.items ++ longer ∷ [])) }
 {
     if last.hidden == next.hidden {
         return Ok(over_both(&last, &next));

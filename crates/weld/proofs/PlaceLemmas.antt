@@ -16,18 +16,18 @@ use Rattle.indexmap.specs.IndexSet.{insert_key}
 use Rattle.lattice.specs.declared.points.Corner.{Corner}
 use Rattle.lattice.specs.Points.{of_corner}
 use Rattle.lattice.specs.Triple.{Triple}
-use Rattle.weld.specs.declared.welding.Place.{Place}
+use Rattle.weld.specs.declared.welding.UnitPlace.{UnitPlace}
 use Rattle.weld.specs.inner.Numbering.{of_place, same_place, IsTied, Numbers}
 use Rattle.weld.specs.Welds.{vertex_at, is_one_place, are_different}
 
 -- the place with these coordinates
-abbrev pub place_at : Triple → Place
+abbrev pub place_at : Triple → UnitPlace
 place_at p = record { x = p.x; y = p.y; z = p.z }
 
-pub decides_same : (p q : Place) → Decides (same_place p q) (p ≡ q)
+pub decides_same : (p q : UnitPlace) → Decides (same_place p q) (p ≡ q)
 decides_same p q =
     Decides-like (same_place p q) (λ (a, (b, c)). λ i. record { x = a i; y = b i; z = c i })
-    (λ e. (ap (λ (s : Place). s.x) e, (ap (λ (s : Place). s.y) e, ap (λ (s : Place). s.z) e)))
+    (λ e. (ap (λ (s : UnitPlace). s.x) e, (ap (λ (s : UnitPlace). s.y) e, ap (λ (s : UnitPlace). s.z) e)))
     (Decides-and (int_eq p.x q.x) (int_eq p.y q.y && int_eq p.z q.z) (Decides-int_eq p.x q.x) (Decides-and (int_eq p.y q.y) (int_eq p.z q.z) (Decides-int_eq p.y q.y) (Decides-int_eq p.z q.z)))
 
 same_laws : IsEquivalence same_place
@@ -42,11 +42,11 @@ and_assoc true b c = refl
 and_assoc false b c = refl
 
 -- the test of places is that of their triples
-pub same_is_one : (p q : Place) → same_place p q ≡ is_one_place (of_place p) (of_place q)
+pub same_is_one : (p q : UnitPlace) → same_place p q ≡ is_one_place (of_place p) (of_place q)
 same_is_one p q = and_assoc (int_eq p.x q.x) (int_eq p.y q.y) (int_eq p.z q.z)
 
 -- the answer of three tests, one after the other
-pub different_by_tests : (p q r : Place) (x y z : Bool) → x ≡ not (same_place p q) → y ≡ not (same_place q r) → z ≡ not (same_place r p)
+pub different_by_tests : (p q r : UnitPlace) (x y z : Bool) → x ≡ not (same_place p q) → y ≡ not (same_place q r) → z ≡ not (same_place r p)
     → (x && y && z) ≡ are_different (of_place p, of_place q, of_place r)
 different_by_tests p q r x y z e f g =
     λ i. (e ∙ ap not (same_is_one p q)) i && (f ∙ ap not (same_is_one q r)) i && (g ∙ ap not (same_is_one r p)) i
@@ -63,16 +63,16 @@ position_past test (x ∷ xs) h = by (test x) h (position_past test xs)
 slice_get_seam : (ps : List Triple) (p : Triple) → slice_get (ps ++ p ∷ []) (length ps) ≡ Some p
 slice_get_seam ps p = slice_get-get_or (ps ++ p ∷ []) (length ps) p (omega (arith, length-append ps (p ∷ []))) ∙ ap Some (get_or-append_seam ps p [] p)
 
-module _ (keys new : List Place) (corners : List Corner) (v : Place) (p : Triple) (n : ℕ)
+module _ (keys new : List UnitPlace) (corners : List Corner) (v : UnitPlace) (p : Triple) (n : ℕ)
     (tied : map of_place keys ≡ map of_corner corners) (is : of_place v ≡ p) (inserted : new ≡ insert_key same_place keys v) where
   -- a place that was there has its number
-  pub numbers_known : (k : Place) → slice_get new n ≡ Some k → same_place v k ≡ true → not (list_any (same_place v) keys) ≡ false → Numbers (map of_corner corners) (map of_corner corners) p n
+  pub numbers_known : (k : UnitPlace) → slice_get new n ≡ Some k → same_place v k ≡ true → not (list_any (same_place v) keys) ≡ false → Numbers (map of_corner corners) (map of_corner corners) p n
   numbers_known k at same known =
       let stay : new ≡ keys = inserted ∙ ap (λ (b : Bool). if b then keys else keys ++ v ∷ []) (not-false (list_any (same_place v) keys) known) in
       record {
         at =
             ap (λ (ps : List Triple). slice_get ps n) (sym tied) ∙ slice_get-map of_place keys n
-            ∙ ap (option_map of_place) (ap (λ (ks : List Place). slice_get ks n) (sym stay) ∙ at) ∙ ap (λ (q : Place). Some (of_place q)) (sym ((decides_same v k).0 same)) ∙ ap Some is;
+            ∙ ap (option_map of_place) (ap (λ (ks : List UnitPlace). slice_get ks n) (sym stay) ∙ at) ∙ ap (λ (q : UnitPlace). Some (of_place q)) (sym ((decides_same v k).0 same)) ∙ ap Some is;
         grown = inl refl;
       }
 
@@ -96,7 +96,7 @@ pub vertex_read : (corners : List Corner) (i : ℕ) (c : Corner) → i < length 
 vertex_read corners i c h e = ap of_corner e ∙ sym (get_or-map of_corner corners i c _ h)
 
 -- where places and corners are tied, no two corners are at one place
-pub corners_distinct : (keys : List Place) (corners : List Corner) → IsTied keys corners → AllPairs (λ c d. of_corner c ≢ of_corner d) corners
+pub corners_distinct : (keys : List UnitPlace) (corners : List Corner) → IsTied keys corners → AllPairs (λ c d. of_corner c ≢ of_corner d) corners
 corners_distinct keys corners tied i j d less within e =
     let long : length keys ≡ length corners = sym (length-map keys of_place) ∙ ap length tied.same ∙ length-map corners of_corner in
     let k = place_at (of_corner d) in
@@ -105,7 +105,7 @@ corners_distinct keys corners tied i j d less within e =
     AllPairs-from_IsDistinct decides_same keys tied.distinct i j k less (omega arith) (ap place_at (at i (omega arith) ∙ e ∙ sym (at j within)))
 
 -- each of the corners is at a place of the vertices, so there are no more of them
-pub at_most_vertices : (vertices : List Triple) (keys : List Place) (corners : List Corner) → IsTied keys corners → All (Contains vertices) (map of_corner corners) → length corners ≤ length vertices
+pub at_most_vertices : (vertices : List Triple) (keys : List UnitPlace) (corners : List Corner) → IsTied keys corners → All (Contains vertices) (map of_corner corners) → length corners ≤ length vertices
 at_most_vertices vertices keys corners tied given =
     omega (
       arith,
@@ -115,5 +115,5 @@ at_most_vertices vertices keys corners tied given =
           (is_member-Decides decides_same (map place_at vertices) q).1 (among q (All-contains (Contains vertices) (map of_corner corners) (of_place q) given (subst (λ (ps : List Triple). Contains ps (of_place q)) tied.same (Contains-map of_place keys q ((is_member-Decides decides_same keys q).0 h)))))),
     )
   where
-    among : (q : Place) → Contains vertices (of_place q) → Contains (map place_at vertices) q
+    among : (q : UnitPlace) → Contains vertices (of_place q) → Contains (map place_at vertices) q
     among q h = Contains-map place_at vertices (of_place q) h

@@ -8,7 +8,7 @@ use Rattle.lattice.specs.declared.soup.Tri.{Tri}
 use Rattle.lattice.specs.Points.{of_corner}
 use Rattle.lattice.specs.Triangles.{IsBelow}
 use Rattle.lattice.specs.Triple.{Triple}
-use Rattle.weld.specs.declared.welding.Place.{Place}
+use Rattle.weld.specs.declared.welding.UnitPlace.{UnitPlace}
 use Rattle.weld.specs.inner.Numbering.{IsTied, NumbersAll}
 use Rattle.weld.specs.Raw.{Raw}
 use Rattle.weld.specs.Welds.{vertex_at, placed, are_different, proper_of, numbers_of, IsWeldOf}
@@ -110,7 +110,7 @@ module _ (corners : List Corner) (given : List Tri) (in_range : All (IsBelow (le
   dropped_welded flat = subst (λ (ps : List (Triple × Triple × Triple)). IsWelded vertices ps old triangles) (sym (proper_dropped vertices given k d less flat)) welded
 
 -- what is left once all triangles are gone through
-module _ (raw : Raw) (keys : List Place) (corners : List Corner) (triangles : List Tri) (k : ℕ) (all : k ≡ length raw.triangles) (tied : IsTied keys corners)
+module _ (raw : Raw) (keys : List UnitPlace) (corners : List Corner) (triangles : List Tri) (k : ℕ) (all : k ≡ length raw.triangles) (tied : IsTied keys corners)
     (welded : IsWelded raw.vertices (proper_before raw.vertices raw.triangles k) (map of_corner corners) triangles) where
   all_proper : map (placed (map of_corner corners)) triangles ≡ proper_of raw
   all_proper = welded.same ∙ ap (λ (ts : List Tri). filter are_different (map (placed raw.vertices) ts)) (ap (λ n. take n raw.triangles) all ∙ take-length raw.triangles)

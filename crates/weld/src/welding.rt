@@ -76,17 +76,17 @@ impl RawPart {
 
 /// Where a corner is, in units.
 #[derive(Clone, Copy, PartialEq, Eq, Hash, Debug)]
-struct Place {
+struct UnitPlace {
     x: i32,
     y: i32,
     z: i32,
 }
 
 /// The place of a corner.
-fn place_of(corner: &Corner) -> Place
+fn place_of(corner: &Corner) -> UnitPlace
     ensures { of_place result ≡ of_corner corner.now }
 {
-    Place {
+    UnitPlace {
         x: corner.x,
         y: corner.y,
         z: corner.z,
@@ -107,7 +107,7 @@ fn are_different(corners: &[Corner], triangle: &Tri) -> bool
 /// The corners that are used so far, in the order of their first use, and their places, which are all different.
 #[derive(Drop)]
 struct Kept {
-    places: IndexSet<Place>,
+    places: IndexSet<UnitPlace>,
     corners: Vec<Corner>,
 }
 

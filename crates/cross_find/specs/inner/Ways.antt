@@ -1,8 +1,8 @@
 -- What the crate's ways and sides stand for.
 use Rattle.std.specs.Prelude.{◌≡◌, ℤ, ◌-ℤ◌, ◌*ℤ◌, Bool, true, false}
-use Rattle.counting.specs.Counts.{Side, to_left, to_right}
-use Rattle.counting.specs.Turns as turns
-use Rattle.face_counts.specs.inner.Tallies.{IsTally}
+use Rattle.geometry.specs.Counts.{Side, to_left, to_right}
+use Rattle.geometry.specs.Turns as turns
+use Rattle.hiding_laws.specs.inner.Tallies.{IsTally}
 use Rattle.cross_find.specs.declared.ways.Way.{Way}
 
 abbrev pub way_of : Way → turns.Way

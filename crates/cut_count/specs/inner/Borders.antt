@@ -11,14 +11,14 @@ use Rattle.geometry.specs.Faces.{share_point}
 use Rattle.geometry.specs.Parts.{Part, Face, Edge}
 use Rattle.geometry.specs.Places.{IsEarlier, IsBetween}
 use Rattle.geometry.specs.Views.{face_sign}
-use Rattle.hiding.specs.inner.Values.{side_of}
-use Rattle.counting.specs.Counts.{Side, to_left, to_right}
-use Rattle.counting.specs.Shares.{mark}
-use Rattle.section_parity.specs.Crossings.{CrossesAt}
-use Rattle.rest_counts.specs.CutEnds.{mark_change}
-use Rattle.rest_counts.specs.BorderShares.{way_turn}
+use Rattle.hiding_laws.specs.Values.{side_of}
+use Rattle.geometry.specs.Counts.{Side, to_left, to_right}
+use Rattle.geometry.specs.Shares.{mark}
+use Rattle.cut_plane.specs.Crossings.{CrossesAt}
+use Rattle.cut_count_laws.specs.CutEnds.{mark_change}
+use Rattle.cut_count_laws.specs.BorderShares.{way_turn}
 use Rattle.cut_count.specs.declared.found.Share.{Share}
-use Rattle.cut_count.specs.declared.found.Found.{Found}
+use Rattle.cut_count.specs.declared.found.CrossingBorder.{CrossingBorder}
 
 -- the divisor of an end of a border
 abbrev pub IsSmallEnd : Spot → Type 0
@@ -53,7 +53,7 @@ abbrev pub ChangesMark : Plane → {s : Part} → Edge s → Point → Point →
 ChangesMark c e p q = (mark_change to_left (toward_of c) e.a e.b p q ≢ pos 0) ⊎ (mark_change to_right (toward_of c) e.a e.b p q ≢ pos 0)
 
 -- the face's border from p to q crosses the edge at this place, strictly within the part, with these shares
-pub record IsFound (c : Plane) {s : Part} (e : Edge s) (f : Face s) (part : Interval Frac) (p q : Point) (x : Found) : Type 0 where
+pub record IsFound (c : Plane) {s : Part} (e : Edge s) (f : Face s) (part : Interval Frac) (p q : Point) (x : CrossingBorder) : Type 0 where
   pub crosses : CrossesAt c f e x.at.num x.at.den
   pub after : IsEarlier part.from x.at
   pub before : IsEarlier x.at part.to
@@ -62,6 +62,6 @@ pub record IsFound (c : Plane) {s : Part} (e : Edge s) (f : Face s) (part : Inte
   pub on_right : IsShareOf to_right c e f p q x.right
 
 -- it does so and changes a mark; or it does not
-abbrev pub IsFoundOr : Plane → {s : Part} → Edge s → Face s → Interval Frac → Point → Point → Option Found → Type 0
+abbrev pub IsFoundOr : Plane → {s : Part} → Edge s → Face s → Interval Frac → Point → Point → Option CrossingBorder → Type 0
 IsFoundOr c e f part p q None = (n m : ℤ) → pos 0 <ℤ m → IsBetween part.from part.to n m → ChangesMark c e p q → ¬ CrossesAt c f e n m
 IsFoundOr c e f part p q (Some x) = IsFound c e f part p q x

@@ -5,8 +5,8 @@ use Rattle.lattice.specs.declared.points.Corner.{Corner}
 use Rattle.lattice.specs.Cuts.{Plane, toward_of}
 use Rattle.lattice.specs.Points.{point_of}
 use Rattle.geometry.specs.Faces.{facing_of}
-use Rattle.hiding.specs.inner.CutValues.{under_of}
-use Rattle.counting.specs.Counts.{Side, to_left, to_right}
+use Rattle.hiding_laws.specs.CutValues.{under_of}
+use Rattle.geometry.specs.Counts.{Side, to_left, to_right}
 use Rattle.cross_find.specs.Ends.{IsNotBelow}
 use Rattle.cut_count.specs.declared.placed.Placed.{Placed}
 

@@ -9,13 +9,13 @@ use Rattle.lattice.specs.Points.{of_spot}
 use Rattle.lattice.specs.Cuts.{Plane}
 use Rattle.geometry.specs.Cuts.{IsCount}
 use Rattle.geometry.specs.Parts.{Part, Face, Edge, IsNumbered}
-use Rattle.counting.specs.Counts.{Side}
+use Rattle.geometry.specs.Counts.{Side}
 use Rattle.cross_find.specs.declared.meter.Crossing.{Crossing}
 use Rattle.cut_plane.specs.declared.segments.Segment.{Segment}
-use Rattle.section_parity.proofs.Xors.{xor}
-use Rattle.rest_counts.specs.CutShares.{CutChanges}
-use Rattle.rest_counts.proofs.CutLaws.{AreCutCovers}
-use Rattle.cut_count.specs.declared.found.Found.{Found}
+use Rattle.cut_plane.proofs.Xors.{xor}
+use Rattle.cut_count_laws.specs.CutShares.{CutChanges}
+use Rattle.cut_count_laws.proofs.CutLaws.{AreCutCovers}
+use Rattle.cut_count.specs.declared.found.CrossingBorder.{CrossingBorder}
 use Rattle.cut_count.specs.Crossings.{IsCutAcross}
 use Rattle.cut_count.specs.inner.Borders.{IsAhead, IsFoundOr}
 
@@ -37,12 +37,12 @@ pub record AreOutlineCrossings (c : Plane) {s : Part} (e : Edge s) (halves outli
   pub all : crossings ≡ filter_map (λ answer. answer) answers
 
 -- ---- borders
-abbrev pub IsBorderAnswer : Plane → {s : Part} → Edge s → Interval Frac → Segment → Option Found → Type 0
+abbrev pub IsBorderAnswer : Plane → {s : Part} → Edge s → Interval Frac → Segment → Option CrossingBorder → Type 0
 IsBorderAnswer c {s = s} e part x answer = (f : Face s) → f.number ≡ x.tri → IsFoundOr c e f part (of_spot x.a) (of_spot x.b) answer
 
 -- the borders that cross the edge within the part, in the order of their segments
-pub record AreFound (c : Plane) {s : Part} (e : Edge s) (part : Interval Frac) (segments : List Segment) (found : List Found) : Type 0 where
-  pub answers : List (Option Found)
+pub record AreFound (c : Plane) {s : Part} (e : Edge s) (part : Interval Frac) (segments : List Segment) (found : List CrossingBorder) : Type 0 where
+  pub answers : List (Option CrossingBorder)
   pub each : AllZip (IsBorderAnswer c e part) segments answers
   pub all : found ≡ filter_map (λ answer. answer) answers
 
@@ -57,14 +57,14 @@ abbrev pub AreCoverCounts : Side → Plane → {s : Part} → Edge s → Bool �
 AreCoverCounts k c e at_b z = (covers : List ℕ) × AreCutCovers k c e at_b covers × (z ≡ pos (sum covers))
 
 -- ---- the section along the edge
-abbrev pub turn_left : Found → Bool
+abbrev pub turn_left : CrossingBorder → Bool
 turn_left x = x.left.turns
 
-abbrev pub turn_right : Found → Bool
+abbrev pub turn_right : CrossingBorder → Bool
 turn_right x = x.right.turns
 
 -- whether it begins or ends an odd number of times
-abbrev pub odd_turns : (Found → Bool) → List Found → Bool
+abbrev pub odd_turns : (CrossingBorder → Bool) → List CrossingBorder → Bool
 odd_turns turns [] = false
 odd_turns turns (x ∷ xs) = xor (turns x) (odd_turns turns xs)
 
@@ -75,7 +75,7 @@ section_change false true = pos 1
 section_change true true = negsuc 0
 
 -- the borders as crossings, where the section is there before the first, or not, for the one count and the other
-abbrev pub AreSectionCrossings : Bool → Bool → List Found → List Crossing → Type 0
+abbrev pub AreSectionCrossings : Bool → Bool → List CrossingBorder → List Crossing → Type 0
 AreSectionCrossings left right [] [] = Unit {0}
 AreSectionCrossings left right [] (y ∷ ys) = ⊥
 AreSectionCrossings left right (x ∷ xs) [] = ⊥

@@ -9,8 +9,8 @@ use Rattle.dec_text.specs.declared.number.State.TheVariants.{Start, Signed, Whol
 use Rattle.dec_text.specs.declared.number.Exponent.{Exponent}
 
 -- ---- byte after byte
-abbrev pub kind_of : ℕ → Kind
-kind_of byte =
+abbrev pub byte_kind : ℕ → Kind
+byte_kind byte =
     if is_ascii_digit byte
     then Digit
     else (if byte == 46 then Point else (if byte == 69 || byte == 101 then Mark else (if byte == 43 || byte == 45 then Sign else Other)))

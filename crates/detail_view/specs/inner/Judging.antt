@@ -5,7 +5,7 @@ use Rattle.desk.specs.Files.{Files}
 use Rattle.job_file.specs.Documents.{JobValues}
 use Rattle.geometry.specs.Parts.{Part}
 use Rattle.sheet_plan.specs.declared.sheet.Stroke.{Stroke}
-use Rattle.list_lines.specs.Lines.{IsEntryOf}
+use Rattle.piece_verify.specs.ListLines.{IsEntryOf}
 use Rattle.piece_verify.specs.declared.check.Verdict.{Verdict}
 use Rattle.piece_verify.specs.declared.list.PieceList.{PieceList}
 use Rattle.part_input.specs.Parts.{sample_size}

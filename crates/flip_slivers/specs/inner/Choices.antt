@@ -5,9 +5,9 @@ use Rattle.std.specs.List.{All}
 use Rattle.lattice.specs.Triangles.{IsBelow}
 use Rattle.lattice.specs.declared.points.Corner.{Corner}
 use Rattle.lattice.specs.declared.soup.Tri.{Tri}
-use Rattle.flip_bounds.specs.declared.bounded.Bounded.{Bounded}
-use Rattle.flip_bounds.specs.Heights.{HasHeight, IsRoundedUp, side_square}
-use Rattle.flip_bounds.specs.Flips.{tri, IsRound, IsSliverBeside, IsSideOf, IsRise, first_of, second_of}
+use Rattle.flip_slivers.specs.declared.bounded.Bounded.{Bounded}
+use Rattle.flip_slivers.specs.Heights.{HasHeight, IsRoundedUp, side_square}
+use Rattle.flip_slivers.specs.Flips.{tri, IsRound, IsSliverBeside, IsSideOf, IsRise, first_of, second_of}
 use Rattle.flip_slivers.specs.inner.Lists.{IsListed, lists_of, triangles_of}
 use Rattle.flip_slivers.specs.inner.Measures.{AreMeasures}
 use Rattle.flip_slivers.specs.declared.measures.Measure.{Measure}

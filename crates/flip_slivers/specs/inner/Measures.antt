@@ -2,7 +2,7 @@
 use Rattle.std.specs.Prelude.{◌≡◌, ℕ, ◌*◌, ◌<◌, ◌≤◌, pos, List, length, Some, slice_get}
 use Rattle.lattice.specs.declared.points.Corner.{Corner}
 use Rattle.lattice.specs.declared.soup.Tri.{Tri}
-use Rattle.flip_bounds.specs.Heights.{HasHeight, IsRoundedUp}
+use Rattle.flip_slivers.specs.Heights.{HasHeight, IsRoundedUp}
 use Rattle.flip_slivers.specs.declared.measures.Measure.{Measure}
 
 -- the triangle's height, and if it is a sliver that rounded up

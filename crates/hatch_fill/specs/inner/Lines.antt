@@ -8,7 +8,7 @@ use Rattle.lattice.specs.declared.pieces.HatchLine.{HatchLine}
 use Rattle.lattice.specs.Triple.{Triple}
 use Rattle.lattice.specs.Points.{Point, of_spot}
 use Rattle.lattice.specs.Cuts.{Plane, plane_height}
-use Rattle.hatch_fill.specs.declared.places.Place.{Place}
+use Rattle.hatch_fill.specs.declared.places.HatchPlace.{HatchPlace}
 
 -- what is seen at U, V and this height, along the axis from its high side or against it
 abbrev pub triple_along : Axis → Bool → ℤ → ℤ → ℤ → Triple
@@ -27,13 +27,13 @@ abbrev pub point_over : Triple → ℤ → Point
 point_over t w = record { x = t.x; y = t.y; z = t.z; w = w }
 
 -- the spot of the plane at this place
-abbrev pub IsSpotAt : Plane → Place → Spot → Type 0
+abbrev pub IsSpotAt : Plane → HatchPlace → Spot → Type 0
 IsSpotAt c t p =
     let n = t.across.num in
     let m = t.across.den in
     of_spot p ≡ point_over (triple_seen c (pos 2 *ℤ n) (pos 2 *ℤ (n -ℤ (t.diagonal *ℤ m))) (plane_height c *ℤ m)) (pos 2 *ℤ m)
 
 -- the hatch line from the one end of the interval to the other
-pub record IsLineOver (c : Plane) (i : Interval Place) (x : HatchLine) : Type 0 where
+pub record IsLineOver (c : Plane) (i : Interval HatchPlace) (x : HatchLine) : Type 0 where
   pub first : IsSpotAt c i.from x.a
   pub second : IsSpotAt c i.to x.b

@@ -4,14 +4,14 @@ use Rattle.std.specs.Ordering.{int_cmp, ordering_then}
 use Rattle.std.specs.declared.cmp.Ordering.{Ordering}
 use Rattle.exact_frac.specs.declared.Frac.{Frac}
 use Rattle.exact_frac.specs.Frac.{order_of}
-use Rattle.hatch_fill.specs.declared.places.Place.{Place}
+use Rattle.hatch_fill.specs.declared.places.HatchPlace.{HatchPlace}
 
 -- by U - V, and then by U
-abbrev pub place_order : Place → Place → Ordering
+abbrev pub place_order : HatchPlace → HatchPlace → Ordering
 place_order s t = ordering_then (int_cmp s.diagonal t.diagonal) (order_of s.across t.across)
 
 -- the place has this U - V and this U, in these very terms
-pub record IsPlaceAt (diagonal : ℤ) (across : Frac) (t : Place) : Type 0 where
+pub record IsPlaceAt (diagonal : ℤ) (across : Frac) (t : HatchPlace) : Type 0 where
   pub line : t.diagonal ≡ diagonal
   pub num : t.across.num ≡ across.num
   pub den : t.across.den ≡ across.den

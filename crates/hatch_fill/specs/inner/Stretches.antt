@@ -7,16 +7,16 @@ use Rattle.lattice.specs.declared.points.Spot.{Spot}
 use Rattle.lattice.specs.Triple.{Triple}
 use Rattle.lattice.specs.Points.{of_spot, across_of}
 use Rattle.cut_plane.specs.declared.segments.Segment.{Segment}
-use Rattle.section_parity.specs.Diagonals.{diagonal_of}
-use Rattle.hatch_fill.specs.declared.places.Place.{Place}
+use Rattle.cut_plane.specs.Diagonals.{diagonal_of}
+use Rattle.hatch_fill.specs.declared.places.HatchPlace.{HatchPlace}
 use Rattle.hatch_fill.specs.inner.Places.{place_order, HasSpot}
 
 -- the interval from the one to the other, if it has an inside
-abbrev pub between : Place → Place → List (Interval Place)
+abbrev pub between : HatchPlace → HatchPlace → List (Interval HatchPlace)
 between s t = if is_lt (place_order s t) then record { from = s; to = t } ∷ [] else []
 
 -- from the first to the second, from the third to the fourth, and so on
-abbrev pub pairs_of : List Place → List (Interval Place)
+abbrev pub pairs_of : List HatchPlace → List (Interval HatchPlace)
 pairs_of [] = []
 pairs_of (s ∷ []) = []
 pairs_of (s ∷ t ∷ places) = between s t ++ pairs_of places
@@ -27,7 +27,7 @@ abbrev pub IsAtDiagonal : Triple → ℤ → Spot → Type 0
 IsAtDiagonal d diagonal p = diagonal_of d (of_spot p) ≡ diagonal *ℤ p.w
 
 -- the place of a spot
-pub record IsPlaceOf (d : Triple) (diagonal : ℤ) (p : Spot) (t : Place) : Type 0 where
+pub record IsPlaceOf (d : Triple) (diagonal : ℤ) (p : Spot) (t : HatchPlace) : Type 0 where
   pub on : IsAtDiagonal d diagonal p
   pub line : t.diagonal ≡ diagonal
   pub num : t.across.num ≡ across_of d (of_spot p)
@@ -39,13 +39,13 @@ pub record IsSpotOn (d : Triple) (diagonal : ℤ) (p : Spot) : Type 0 where
   pub spot : HasSpot diagonal (across_of d (of_spot p)) p.w
 
 -- the segment runs along a hatch line, and its ends are at these places of it
-pub record AreEndsAlong (d : Triple) (spacing : ℕ) (x : Segment) (a b : Place) : Type 0 where
+pub record AreEndsAlong (d : Triple) (spacing : ℕ) (x : Segment) (a b : HatchPlace) : Type 0 where
   pub number : ℤ
   pub first : IsPlaceOf d (number *ℤ pos spacing) x.a a
   pub second : IsPlaceOf d (number *ℤ pos spacing) x.b b
 
 -- from one end of the segment to the other
-pub record IsStretchOf (d : Triple) (spacing : ℕ) (x : Segment) (i : Interval Place) : Type 0 where
+pub record IsStretchOf (d : Triple) (spacing : ℕ) (x : Segment) (i : Interval HatchPlace) : Type 0 where
   pub proper : place_order i.from i.to ≡ Less
   pub ends : AreEndsAlong d spacing x i.from i.to ⊎ AreEndsAlong d spacing x i.to i.from
 
@@ -57,6 +57,6 @@ pub record HasStretch (d : Triple) (spacing : ℕ) (x : Segment) : Type 0 where
   pub apart : across_of d (of_spot x.a) *ℤ x.b.w ≡ across_of d (of_spot x.b) *ℤ x.a.w → ⊥
 
 -- what the segment covers of a hatch line, if it runs along one
-pub record AreStretches (d : Triple) (spacing : ℕ) (x : Segment) (intervals : List (Interval Place)) : Type 0 where
+pub record AreStretches (d : Triple) (spacing : ℕ) (x : Segment) (intervals : List (Interval HatchPlace)) : Type 0 where
   pub each : All (IsStretchOf d spacing x) intervals
-  pub all : HasStretch d spacing x → (i : Interval Place) × Contains intervals i
+  pub all : HasStretch d spacing x → (i : Interval HatchPlace) × Contains intervals i

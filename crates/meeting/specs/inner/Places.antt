@@ -5,7 +5,7 @@ use Rattle.meeting.specs.declared.course.Offset.{Offset}
 use Rattle.meeting.specs.declared.course.Course.{Course}
 
 -- a place of the edge, by the weights of its two ends, that is in the plane and to the right of no side
-pub record Place (x : Course) : Type 0 where
+pub record CoursePlace (x : Course) : Type 0 where
   pub i : ℤ
   pub j : ℤ
   pub i_least : pos 0 ≤ℤ i
@@ -17,8 +17,8 @@ pub record Place (x : Course) : Type 0 where
   pub ab : pos 0 ≤ℤ ((i *ℤ x.ab.start) +ℤ (j *ℤ x.ab.end))
 
 -- the edge has an end below the plane and one above it, or one in it and one off it
-abbrev pub GoesThrough : Heights → Type 0
-GoesThrough h = ((h.start ≤ℤ pos 0) × (pos 0 ≤ℤ h.end) × (h.start <ℤ h.end)) ⊎ ((pos 0 ≤ℤ h.start) × (h.end ≤ℤ pos 0) × (h.end <ℤ h.start))
+abbrev pub HasBothSides : Heights → Type 0
+HasBothSides h = ((h.start ≤ℤ pos 0) × (pos 0 ≤ℤ h.end) × (h.start <ℤ h.end)) ⊎ ((pos 0 ≤ℤ h.start) × (h.end ≤ℤ pos 0) × (h.end <ℤ h.start))
 
 -- where the edge goes through the plane, it is not to the right of the side: how far it is to the left there, times a square
 abbrev pub IsLeftInPlane : Heights → Offset → Type 0

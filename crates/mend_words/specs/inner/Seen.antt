@@ -5,12 +5,12 @@ use Rattle.clap.specs.declared.error.kind.ErrorKind.{ErrorKind}
 use Rattle.clap.specs.declared.error.kind.ErrorKind.TheVariants.{DisplayHelp, DisplayVersion, OutOfMemory}
 use Rattle.sheet_words.specs.Grammar.{for_help, for_version}
 use Rattle.mend_words.specs.Grammar.{Given, Reading, all_given, asks, refused}
-use Rattle.mend_words.specs.declared.command.Found.{Found}
-use Rattle.mend_words.specs.declared.command.Sentence.{Sentence}
-use Rattle.mend_words.specs.declared.command.Sentence.TheVariants as sentence
+use Rattle.mend_words.specs.declared.command.MendTexts.{MendTexts}
+use Rattle.mend_words.specs.declared.command.MendSentence.{MendSentence}
+use Rattle.mend_words.specs.declared.command.MendSentence.TheVariants as sentence
 
 -- the texts that were found
-abbrev pub found_seen : Found → Given
+abbrev pub found_seen : MendTexts → Given
 found_seen found = record {
   part = option_copied found.part;
   out = option_copied found.out;
@@ -19,7 +19,7 @@ found_seen found = record {
 }
 
 -- what a sentence comes to
-abbrev pub sentence_seen : Sentence → Reading
+abbrev pub sentence_seen : MendSentence → Reading
 sentence_seen sentence.Help = asks for_help
 sentence_seen sentence.Version = asks for_version
 sentence_seen (sentence.Texts found) = all_given (found_seen found)

@@ -21,13 +21,13 @@ AreHeld d r s halves outlines columns cells = (column row : ℕ) → column < co
 abbrev pub IsInSome : (ℕ → ℕ → Type 0) → ℕ → List (List ℕ) → ℕ → Type 0
 IsInSome P columns cells k = (column : ℕ) × (row : ℕ) × P column row × Contains (cell_at cells columns column row) k
 
--- ---- marks
--- the list has the numbers with this mark, each once, and no mark is above it
-pub record IsMarked (mark : ℕ) (marks list : List ℕ) : Type 0 where
+-- ---- stamps
+-- the list has the numbers with this stamp, each once, and no stamp is above it
+pub record IsStamped (stamp : ℕ) (stamps list : List ℕ) : Type 0 where
   pub once : AllPairs ◌≢◌ list
-  pub within : All (λ k. k < length marks) list
-  pub marked : (k : ℕ) → k < length marks → (slice_index_or marks k 0 ≡ mark) ↔ Contains list k
-  pub most : All (λ m. m ≤ mark) marks
+  pub within : All (λ k. k < length stamps) list
+  pub stamped : (k : ℕ) → k < length stamps → (slice_index_or stamps k 0 ≡ stamp) ↔ Contains list k
+  pub most : All (λ m. m ≤ stamp) stamps
 
 -- the list has also those of which Q holds
 abbrev pub IsGrown : (ℕ → Type 0) → List ℕ → List ℕ → Type 0

@@ -3,7 +3,7 @@ use Rattle.std.specs.Prelude.{ℕ, ◌≤◌, List, length, take, slice_get}
 use Rattle.std.specs.List.{AllZip}
 use Rattle.lattice.specs.declared.pieces.Piece.{Piece}
 use Rattle.lattice.specs.Triple.{Triple}
-use Rattle.list_lines.specs.declared.line.Entry.{Entry}
+use Rattle.piece_verify.specs.declared.line.Entry.{Entry}
 use Rattle.piece_verify.specs.Stands.{StandsFor, AgreeAt}
 
 -- they stand for each other before the place, and not there

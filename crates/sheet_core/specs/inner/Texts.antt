@@ -6,7 +6,7 @@ use Rattle.sheet_core.specs.Summary.{summary_of}
 use Rattle.sheet_core.specs.Writing.{listed, page_text}
 use Rattle.sheet_core.specs.declared.page.Shown.{Shown}
 use Rattle.sheet_core.specs.declared.texts.Texts.{Texts}
-use Rattle.sheet_lines.specs.Lines.{list_line, write_line}
+use Rattle.sheet_core.specs.Refusals.{list_line, write_line}
 use Rattle.sheet_list.specs.Lists.{list_text}
 use Rattle.sheet_words.specs.Names.{Named}
 

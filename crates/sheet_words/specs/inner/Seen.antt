@@ -4,12 +4,12 @@ use Rattle.clap.specs.Walk.{Row, first_of}
 use Rattle.clap.specs.declared.error.kind.ErrorKind.{ErrorKind}
 use Rattle.clap.specs.declared.error.kind.ErrorKind.TheVariants.{DisplayHelp, DisplayVersion, OutOfMemory}
 use Rattle.sheet_words.specs.Grammar.{Given, Reading, all_given, asks, for_help, for_version, refused}
-use Rattle.sheet_words.specs.declared.command.Found.{Found}
-use Rattle.sheet_words.specs.declared.command.Sentence.{Sentence}
-use Rattle.sheet_words.specs.declared.command.Sentence.TheVariants as sentence
+use Rattle.sheet_words.specs.declared.command.SheetTexts.{SheetTexts}
+use Rattle.sheet_words.specs.declared.command.SheetSentence.{SheetSentence}
+use Rattle.sheet_words.specs.declared.command.SheetSentence.TheVariants as sentence
 
 -- the texts that were found
-abbrev pub found_seen : Found → Given
+abbrev pub found_seen : SheetTexts → Given
 found_seen found = record {
   part = option_copied found.part;
   job = option_copied found.job;
@@ -19,7 +19,7 @@ found_seen found = record {
 }
 
 -- what a sentence comes to
-abbrev pub sentence_seen : Sentence → Reading
+abbrev pub sentence_seen : SheetSentence → Reading
 sentence_seen sentence.Help = asks for_help
 sentence_seen sentence.Version = asks for_version
 sentence_seen (sentence.Texts found) = all_given (found_seen found)

@@ -10,7 +10,7 @@ use Rattle.solid_mesh.specs.declared.bounds.Bounds.{Bounds}
 use Rattle.solid_mesh.specs.declared.placed.Placed.{Placed}
 use Rattle.solid_mesh.specs.declared.search.Meeting.{Meeting}
 use Rattle.solid_mesh.specs.declared.search.Reach.{Reach}
-use Rattle.solid_mesh.specs.declared.search.Found.{Found}
+use Rattle.solid_mesh.specs.declared.search.SearchResult.{SearchResult}
 
 -- ---- pairs of the number of an edge, by its half in a list, and the number of a triangle
 abbrev pub AtHalf : (ℕ → ℕ → Type 0) → List ℕ → (ℕ × ℕ) → Type 0
@@ -75,7 +75,7 @@ pub record Rises (Q : (ℕ × ℕ) → Type 0) (old new : ℕ) : Type 0 where
 
 -- from old to new the pairs of which Q holds were searched: some of them were tested, each once, and none that comes before the
 -- one that was found meets
-pub record Searched (s : Part) (halves : List ℕ) (Q : (ℕ × ℕ) → Type 0) (old new : Found) : Type 0 where
+pub record Searched (s : Part) (halves : List ℕ) (Q : (ℕ × ℕ) → Type 0) (old new : SearchResult) : Type 0 where
   pub boxes : Rises Q old.meter.boxes new.meter.boxes
   pub pairs : Rises (λ p. Q p × AtHalf (HaveCommonBox s) halves p) old.meter.pairs new.meter.pairs
   -- the pair that is found moves down only

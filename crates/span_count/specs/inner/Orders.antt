@@ -2,7 +2,7 @@
 use Rattle.std.specs.Prelude.{◌≡◌, ℕ, ◌+◌, ◌≤◌, List, [], ◌∷◌, Option, Some, None, map, length, slice_get, IsPermutation}
 use Rattle.std.specs.List.{range_with_len}
 use Rattle.geometry.specs.Parts.{Edge, IsNumbered}
-use Rattle.counting.specs.Turns.{number_at}
+use Rattle.geometry.specs.Turns.{number_at}
 use Rattle.cross_find.specs.Sights.{SightState}
 use Rattle.edge_pick.specs.declared.Picked.{Picked}
 use Rattle.edge_pick.specs.Orders.{IsWalkedBefore}

@@ -4,10 +4,10 @@ use Rattle.std.specs.List.{AllZip}
 use Rattle.lattice.specs.Triple.{Triple}
 use Rattle.geometry.specs.Parts.{Part, Edge, IsNumbered}
 use Rattle.solid_mesh.specs.Solids.{AreTrianglesAt}
-use Rattle.counting.specs.Counts.{Side, to_left, to_right}
-use Rattle.counting.specs.inner.CountsNext.{AreCoversOf, AreCountedNext}
-use Rattle.counting.specs.Turns.{number_at, HasTurnedAt}
-use Rattle.face_counts.specs.inner.Sums.{total}
+use Rattle.geometry.specs.Counts.{Side, to_left, to_right}
+use Rattle.geometry.specs.inner.CountsNext.{AreCoversOf, AreCountedNext}
+use Rattle.geometry.specs.Turns.{number_at, HasTurnedAt}
+use Rattle.hiding_laws.specs.Sums.{total}
 use Rattle.cross_find.specs.declared.meter.End.{End}
 use Rattle.cross_find.specs.Sights.{SightState}
 use Rattle.span_count.specs.declared.step.Sides.{Sides}

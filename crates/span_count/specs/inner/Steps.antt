@@ -6,8 +6,8 @@ use Rattle.lattice.specs.declared.points.Corner.{Corner}
 use Rattle.geometry.specs.Parts.{Edge, IsNumbered}
 use Rattle.geometry.specs.Places.{IsEarlier, IsSame}
 use Rattle.geometry.specs.Views.{IsEndOn, IsOutline}
-use Rattle.counting.specs.Shares.{Changes}
-use Rattle.counting.specs.Turns.{IsNearerOver}
+use Rattle.geometry.specs.Shares.{Changes}
+use Rattle.geometry.specs.Turns.{IsNearerOver}
 use Rattle.cross_find.specs.declared.meter.Crossing.{Crossing}
 use Rattle.cross_find.specs.Sights.{SightState}
 use Rattle.cross_find.specs.Crossings.{IsAcross}

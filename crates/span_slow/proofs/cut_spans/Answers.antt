@@ -2,9 +2,9 @@ use Rattle.std.proofs.Common.{List, [], ◌∷◌, sym, subst, ◌∙◌}
 use Rattle.std.proofs.lemmas.List.Elements.{All-head}
 use Rattle.lattice.specs.Cuts.{Plane, plane_of}
 use Rattle.solid_mesh.specs.Solids.{solid_part}
-use Rattle.span_slow.specs.declared.span.Span.{Span}
-use Rattle.span_slow.specs.Spans.{CoverEdge}
-use Rattle.span_slow.specs.Beyond.{IsStretch, IsPartBeyond}
+use Rattle.lattice.specs.declared.spans.Span.{Span}
+use Rattle.geometry.specs.Spans.{CoverEdge}
+use Rattle.cut_plane.specs.Beyond.{IsStretch, IsPartBeyond}
 use Rattle.span_slow.specs.inner.Steps.{AreClipped}
 use Rattle.span_slow.specs.CutSpans.{AreCutSpans}
 use Rattle.span_slow.proofs.Numbered.{if_ok}

@@ -7,8 +7,8 @@ use Rattle.lattice.specs.Points.{Point, difference}
 use Rattle.lattice.specs.Cuts.{Plane, toward_of, IsBeyond}
 use Rattle.geometry.specs.Parts.{Part, Face, Edge}
 use Rattle.geometry.specs.Cuts.{FaceHidesInCut, IsOrdinaryInCut}
-use Rattle.hiding.specs.inner.Values.{WideSideHides, IsInLine}
-use Rattle.hiding.specs.inner.CutValues.{WideSideReaches}
+use Rattle.hiding_laws.specs.Values.{WideSideHides, IsInLine}
+use Rattle.hiding_laws.specs.CutValues.{WideSideReaches}
 use Rattle.intervals.specs.declared.interval.Interval.{Interval}
 use Rattle.span_slow.specs.inner.Hidden.{AreWhereAt, AreAddedAt}
 

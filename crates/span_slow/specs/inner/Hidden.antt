@@ -6,13 +6,14 @@ use Rattle.lattice.specs.Points.{Point}
 use Rattle.geometry.specs.Faces.{share_point}
 use Rattle.geometry.specs.Parts.{Part, Edge}
 use Rattle.geometry.specs.Views.{IsOrdinary}
-use Rattle.hiding.specs.inner.Values.{value_at}
+use Rattle.hiding_laws.specs.Values.{value_at}
 use Rattle.intervals.specs.declared.interval.Interval.{Interval}
 use Rattle.span_slow.specs.declared.linear.Linear.{Linear}
-use Rattle.span_slow.specs.declared.span.Span.{Span}
+use Rattle.lattice.specs.declared.spans.Span.{Span}
 use Rattle.geometry.specs.Places.{IsPlace, IsSame, IsValue, IsBetween, IsFromTo, HasNoEndAt}
-use Rattle.span_slow.specs.Spans.{CoverEdge, Alternate}
-use Rattle.span_slow.specs.Beyond.{IsStretch, IsWithinAny}
+use Rattle.geometry.specs.Spans.{CoverEdge}
+use Rattle.span_slow.specs.Spans.{Alternate}
+use Rattle.cut_plane.specs.Beyond.{IsStretch, IsWithinAny}
 
 -- ---- where values that are linear along an edge are at least 0
 abbrev pub AreNonnegative : List Linear → ℤ → ℤ → Type 0

@@ -6,7 +6,7 @@ use Rattle.geometry.specs.Faces.{share_point}
 use Rattle.geometry.specs.Parts.{Part, Edge}
 use Rattle.intervals.specs.declared.interval.Interval.{Interval}
 use Rattle.geometry.specs.Places.{IsEarlier, IsValue, HasNoEndAt}
-use Rattle.span_slow.specs.Beyond.{IsWithinAny, IsStretch}
+use Rattle.cut_plane.specs.Beyond.{IsWithinAny, IsStretch}
 
 -- the point of the edge at the mediant of two places
 abbrev pub mediant_point : {s : Part} → Edge s → Frac → Frac → Point

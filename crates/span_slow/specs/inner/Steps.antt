@@ -1,12 +1,13 @@
 -- What each step does on the way from linears to intervals, and from intervals to spans.
 use Rattle.std.specs.Prelude.{◌≡◌, ◌⊎◌, ◌↔◌, ℤ, pos, ◌<ℤ◌, ◌≤ℤ◌, Bool, List, [], ◌∷◌, ◌++◌, All, Contains}
 use Rattle.exact_frac.specs.declared.Frac.{Frac}
-use Rattle.hiding.specs.inner.Values.{value_at}
+use Rattle.hiding_laws.specs.Values.{value_at}
 use Rattle.intervals.specs.declared.interval.Interval.{Interval}
 use Rattle.span_slow.specs.declared.linear.Linear.{Linear}
-use Rattle.span_slow.specs.declared.span.Span.{Span}
+use Rattle.lattice.specs.declared.spans.Span.{Span}
 use Rattle.geometry.specs.Places.{IsPlace, IsEarlier, IsSame, IsBetween, IsFromTo}
-use Rattle.span_slow.specs.Spans.{Follow, Alternate}
+use Rattle.geometry.specs.Spans.{Follow}
+use Rattle.span_slow.specs.Spans.{Alternate}
 use Rattle.span_slow.specs.inner.Hidden.{IsRootOrEnd}
 
 -- the new interval is where the old one is and the value is at least 0

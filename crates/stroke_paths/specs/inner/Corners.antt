@@ -2,33 +2,27 @@
 use Rattle.std.specs.Prelude.{◌≡◌, ◌≢◌, ◌⊎◌, ◌<◌, ◌&&◌, ℕ, Bool, List, Option, None, Some, cond, nat_eq}
 use Rattle.std.specs.Ordering.{int_eq}
 use Rattle.indexmap.specs.IndexMap.{IndexMap, get}
+use Rattle.sheet_plan.specs.LineKinds.{pen_of}
 use Rattle.sheet_plan.specs.declared.sheet.Mark.{Mark}
-use Rattle.sheet_plan.specs.declared.sheet.Mark.TheVariants.{Solid, Dashed, Chain, Hatch}
+use Rattle.sheet_plan.specs.declared.sheet.Mark.TheVariants.{Hatch}
 use Rattle.sheet_plan.specs.declared.sheet.Stroke.{Stroke}
 use Rattle.stroke_paths.specs.declared.corners.Corner.{Corner}
 use Rattle.stroke_paths.specs.declared.corners.Corner.TheVariants.{One, Two, More}
-use Rattle.stroke_paths.specs.declared.corners.Place.{Place}
+use Rattle.stroke_paths.specs.declared.corners.StrokePlace.{StrokePlace}
 use Rattle.stroke_paths.specs.declared.path.End.{End}
 use Rattle.stroke_paths.specs.declared.path.Point.{Point}
 use Rattle.stroke_paths.specs.Joints.{EndsAt, point_of}
 
--- the number of a mark
-abbrev pub number_of : Mark → ℕ
-number_of Solid = 0
-number_of Dashed = 1
-number_of Chain = 2
-number_of Hatch = 3
-
--- a point, for the strokes of one view and mark
-abbrev pub place_for : ℕ → Mark → Point → Place
-place_for view mark p = record { view = view; mark = number_of mark; point = p }
+-- a point, for the strokes of one view and mark, which goes by its pen
+abbrev pub place_for : ℕ → Mark → Point → StrokePlace
+place_for view mark p = record { view = view; mark = pen_of mark; point = p }
 
 -- the place of an end of a stroke
-abbrev pub place_of : Bool → Stroke → Place
+abbrev pub place_of : Bool → Stroke → StrokePlace
 place_of second s = place_for s.view s.mark (point_of second s)
 
 -- two places are one
-abbrev pub same_place : Place → Place → Bool
+abbrev pub same_place : StrokePlace → StrokePlace → Bool
 same_place p q = nat_eq p.view q.view && (nat_eq p.mark q.mark && (int_eq p.point.x q.point.x && int_eq p.point.y q.point.y))
 
 -- the corner at a place once it has one more end
@@ -81,11 +75,11 @@ pub record EndsBelow (strokes : List Stroke) (i : ℕ) (view : ℕ) (mark : Mark
   pub ends : EndsAt strokes view mark p e
 
 -- the table tells the ends of the strokes below i, at each point
-abbrev pub AreCorners : {S : Type 0} → List Stroke → ℕ → IndexMap Place Corner S → Type 0
+abbrev pub AreCorners : {S : Type 0} → List Stroke → ℕ → IndexMap StrokePlace Corner S → Type 0
 AreCorners strokes i corners =
     (view : ℕ) (mark : Mark) (p : Point) → mark ≢ Hatch → Tells (EndsBelow strokes i view mark p) (get same_place corners (place_for view mark p))
 
 -- one more end is noted at a place
-abbrev pub IsNoted : {S : Type 0} → IndexMap Place Corner S → IndexMap Place Corner S → Place → End → Type 0
+abbrev pub IsNoted : {S : Type 0} → IndexMap StrokePlace Corner S → IndexMap StrokePlace Corner S → StrokePlace → End → Type 0
 IsNoted before after p e =
-    (q : Place) → get same_place after q ≡ cond (same_place p q) (Some (with_end (get same_place before p) e)) (get same_place before q)
+    (q : StrokePlace) → get same_place after q ≡ cond (same_place p q) (Some (with_end (get same_place before p) e)) (get same_place before q)

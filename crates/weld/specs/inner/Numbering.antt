@@ -6,17 +6,17 @@ use Rattle.lattice.specs.declared.points.Corner.{Corner}
 use Rattle.lattice.specs.declared.soup.Tri.{Tri}
 use Rattle.lattice.specs.Points.{of_corner}
 use Rattle.lattice.specs.Triple.{Triple}
-use Rattle.weld.specs.declared.welding.Place.{Place}
+use Rattle.weld.specs.declared.welding.UnitPlace.{UnitPlace}
 
-abbrev pub of_place : Place → Triple
+abbrev pub of_place : UnitPlace → Triple
 of_place p = record { x = p.x; y = p.y; z = p.z }
 
 -- the test of two places, coordinate by coordinate
-abbrev pub same_place : Place → Place → Bool
+abbrev pub same_place : UnitPlace → UnitPlace → Bool
 same_place p q = int_eq p.x q.x && (int_eq p.y q.y && int_eq p.z q.z)
 
 -- the places are those of the corners, in order, and no two are equal
-pub record IsTied (places : List Place) (corners : List Corner) : Type 0 where
+pub record IsTied (places : List UnitPlace) (corners : List Corner) : Type 0 where
   pub same : map of_place places ≡ map of_corner corners
   pub distinct : IsDistinct same_place places
 

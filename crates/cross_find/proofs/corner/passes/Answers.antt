@@ -1,6 +1,6 @@
 use Rattle.std.proofs.Common.{subst}
 use Rattle.std.specs.Prelude.{◌↔◌, IsTrue}
-use Rattle.face_counts.specs.inner.Perturbations.{IsLeft}
+use Rattle.hiding_laws.specs.inner.Perturbations.{IsLeft}
 use Rattle.cross_find.specs.inner.Ways.{way_of, side_of}
 use Rattle.cross_find.proofs.CornerSigns.{less_perturbation, one_perturbation, two_perturbations, two_alike}
 use Rattle.cross_find.proofs.corner.passes.Goals as goal

@@ -1,7 +1,7 @@
 use Rattle.std.proofs.Common.{◌∙◌}
 use Rattle.std.specs.Prelude.{◌+ℤ◌, ◌-ℤ◌, ◌*ℤ◌}
 use Rattle.cross_find.proofs.CornerSigns.{wide_product, wide_part, wide_lead, between_by}
-use Rattle.counting.specs.Turns.{product_of}
+use Rattle.geometry.specs.Turns.{product_of}
 use Rattle.cross_find.specs.inner.Ways.{way_of}
 use Rattle.cross_find.proofs.corner.passes_between.Goals as goal
 

@@ -2,7 +2,7 @@ use Rattle.std.proofs.Common.{◌∙◌, sym}
 use Rattle.lattice.specs.Triple.{dot}
 use Rattle.lattice.specs.Points.{of_dir}
 use Rattle.lattice.proofs.VectorSizes.{wider}
-use Rattle.face_counts.proofs.CornerTest.{way-axes}
+use Rattle.hiding_laws.proofs.CornerTest.{way-axes}
 use Rattle.cross_find.proofs.CornerSigns.{wide_part, still_small}
 use Rattle.cross_find.proofs.corner.way_to.Goals as goal
 

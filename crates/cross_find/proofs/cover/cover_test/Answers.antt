@@ -1,6 +1,6 @@
 use Rattle.std.proofs.Common.{true≢false, sym, ◌∙◌}
 use Rattle.lattice.specs.Points.{of_dir}
-use Rattle.counting.specs.Counts.{to_left, to_right}
+use Rattle.geometry.specs.Counts.{to_left, to_right}
 use Rattle.cross_find.proofs.Passed.{passed}
 use Rattle.cross_find.proofs.Counted.{not_counted, counted, reaches_left, reaches_right}
 use Rattle.cross_find.proofs.cover.cover_test.Goals as goal

@@ -1,6 +1,6 @@
 use Rattle.std.proofs.Common.{◌∙◌}
 use Rattle.lattice.specs.Triple.{det}
-use Rattle.hiding.proofs.CornerValues.{depth_at}
+use Rattle.hiding_laws.proofs.CornerValues.{depth_at}
 use Rattle.cross_find.proofs.Passed.{passed_height}
 use Rattle.cross_find.proofs.cover.depth.Goals as goal
 

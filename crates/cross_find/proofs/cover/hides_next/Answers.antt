@@ -3,7 +3,7 @@ use Rattle.std.specs.Prelude.{ℤ, pos, ◌-ℤ◌, ◌<ℤ◌}
 use Rattle.std.proofs.lemmas.Int.{ints}
 use Rattle.lattice.specs.Points.{of_dir}
 use Rattle.geometry.specs.Faces.{facing_of}
-use Rattle.hiding.proofs.Values.{facing-turned}
+use Rattle.hiding_laws.proofs.Values.{facing-turned}
 use Rattle.cross_find.proofs.Fronts.{from_turned}
 use Rattle.cross_find.proofs.Apart.{never_apart}
 use Rattle.cross_find.proofs.cover.hides_next.Goals as goal

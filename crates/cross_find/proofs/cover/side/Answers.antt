@@ -1,6 +1,6 @@
 use Rattle.std.proofs.Common.{◌∙◌}
 use Rattle.lattice.specs.Points.{of_dir}
-use Rattle.hiding.proofs.CornerValues.{side_at}
+use Rattle.hiding_laws.proofs.CornerValues.{side_at}
 use Rattle.cross_find.proofs.Passed.{passed}
 use Rattle.cross_find.proofs.cover.side.Goals as goal
 

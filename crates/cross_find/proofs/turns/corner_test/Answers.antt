@@ -1,11 +1,11 @@
 use Rattle.std.proofs.Common.{sym, subst, ◌∙◌}
 use Rattle.std.specs.Prelude.{ℤ, ◌-ℤ◌, ◌*ℤ◌}
 use Rattle.lattice.specs.Points.{of_dir}
-use Rattle.counting.specs.Counts.{to_left, to_right}
-use Rattle.counting.specs.Turns.{way_from, corner_at, number_at, side_from, HasTurnedAt}
-use Rattle.face_counts.specs.inner.Perturbations.{TwoAreLeft}
-use Rattle.face_counts.specs.inner.Tallies.{IsTally}
-use Rattle.face_counts.proofs.CornerTest.{turned_over, turned_elsewhere}
+use Rattle.geometry.specs.Counts.{to_left, to_right}
+use Rattle.geometry.specs.Turns.{way_from, corner_at, number_at, side_from, HasTurnedAt}
+use Rattle.hiding_laws.specs.inner.Perturbations.{TwoAreLeft}
+use Rattle.hiding_laws.specs.inner.Tallies.{IsTally}
+use Rattle.hiding_laws.proofs.CornerTest.{turned_over, turned_elsewhere}
 use Rattle.cross_find.proofs.Passed.{small, turn_passed}
 use Rattle.cross_find.proofs.turns.corner_test.Goals as goal
 

@@ -1,5 +1,5 @@
 use Rattle.std.proofs.Common.{true≢false, sym, ◌∙◌}
-use Rattle.face_counts.specs.inner.Tallies.{yes, no}
+use Rattle.hiding_laws.specs.inner.Tallies.{yes, no}
 use Rattle.cross_find.proofs.turns.one_where.Goals as goal
 
 pub returns-then-so-clause-tally : goal.returns-then-so-clause-tally

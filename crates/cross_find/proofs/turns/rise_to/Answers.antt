@@ -2,7 +2,7 @@ use Rattle.std.proofs.Common.{sym, ◌∙◌}
 use Rattle.lattice.specs.Triple.{dot}
 use Rattle.lattice.specs.Points.{of_dir}
 use Rattle.lattice.proofs.VectorSizes.{wider}
-use Rattle.face_counts.proofs.CornerTest.{rise-direction}
+use Rattle.hiding_laws.proofs.CornerTest.{rise-direction}
 use Rattle.cross_find.proofs.CornerSigns.{wide_part}
 use Rattle.cross_find.proofs.turns.rise_to.Goals as goal
 

@@ -1,6 +1,6 @@
 use Rattle.std.proofs.Common.{sym, subst, unsigned_abs, ◌≤◌, ◌∙◌}
 use Rattle.std.specs.Prelude.{ℤ}
-use Rattle.face_counts.proofs.Sides.{tally_of}
+use Rattle.hiding_laws.proofs.Sides.{tally_of}
 use Rattle.cross_find.proofs.Passed.{small, smaller, product}
 use Rattle.cross_find.proofs.turns.share.Goals as goal
 

@@ -1,8 +1,8 @@
 use Rattle.std.proofs.Common.{true≢false, sym, subst, ◌∙◌}
 use Rattle.std.specs.Prelude.{◌↔◌, IsTrue}
 use Rattle.lattice.specs.Points.{of_dir}
-use Rattle.counting.specs.Turns.{turn_from, way_to}
-use Rattle.face_counts.specs.inner.CornerTests.{PassesBetween, rise_to}
+use Rattle.geometry.specs.Turns.{turn_from, way_to}
+use Rattle.hiding_laws.specs.inner.CornerTests.{PassesBetween, rise_to}
 use Rattle.cross_find.proofs.CornerSigns.{wide_part}
 use Rattle.cross_find.proofs.turns.ways_over.Goals as goal
 use Rattle.cross_find.proofs.turns.ways_over.Goals.{then-numbers-number-via-then-numbers-number, then-numbers-number-via-else-numbers-number+then-numbers-number-2}

@@ -12,17 +12,17 @@ use Rattle.lattice.specs.Cuts.{Plane, plane_of, toward_of}
 use Rattle.geometry.specs.Parts.{Part, Face, Edge, IsNumbered}
 use Rattle.geometry.specs.Cuts.{IsBorderOf}
 use Rattle.geometry.specs.Places.{IsPlace}
-use Rattle.hiding.specs.inner.Values.{side_of}
+use Rattle.hiding_laws.specs.Values.{side_of}
 use Rattle.solid_mesh.specs.Solids.{solid_part, edge_halves}
 use Rattle.solid_mesh.proofs.Facts.{closed, edge_there}
-use Rattle.counting.specs.Counts.{Side, to_left, to_right}
-use Rattle.counting.specs.Shares.{mark}
+use Rattle.geometry.specs.Counts.{Side, to_left, to_right}
+use Rattle.geometry.specs.Shares.{mark}
 use Rattle.cut_plane.specs.declared.segments.Segment.{Segment}
 use Rattle.cut_plane.specs.Loops.{IsSegmentOf, AreBorders}
 use Rattle.cut_plane.proofs.Lists.{not_true}
-use Rattle.section_parity.specs.Crossings.{IsShort}
-use Rattle.rest_counts.specs.BorderShares.{HasSectionLeft, IsTurnedBy}
-use Rattle.cut_count.specs.declared.border.CountChanges.{CountChanges}
+use Rattle.cut_plane.specs.Crossings.{IsShort}
+use Rattle.cut_count_laws.specs.BorderShares.{HasSectionLeft, IsTurnedBy}
+use Rattle.cross_find.specs.declared.cross.CountChanges.{CountChanges}
 use Rattle.cut_count.specs.inner.Borders.{IsInnerBeyond}
 use Rattle.cut_count.proofs.SegmentEnds.{small_ends}
 use Rattle.cut_count.proofs.BorderAcross.{unchanged, nowhere, outside, crosses_there, segment_ends, IsTaken, taken_along, taken_back, none_taken, taken_there}
@@ -187,14 +187,14 @@ section_is_left-requires c =
 at_most : (r u t : ℤ) → r ≡ u → (unsigned_abs t ≤ 1 → unsigned_abs u ≤ 2) → unsigned_abs t ≤ 1 → unsigned_abs r ≤ 2
 at_most r u t e f h = subst (λ (z : ℤ). unsigned_abs z ≤ 2) (sym e) (f h)
 
-pub changes-requires : goal.changes-requires
-changes-requires c = at_most _ _ c.turned_by-turned.result (less c.turned_by-turned.result c.turned_by-turned.ensures.size) (bound c.turned_by-turned.result) c.turned_by-turned.ensures.size
+pub count_changes-requires : goal.count_changes-requires
+count_changes-requires c = at_most _ _ c.turned_by-turned.result (less c.turned_by-turned.result c.turned_by-turned.ensures.size) (bound c.turned_by-turned.result) c.turned_by-turned.ensures.size
   where
     bound : (t : ℤ) → unsigned_abs t ≤ 1 → unsigned_abs (pos 1 -ℤ t) ≤ 2
     bound t h = omega (arith, ints)
 
-pub changes-requires-else-section_is_left : goal.changes-requires-else-section_is_left
-changes-requires-else-section_is_left c = at_most _ _ c.turned_by-turned.result (more c.turned_by-turned.result c.turned_by-turned.ensures.size) (bound c.turned_by-turned.result) c.turned_by-turned.ensures.size
+pub count_changes-requires-else-section_is_left : goal.count_changes-requires-else-section_is_left
+count_changes-requires-else-section_is_left c = at_most _ _ c.turned_by-turned.result (more c.turned_by-turned.result c.turned_by-turned.ensures.size) (bound c.turned_by-turned.result) c.turned_by-turned.ensures.size
   where
     bound : (t : ℤ) → unsigned_abs t ≤ 1 → unsigned_abs (pos 1 +ℤ t) ≤ 2
     bound t h = omega (arith, ints)
@@ -220,10 +220,10 @@ returns-then-right-eq0-clause-answer c e f x numbered listed number =
     elim c.if-section_is_left.branch [
       | then-section_is_left w ↦
           along plane e f y border c.turned_by-turned.result c.turned_by-turned.ensures.size turned c.side-from.result c.side-to.result c.side-from.type_inv c.side-to.type_inv from to
-          (w.if-section_is_left.ensures s none_flat c.requires.borders at) changed.left changed.right (ap (λ (r : CountChanges). r.left) w.left-is ∙ w.changes.ensures.left) (ap (λ (r : CountChanges). r.right) w.left-is ∙ w.changes.ensures.right)
+          (w.if-section_is_left.ensures s none_flat c.requires.borders at) changed.left changed.right (ap (λ (r : CountChanges). r.left) w.left-is ∙ w.count_changes.ensures.left) (ap (λ (r : CountChanges). r.right) w.left-is ∙ w.count_changes.ensures.right)
       | else-section_is_left w ↦
           back plane e f y border c.turned_by-turned.result c.turned_by-turned.ensures.size turned c.side-from.result c.side-to.result c.side-from.type_inv c.side-to.type_inv from to
-          (w.if-section_is_left.ensures s none_flat c.requires.borders at) changed.left changed.right (ap (λ (r : CountChanges). r.left) w.left-is ∙ w.changes-else-section_is_left.ensures.left) (ap (λ (r : CountChanges). r.right) w.left-is ∙ w.changes-else-section_is_left.ensures.right)
+          (w.if-section_is_left.ensures s none_flat c.requires.borders at) changed.left changed.right (ap (λ (r : CountChanges). r.left) w.left-is ∙ w.count_changes-else-section_is_left.ensures.left) (ap (λ (r : CountChanges). r.right) w.left-is ∙ w.count_changes-else-section_is_left.ensures.right)
     ] in
     none_taken plane e f changed.left changed.right taken (none changed.left changed.left_small c.if-left-eq0.true) (none changed.right changed.right_small c.if-right-eq0.true)
 
@@ -262,10 +262,10 @@ returns-clause-answer c e f x numbered listed number =
     elim c.if-section_is_left.branch [
       | then-section_is_left w ↦
           along plane e f y border c.turned_by-turned.result c.turned_by-turned.ensures.size turned c.side-from.result c.side-to.result c.side-from.type_inv c.side-to.type_inv from to
-          (w.if-section_is_left.ensures s none_flat c.requires.borders at) changed.left changed.right (ap (λ (r : CountChanges). r.left) w.left-is ∙ w.changes.ensures.left) (ap (λ (r : CountChanges). r.right) w.left-is ∙ w.changes.ensures.right)
+          (w.if-section_is_left.ensures s none_flat c.requires.borders at) changed.left changed.right (ap (λ (r : CountChanges). r.left) w.left-is ∙ w.count_changes.ensures.left) (ap (λ (r : CountChanges). r.right) w.left-is ∙ w.count_changes.ensures.right)
       | else-section_is_left w ↦
           back plane e f y border c.turned_by-turned.result c.turned_by-turned.ensures.size turned c.side-from.result c.side-to.result c.side-from.type_inv c.side-to.type_inv from to
-          (w.if-section_is_left.ensures s none_flat c.requires.borders at) changed.left changed.right (ap (λ (r : CountChanges). r.left) w.left-is ∙ w.changes-else-section_is_left.ensures.left) (ap (λ (r : CountChanges). r.right) w.left-is ∙ w.changes-else-section_is_left.ensures.right)
+          (w.if-section_is_left.ensures s none_flat c.requires.borders at) changed.left changed.right (ap (λ (r : CountChanges). r.left) w.left-is ∙ w.count_changes-else-section_is_left.ensures.left) (ap (λ (r : CountChanges). r.right) w.left-is ∙ w.count_changes-else-section_is_left.ensures.right)
     ] in
     let crossing = c.in-Some.ensures e numbered_too ends.0 ends.1 at in
     let inner = inner_here (plane_of seen.result.cut) plane seen.result.at.a seen.result.at.b e.a e.b c.in-Some.at seen.ensures.plane ends.0 ends.1 (c.is_inner_beyond.ensures.0 c.if-not-is_inner_beyond.false) in

@@ -5,7 +5,7 @@ use Rattle.lattice.specs.Points.{Point, of_spot}
 use Rattle.lattice.specs.Cuts.{plane_of}
 use Rattle.geometry.specs.Cuts.{IsInSection}
 use Rattle.cut_plane.proofs.Apart.{border_apart}
-use Rattle.rest_counts.specs.BorderShares.{HasGreaterLeft}
+use Rattle.cut_count_laws.specs.BorderShares.{HasGreaterLeft}
 use Rattle.cut_count.proofs.SectionLefts.{left_told}
 use Rattle.cut_count.proofs.SegmentEnds.{small_ends}
 use Rattle.cut_count.proofs.border.section_is_left.Goals as goal

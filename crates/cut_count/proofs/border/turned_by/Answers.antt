@@ -14,7 +14,7 @@ use Rattle.geometry.specs.Faces.{facing_of}
 use Rattle.geometry.specs.Parts.{Part, Face}
 use Rattle.geometry.specs.Views.{sign_of, face_sign}
 use Rattle.solid_mesh.specs.Solids.{solid_part}
-use Rattle.rest_counts.specs.BorderShares.{IsFaceCorner, edge_on, on_right, on_left}
+use Rattle.cut_count_laws.specs.BorderShares.{IsFaceCorner, edge_on, on_right, on_left}
 use Rattle.cut_count.proofs.BorderTurns.{turns_apart, segment_border, beyond_of_border}
 use Rattle.cut_count.proofs.SegmentEnds.{small_ends}
 use Rattle.cut_count.proofs.border.turned_by.Goals as goal

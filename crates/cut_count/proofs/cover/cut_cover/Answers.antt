@@ -3,7 +3,7 @@ use Rattle.std.specs.Prelude.{pos, ◌<ℤ◌}
 use Rattle.std.proofs.lemmas.Int.{ints}
 use Rattle.lattice.specs.Cuts.{plane_of}
 use Rattle.lattice.specs.Points.{of_dir}
-use Rattle.counting.specs.Counts.{to_left, to_right, orientation_of}
+use Rattle.geometry.specs.Counts.{to_left, to_right, orientation_of}
 use Rattle.cut_count.proofs.NextCounted.{not_near, nothing_left, near, over_passed}
 use Rattle.cut_count.proofs.cover.cut_cover.Goals as goal
 use Rattle.cut_count.proofs.cover.cut_cover.Goals.{then-not-hides_at-via-then-not-hides_at, then-not-hides_at-via-else-not-hides_at+then-not-is_left_at}

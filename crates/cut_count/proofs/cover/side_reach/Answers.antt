@@ -1,6 +1,6 @@
 use Rattle.std.proofs.Common.{inl, inr, ◌⊎◌, ◌∙◌}
 use Rattle.std.specs.Prelude.{pos, ◌<ℤ◌}
-use Rattle.counting.specs.Counts.{to_left, to_right}
+use Rattle.geometry.specs.Counts.{to_left, to_right}
 use Rattle.cut_count.proofs.NextCounted.{side_told, turn_passed}
 use Rattle.cut_count.proofs.cover.side_reach.Goals as goal
 use Rattle.cut_count.proofs.cover.side_reach.Goals.{else-not-is_beyond-via-then-not-is_beyond+else-not-is_beyond-2, else-not-is_beyond-via-else-not-is_beyond}

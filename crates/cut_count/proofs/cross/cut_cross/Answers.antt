@@ -8,12 +8,12 @@ use Rattle.lattice.specs.Points.{of_dir}
 use Rattle.lattice.specs.Cuts.{plane_of, toward_of}
 use Rattle.geometry.specs.Cuts.{over_of}
 use Rattle.geometry.specs.Views.{face_sign}
-use Rattle.counting.specs.Counts.{to_left, to_right, orientation_of}
-use Rattle.counting.specs.Shares.{PassesNearer, IsCrossedAt}
+use Rattle.geometry.specs.Counts.{to_left, to_right, orientation_of}
+use Rattle.geometry.specs.Shares.{PassesNearer, IsCrossedAt}
 use Rattle.cross_find.proofs.Changes.{passes_nearer, passes_by, crossed_at, denominator_between}
 use Rattle.cross_find.proofs.Passed.{passed, small, zero, some_left, turn_passed}
 use Rattle.cut_plane.proofs.Lists.{not_true}
-use Rattle.rest_counts.specs.CutShares.{cut_change_of}
+use Rattle.cut_count_laws.specs.CutShares.{cut_change_of}
 use Rattle.cut_count.specs.Crossings.{IsCutAcross}
 use Rattle.cut_count.proofs.CutEndTurns.{end_by}
 use Rattle.cut_count.proofs.CutCrossings.{none_left, some_left_of, cut_changed, crossed_beyond, place_beyond}
@@ -57,10 +57,10 @@ returns-then-right-eq0-clause-answer c e o at_e at_o changes =
     let from = end_by plane a b p q _ _ _ _ over_p over_q turn_p turn_q ∙ sym (end_passed c.end_turn.result c.end_turn.ensures.size ∙ c.end_turn.ensures.value) in
     let to = end_by plane a b q p _ _ _ _ over_q over_p turn_q turn_p ∙ sym (end_passed c.end_turn-2.result c.end_turn-2.ensures.size ∙ c.end_turn-2.ensures.value) in
     let turn = turn_passed c.turn_of.result c.turn_of.ensures.size ∙ c.turn_of.ensures.value o at_o ∙ (λ i. face_sign (c.dir-d.ensures i) o.left -ℤ face_sign (c.dir-d.ensures i) o.right) in
-    let x = c.changes-left.result in
+    let x = c.count_changes-left.result in
     elim changes.some [
-      | inl left ↦ left (sym (cut_changed plane e o a b p q at_a at_b at_p at_q to_left _ _ _ x.left turn from to c.changes-left.ensures.left) ∙ zero x.left x.left_small c.if-left-eq0.true)
-      | inr right ↦ right (sym (cut_changed plane e o a b p q at_a at_b at_p at_q to_right _ _ _ x.right turn from to c.changes-left.ensures.right) ∙ zero x.right x.right_small c.if-right-eq0.true)
+      | inl left ↦ left (sym (cut_changed plane e o a b p q at_a at_b at_p at_q to_left _ _ _ x.left turn from to c.count_changes-left.ensures.left) ∙ zero x.left x.left_small c.if-left-eq0.true)
+      | inr right ↦ right (sym (cut_changed plane e o a b p q at_a at_b at_p at_q to_right _ _ _ x.right turn from to c.count_changes-left.ensures.right) ∙ zero x.right x.right_small c.if-right-eq0.true)
     ]
 
 pub returns-in_err-at-clause-answer : goal.returns-in_err-at-clause-answer
@@ -109,9 +109,9 @@ returns-clause-answer c e o at_e at_o =
     let from = end_by plane a b p q _ _ _ _ over_p over_q turn_p turn_q ∙ sym (end_passed c.end_turn.result c.end_turn.ensures.size ∙ c.end_turn.ensures.value) in
     let to = end_by plane a b q p _ _ _ _ over_q over_p turn_q turn_p ∙ sym (end_passed c.end_turn-2.result c.end_turn-2.ensures.size ∙ c.end_turn-2.ensures.value) in
     let turn = turn_passed c.turn_of.result c.turn_of.ensures.size ∙ c.turn_of.ensures.value o at_o ∙ (λ i. face_sign (c.dir-d.ensures i) o.left -ℤ face_sign (c.dir-d.ensures i) o.right) in
-    let x = c.changes-left.result in
-    let left = cut_changed plane e o a b p q at_a at_b at_p at_q to_left _ _ _ x.left turn from to c.changes-left.ensures.left in
-    let right = cut_changed plane e o a b p q at_a at_b at_p at_q to_right _ _ _ x.right turn from to c.changes-left.ensures.right in
+    let x = c.count_changes-left.result in
+    let left = cut_changed plane e o a b p q at_a at_b at_p at_q to_left _ _ _ x.left turn from to c.count_changes-left.ensures.left in
+    let right = cut_changed plane e o a b p q at_a at_b at_p at_q to_right _ _ _ x.right turn from to c.count_changes-left.ensures.right in
     let some : (cut_change_of to_left plane e o ≢ pos 0) ⊎ (cut_change_of to_right plane e o ≢ pos 0) = elim c.else-left-eq0.branch [
       | else-left-eq0-via-then-left-eq0+else-right-eq0 w ↦ inr (λ none. some_left x.right x.right_small (right ∙ none) w.if-right-eq0.false)
       | else-left-eq0-via-else-left-eq0 w ↦ inl (λ none. some_left x.left x.left_small (left ∙ none) w.if-left-eq0.false)

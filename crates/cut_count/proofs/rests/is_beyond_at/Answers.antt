@@ -6,7 +6,7 @@ use Rattle.std.proofs.lemmas.Int.{ints}
 use Rattle.integers.proofs.Orders.{lt_z_of_less}
 use Rattle.lattice.specs.Cuts.{plane_of}
 use Rattle.geometry.specs.Cuts.{over_of}
-use Rattle.hiding.specs.inner.Values.{value_at}
+use Rattle.hiding_laws.specs.Values.{value_at}
 use Rattle.cut_count.proofs.EdgeHeights.{beyond_at}
 use Rattle.cut_count.proofs.rests.is_beyond_at.Goals as goal
 

@@ -4,7 +4,7 @@ use Rattle.std.specs.Int.{w128}
 use Rattle.integers.proofs.Worth.{known, pass}
 use Rattle.lattice.specs.Points.{of_spot}
 use Rattle.lattice.specs.Cuts.{plane_of}
-use Rattle.hiding.specs.inner.Values.{offset}
+use Rattle.hiding_laws.specs.Values.{offset}
 use Rattle.cut_count.proofs.SeenTurns.{turn_is}
 use Rattle.cut_count.proofs.sights.corner_side.Goals as goal
 

@@ -5,7 +5,7 @@ use Rattle.integers.proofs.Worth.{known, pass}
 use Rattle.lattice.specs.Points.{of_spot}
 use Rattle.lattice.specs.Cuts.{plane_of}
 use Rattle.geometry.specs.Faces.{difference}
-use Rattle.hiding.specs.inner.Values.{offset}
+use Rattle.hiding_laws.specs.Values.{offset}
 use Rattle.cut_count.proofs.SeenTurns.{turn_is}
 use Rattle.cut_count.proofs.sights.side.Goals as goal
 

@@ -3,7 +3,7 @@ use Rattle.std.specs.Int.{w8, w128}
 use Rattle.std.proofs.lemmas.Int.{to_z-of_z}
 use Rattle.lattice.specs.Cuts.{plane_of, toward_of}
 use Rattle.lattice.specs.Points.{of_spot}
-use Rattle.counting.specs.Counts.{to_left, to_right}
+use Rattle.geometry.specs.Counts.{to_left, to_right}
 use Rattle.solid_mesh.specs.Solids.{solid_part}
 use Rattle.cut_count.proofs.BorderTests.{mark_read, ahead_is, none_ahead, unchanged_at}
 use Rattle.cut_count.proofs.SegmentEnds.{small_ends}

@@ -6,19 +6,19 @@ use Rattle.lattice.specs.declared.points.Corner.{Corner}
 use Rattle.lattice.specs.Cuts.{Plane, plane_of, toward_of}
 use Rattle.lattice.specs.Points.{of_spot}
 use Rattle.geometry.specs.Parts.{Edge, IsNumbered}
-use Rattle.counting.specs.Counts.{Side, to_left, to_right}
+use Rattle.geometry.specs.Counts.{Side, to_left, to_right}
 use Rattle.solid_mesh.specs.Solids.{solid_part, edge_halves}
 use Rattle.cut_plane.specs.declared.segments.Segment.{Segment}
 use Rattle.cut_plane.specs.Loops.{IsSegmentOf}
-use Rattle.cut_count.specs.declared.found.Found.{Found}
+use Rattle.cut_count.specs.declared.found.CrossingBorder.{CrossingBorder}
 use Rattle.cut_count.specs.inner.Borders.{IsAhead, IsFoundOr}
 use Rattle.cut_count.specs.inner.Walks.{IsBorderAnswer, AreFound, IsOddAhead}
 use Rattle.cut_count.proofs.GrownBorders.{found_first, found_more, found_same, odd_first, odd_more}
 use Rattle.cut_count.proofs.start.borders_along.Goals as goal
 use Rattle.cut_count.proofs.start.borders_along.Goals.{in-Some+in_ok-push, in_default}
 
-none_found : (found : List Found) → found ≡ [] → length found ≤ 0
-none_found found e = omega (arith, ap (λ (xs : List Found). length xs) e)
+none_found : (found : List CrossingBorder) → found ≡ [] → length found ≤ 0
+none_found found e = omega (arith, ap (λ (xs : List CrossingBorder). length xs) e)
 
 pub loop-segment-init : goal.loop-segment-init
 loop-segment-init c =
@@ -69,11 +69,11 @@ returns-in_err-push-clause-most c =
 renamed_odd : (k : Side) (at_b : Bool) (p : Plane) (a b : Corner) (xs ys : List Segment) (odd : Bool) → ys ≡ xs → IsOddAhead k at_b (toward_of p) a b xs odd → IsOddAhead k at_b (toward_of p) a b ys odd
 renamed_odd k at_b p a b xs ys odd e h = subst (λ (zs : List Segment). IsOddAhead k at_b (toward_of p) a b zs odd) (sym e) h
 
-one_more : (xs ys : List Found) (y : Found) (i : ℕ) → ys ≡ xs ++ y ∷ [] → length xs ≤ i → length ys ≤ i + 1
-one_more xs ys y i e h = let long = ap (λ (zs : List Found). length zs) e ∙ length-append xs (y ∷ []) in omega arith
+one_more : (xs ys : List CrossingBorder) (y : CrossingBorder) (i : ℕ) → ys ≡ xs ++ y ∷ [] → length xs ≤ i → length ys ≤ i + 1
+one_more xs ys y i e h = let long = ap (λ (zs : List CrossingBorder). length zs) e ∙ length-append xs (y ∷ []) in omega arith
 
-no_more : (xs ys : List Found) (i : ℕ) → ys ≡ xs → length xs ≤ i → length ys ≤ i + 1
-no_more xs ys i e h = let long = ap (λ (zs : List Found). length zs) e in omega arith
+no_more : (xs ys : List CrossingBorder) (i : ℕ) → ys ≡ xs → length xs ≤ i → length ys ≤ i + 1
+no_more xs ys i e h = let long = ap (λ (zs : List CrossingBorder). length zs) e in omega arith
 
 pub loop-segment-preserved : goal.loop-segment-preserved
 loop-segment-preserved c =

@@ -1,7 +1,7 @@
 use Rattle.std.proofs.Common.{◌≡◌, ◌≤◌, ◌+◌, take, length}
 use Rattle.lattice.specs.Cuts.{plane_of, toward_of}
 use Rattle.geometry.specs.Parts.{Edge, IsNumbered}
-use Rattle.counting.specs.Counts.{to_left, to_right}
+use Rattle.geometry.specs.Counts.{to_left, to_right}
 use Rattle.solid_mesh.specs.Solids.{solid_part, edge_halves}
 use Rattle.cut_count.specs.inner.Walks.{AreFound, IsOddAhead}
 use Rattle.cut_count.proofs.start.borders_along.Given as goal

@@ -7,12 +7,12 @@ use Rattle.lattice.specs.Cuts.{plane_of}
 use Rattle.lattice.specs.Points.{of_dir, of_spot}
 use Rattle.lattice.specs.Triple.{Triple}
 use Rattle.geometry.specs.Views.{face_sign}
-use Rattle.counting.specs.Counts.{to_left, to_right}
-use Rattle.counting.specs.Shares.{mark}
+use Rattle.geometry.specs.Counts.{to_left, to_right}
+use Rattle.geometry.specs.Shares.{mark}
 use Rattle.solid_mesh.specs.Solids.{solid_part}
 use Rattle.solid_mesh.proofs.Facts.{edge_there}
 use Rattle.cut_plane.proofs.Lists.{not_true}
-use Rattle.section_parity.specs.Crossings.{IsCrossingOf}
+use Rattle.cut_plane.specs.Crossings.{IsCrossingOf}
 use Rattle.cut_count.specs.inner.Borders.{ChangesMark, IsFoundOr}
 use Rattle.cut_count.proofs.BorderTests.{mark_read, changed_at, share_is, face_sign_small, segment_of_face, place_of_short, found_nowhere, found_beside}
 use Rattle.cut_count.proofs.start.found_at.Goals as goal

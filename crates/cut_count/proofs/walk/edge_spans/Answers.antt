@@ -5,36 +5,28 @@ use Rattle.std.specs.List.Sorted.{IsSortedByKey}
 use Rattle.std.proofs.lemmas.Int.{to_z-of_z}
 use Rattle.std.proofs.lemmas.List.Elements.{All-head}
 use Rattle.std.proofs.lemmas.List.Sorted.{length_permutation}
+use Rattle.std.proofs.lemmas.Result.{IfOk-weaker}
 use Rattle.exact_frac.specs.Frac.{order_of}
-use Rattle.lattice.specs.declared.points.Corner.{Corner}
 use Rattle.lattice.specs.Cuts.{plane_of, toward_of, IsBeyond}
-use Rattle.lattice.specs.Points.{point_of, OnOneSight}
+use Rattle.lattice.specs.Points.{point_of}
 use Rattle.geometry.specs.Cuts.{over_of}
 use Rattle.geometry.specs.Parts.{IsNumbered}
-use Rattle.counting.specs.Counts.{to_left, to_right}
-use Rattle.counting.specs.Turns.{corner_at}
-use Rattle.face_counts.specs.inner.Sums.{total}
+use Rattle.geometry.specs.Counts.{to_left, to_right}
+use Rattle.geometry.specs.Turns.{corner_at}
+use Rattle.hiding_laws.specs.Sums.{total}
 use Rattle.solid_mesh.specs.Solids.{solid_part, edge_halves}
 use Rattle.solid_mesh.proofs.Facts.{sound, in_range, few_triangles, few_edges, edges_are, edge_there}
 use Rattle.cross_find.specs.declared.meter.Crossing.{Crossing}
-use Rattle.section_parity.proofs.Xors.{xor}
+use Rattle.cut_plane.proofs.Xors.{xor}
 use Rattle.span_count.specs.Carries.{AreCarried}
-use Rattle.span_slow.specs.Beyond.{IsStretch, IsPartBeyond}
-use Rattle.span_slow.proofs.Numbered.{if_ok}
-use Rattle.cut_count.specs.declared.found.Found.{Found}
+use Rattle.cut_plane.specs.Beyond.{IsStretch, IsPartBeyond}
+use Rattle.cut_count.specs.declared.found.CrossingBorder.{CrossingBorder}
 use Rattle.cut_count.specs.CutSpans.{AreCutCountSpans}
 use Rattle.cut_count.specs.inner.Walks.{IsOddAhead, AreSectionCrossings, odd_turns, turn_left, turn_right}
 use Rattle.cut_count.proofs.CutSpansRight.{end_beyond, cut_spans_right, no_cut_spans}
 use Rattle.cut_count.proofs.FewCrossings.{few_below, few_segments, total_small, crossing_bytes, near_small, with_one, one_small, counted_small, counted_less, first_small, few_together}
 use Rattle.cut_count.proofs.WalkLaws.{HasWalked}
 use Rattle.cut_count.proofs.walk.edge_spans.Goals as goal
-
-pub beyond_plane-requires : goal.beyond_plane-requires
-beyond_plane-requires g c =
-    let (e, at) = edge_there c.args.solid.now c.args.edge c.requires.in_range in
-    let (a, b) = c.new-seen.ensures.ends e at in
-    let d = toward_of (plane_of c.args.section.now.cut) in
-    λ one. c.requires.seen e at (subst (λ (k : Corner). OnOneSight d (point_of k) (point_of e.b)) (sym a) (subst (λ (k : Corner). OnOneSight d (point_of c.new-seen.result.at.a) (point_of k)) (sym b) one))
 
 pub returns-in_default-clause-spans : goal.returns-in_default-clause-spans
 returns-in_default-clause-spans g c e at =
@@ -190,8 +182,8 @@ returns-clause-spans g c e at =
     let beyond : IsPartBeyond q e (part ∷ []) = c.in-Some.ensures s e a b in
     let there : IsBeyond q (point_of (corner_at e at_b)) = end_beyond q e part beyond at_b (ap (lt_z (pos 0)) (to_z-of_z w64 c.over-at_b.result f ∙ c.over-at_b.ensures.value ∙ ap (over_of q) (sym a))) in
     let (outlines, is, by_outlines) = c.in_ok-add_outlines.ensures.added e at in
-    let before_left = c.first_odds.ensures.left ∙ ap (λ (xs : List Found). cond at_b (xor odd.left (odd_turns turn_left xs)) odd.left) c.deref-2.ensures.value in
-    let before_right = c.first_odds.ensures.right ∙ ap (λ (xs : List Found). cond at_b (xor odd.right (odd_turns turn_right xs)) odd.right) c.deref-2.ensures.value in
+    let before_left = c.first_odds.ensures.left ∙ ap (λ (xs : List CrossingBorder). cond at_b (xor odd.left (odd_turns turn_left xs)) odd.left) c.deref-2.ensures.value in
+    let before_right = c.first_odds.ensures.right ∙ ap (λ (xs : List CrossingBorder). cond at_b (xor odd.right (odd_turns turn_right xs)) odd.right) c.deref-2.ensures.value in
     let has : HasWalked at_b q s (edge_halves solid) c.args.edge e part segments (cond at_b (xor odd.left (odd_turns turn_left found)) odd.left) (cond at_b (xor odd.right (odd_turns turn_right found)) odd.right) found section outlines = record {
       edges = edges_are solid;
       numbered = at;
@@ -216,7 +208,7 @@ returns-clause-spans g c e at =
     let first_right = c.first_counts_by-first.ensures.right ∙ (λ i. cond at_b (near_right i -ℤ all_right i) (near_right i)) in
     let odd_left = subst (λ t. t) (λ i. IsOddAhead to_left at_b (toward_of q) (sym a i) (sym b i) segments odd.left) c.in_ok-found.ensures.left in
     let odd_right = subst (λ t. t) (λ i. IsOddAhead to_right at_b (toward_of q) (sym a i) (sym b i) segments odd.right) c.in_ok-found.ensures.right in
-    if_ok c.carried.result
+    IfOk-weaker c.carried.result _ _
     (λ spans carried. cut_spans_right q s (sound solid) (in_range solid) (few_triangles solid) (edge_halves solid) (edge_there solid) c.args.edge e part segments at_b odd.left odd.right found section outlines sorted has
     (subst (λ (xs : List Crossing). IsPermutation xs sorted) is c.in_ok-crossings-2.ensures.same) there odd_left odd_right
     c.cover_counts.result.left c.cover_counts.result.right first.left first.right (c.cover_counts.ensures.left e at) (c.cover_counts.ensures.right e at) first_left first_right spans.items

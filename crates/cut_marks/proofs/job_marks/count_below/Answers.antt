@@ -1,6 +1,7 @@
 use Rattle.std.proofs.Common.{◌≡◌, ℕ, length, take, sym, subst, ap, ◌∙◌, arith}
 use Rattle.job_file.specs.declared.view.JobView.{JobView}
-use Rattle.cut_marks.specs.Letters.{cuts_of, cuts_in}
+use Rattle.lattice.specs.ShownCuts.{cuts_of}
+use Rattle.job_file.specs.ShownCuts.{cuts_in}
 use Rattle.cut_marks.proofs.Counted.{one_more}
 use Rattle.cut_marks.proofs.job_marks.count_below.Goals as goal
 
@@ -9,8 +10,8 @@ loop-i-preserved c =
     let views = c.args.views.now in
     let x : JobView = c.index-views-i.result in
     let sum = one_more views c.loop-i.i x (omega (arith, c.loop-i-test.true, c.requires)) (sym c.index-views-i.is) in
-    let own : c.count_of-count.result ≡ length (cuts_of x.spec) = c.count_of-count.ensures.value ∙ ap (λ (v : JobView). length (cuts_of v.spec)) (sym c.index-views-i.is) in
-    (omega (arith, sum, own, c.loop-i.invariant.0), omega (arith, c.count_of-count.ensures.size, c.loop-i.invariant.1))
+    let own : c.cuts-count.result ≡ length (cuts_of x.spec) = c.cuts-count.ensures.value ∙ ap (λ (v : JobView). length (cuts_of v.spec)) (sym c.index-views-i.is) in
+    (omega (arith, sum, own, c.loop-i.invariant.0), omega (arith, c.cuts-count.ensures.size, c.loop-i.invariant.1))
 
 pub returns-clause-value : goal.returns-clause-value
 returns-clause-value c =

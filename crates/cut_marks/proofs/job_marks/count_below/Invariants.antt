@@ -1,5 +1,5 @@
 use Rattle.std.proofs.Common.{◌≡◌, ◌≤◌, length, take}
-use Rattle.cut_marks.specs.Letters.{cuts_in}
+use Rattle.job_file.specs.ShownCuts.{cuts_in}
 use Rattle.cut_marks.proofs.job_marks.count_below.Given as goal
 
 -- the cuts of the views so far are counted

@@ -3,7 +3,7 @@ use Rattle.lattice.specs.Cuts.{plane_of}
 use Rattle.solid_mesh.specs.Solids.{solid_part}
 use Rattle.cut_marks.specs.Figures.{heading_over}
 use Rattle.cut_marks.specs.Letters.{IsLetterOf}
-use Rattle.cut_marks.specs.Traces.{GoesThrough}
+use Rattle.geometry.specs.Traces.{GoesThrough}
 use Rattle.cut_marks.specs.declared.figures.Heading.{Heading}
 use Rattle.cut_marks.proofs.job_marks.heading_of.Goals as goal
 
@@ -15,7 +15,7 @@ returns c =
     let section : c.goes_through.result ≡ h.has_section = sym (ap (λ (x : Heading). x.has_section) c.heading_over.ensures) in
     record {
       box = b;
-      is_box = c.of-b.ensures.is;
+      is_box = c.of-b.ensures;
       lettered = subst (IsLetterOf c.args.number) letter c.letter_of.ensures;
       over = c.heading_over.ensures ∙ (λ i. heading_over b (letter i) (section i));
       through = subst (λ (v : Bool). IsTrue v ↔ GoesThrough (plane_of c.args.cut.now) (solid_part c.args.solid.now).corners) section c.goes_through.ensures;

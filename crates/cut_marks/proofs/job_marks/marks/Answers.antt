@@ -6,7 +6,7 @@ use Rattle.job_file.specs.declared.view.JobView.{JobView}
 use Rattle.lattice.specs.declared.cuts.Cut.{Cut}
 use Rattle.geometry.specs.Parts.{Part}
 use Rattle.solid_mesh.specs.Solids.{solid_part}
-use Rattle.cut_marks.specs.Letters.{cuts_in}
+use Rattle.job_file.specs.ShownCuts.{cuts_in}
 use Rattle.cut_marks.specs.Marks.{IsMarked, AreMarked}
 use Rattle.cut_marks.specs.Marks.AreMarked.{none, more}
 use Rattle.cut_marks.specs.declared.views.ViewMarks.{ViewMarks}

@@ -1,6 +1,6 @@
 use Rattle.std.proofs.Common.{take}
 use Rattle.solid_mesh.specs.Solids.{solid_part}
-use Rattle.cut_marks.specs.Letters.{cuts_in}
+use Rattle.job_file.specs.ShownCuts.{cuts_in}
 use Rattle.cut_marks.specs.Marks.{AreMarked}
 use Rattle.cut_marks.proofs.job_marks.marks.Given as goal
 

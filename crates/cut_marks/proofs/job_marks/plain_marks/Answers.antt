@@ -14,7 +14,7 @@ invariant_of-result c =
     let laned = c.in_ok-laned.field-0.laned.items in
     let left_out = c.in_ok-laned.field-0.left_out.items in
     let are_laned = subst (λ (ts : List Trace). AreLaned b ts laned left_out) c.deref.ensures.value c.in_ok-laned.ensures in
-    let reach = marks_in_reach c.args.sheet.now (solid_part c.args.solid.now) c.args.view b c.of-b.ensures.is c.args.cuts.now c.in_ok-traces.traces.items laned left_out c.in_ok-traces.ensures are_laned in
+    let reach = marks_in_reach c.args.sheet.now (solid_part c.args.solid.now) c.args.view b c.of-b.ensures c.args.cuts.now c.in_ok-traces.traces.items laned left_out c.in_ok-traces.ensures are_laned in
     record {
       heading_in_range = λ x e. cc;
       marks_in_range = all_in_range b c.in_ok-marks.marks.items
@@ -26,7 +26,7 @@ returns c = record {
   box = c.of-b.result;
   traces = c.in_ok-traces.traces.items;
   laned = c.in_ok-laned.field-0.laned.items;
-  is_box = c.of-b.ensures.is;
+  is_box = c.of-b.ensures;
   are_traces = c.in_ok-traces.ensures;
   are_laned = subst (λ (ts : List Trace). AreLaned c.of-b.result ts c.in_ok-laned.field-0.laned.items c.in_ok-laned.field-0.left_out.items) c.deref.ensures.value c.in_ok-laned.ensures;
   unheaded = refl;

@@ -1,7 +1,7 @@
 use Rattle.std.proofs.Common.{rules, ◌≡◌, sym, subst, ap, ◌∙◌}
 use Rattle.lattice.specs.declared.points.Axis.{Axis}
 use Rattle.lattice.specs.Cuts.{plane_of}
-use Rattle.geometry.specs.Traces.{third_of}
+use Rattle.lattice.specs.Axes.{third_of}
 use Rattle.solid_mesh.specs.Solids.{solid_part}
 use Rattle.cut_marks.specs.Traces.{IsSpread}
 use Rattle.cut_marks.proofs.traces.is_seen_along.Goals as goal

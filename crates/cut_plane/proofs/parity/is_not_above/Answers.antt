@@ -1,7 +1,7 @@
 use Rattle.std.proofs.Common.{◌∙◌}
 use Rattle.std.specs.Prelude.{◌*ℤ◌}
 use Rattle.std.specs.Ordering.{int_cmp, is_le}
-use Rattle.cut_plane.proofs.Comparisons.{at_most_of_le}
+use Rattle.integers.proofs.Orders.{at_most_of_le}
 use Rattle.cut_plane.proofs.parity.is_not_above.Goals as goal
 
 pub returns : goal.returns

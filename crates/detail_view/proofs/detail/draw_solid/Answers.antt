@@ -1,7 +1,7 @@
 use Rattle.std.proofs.Common.{List, subst}
 use Rattle.integers.proofs.Lists.{some_element}
 use Rattle.lattice.specs.declared.pieces.Piece.{Piece}
-use Rattle.detail_page.specs.Pages.{IsDetailText}
+use Rattle.detail_pieces.specs.Pages.{IsDetailText}
 use Rattle.detail_view.proofs.detail.draw_solid.Goals as goal
 
 pub returns : goal.returns

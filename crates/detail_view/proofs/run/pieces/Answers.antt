@@ -2,7 +2,7 @@ use Rattle.std.proofs.Common.{Option, Some, refl, ap, sym, subst}
 use Rattle.std.specs.Prelude.{IfSome, is_some}
 use Rattle.draw_words.specs.Seen.{texts}
 use Rattle.detail_view.specs.Drawn.{pieces_told, HasDetail, KeepsPage}
-use Rattle.detail_view.specs.Run.{AsksFor, Takes, Runs, HasVerdict, IsVerdictOn, SaysAsked, HasFiles, OnlyAsked}
+use Rattle.detail_view.specs.Run.{AsksFor, Takes, RunsPieces, HasVerdict, IsVerdictOn, SaysAsked, HasFiles, OnlyAsked}
 use Rattle.detail_view.specs.Seen.{asked_seen}
 use Rattle.detail_view.specs.Words.{Asked, asked_by}
 use Rattle.detail_view.proofs.Chains.{ends_next, missing_after}
@@ -34,7 +34,7 @@ returns-in-Ok-clause-complete g c = λ told no_reads no_writes.
     let old = g.D.Desk.state c.args.desk.now in
     let new = g.D.Desk.state c.run.new.desk in
     let words = texts c.args.words.now in
-    ends_complete (Runs words old.files) (run_decided words old.files) c.run.result.fault old.read_faults new.read_faults old.write_faults new.write_faults
+    ends_complete (RunsPieces words old.files) (run_decided words old.files) c.run.result.fault old.read_faults new.read_faults old.write_faults new.write_faults
     (ends_next (AsksFor words) (Takes old.files) (asked_seen c.in-Ok.words) c.in-Ok.ensures.asked c.run.result.fault (c.run.ensures.answer told)) c.run.ensures.reads c.run.ensures.writes no_reads no_writes
 
 pub returns-in-Ok-clause-exact : goal.returns-in-Ok-clause-exact
@@ -42,7 +42,7 @@ returns-in-Ok-clause-exact g c = λ steady.
     let files = (g.D.Desk.state c.args.desk.now).files in
     let words = texts c.args.words.now in
     let told = g.met.D.Desk.steady_tells c.args.desk.now steady in
-    ends_exact (Runs words files) (run_decided words files) c.run.result.fault
+    ends_exact (RunsPieces words files) (run_decided words files) c.run.result.fault
     (ends_next (AsksFor words) (Takes files) (asked_seen c.in-Ok.words) c.in-Ok.ensures.asked c.run.result.fault (c.run.ensures.answer told))
     (missing_after (AsksFor words) (Takes files) (asked_seen c.in-Ok.words) c.in-Ok.ensures.asked c.run.result.fault (c.run.ensures.missing steady)) (c.run.ensures.steady steady)
 

@@ -3,7 +3,7 @@ use Rattle.std.specs.List.{AllZip}
 use Rattle.job_file.specs.declared.view.JobView.{JobView}
 use Rattle.solid_mesh.specs.Solids.{solid_part}
 use Rattle.view_lines.specs.declared.view.ViewDrawing.{ViewDrawing}
-use Rattle.drawn_strips.specs.Planes.{planes_in}
+use Rattle.job_file.specs.ShownCuts.{planes_in}
 use Rattle.draw_core.specs.Drawing.{ShowsJobView, spacing_on}
 use Rattle.draw_core.specs.Numbers.{SumsViews}
 use Rattle.draw_core.proofs.InBoxes.{strokes_in_boxes}

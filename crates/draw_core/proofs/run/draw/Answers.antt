@@ -6,7 +6,7 @@ use Rattle.draw_words.specs.Seen.{texts}
 use Rattle.plot_rack.specs.Racks.{boxes_of}
 use Rattle.draw_core.specs.inner.Kept.{WritesRack}
 use Rattle.draw_core.specs.Lines.{WarnsWhole}
-use Rattle.draw_core.specs.Run.{Runs, IsOfWords}
+use Rattle.draw_core.specs.Run.{RunsDraw, IsOfWords}
 use Rattle.draw_core.specs.Summary.{SaysSummary}
 use Rattle.draw_core.specs.inner.Taken.{drawn_of}
 use Rattle.draw_core.proofs.Answered.{drawn_counted, drawn_steady, refused_counted, refused_unread, refused_steady, no_read}
@@ -20,7 +20,7 @@ use Rattle.draw_core.proofs.run.draw.Goals as goal
 pub returns-in-Ok-clause-part : goal.returns-in-Ok-clause-part
 returns-in-Ok-clause-part g c = λ told.
     let suffixes = map (λ b. ((goal.Plotter-dyn g (b.vtable, b.value)).plot b.value).suffix) c.args.extras.items in
-    made_of c.write_drawing.result.drawing (λ x. Runs suffixes (texts c.args.words.now) (g.D.Desk.state c.args.desk.now).files (Ok x)) (drawn_of c.in-Ok.taken) c.write_drawing.ensures.made (c.in-Ok.ensures.answer told)
+    made_of c.write_drawing.result.drawing (λ x. RunsDraw suffixes (texts c.args.words.now) (g.D.Desk.state c.args.desk.now).files (Ok x)) (drawn_of c.in-Ok.taken) c.write_drawing.ensures.made (c.in-Ok.ensures.answer told)
 
 pub returns-in-Ok-clause-files : goal.returns-in-Ok-clause-files
 returns-in-Ok-clause-files g c = λ told.
@@ -79,7 +79,7 @@ returns-in-Ok-clause-words_drawn g c =
 pub returns-in-Err-clause-words_answer : goal.returns-in-Err-clause-words_answer
 returns-in-Err-clause-words_answer g c = λ alone files.
     let suffixes = map (λ b. ((goal.Plotter-dyn g (b.vtable, b.value)).plot b.value).suffix) c.args.extras.items in
-    refused_or_memory (Runs suffixes (texts c.args.words.now) files) c.in-Err.fault c.refuse.result.fault c.refuse.ensures.fault (c.in-Err.ensures.no_file alone files)
+    refused_or_memory (RunsDraw suffixes (texts c.args.words.now) files) c.in-Err.fault c.refuse.result.fault c.refuse.ensures.fault (c.in-Err.ensures.no_file alone files)
 
 pub returns-in-Ok-clause-words_complete : goal.returns-in-Ok-clause-words_complete
 returns-in-Ok-clause-words_complete g c = λ alone files no_writes.

@@ -5,7 +5,7 @@ use Rattle.std.proofs.lemmas.List.Elements.{All-contains, Contains-get_or}
 use Rattle.lattice.specs.declared.pieces.Strip.{Strip}
 use Rattle.lattice.specs.Points.{of_dir}
 use Rattle.line_merge.proofs.Zips.{zip_more}
-use Rattle.span_slow.specs.declared.span.Span.{Span}
+use Rattle.lattice.specs.declared.spans.Span.{Span}
 use Rattle.geometry.specs.Places.{IsEarlier}
 use Rattle.drawn_strips.specs.Strips.{IsStripOf}
 use Rattle.drawn_strips.proofs.edge_strips.add_strips.Goals as goal

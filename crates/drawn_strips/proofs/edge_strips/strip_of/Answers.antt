@@ -16,4 +16,4 @@ invariant_of-result c =
     }
 
 pub returns : goal.returns
-returns c e n = record { line = c.requires.on_line e n; from = c.spot.ensures.at e n; to = c.spot-2.ensures.at e n; kind = c.kind_of.ensures }
+returns c e n = record { line = c.requires.on_line e n; from = c.spot.ensures.at e n; to = c.spot-2.ensures.at e n; kind = c.strip_kind.ensures }

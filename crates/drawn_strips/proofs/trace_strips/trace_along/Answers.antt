@@ -3,7 +3,7 @@ use Rattle.std.specs.Prelude.{◌<ℤ◌}
 use Rattle.lattice.specs.declared.points.Axis.{Axis}
 use Rattle.lattice.specs.Cuts.{plane_of}
 use Rattle.lattice.specs.Points.{of_dir, point_of}
-use Rattle.geometry.specs.Traces.{coordinate_of, third_of}
+use Rattle.lattice.specs.Axes.{coordinate_of, third_of}
 use Rattle.solid_mesh.specs.Solids.{solid_part}
 use Rattle.drawn_strips.specs.Traces.{IsFirstOn, IsLastOn}
 use Rattle.drawn_strips.proofs.TraceMade.{trace_there, none_flat}

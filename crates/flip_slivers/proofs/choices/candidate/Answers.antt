@@ -1,7 +1,7 @@
 use Rattle.std.proofs.Common.{refl, sym, ap, ◌∙◌, subst, ◌≡◌, get_or}
 use Rattle.std.specs.Prelude.{slice_get}
 use Rattle.std.proofs.lemmas.Option.{slice_get-get_or, same_Some}
-use Rattle.flip_bounds.specs.declared.bounded.Bounded.{Bounded}
+use Rattle.flip_slivers.specs.declared.bounded.Bounded.{Bounded}
 use Rattle.flip_slivers.specs.inner.Choices.{IsNewBound}
 use Rattle.flip_slivers.proofs.SettledLemmas.{no_sliver_choice, choice_bound}
 use Rattle.flip_slivers.proofs.choices.candidate.Goals as goal

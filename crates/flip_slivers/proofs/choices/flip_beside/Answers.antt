@@ -1,8 +1,8 @@
 use Rattle.std.proofs.Common.{length, refl, sym, ⊎_elim}
 use Rattle.std.proofs.lemmas.Bool.{false≢true}
 use Rattle.std.proofs.lemmas.Option.{slice_get-get_or}
-use Rattle.flip_bounds.specs.declared.bounded.Bounded.{Bounded}
-use Rattle.flip_bounds.specs.Flips.{tri}
+use Rattle.flip_slivers.specs.declared.bounded.Bounded.{Bounded}
+use Rattle.flip_slivers.specs.Flips.{tri}
 use Rattle.flip_slivers.proofs.ChoiceLemmas.{turned_at, turned_below, candidate_choice, candidate_back}
 use Rattle.flip_slivers.proofs.SettledLemmas.{idle_beside, idle_without_side, idle_with_itself}
 use Rattle.flip_slivers.proofs.choices.flip_beside.Goals as goal

@@ -2,7 +2,7 @@ use Rattle.std.proofs.Common.{length, refl, sym, ap, ◌∙◌}
 use Rattle.std.specs.Prelude.{pos}
 use Rattle.std.proofs.lemmas.Option.{slice_get-get_or}
 use Rattle.std.proofs.lemmas.Bool.{false≢true}
-use Rattle.flip_bounds.specs.declared.bounded.Bounded.{Bounded}
+use Rattle.flip_slivers.specs.declared.bounded.Bounded.{Bounded}
 use Rattle.flip_slivers.proofs.SettledLemmas.{sliver_height, sliver_side}
 use Rattle.flip_slivers.proofs.ChoiceLemmas.{same_side, low_as, long_as, turned_below, measure_at}
 use Rattle.flip_slivers.proofs.OneHeight.{round_height}

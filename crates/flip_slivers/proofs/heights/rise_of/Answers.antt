@@ -1,6 +1,6 @@
 use Rattle.std.proofs.Common.{ℕ, ◌≡◌, ◌+◌, ◌*◌, ◌<◌, ◌≤◌, sym, subst}
 use Rattle.std.specs.Prelude.{pos}
-use Rattle.flip_bounds.specs.Heights.{IsRoundedUp}
+use Rattle.flip_slivers.specs.Heights.{IsRoundedUp}
 use Rattle.flip_slivers.proofs.HeightLemmas.{rounded_exactly, rounded_past}
 use Rattle.flip_slivers.proofs.heights.rise_of.Goals as goal
 

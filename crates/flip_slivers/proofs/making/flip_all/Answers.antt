@@ -1,5 +1,5 @@
 use Rattle.std.proofs.Common.{◌≤◌, ◌+◌, arith}
-use Rattle.flip_bounds.specs.Flips.{none}
+use Rattle.flip_slivers.specs.Flips.{none}
 use Rattle.flip_slivers.proofs.MakingLemmas.{one_more, made_falls}
 use Rattle.flip_slivers.proofs.Potential.{flips_most}
 use Rattle.flip_slivers.proofs.making.flip_all.Goals as goal

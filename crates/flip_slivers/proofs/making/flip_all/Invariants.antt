@@ -1,4 +1,4 @@
-use Rattle.flip_bounds.specs.Flips.{AreFlips}
+use Rattle.flip_slivers.specs.Flips.{AreFlips}
 use Rattle.flip_slivers.specs.inner.Choices.{IsReady}
 use Rattle.flip_slivers.proofs.Potential.{potential}
 use Rattle.flip_slivers.proofs.making.flip_all.Given as goal

@@ -1,5 +1,5 @@
 use Rattle.std.proofs.lemmas.Option.{slice_get-get_or}
-use Rattle.flip_bounds.specs.declared.bounded.Bounded.{Bounded}
+use Rattle.flip_slivers.specs.declared.bounded.Bounded.{Bounded}
 use Rattle.flip_slivers.proofs.MakingLemmas.{put_laid}
 use Rattle.flip_slivers.proofs.making.put.Goals as goal
 

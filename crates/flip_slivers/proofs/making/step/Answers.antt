@@ -1,6 +1,6 @@
 use Rattle.std.proofs.Common.{List, length, Option, refl, sym, ap, ◌∙◌, subst}
 use Rattle.std.specs.Prelude.{IsNone}
-use Rattle.flip_bounds.specs.declared.bounded.Bounded.{Bounded}
+use Rattle.flip_slivers.specs.declared.bounded.Bounded.{Bounded}
 use Rattle.flip_slivers.specs.declared.choices.Flip.{Flip}
 use Rattle.flip_slivers.specs.inner.Choices.{AreSettled}
 use Rattle.flip_slivers.proofs.MakingLemmas.{choice_read, marked, same_count, step_ready}

@@ -1,6 +1,6 @@
 use Rattle.std.proofs.lemmas.Bool.{false≢true}
 use Rattle.std.proofs.lemmas.Option.{slice_get-get_or}
-use Rattle.flip_bounds.specs.declared.bounded.Bounded.{Bounded}
+use Rattle.flip_slivers.specs.declared.bounded.Bounded.{Bounded}
 use Rattle.flip_slivers.proofs.QueueLemmas.{faces_turned}
 use Rattle.flip_slivers.proofs.queue.faces.Goals as goal
 

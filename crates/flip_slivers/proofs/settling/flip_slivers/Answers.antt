@@ -1,6 +1,6 @@
 use Rattle.std.proofs.Common.{◌*◌, List, ap, subst, ◌∙◌}
-use Rattle.flip_bounds.specs.declared.bounded.Bounded.{Bounded}
-use Rattle.flip_bounds.specs.Flips.{IsGreatestBound}
+use Rattle.flip_slivers.specs.declared.bounded.Bounded.{Bounded}
+use Rattle.flip_slivers.specs.Flips.{IsGreatestBound}
 use Rattle.flip_slivers.specs.inner.Lists.{triangles_of}
 use Rattle.flip_slivers.proofs.SettlingLemmas.{settled}
 use Rattle.flip_slivers.proofs.settling.flip_slivers.Goals as goal

@@ -8,8 +8,8 @@ use Rattle.exact_frac.specs.declared.Frac.{Frac}
 use Rattle.lattice.specs.Triple.{Triple}
 use Rattle.lattice.specs.Points.{of_dir, of_spot, IsRatio}
 use Rattle.cut_plane.specs.declared.segments.Segment.{Segment}
-use Rattle.section_parity.specs.Diagonals.{diagonal_of}
-use Rattle.hatch_fill.specs.declared.places.Place.{Place}
+use Rattle.cut_plane.specs.Diagonals.{diagonal_of}
+use Rattle.hatch_fill.specs.declared.places.HatchPlace.{HatchPlace}
 use Rattle.hatch_fill.specs.inner.Numbers.{IsFirstNumber}
 use Rattle.hatch_fill.specs.inner.Crossings.{AreMeetings, AreCrossings}
 use Rattle.hatch_fill.specs.inner.Parts.{AreAdded}
@@ -18,11 +18,11 @@ use Rattle.hatch_fill.proofs.crossings.add_crossings.Goals as goal
 first_of : (f : Frac) (n m : ℤ) (spacing : ℕ) (number : ℤ) → IsRatio f n m → IsFirstNumber f.num f.den spacing number → IsFirstNumber n m spacing number
 first_of f n m spacing number h first = subst (λ (k : ℤ). IsFirstNumber k m spacing number) h.num (subst (λ (l : ℤ). IsFirstNumber f.num l spacing number) h.den first)
 
-both : (d : Triple) (spacing : ℕ) (x : Segment) (a b : ℤ) (old mid new : List Place) → IsFirstNumber (diagonal_of d (of_spot x.a)) x.a.w spacing a → IsFirstNumber (diagonal_of d (of_spot x.b)) x.b.w spacing b
+both : (d : Triple) (spacing : ℕ) (x : Segment) (a b : ℤ) (old mid new : List HatchPlace) → IsFirstNumber (diagonal_of d (of_spot x.a)) x.a.w spacing a → IsFirstNumber (diagonal_of d (of_spot x.b)) x.b.w spacing b
     → AreAdded (AreMeetings x.line spacing a b) old mid → AreAdded (AreMeetings x.line spacing b a) mid new → AreAdded (AreCrossings d spacing x) old new
 both d spacing x a b old mid new first second (up, e, rising) (down, f, falling) = (
   up ++ down,
-  f ∙ ap (λ (xs : List Place). xs ++ down) e ∙ append_assoc old up down,
+  f ∙ ap (λ (xs : List HatchPlace). xs ++ down) e ∙ append_assoc old up down,
   record { a = a; b = b; first = first; second = second; rising = up; falling = down; together = λ i. up ++ down; from_a = rising; from_b = falling },
 )
 

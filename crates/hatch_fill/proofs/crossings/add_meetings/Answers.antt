@@ -4,26 +4,26 @@ use Rattle.std.specs.Int.{w64}
 use Rattle.std.proofs.lemmas.Int.{ints, to_z-of_z}
 use Rattle.std.proofs.lemmas.List.{append-nil, append_assoc}
 use Rattle.lattice.specs.declared.lines.Line.{Line}
-use Rattle.hatch_fill.specs.declared.places.Place.{Place}
+use Rattle.hatch_fill.specs.declared.places.HatchPlace.{HatchPlace}
 use Rattle.hatch_fill.specs.inner.Meetings.{IsMeeting, HasMeeting}
 use Rattle.hatch_fill.specs.inner.Crossings.{AreMeetings}
 use Rattle.hatch_fill.specs.inner.Parts.{AreAdded}
-use Rattle.section_parity.proofs.Tested.{less_of, most_of}
+use Rattle.cut_plane.proofs.Tested.{less_of, most_of}
 use Rattle.hatch_fill.proofs.MeetingLists.{meetings_none, meetings_same, meetings_more, meetings_ended}
 use Rattle.hatch_fill.proofs.crossings.add_meetings.Goals as goal
 use Rattle.hatch_fill.proofs.crossings.add_meetings.Goals.{in-Some+in_ok-push, in_default}
 
 -- what is kept of the numbers before this one
-abbrev IsKept : Line → ℕ → ℤ → ℤ → List Place → ℤ → List Place → Type 0
+abbrev IsKept : Line → ℕ → ℤ → ℤ → List HatchPlace → ℤ → List HatchPlace → Type 0
 IsKept line spacing from to old number new = (from ≤ℤ number) × ((number ≤ℤ to) ⊎ (number ≡ from)) × AreAdded (AreMeetings line spacing from number) old new
 
-kept_first : (line : Line) (spacing : ℕ) (from to : ℤ) (old : List Place) → 1 ≤ spacing → IsKept line spacing from to old from old
+kept_first : (line : Line) (spacing : ℕ) (from to : ℤ) (old : List HatchPlace) → 1 ≤ spacing → IsKept line spacing from to old from old
 kept_first line spacing from to old some = (same from, inr refl, ([], sym (append-nil old), meetings_none line spacing some from))
   where
     same : (x : ℤ) → x ≤ℤ x
     same x = omega (arith, ints)
 
-module _ (line : Line) (spacing : ℕ) (some : 1 ≤ spacing) (from to : ℤ) (old : List Place) (number : ℤ) (new : List Place) (kept : IsKept line spacing from to old number new) where
+module _ (line : Line) (spacing : ℕ) (some : 1 ≤ spacing) (from to : ℤ) (old : List HatchPlace) (number : ℤ) (new : List HatchPlace) (kept : IsKept line spacing from to old number new) where
   later : (a b : ℤ) → a ≤ℤ b → a ≤ℤ (b +ℤ pos 1)
   later a b h = omega (arith, ints)
 
@@ -37,13 +37,13 @@ module _ (line : Line) (spacing : ℕ) (some : 1 ≤ spacing) (from to : ℤ) (o
     (kept.2.0, kept.2.1, meetings_same line spacing some from number kept.0 kept.2.0 kept.2.2 none),
   )
 
-  kept_more : number <ℤ to → (t : Place) → IsMeeting line (number *ℤ pos spacing) t → (more : List Place) → more ≡ new ++ t ∷ [] → IsKept line spacing from to old (number +ℤ pos 1) more
+  kept_more : number <ℤ to → (t : HatchPlace) → IsMeeting line (number *ℤ pos spacing) t → (more : List HatchPlace) → more ≡ new ++ t ∷ [] → IsKept line spacing from to old (number +ℤ pos 1) more
   kept_more less t is more e = (
     later from number kept.0,
     inl (next number to less),
     (
       kept.2.0 ++ t ∷ [],
-      e ∙ ap (λ (xs : List Place). xs ++ t ∷ []) kept.2.1 ∙ append_assoc old kept.2.0 (t ∷ []),
+      e ∙ ap (λ (xs : List HatchPlace). xs ++ t ∷ []) kept.2.1 ∙ append_assoc old kept.2.0 (t ∷ []),
       meetings_more line spacing some from number kept.0 kept.2.0 kept.2.2 t is,
     ),
   )
@@ -71,11 +71,11 @@ loop-number-init c =
     let g = c.ranges.to in
     simp to_z-of_z (kept_first c.args.line.now c.args.spacing c.args.from c.args.to c.args.places.now.items c.requires.some)
 
-if_there : (o : Option Place) (P : Place → Type 0) (t : Place) → o ≡ Some t → IfSome o P → P t
-if_there o P t e h = subst (λ (x : Option Place). IfSome x P) e h
+if_there : (o : Option HatchPlace) (P : HatchPlace → Type 0) (t : HatchPlace) → o ≡ Some t → IfSome o P → P t
+if_there o P t e h = subst (λ (x : Option HatchPlace). IfSome x P) e h
 
-none_there : (o : Option Place) → o ≡ None → IsNone o
-none_there o e = subst (λ (x : Option Place). IsNone x) (sym e) refl
+none_there : (o : Option HatchPlace) → o ≡ None → IsNone o
+none_there o e = subst (λ (x : Option HatchPlace). IsNone x) (sym e) refl
 
 pub loop-number-preserved : goal.loop-number-preserved
 loop-number-preserved c =
@@ -98,7 +98,7 @@ loop-number-preserved c =
           (subst (λ (z : ℤ). IsMeeting line z w.in-Some.place) is (if_there c.meeting.result (IsMeeting line c.diagonal_at.result) w.in-Some.place w.in-Some.is some))
           c.match-meeting.places.items (ap (λ v. v.items) w.places-is ∙ w.in_ok-push.ensures.items)
       | in_default w ↦
-          subst (λ (xs : List Place). IsKept line spacing c.args.from c.args.to old (n +ℤ pos 1) xs) (sym (ap (λ v. v.items) w.places-is))
+          subst (λ (xs : List HatchPlace). IsKept line spacing c.args.from c.args.to old (n +ℤ pos 1) xs) (sym (ap (λ v. v.items) w.places-is))
           (kept_same line spacing c.requires.some c.args.from c.args.to old n c.loop-number.places.items kept less (subst (λ (z : ℤ). ¬ HasMeeting line z) is (none (none_there c.meeting.result w.in_default.is))))
     ]))
 

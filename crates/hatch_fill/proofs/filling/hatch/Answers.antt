@@ -10,7 +10,7 @@ use Rattle.lattice.specs.Points.{of_dir}
 use Rattle.lattice.specs.Cuts.{plane_of}
 use Rattle.cut_plane.specs.declared.segments.Segment.{Segment}
 use Rattle.cut_plane.proofs.Lists.{each_contains}
-use Rattle.hatch_fill.specs.declared.places.Place.{Place}
+use Rattle.hatch_fill.specs.declared.places.HatchPlace.{HatchPlace}
 use Rattle.hatch_fill.specs.inner.Crossings.{AreCrossings}
 use Rattle.hatch_fill.specs.inner.Lines.{IsLineOver}
 use Rattle.hatch_fill.specs.inner.Parts.{AreJoined}
@@ -24,7 +24,7 @@ pub united-requires : goal.united-requires
 united-requires c =
     subst (All (IsProper place_order)) (sym c.in_ok-pairs.ensures) (each_contains (IsProper place_order) (pairs_of c.deref.result.now) (pairs_proper c.deref.result.now))
 
-stretches_proper : (d : Triple) (spacing : ℕ) (segments : List Segment) (stretches : List (Interval Place)) → AreJoined (AreStretches d spacing) segments stretches → All (IsProper place_order) stretches
+stretches_proper : (d : Triple) (spacing : ℕ) (segments : List Segment) (stretches : List (Interval HatchPlace)) → AreJoined (AreStretches d spacing) segments stretches → All (IsProper place_order) stretches
 stretches_proper d spacing segments stretches joined =
     each_contains (IsProper place_order) stretches (λ i there.
     let (x, listed, (part, are, in_part)) = joined_part (AreStretches d spacing) segments stretches joined i there in
@@ -50,12 +50,12 @@ returns c s sound below borders =
       crossings = subst (λ (d : Triple). Crossing d section.segments.items) c.dir-d.ensures (subst (Crossing (of_dir c.dir-d.result)) c.as_slice-segments.ensures.value c.in_ok-places.ensures);
       moved = c.sort.ensures.permutation;
       ascending = c.in_ok-sort.ensures.sorted;
-      united = subst (λ (xs : List (Interval Place)). AreUnited place_order xs c.in_ok-whole.whole.items) (c.in_ok-pairs.ensures ∙ ap pairs_of c.deref.ensures.value) c.in_ok-whole.ensures;
+      united = subst (λ (xs : List (Interval HatchPlace)). AreUnited place_order xs c.in_ok-whole.whole.items) (c.in_ok-pairs.ensures ∙ ap pairs_of c.deref.ensures.value) c.in_ok-whole.ensures;
       along = subst (λ (d : Triple). Along d section.segments.items) c.dir-d.ensures (subst (Along (of_dir c.dir-d.result)) c.as_slice-segments.ensures.value c.in_ok-stretches.ensures);
       united_along = c.in_ok-borders.ensures;
       left =
-          subst (λ (xs : List (Interval Place)). AreRest place_order xs c.in_ok-borders.borders.items c.in_ok-within.within.items) c.deref-2.ensures.value
-          (subst (λ (xs : List (Interval Place)). AreRest place_order c.deref-2.result.now xs c.in_ok-within.within.items) c.deref-3.ensures.value c.in_ok-within.ensures);
-      drawn = subst (λ (xs : List (Interval Place)). AllZip (IsLineOver plane) xs lines.items) c.deref-4.ensures.value h;
+          subst (λ (xs : List (Interval HatchPlace)). AreRest place_order xs c.in_ok-borders.borders.items c.in_ok-within.within.items) c.deref-2.ensures.value
+          (subst (λ (xs : List (Interval HatchPlace)). AreRest place_order c.deref-2.result.now xs c.in_ok-within.within.items) c.deref-3.ensures.value c.in_ok-within.ensures);
+      drawn = subst (λ (xs : List (Interval HatchPlace)). AllZip (IsLineOver plane) xs lines.items) c.deref-4.ensures.value h;
     }))
     c.hatch_lines.ensures

@@ -4,7 +4,7 @@ use Rattle.std.specs.Int.{w128}
 use Rattle.std.proofs.lemmas.Int.{ints}
 use Rattle.lattice.specs.Triple.{Triple, IsWithin}
 use Rattle.lattice.specs.Cuts.{Plane, plane_of, plane_height}
-use Rattle.hatch_fill.specs.declared.places.Place.{Place}
+use Rattle.hatch_fill.specs.declared.places.HatchPlace.{HatchPlace}
 use Rattle.hatch_fill.specs.inner.Lines.{triple_seen, point_over}
 use Rattle.hatch_fill.proofs.lines.spot_at.Goals as goal
 
@@ -37,7 +37,7 @@ doubled_short : (m : ℤ) → unsigned_abs m < 2 ^ 69 → unsigned_abs (pos 2 *�
 doubled_short m h = omega (arith, ints)
 
 -- the place, its doubled U, its V and that doubled, and the height
-module _ (t : Place) (u v v' h : ℤ) (is_u : u ≡ pos 2 *ℤ to_z w128 (of_z w128 t.across.num)) (near_v : unsigned_abs v ≤ 2 ^ 21 * unsigned_abs t.across.den) (is_v : v' ≡ pos 2 *ℤ to_z w128 (of_z w128 v))
+module _ (t : HatchPlace) (u v v' h : ℤ) (is_u : u ≡ pos 2 *ℤ to_z w128 (of_z w128 t.across.num)) (near_v : unsigned_abs v ≤ 2 ^ 21 * unsigned_abs t.across.den) (is_v : v' ≡ pos 2 *ℤ to_z w128 (of_z w128 v))
     (near_h : unsigned_abs h ≤ 2 ^ 22 * unsigned_abs t.across.den) where
   across_is : to_z w128 (of_z w128 u) ≡ pos 2 *ℤ t.across.num
   across_is = twice u t.across.num t.across.den is_u t.across_near t.short
@@ -129,7 +129,7 @@ invariant_of-result-clause-z_near c =
     coordinate_near c.in_space-x.result.z c.doubled-3.result t.across.den near.z t.short c.doubled-3.ensures
 
 -- the point by its coordinates
-point_is : (c : Plane) (t : Place) (x y z w u v v' h : ℤ)
+point_is : (c : Plane) (t : HatchPlace) (x y z w u v v' h : ℤ)
     → x ≡ (triple_seen c u v' h).x → y ≡ (triple_seen c u v' h).y → z ≡ (triple_seen c u v' h).z → u ≡ pos 2 *ℤ t.across.num → v' ≡ pos 2 *ℤ v → v ≡ t.across.num -ℤ (t.diagonal *ℤ t.across.den)
     → h ≡ plane_height c *ℤ t.across.den → w ≡ pos 2 *ℤ t.across.den
     → record { x = x; y = y; z = z; w = w } ≡ point_over (triple_seen c (pos 2 *ℤ t.across.num) (pos 2 *ℤ (t.across.num -ℤ (t.diagonal *ℤ t.across.den))) (plane_height c *ℤ t.across.den)) (pos 2 *ℤ t.across.den)

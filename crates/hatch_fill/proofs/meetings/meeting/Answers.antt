@@ -2,7 +2,7 @@ use Rattle.std.proofs.Common.{◌≡◌, ◌≢◌, ◌≤◌, ◌^◌, rules, a
 use Rattle.std.specs.Prelude.{ℤ, pos, IfSome, unsigned_abs}
 use Rattle.std.specs.Int.{w128}
 use Rattle.std.proofs.lemmas.Int.{ints, to_z-of_z}
-use Rattle.hatch_fill.specs.declared.places.Place.{Place}
+use Rattle.hatch_fill.specs.declared.places.HatchPlace.{HatchPlace}
 use Rattle.hatch_fill.specs.inner.Places.{IsPlaceAt}
 use Rattle.hatch_fill.specs.inner.Meetings.{IsMeeting}
 use Rattle.hatch_fill.proofs.Meets.{meeting_there, meeting_nowhere}
@@ -11,7 +11,7 @@ use Rattle.hatch_fill.proofs.meetings.meeting.Goals as goal
 not_zero : (m : ℤ) → unsigned_abs m ≤ 2 ^ 45 → (of_z w128 m ≡ 0 → ⊥) → m ≢ pos 0
 not_zero m size h e = h (omega (arith, ints, e))
 
-if_some : (o : Option Place) (P Q : Place → Type 0) → ((t : Place) → P t → Q t) → IfSome o P → IfSome o Q
+if_some : (o : Option HatchPlace) (P Q : HatchPlace → Type 0) → ((t : HatchPlace) → P t → Q t) → IfSome o P → IfSome o Q
 if_some None P Q holds h = h
 if_some (Some t) P Q holds h = holds t h
 

@@ -6,15 +6,15 @@ use Rattle.intervals.specs.declared.interval.Interval.{Interval}
 use Rattle.lattice.specs.Triple.{Triple}
 use Rattle.lattice.specs.Points.{of_dir}
 use Rattle.cut_plane.specs.declared.segments.Segment.{Segment}
-use Rattle.hatch_fill.specs.declared.places.Place.{Place}
+use Rattle.hatch_fill.specs.declared.places.HatchPlace.{HatchPlace}
 use Rattle.hatch_fill.specs.declared.stretches.Ends.{Ends}
 use Rattle.hatch_fill.specs.inner.Parts.{AreAdded}
 use Rattle.hatch_fill.specs.inner.Stretches.{between, AreEndsAlong, AreStretches}
 use Rattle.hatch_fill.proofs.Along.{no_stretches, both_ways}
 use Rattle.hatch_fill.proofs.stretches.add_stretch.Goals as goal
 
-added : (d : Triple) (spacing : ℕ) (x : Segment) (a b : Place) (old mid new : List (Interval Place)) → AreEndsAlong d spacing x a b → mid ≡ old ++ between a b → new ≡ mid ++ between b a → AreAdded (AreStretches d spacing x) old new
-added d spacing x a b old mid new ends e f = (between a b ++ between b a, f ∙ ap (λ (xs : List (Interval Place)). xs ++ between b a) e ∙ append_assoc old (between a b) (between b a), both_ways d spacing x a b ends)
+added : (d : Triple) (spacing : ℕ) (x : Segment) (a b : HatchPlace) (old mid new : List (Interval HatchPlace)) → AreEndsAlong d spacing x a b → mid ≡ old ++ between a b → new ≡ mid ++ between b a → AreAdded (AreStretches d spacing x) old new
+added d spacing x a b old mid new ends e f = (between a b ++ between b a, f ∙ ap (λ (xs : List (Interval HatchPlace)). xs ++ between b a) e ∙ append_assoc old (between a b) (between b a), both_ways d spacing x a b ends)
 
 pub returns-in_ok-add-in-Some : goal.returns-in_ok-add-in-Some
 returns-in_ok-add-in-Some c =

@@ -5,19 +5,19 @@ use Rattle.std.proofs.lemmas.Int.{to_z-of_z}
 use Rattle.exact_frac.specs.declared.Frac.{Frac}
 use Rattle.lattice.specs.Triple.{Triple}
 use Rattle.lattice.specs.Points.{of_dir, of_spot, IsRatio}
-use Rattle.section_parity.specs.Diagonals.{diagonal_of}
+use Rattle.cut_plane.specs.Diagonals.{diagonal_of}
 use Rattle.cut_plane.specs.declared.segments.Segment.{Segment}
-use Rattle.hatch_fill.specs.declared.places.Place.{Place}
+use Rattle.hatch_fill.specs.declared.places.HatchPlace.{HatchPlace}
 use Rattle.hatch_fill.specs.inner.Numbers.{IsFirstNumber}
 use Rattle.hatch_fill.specs.inner.Stretches.{IsPlaceOf, IsSpotOn, HasStretch}
 use Rattle.hatch_fill.proofs.Along.{first_is}
 use Rattle.hatch_fill.proofs.stretches.ends_along.Goals as goal
 
-if_there : (o : Option Place) (P : Place → Type 0) (t : Place) → o ≡ Some t → IfSome o P → P t
-if_there o P t e h = subst (λ (x : Option Place). IfSome x P) e h
+if_there : (o : Option HatchPlace) (P : HatchPlace → Type 0) (t : HatchPlace) → o ≡ Some t → IfSome o P → P t
+if_there o P t e h = subst (λ (x : Option HatchPlace). IfSome x P) e h
 
-none_there : (o : Option Place) → o ≡ None → IsNone o
-none_there o e = subst (λ (x : Option Place). IsNone x) (sym e) refl
+none_there : (o : Option HatchPlace) → o ≡ None → IsNone o
+none_there o e = subst (λ (x : Option HatchPlace). IsNone x) (sym e) refl
 
 -- the number of the hatch line along which it runs
 module _ (d : Triple) (spacing : ℕ) (x : Segment) (f : Frac) (number at : ℤ) (some : 1 ≤ spacing) (ratio : IsRatio f (diagonal_of d (of_spot x.a)) x.a.w) (first : IsFirstNumber f.num f.den spacing number) (is : at ≡ number *ℤ pos spacing) where

@@ -3,9 +3,10 @@ use Rattle.std.proofs.lemmas.List.{get_or_default}
 use Rattle.std.specs.declared.cmp.Ordering.TheVariants.{Less}
 use Rattle.intervals.specs.declared.interval.Interval.{Interval}
 use Rattle.intervals.specs.Cuts.{AreRest}
-use Rattle.intervals.proofs.Lists.{front_more, pairs_front}
+use Rattle.intervals.proofs.Lists.{pairs_front}
 use Rattle.intervals.proofs.Remaining.{rest_next}
 use Rattle.intervals.proofs.remainders.rest.Goals as goal
+use Rattle.integers.proofs.Lists.{front_more}
 
 pub loop-x-preserved : goal.loop-x-preserved
 loop-x-preserved g c =

@@ -5,11 +5,12 @@ use Rattle.std.proofs.lemmas.List.Elements.{All-contains}
 use Rattle.std.proofs.lemmas.Option.{slice_get_within, get_or_from_slice_get}
 use Rattle.intervals.specs.declared.interval.Interval.{Interval}
 use Rattle.intervals.specs.Cuts.{IsProper, AreUnited}
-use Rattle.intervals.proofs.Lists.{front_more, at_front}
+use Rattle.intervals.proofs.Lists.{at_front}
 use Rattle.intervals.proofs.Orders.{not_after}
 use Rattle.intervals.proofs.Touching.{AreJoined, BeginsBeforeRest, joined_first, joined_inside, joined_longer, joined_next, united, united_first, begins_before, begins_less, begins_at}
 use Rattle.intervals.proofs.unions.joined.Goals as goal
 use Rattle.intervals.proofs.unions.joined.Goals.{then-is_before+in_ok-push, else-is_before+then-is_before-2, else-is_before+else-is_before-2}
+use Rattle.integers.proofs.Lists.{front_more}
 
 pub loop-x-init : goal.loop-x-init
 loop-x-init g c =

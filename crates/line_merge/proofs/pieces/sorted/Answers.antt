@@ -1,4 +1,4 @@
-use Rattle.std.proofs.Common.{◌≡◌, rules, ap, is_lt}
+use Rattle.std.proofs.Common.{◌≡◌, rules, is_lt}
 use Rattle.std.proofs.lemmas.Fn.{always_returns_same}
 use Rattle.std.proofs.lemmas.List.Sorted.{ranks_by}
 use Rattle.lattice.specs.declared.pieces.Piece.{Piece}

@@ -1,6 +1,6 @@
 use Rattle.std.proofs.Common.{◌≡◌, ◌⊎◌, inl, inr, ℕ, ◌+◌, ◌<◌, ◌≤◌, arith}
 use Rattle.std.proofs.lemmas.Bool.{cases_lt}
-use Rattle.solid_mesh.specs.inner.Stars.{lists_of}
+use Rattle.solid_mesh.specs.Stars.{lists_of}
 use Rattle.out_grid.proofs.CellPuts.{put_none, put_more, put_same}
 use Rattle.out_grid.proofs.boxes.put_box.Goals as goal
 

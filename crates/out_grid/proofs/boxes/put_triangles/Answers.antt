@@ -1,6 +1,6 @@
 use Rattle.std.proofs.Common.{◌≡◌, ℕ, ◌≤◌, subst, length, arith}
 use Rattle.solid_mesh.specs.Solids.{solid_part}
-use Rattle.solid_mesh.specs.inner.Stars.{lists_of}
+use Rattle.solid_mesh.specs.Stars.{lists_of}
 use Rattle.out_grid.specs.inner.Triangles.{AreFilled}
 use Rattle.out_grid.proofs.Filled.{filled_none, filled_more}
 use Rattle.out_grid.proofs.boxes.put_triangles.Goals as goal

@@ -1,6 +1,6 @@
 use Rattle.std.proofs.Common.{◌≡◌, ◌*◌, ◌≤◌, vec_len}
 use Rattle.solid_mesh.specs.Solids.{solid_part}
-use Rattle.solid_mesh.specs.inner.Stars.{lists_of}
+use Rattle.solid_mesh.specs.Stars.{lists_of}
 use Rattle.out_grid.specs.inner.Triangles.{AreFilled}
 use Rattle.out_grid.proofs.boxes.put_triangles.Given as goal
 

@@ -1,11 +1,11 @@
 use Rattle.std.proofs.Common.{◌≡◌, ℕ, ◌+◌, ◌-◌, ◌<◌, ◌≤◌, List, [], All, refl, sym, subst, ◌∙◌, arith}
-use Rattle.solid_mesh.specs.inner.Stars.{lists_of}
+use Rattle.solid_mesh.specs.Stars.{lists_of}
 use Rattle.out_grid.specs.inner.Courses.{Meets, first_column, last_column, span_of, AreBefore}
-use Rattle.out_grid.specs.inner.Lists.{IsMarked, IsGrown, IsInSome}
+use Rattle.out_grid.specs.inner.Lists.{IsStamped, IsGrown, IsInSome}
 use Rattle.out_grid.specs.inner.Places.{course_of}
 use Rattle.out_grid.proofs.CourseCounts.{none_before}
 use Rattle.out_grid.proofs.Gathering.{course_none, course_more, course_all}
-use Rattle.out_grid.proofs.Marks.{marked_none}
+use Rattle.out_grid.proofs.Stamps.{stamped_none}
 use Rattle.out_grid.proofs.Passing.{is_course, columns_in_order, high_inside, counts_before, counts_in_all}
 use Rattle.out_grid.proofs.listing.list_course.Goals as goal
 
@@ -16,8 +16,8 @@ loop-column-init c =
     let items = c.new-list.ensures.items in
     let first = c.first_column-column.ensures in
     record {
-      marks_long = refl;
-      marked = subst (IsMarked c.args.mark c.args.marks.now.items) (sym items) (marked_none c.args.mark c.args.marks.now.items c.requires.marks_below);
+      stamps_long = refl;
+      stamped = subst (IsStamped c.args.stamp c.args.stamps.now.items) (sym items) (stamped_none c.args.stamp c.args.stamps.now.items c.requires.stamps_below);
       right = subst (λ (xs : List ℕ). IsGrown (IsInSome (λ k r. Meets course k r × (k < c.first_column-column.result)) c.args.columns cells) [] xs) (sym items)
           (subst (λ (f : ℕ). IsGrown (IsInSome (λ k r. Meets course k r × (k < f)) c.args.columns cells) [] []) (sym first) (course_none c.args.columns cells course (is_course c.args.course.now) []));
       counted_on = omega arith;
@@ -49,10 +49,10 @@ list_column-requires-clause-rows c =
 
 pub list_column-requires-clause-in_range : goal.list_column-requires-clause-in_range
 list_column-requires-clause-in_range c =
-    subst (λ (n : ℕ). All (All (λ k. k < n)) (lists_of c.args.cells.now)) (sym c.loop-column.invariant.marks_long) c.requires.in_range
+    subst (λ (n : ℕ). All (All (λ k. k < n)) (lists_of c.args.cells.now)) (sym c.loop-column.invariant.stamps_long) c.requires.in_range
 
-pub list_column-requires-clause-marked : goal.list_column-requires-clause-marked
-list_column-requires-clause-marked c = c.loop-column.invariant.marked
+pub list_column-requires-clause-stamped : goal.list_column-requires-clause-stamped
+list_column-requires-clause-stamped c = c.loop-column.invariant.stamped
 
 pub list_column-requires-clause-room : goal.list_column-requires-clause-room
 list_column-requires-clause-room c =
@@ -87,8 +87,8 @@ loop-column-preserved c =
     let after = c.list_column.new.meter.cells in
     let invariant = c.loop-column.invariant in
     record {
-      marks_long = c.list_column.ensures.marks_long ∙ invariant.marks_long;
-      marked = c.in_ok-list_column.ensures.marked;
+      stamps_long = c.list_column.ensures.stamps_long ∙ invariant.stamps_long;
+      stamped = c.in_ok-list_column.ensures.stamped;
       right = course_more c.args.columns cells course (is_course c.args.course.now) k low high [] c.loop-column.list.items c.list_column.new.list.items first last c.rows_in-rows.ensures
           invariant.right c.in_ok-list_column.ensures.right;
       counted_on = omega (arith, invariant.counted_on, c.list_column.ensures.counted_on);

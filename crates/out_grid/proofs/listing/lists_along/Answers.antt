@@ -5,13 +5,13 @@ use Rattle.edge_pick.proofs.Lists.{few_rising}
 use Rattle.lattice.specs.Points.{of_dir}
 use Rattle.geometry.specs.Parts.{Edge, IsNumbered}
 use Rattle.solid_mesh.specs.Solids.{solid_part, edge_halves}
-use Rattle.solid_mesh.specs.inner.Stars.{lists_of}
+use Rattle.solid_mesh.specs.Stars.{lists_of}
 use Rattle.out_grid.specs.Cells.{ShareCell}
 use Rattle.out_grid.specs.Grids.{list_at, HoldsThose}
 use Rattle.out_grid.specs.inner.Courses.{span_of}
 use Rattle.out_grid.specs.inner.Places.{raster_of, course_of}
 use Rattle.out_grid.proofs.CountedSpans.{front_below, span_small, counted_more, counted_in_all}
-use Rattle.out_grid.proofs.DrawnLists.{cells_hold, list_held, marks_next, along_more, others_more}
+use Rattle.out_grid.proofs.DrawnLists.{cells_hold, list_held, stamps_next, along_more, others_more}
 use Rattle.out_grid.proofs.Passing.{is_course}
 use Rattle.out_grid.proofs.listing.lists_along.Goals as goal
 
@@ -29,8 +29,8 @@ pub list_course-requires-clause-in_range : goal.list_course-requires-clause-in_r
 list_course-requires-clause-in_range c =
     let outlines = c.args.picked.now.outlines.items in
     cells_hold (of_dir c.args.d.now) (raster_of c.args.raster.now) (solid_part c.args.solid.now) (edge_halves c.args.solid.now) outlines c.args.columns (lists_of c.args.cells.now)
-    c.requires.held (λ k. k < length c.loop-edge.marks.items) (some _ c.requires.some) (length-map c.args.cells.now items_of ∙ c.requires.long)
-    (subst (λ (m : ℕ). All (λ k. k < m) outlines) (sym c.loop-edge.invariant.marks_long) c.requires.picked.1.outlines.within)
+    c.requires.held (λ k. k < length c.loop-edge.stamps.items) (some _ c.requires.some) (length-map c.args.cells.now items_of ∙ c.requires.long)
+    (subst (λ (m : ℕ). All (λ k. k < m) outlines) (sym c.loop-edge.invariant.stamps_long) c.requires.picked.1.outlines.within)
   where
     some : (n : ℕ) → 1 ≤ n → 0 < n
     some n h = omega arith
@@ -90,13 +90,13 @@ loop-edge-preserved c =
     let inside = number_within xs i x (length halves) (length lists) turn c.requires.picked.1.drawn.within (length-map c.loop-edge.lists.items items_of ∙ invariant.long) in
     record {
       long = length-set c.loop-edge.lists.items x c.in_ok-list.list ∙ invariant.long;
-      marks_long = c.list_course.ensures.marks_long ∙ invariant.marks_long;
-      marks_below = marks_next xs c.list_course.new.marks.items i x c.requires.picked.1.drawn.ascending turn.1 c.in_ok-list.ensures.marked.most;
+      stamps_long = c.list_course.ensures.stamps_long ∙ invariant.stamps_long;
+      stamps_below = stamps_next xs c.list_course.new.stamps.items i x c.requires.picked.1.drawn.ascending turn.1 c.in_ok-list.ensures.stamped.most;
       along = λ k e there numbered. subst (λ (ls : List (List ℕ)). HoldsThose {s = s} halves outlines (ShareCell d r e) (list_at ls k)) (sym now)
           (along_more xs i x turn.0 turn.1 lists list inside (λ (k : ℕ) (l : List ℕ). (e : Edge s) → IsNumbered halves k e → HoldsThose {s = s} halves outlines (ShareCell d r e) l)
           (λ k there e numbered. invariant.along k e there numbered)
           (λ e numbered. list_held d r s halves outlines c.args.columns (lists_of c.args.cells.now) c.requires.held e course course_is c.course_along-course.ensures.inside
-          (c.course_along-course.ensures.of_edge e numbered) list c.in_ok-list.ensures.marked.once c.in_ok-list.ensures.right)
+          (c.course_along-course.ensures.of_edge e numbered) list c.in_ok-list.ensures.stamped.once c.in_ok-list.ensures.right)
           k there e numbered);
       others = λ k none. ap (λ (ls : List (List ℕ)). list_at ls k) now ∙ others_more xs i x turn.0 turn.1 lists list inside invariant.others k none;
       counted_on = omega (arith, invariant.counted_on, c.list_course.ensures.counted_on);

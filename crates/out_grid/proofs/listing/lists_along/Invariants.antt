@@ -3,7 +3,7 @@ use Rattle.std.specs.List.{AllZip}
 use Rattle.lattice.specs.Points.{of_dir}
 use Rattle.geometry.specs.Parts.{Edge, IsNumbered}
 use Rattle.solid_mesh.specs.Solids.{solid_part, edge_halves}
-use Rattle.solid_mesh.specs.inner.Stars.{lists_of}
+use Rattle.solid_mesh.specs.Stars.{lists_of}
 use Rattle.out_grid.specs.Cells.{ShareCell}
 use Rattle.out_grid.specs.Bounds.{IsSpanAt}
 use Rattle.out_grid.specs.Grids.{list_at, HoldsThose}
@@ -13,8 +13,8 @@ use Rattle.out_grid.proofs.listing.lists_along.Given as goal
 abbrev pub invariant-loop-edge : goal.invariant-loop-edge
 invariant-loop-edge l = record {
   long : length l.lists.items ≡ length (edge_halves l.solid);
-  marks_long : length l.marks.items ≡ length (edge_halves l.solid);
-  marks_below : (j : ℕ) → l.edge-index ≤ j → j < length l.picked.drawn.items → All (λ m. m < get_or l.picked.drawn.items j 0 + 1) l.marks.items;
+  stamps_long : length l.stamps.items ≡ length (edge_halves l.solid);
+  stamps_below : (j : ℕ) → l.edge-index ≤ j → j < length l.picked.drawn.items → All (λ m. m < get_or l.picked.drawn.items j 0 + 1) l.stamps.items;
   along : (i : ℕ) (e : Edge (solid_part l.solid)) → Contains (take l.edge-index l.picked.drawn.items) i → IsNumbered (edge_halves l.solid) i e →
       HoldsThose {s = solid_part l.solid} (edge_halves l.solid) l.picked.outlines.items (ShareCell (of_dir l.d) (raster_of l.raster) e) (list_at (lists_of l.lists.items) i);
   others : (i : ℕ) → (Contains (take l.edge-index l.picked.drawn.items) i → ⊥) → list_at (lists_of l.lists.items) i ≡ [];

@@ -1,7 +1,7 @@
 use Rattle.std.proofs.Common.{◌≡◌, ℕ, ◌<◌, List, [], ◌∷◌, ◌++◌, Result, Ok, Err, OnErr, length, get_or, set, sym, ap, ◌∙◌, arith, Vec, Global}
 use Rattle.std.proofs.Math.Seq.{map-set_same}
 use Rattle.std.proofs.lemmas.List.{map-set, get_or-map}
-use Rattle.solid_mesh.specs.inner.Stars.{lists_of}
+use Rattle.solid_mesh.specs.Stars.{lists_of}
 use Rattle.out_grid.proofs.lists.put_in.Goals as goal
 
 abbrev items_of : Vec ℕ Global → List ℕ

@@ -1,6 +1,6 @@
 use Rattle.std.proofs.Common.{◌≡◌, ◌⊎◌, inl, inr, ℕ, ◌+◌, ◌-◌, ◌<◌, ◌≤◌, sym, subst, arith}
 use Rattle.std.proofs.lemmas.Bool.{cases_lt}
-use Rattle.solid_mesh.specs.inner.Stars.{lists_of}
+use Rattle.solid_mesh.specs.Stars.{lists_of}
 use Rattle.out_grid.specs.inner.Courses.{Course, IsCourse, Meets, AreRows, first_column, last_column}
 use Rattle.out_grid.specs.inner.Places.{course_of}
 use Rattle.out_grid.proofs.CellPuts.{put_none, put_more, put_same}

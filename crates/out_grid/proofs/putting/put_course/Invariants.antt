@@ -1,5 +1,5 @@
 use Rattle.std.proofs.Common.{◌≡◌, ◌+◌, ◌-◌, ◌*◌, ◌<◌, ◌≤◌, vec_len}
-use Rattle.solid_mesh.specs.inner.Stars.{lists_of}
+use Rattle.solid_mesh.specs.Stars.{lists_of}
 use Rattle.out_grid.specs.inner.Courses.{Meets, AreBefore, first_column, last_column, span_of}
 use Rattle.out_grid.specs.inner.Lists.{IsPut}
 use Rattle.out_grid.specs.inner.Places.{course_of}

@@ -2,7 +2,7 @@ use Rattle.std.proofs.Common.{◌≡◌, ℕ, ◌+◌, ◌*◌, ◌≤◌, List,
 use Rattle.std.specs.List.{AllZip}
 use Rattle.lattice.specs.Points.{of_dir}
 use Rattle.solid_mesh.specs.Solids.{solid_part, edge_halves}
-use Rattle.solid_mesh.specs.inner.Stars.{lists_of}
+use Rattle.solid_mesh.specs.Stars.{lists_of}
 use Rattle.out_grid.specs.Bounds.{IsSpanAt}
 use Rattle.out_grid.specs.inner.Lists.{AreHeld}
 use Rattle.out_grid.specs.inner.Places.{raster_of}

@@ -1,7 +1,7 @@
 use Rattle.std.proofs.Common.{List, subst}
 use Rattle.std.specs.Prelude.{IfOk}
 use Rattle.piece_verify.specs.Checked.{AreKnown, IsVerdict}
-use Rattle.list_lines.specs.declared.line.Entry.{Entry}
+use Rattle.piece_verify.specs.declared.line.Entry.{Entry}
 use Rattle.piece_verify.proofs.Verdicts.{right_answer, no_stranger}
 use Rattle.piece_verify.proofs.check.check_list.Goals as goal
 

@@ -7,7 +7,7 @@ use Rattle.lattice.specs.Triple.{Triple}
 use Rattle.lattice.specs.declared.pieces.Strip.{Strip}
 use Rattle.line_merge.specs.Merging.{AreStrips}
 use Rattle.solid_mesh.specs.Solids.{solid_part}
-use Rattle.drawn_strips.specs.Planes.{planes_in}
+use Rattle.job_file.specs.ShownCuts.{planes_in}
 use Rattle.drawn_strips.proofs.StripsRight.{strips_of_view}
 use Rattle.piece_verify.proofs.ViewPieces.{merged_right}
 use Rattle.piece_verify.proofs.check.right_pieces.Goals as goal

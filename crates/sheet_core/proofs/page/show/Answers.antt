@@ -2,21 +2,21 @@ use Rattle.std.proofs.Common.{◌≡◌, ◌<◌, ℕ, List, length, sym, subst,
 use Rattle.std.specs.Int.{w64}
 use Rattle.std.specs.List.{All}
 use Rattle.std.proofs.lemmas.Int.{ints, to_z-of_z}
-use Rattle.cut_marks.specs.Letters.{cuts_in}
+use Rattle.job_file.specs.ShownCuts.{cuts_in}
 use Rattle.cut_marks.specs.Marks.{AreMarked}
 use Rattle.cut_marks.specs.declared.views.ViewMarks.{ViewMarks}
 use Rattle.draw_core.specs.Strokes.{AreStrokes}
 use Rattle.draw_core.proofs.DrawnViews.{few, placed}
 use Rattle.draw_core.proofs.SheetFacts.{as_many_places}
 use Rattle.job_file.specs.declared.view.JobView.{JobView}
-use Rattle.mark_items.specs.Items.{items_of_marks}
+use Rattle.cut_marks.specs.Items.{items_of_marks}
 use Rattle.sheet_plan.specs.declared.sheet.Stroke.{Stroke}
 use Rattle.stroke_paths.specs.Paths.{ArePaths}
 use Rattle.stroke_paths.proofs.ViewsWithin.{views_within}
 use Rattle.view_lines.specs.declared.view.ViewDrawing.{ViewDrawing}
 use Rattle.sheet_page.specs.Pages.{IsInView}
 use Rattle.sheet_page.specs.declared.page.Item.{Item}
-use Rattle.title_block.specs.Blocks.{block_of}
+use Rattle.sheet_page.specs.Blocks.{block_of}
 use Rattle.solid_mesh.specs.Solids.{solid_part}
 use Rattle.sheet_core.specs.Pages.{items_of}
 use Rattle.sheet_core.proofs.Moved.{moved_strokes}

@@ -3,8 +3,8 @@ use Rattle.std.specs.Prelude.{None, Some}
 use Rattle.put_texts.specs.Puts.{way_seen}
 use Rattle.put_texts.proofs.Putting.{put_by_lines}
 use Rattle.sheet_core.proofs.put.put_asked.Goals as goal
-use Rattle.sheet_lines.specs.Lines.{fault_line}
-use Rattle.sheet_lines.specs.declared.lines.TheConstants.{MEMORY_LINE}
+use Rattle.sheet_core.specs.Refusals.{fault_line}
+use Rattle.sheet_core.specs.declared.refusals.TheConstants.{MEMORY_LINE}
 use Rattle.sheet_words.specs.Seen.{named_seen}
 
 pub returns-clause-put : goal.returns-clause-put

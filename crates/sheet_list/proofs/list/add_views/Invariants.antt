@@ -1,5 +1,5 @@
 use Rattle.std.proofs.Common.{◌≡◌, ◌≤◌, [], ◌++◌, length, take, drop}
-use Rattle.cut_marks.specs.Letters.{cuts_in}
+use Rattle.job_file.specs.ShownCuts.{cuts_in}
 use Rattle.sheet_list.specs.Lists.{lines_behind}
 use Rattle.sheet_list.proofs.list.add_views.Given as goal
 

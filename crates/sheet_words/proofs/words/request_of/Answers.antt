@@ -1,5 +1,5 @@
 use Rattle.std.proofs.Common.{◌≡◌, ◌∙◌, Some, false, rules, refl, sym, ap, option_copied, option_map, unwrap_or, codes}
-use Rattle.draw_words.specs.Names.{is_empty}
+use Rattle.draw_words.specs.Names.{is_empty_value}
 use Rattle.sheet_words.specs.Names.{goal_named, goal_of, shares_place, hidden_of, list_named}
 use Rattle.sheet_words.specs.Seen.{goal_seen, list_seen}
 use Rattle.sheet_words.proofs.words.request_of.Goals as goal
@@ -7,9 +7,9 @@ use Rattle.sheet_words.proofs.words.request_of.Goals as goal
 pub returns-clause-named : goal.returns-clause-named
 returns-clause-named c =
     let given = c.args.found in
-    let has_part : is_empty (option_copied given.part) ≡ false = search rules in
-    let has_job : is_empty (option_copied given.job) ≡ false = search rules in
-    let has_list : is_empty (option_copied given.list) ≡ false = search rules in
+    let has_part : is_empty_value (option_copied given.part) ≡ false = search rules in
+    let has_job : is_empty_value (option_copied given.job) ≡ false = search rules in
+    let has_list : is_empty_value (option_copied given.list) ≡ false = search rules in
     let part : option_copied given.part ≡ Some c.in_ok-new.field-0 = search rules in
     let out_is : c.unwrap_or-2.result.now ≡ unwrap_or (option_copied given.out) (codes "sheet.svg") = search rules in
     let goes : goal_named c.unwrap_or-2.result.now ≡ Some (goal_seen c.in_ok-out.out) = search rules in

@@ -5,8 +5,8 @@ use Rattle.std.proofs.lemmas.Int.{ints, to_z-of_z}
 use Rattle.solid_mesh.proofs.PassingLemmas.{product_is, rising, falling}
 use Rattle.solid_mesh.proofs.passing.least_product.Goals as goal
 
-pub returns-then-factor-lt0 : goal.returns-then-factor-lt0
-returns-then-factor-lt0 c n h =
+pub returns-then-factor-lt0-clause-least : goal.returns-then-factor-lt0-clause-least
+returns-then-factor-lt0-clause-least c n h =
     let k = c.args.factor in
     let o = c.args.origin in
     let r = c.args.range.now in
@@ -15,8 +15,8 @@ returns-then-factor-lt0 c n h =
     let is = product_is k r.to o c.product.ensures.size c.product.ensures.value (to_z-of_z w32 k c.ranges.factor) whole (to_z-of_z w32 o c.ranges.origin) in
     subst (λ (z : ℤ). z ≤ℤ (k *ℤ (n -ℤ o))) (sym is) (falling k n r.to o sign h.to)
 
-pub returns : goal.returns
-returns c n h =
+pub returns-clause-least : goal.returns-clause-least
+returns-clause-least c n h =
     let k = c.args.factor in
     let o = c.args.origin in
     let r = c.args.range.now in

@@ -1,5 +1,5 @@
 use Rattle.std.proofs.Common.{◌≡◌, ℕ, [], length, get_or}
-use Rattle.solid_mesh.specs.inner.Stars.{lists_of}
+use Rattle.solid_mesh.specs.Stars.{lists_of}
 use Rattle.solid_mesh.proofs.stars.empty_stars.Given as goal
 
 abbrev pub invariant-loop : goal.invariant-loop

@@ -3,7 +3,7 @@ use Rattle.std.proofs.lemmas.List.{length-map}
 use Rattle.std.proofs.lemmas.Option.{get_or_from_slice_get, slice_get_read}
 use Rattle.geometry.specs.Parts.{part_of}
 use Rattle.geometry.proofs.Listed.{triangle_below, face_at}
-use Rattle.solid_mesh.specs.inner.Stars.{lists_of}
+use Rattle.solid_mesh.specs.Stars.{lists_of}
 use Rattle.solid_mesh.proofs.Sharing.{starts_differ}
 use Rattle.solid_mesh.proofs.StarLemmas.{more_stars}
 use Rattle.solid_mesh.proofs.stars.find_stars.Goals as goal

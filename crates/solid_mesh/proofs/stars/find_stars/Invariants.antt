@@ -1,5 +1,5 @@
 use Rattle.std.proofs.Common.{length}
-use Rattle.solid_mesh.specs.inner.Stars.{AreStars, lists_of}
+use Rattle.solid_mesh.specs.Stars.{AreStars, lists_of}
 use Rattle.solid_mesh.proofs.stars.find_stars.Given as goal
 
 abbrev pub invariant-loop-tri : goal.invariant-loop-tri

@@ -1,6 +1,6 @@
 use Rattle.std.proofs.Common.{◌≡◌, List, length, false, subst, ap, ◌∙◌, arith}
 use Rattle.std.proofs.lemmas.List.Sorted.{length_permutation}
-use Rattle.face_counts.specs.inner.Sums.{total}
+use Rattle.hiding_laws.specs.Sums.{total}
 use Rattle.cross_find.specs.declared.meter.Crossing.{Crossing}
 use Rattle.span_count.specs.Carries.{AreCarried}
 use Rattle.span_count.proofs.Counted.{counts_over, counts_first, spans_carried, whole_edge}

@@ -3,7 +3,7 @@ use Rattle.std.specs.Prelude.{ℤ, ◌+ℤ◌}
 use Rattle.std.proofs.lemmas.List.Elements.{All-contains}
 use Rattle.std.proofs.lemmas.Option.{slice_get_within, get_or_from_slice_get}
 use Rattle.geometry.specs.Parts.{Edge, IsNumbered}
-use Rattle.counting.specs.Turns.{number_at}
+use Rattle.geometry.specs.Turns.{number_at}
 use Rattle.span_count.specs.inner.Steps.{IsOutlineAt}
 use Rattle.span_count.specs.Tests.{with_tests}
 use Rattle.span_count.proofs.Lists.{none_past}

@@ -1,8 +1,8 @@
 use Rattle.std.proofs.Common.{◌≡◌, ℕ, ◌+◌, ◌<◌, ◌≤◌, false, sym, subst, rules, arith}
 use Rattle.geometry.specs.Parts.{Face, Edge, IsNumbered}
-use Rattle.counting.specs.Counts.{Side}
-use Rattle.counting.specs.Covers.{IsCountedNext}
-use Rattle.counting.specs.Turns.{number_at}
+use Rattle.geometry.specs.Counts.{Side}
+use Rattle.geometry.specs.Covers.{IsCountedNext}
+use Rattle.geometry.specs.Turns.{number_at}
 use Rattle.cross_find.specs.Sights.{SightState}
 use Rattle.span_count.specs.Finders.{AreAllNear}
 use Rattle.span_count.proofs.NearTriangles.{not_counted}

@@ -1,7 +1,7 @@
 use Rattle.std.proofs.Common.{◌≡◌, ℕ, ◌+◌, ◌<◌, ◌^◌, Some, List, length, get_or, slice_get, refl, sym, subst, ◌∙◌, arith}
 use Rattle.std.specs.Prelude.{Option}
 use Rattle.std.proofs.lemmas.Option.{same_Some, slice_get_read, slice_get_within}
-use Rattle.counting.specs.Turns.{number_at}
+use Rattle.geometry.specs.Turns.{number_at}
 use Rattle.span_count.specs.Bounds.{IsEndCount}
 use Rattle.span_count.specs.Tests.{IsTested}
 use Rattle.span_count.specs.inner.Tours.{IsReady, cost_of}

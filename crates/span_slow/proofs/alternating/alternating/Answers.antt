@@ -1,5 +1,5 @@
 use Rattle.std.proofs.Common.{List, ◌+◌, refl, sym, subst}
-use Rattle.span_slow.specs.declared.span.Span.{Span}
+use Rattle.lattice.specs.declared.spans.Span.{Span}
 use Rattle.span_slow.proofs.Turns.{AreTold, told_none, told_more, spans_right}
 use Rattle.span_slow.proofs.alternating.alternating.Goals as goal
 

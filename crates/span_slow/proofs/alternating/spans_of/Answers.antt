@@ -5,7 +5,7 @@ use Rattle.exact_frac.specs.declared.Frac.{Frac}
 use Rattle.exact_frac.specs.Frac.{order_of}
 use Rattle.intervals.specs.declared.interval.Interval.{Interval}
 use Rattle.intervals.specs.Cuts.{AreApart}
-use Rattle.span_slow.specs.Beyond.{IsStretch}
+use Rattle.cut_plane.specs.Beyond.{IsStretch}
 use Rattle.span_slow.specs.inner.Hidden.{AreSpansOf}
 use Rattle.span_slow.proofs.Composed.{given_proper, united_stretches, spans_through}
 use Rattle.span_slow.proofs.alternating.spans_of.Goals as goal

@@ -1,5 +1,5 @@
 use Rattle.std.proofs.Common.{List, ◌++◌, drop}
-use Rattle.span_slow.specs.declared.span.Span.{Span}
+use Rattle.lattice.specs.declared.spans.Span.{Span}
 use Rattle.span_slow.proofs.ClippedSpans.{AreClippedEach}
 use Rattle.span_slow.proofs.clip.clipped.Given as goal
 

@@ -2,7 +2,7 @@ use Rattle.std.proofs.Common.{sym, inl, inr, None}
 use Rattle.std.proofs.lemmas.List.{append-nil}
 use Rattle.lattice.specs.declared.points.Corner.{Corner}
 use Rattle.lattice.specs.Cuts.{plane_of, toward_of}
-use Rattle.hiding.specs.inner.Values.{WideSideHides}
+use Rattle.hiding_laws.specs.Values.{WideSideHides}
 use Rattle.span_slow.specs.inner.CutHidden.{IsOrdinaryBeyond, AreAddedBeyond, PairHides}
 use Rattle.span_slow.proofs.CutFronts.{none_beyond}
 use Rattle.span_slow.proofs.CutPairs.{pairs_added}

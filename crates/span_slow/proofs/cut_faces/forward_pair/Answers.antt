@@ -1,8 +1,8 @@
 use Rattle.std.proofs.Common.{◌∙◌, sym, true≢false}
 use Rattle.lattice.specs.Points.{of_vector}
 use Rattle.lattice.specs.Cuts.{plane_of}
-use Rattle.hiding.specs.inner.Values.{past_of, short_of}
-use Rattle.hiding.specs.inner.CutValues.{reach_of}
+use Rattle.hiding_laws.specs.Values.{past_of, short_of}
+use Rattle.hiding_laws.specs.CutValues.{reach_of}
 use Rattle.span_slow.proofs.CutPairs.{pair_none, pair_where}
 use Rattle.span_slow.proofs.CutReads.{none_positive}
 use Rattle.span_slow.proofs.InCut.{ahead, in_line, tells_behind}

@@ -4,8 +4,8 @@ use Rattle.lattice.specs.Triple.{Triple}
 use Rattle.lattice.specs.Points.{point_of}
 use Rattle.lattice.specs.Cuts.{plane_of, toward_of}
 use Rattle.geometry.specs.Faces.{facing_of}
-use Rattle.hiding.specs.inner.Values.{side_of, depth_of}
-use Rattle.hiding.specs.inner.CutValues.{under_of}
+use Rattle.hiding_laws.specs.Values.{side_of, depth_of}
+use Rattle.hiding_laws.specs.CutValues.{under_of}
 use Rattle.span_slow.proofs.CutFronts.{cut_front_none, cut_under_none, cut_front_where}
 use Rattle.span_slow.proofs.CutReads.{none_positive}
 use Rattle.span_slow.proofs.Where.{tells}

@@ -5,7 +5,7 @@ use Rattle.solid_mesh.specs.Solids.{solid_part}
 use Rattle.exact_frac.specs.declared.Frac.{Frac}
 use Rattle.intervals.specs.declared.interval.Interval.{Interval}
 use Rattle.span_slow.specs.inner.CutHidden.{IsOrdinaryBeyond, AreWhereBeyond}
-use Rattle.span_slow.proofs.CutReads.{cut_read_corners}
+use Rattle.hiding_laws.proofs.CutCorners.{cut_read_corners}
 use Rattle.span_slow.proofs.Numbered.{HoldsBelow, face_numbered, holds_none, holds_next, holds_all}
 use Rattle.span_slow.proofs.cut_faces.hidden_by_faces.Goals as goal
 

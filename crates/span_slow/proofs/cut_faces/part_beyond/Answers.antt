@@ -1,5 +1,5 @@
 use Rattle.lattice.specs.Cuts.{plane_of}
-use Rattle.hiding.specs.inner.CutValues.{below_of}
+use Rattle.hiding_laws.specs.CutValues.{below_of}
 use Rattle.span_slow.proofs.CutParts.{part_is}
 use Rattle.span_slow.proofs.Where.{tells}
 use Rattle.span_slow.proofs.cut_faces.part_beyond.Goals as goal

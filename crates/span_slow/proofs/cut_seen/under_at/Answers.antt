@@ -4,7 +4,7 @@ use Rattle.std.specs.Int.{w64, w128}
 use Rattle.integers.proofs.Worth.{known, below, pass}
 use Rattle.lattice.specs.Triple.{dot, cross, det}
 use Rattle.lattice.specs.Cuts.{plane_of, toward_of}
-use Rattle.hiding.proofs.CornerValues.{depth_at}
+use Rattle.hiding_laws.proofs.CornerValues.{depth_at}
 use Rattle.span_slow.proofs.cut_seen.under_at.Goals as goal
 
 pub returns-clause-value : goal.returns-clause-value

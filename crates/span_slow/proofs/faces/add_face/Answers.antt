@@ -7,7 +7,7 @@ use Rattle.solid_mesh.specs.Solids.{solid_part}
 use Rattle.solid_mesh.proofs.Facts.{closed, in_range, sound}
 use Rattle.exact_frac.specs.declared.Frac.{Frac}
 use Rattle.intervals.specs.declared.interval.Interval.{Interval}
-use Rattle.hiding.proofs.Directions.{somewhere}
+use Rattle.hiding_laws.proofs.Directions.{somewhere}
 use Rattle.span_slow.proofs.EdgeOn.{facing_read, facing_back, edge_on_where}
 use Rattle.span_slow.proofs.Numbered.{on_ok, read_face}
 use Rattle.span_slow.proofs.faces.add_face.Goals as goal

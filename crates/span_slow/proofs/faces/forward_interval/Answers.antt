@@ -2,8 +2,8 @@ use Rattle.std.proofs.Common.{◌⊎◌, inl, inr, arith}
 use Rattle.std.specs.Prelude.{pos, ◌<ℤ◌, ◌≤ℤ◌}
 use Rattle.std.proofs.lemmas.Int.{ints}
 use Rattle.lattice.specs.Points.{of_dir, of_vector}
-use Rattle.hiding.specs.inner.Values.{past_of, short_of, behind_of}
-use Rattle.hiding.proofs.Directions.{somewhere}
+use Rattle.hiding_laws.specs.Values.{past_of, short_of, behind_of}
+use Rattle.hiding_laws.proofs.Directions.{somewhere}
 use Rattle.span_slow.proofs.Axes.{square_positive}
 use Rattle.span_slow.proofs.Where.{tells}
 use Rattle.span_slow.proofs.Sides.{ahead_at, in_line_at, side_none, side_where}

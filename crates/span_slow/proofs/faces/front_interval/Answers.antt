@@ -2,7 +2,7 @@ use Rattle.std.proofs.Common.{◌⊎◌, inl, inr, arith}
 use Rattle.std.specs.Prelude.{pos, ◌<ℤ◌, ◌≤ℤ◌}
 use Rattle.std.proofs.lemmas.Int.{ints}
 use Rattle.lattice.specs.Points.{of_dir}
-use Rattle.hiding.specs.inner.Values.{side_of, depth_of}
+use Rattle.hiding_laws.specs.Values.{side_of, depth_of}
 use Rattle.span_slow.proofs.Where.{tells}
 use Rattle.span_slow.proofs.Fronts.{front_none, front_where}
 use Rattle.span_slow.proofs.faces.front_interval.Goals as goal

@@ -4,7 +4,7 @@ use Rattle.std.specs.Int.{w128}
 use Rattle.std.proofs.lemmas.Grind.{common_steps}
 use Rattle.lattice.specs.Triple.{det}
 use Rattle.lattice.specs.Points.{of_dir}
-use Rattle.hiding.proofs.CornerValues.{side_at}
+use Rattle.hiding_laws.proofs.CornerValues.{side_at}
 use Rattle.span_slow.proofs.faces.is_in_line.Goals as goal
 
 -- the machine's test

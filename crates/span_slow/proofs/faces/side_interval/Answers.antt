@@ -3,8 +3,8 @@ use Rattle.std.specs.Prelude.{ℤ, pos, ◌<ℤ◌}
 use Rattle.std.proofs.lemmas.Int.{ints}
 use Rattle.lattice.specs.Triple.{Triple, dot}
 use Rattle.lattice.specs.Points.{of_dir, of_vector, difference}
-use Rattle.hiding.specs.inner.Values.{IsInLine}
-use Rattle.hiding.proofs.Directions.{somewhere}
+use Rattle.hiding_laws.specs.Values.{IsInLine}
+use Rattle.hiding_laws.proofs.Directions.{somewhere}
 use Rattle.span_slow.proofs.Corners.{forward_turned}
 use Rattle.span_slow.proofs.Sides.{ahead_at, in_line_at, side_turned, where_turned, side_off_line, side_end_on}
 use Rattle.span_slow.proofs.faces.side_interval.Goals as goal

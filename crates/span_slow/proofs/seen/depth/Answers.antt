@@ -2,7 +2,7 @@ use Rattle.std.proofs.Common.{◌≡◌, ◌∙◌, arith, to_z, of_z}
 use Rattle.std.specs.Int.{w128}
 use Rattle.std.proofs.lemmas.Int.{ints}
 use Rattle.lattice.specs.Triple.{det}
-use Rattle.hiding.proofs.CornerValues.{depth_at}
+use Rattle.hiding_laws.proofs.CornerValues.{depth_at}
 use Rattle.span_slow.proofs.seen.depth.Goals as goal
 
 pub returns-clause-start : goal.returns-clause-start

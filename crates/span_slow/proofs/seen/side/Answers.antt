@@ -3,7 +3,7 @@ use Rattle.std.specs.Int.{w128}
 use Rattle.std.proofs.lemmas.Int.{ints}
 use Rattle.lattice.specs.Triple.{det}
 use Rattle.lattice.specs.Points.{of_dir}
-use Rattle.hiding.proofs.CornerValues.{side_at}
+use Rattle.hiding_laws.proofs.CornerValues.{side_at}
 use Rattle.span_slow.proofs.seen.side.Goals as goal
 
 pub returns-clause-start : goal.returns-clause-start

@@ -1,7 +1,7 @@
 use Rattle.std.proofs.Common.{◌≡◌, Bool, true, false, refl, List, ◌++◌, ◌∷◌, [], sym, subst}
 use Rattle.std.proofs.Math.Bool.{beq}
-use Rattle.span_slow.specs.declared.span.Span.{Span}
-use Rattle.view_lines.specs.Told.{AreRuns}
+use Rattle.lattice.specs.declared.spans.Span.{Span}
+use Rattle.view_lines.specs.Told.{AreJoined}
 use Rattle.view_lines.proofs.Runs.{runs_more, runs_longer}
 use Rattle.view_lines.proofs.strips.go_on.Goals as goal
 
@@ -17,5 +17,5 @@ returns-then-last-next c singles runs =
 
 pub returns : goal.returns
 returns c singles runs =
-    subst (λ (ys : List Span). AreRuns (singles ++ c.args.next ∷ []) (ys ++ c.args.next ∷ [])) (sym {A = List Span} c.in_ok-push.ensures.items)
+    subst (λ (ys : List Span). AreJoined (singles ++ c.args.next ∷ []) (ys ++ c.args.next ∷ [])) (sym {A = List Span} c.in_ok-push.ensures.items)
     (runs_more (c.args.spans.now.items ++ c.args.last ∷ []) singles c.args.next runs)

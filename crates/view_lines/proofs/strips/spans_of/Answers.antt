@@ -3,8 +3,8 @@ use Rattle.std.specs.List.{AllZip}
 use Rattle.std.proofs.lemmas.List.{take_all, take_more}
 use Rattle.line_merge.proofs.Zips.{zip_push}
 use Rattle.span_count.specs.declared.span.CountSpan.{CountSpan}
-use Rattle.span_slow.specs.declared.span.Span.{Span}
-use Rattle.view_lines.specs.Told.{IsToldBy, AreRuns}
+use Rattle.lattice.specs.declared.spans.Span.{Span}
+use Rattle.view_lines.specs.Told.{IsToldBy, AreJoined}
 use Rattle.view_lines.proofs.Runs.{run_of_one}
 use Rattle.view_lines.proofs.strips.spans_of.Goals as goal
 
@@ -15,7 +15,7 @@ loop-span-init c =
       c.in-Some.ensures.cases.0,
       x ∷ [],
       (c.span_of-last.ensures, tt),
-      subst (λ (ys : List Span). AreRuns (x ∷ []) (ys ++ x ∷ [])) (sym {A = List Span} c.new-spans.ensures.items) (x ∷ [], [], refl, run_of_one x, refl),
+      subst (λ (ys : List Span). AreJoined (x ∷ []) (ys ++ x ∷ [])) (sym {A = List Span} c.new-spans.ensures.items) (x ∷ [], [], refl, run_of_one x, refl),
     )
 
 pub loop-span-preserved : goal.loop-span-preserved
@@ -39,5 +39,5 @@ returns c =
     let (first, whole, singles, told, runs) = c.loop-span.invariant in (
       singles,
       subst (λ (xs : List CountSpan). AllZip IsToldBy xs singles) (ap (λ (xs : List CountSpan). first ∷ xs) (take_all c.loop-span.span-index others c.loop-span-test.false) ∙ sym whole) told,
-      subst (AreRuns singles) (sym {A = List Span} c.in_ok-push.ensures.items) runs,
+      subst (AreJoined singles) (sym {A = List Span} c.in_ok-push.ensures.items) runs,
     )

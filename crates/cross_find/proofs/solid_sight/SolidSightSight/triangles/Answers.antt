@@ -1,4 +1,4 @@
-use Rattle.hiding.proofs.Directions.{somewhere}
+use Rattle.hiding_laws.proofs.Directions.{somewhere}
 use Rattle.solid_mesh.proofs.Facts.{sound, in_range, few_corners, few_triangles, edges_are}
 use Rattle.cross_find.proofs.solid_sight.SolidSightSight.triangles.Goals as goal
 

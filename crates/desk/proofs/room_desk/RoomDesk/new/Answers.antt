@@ -10,7 +10,7 @@ returns c = λ i. record {
   said_room = c.in_ok-said.ensures.size i;
   warned = c.in_ok-warned.ensures.empty i;
   warned_room = c.in_ok-warned.ensures.size i;
-  read_faults = 0;
-  write_faults = 0;
-  warn_faults = 0;
+  read_faults = (c.none.ensures i).read;
+  write_faults = (c.none.ensures i).write;
+  warn_faults = (c.none.ensures i).warn;
 }

@@ -1,6 +1,5 @@
-use Rattle.std.proofs.Common.{ap}
+use Rattle.std.proofs.Common.{refl}
 use Rattle.desk.specs.Files.{file_at}
-use Rattle.desk.specs.RoomDesk.{RoomState}
 use Rattle.desk.proofs.Slots.{has_room, same_rooms, slot_kept, with_rooms}
 use Rattle.desk.proofs.Torn.{failed}
 use Rattle.desk.proofs.room_desk.RoomDeskDesk.keep.Goals as goal
@@ -28,5 +27,5 @@ returns-in-Some-clause-holds c =
 
 pub returns-in-None-clause-holds : goal.returns-in-None-clause-holds
 returns-in-None-clause-holds c =
-    failed (Unit {0}) c.count_write_fault.result _ _ c.args.name.now c.args.bytes.now c.count_write_fault.ensures.failed
-    (ap (λ (s : RoomState). s.files) c.count_write_fault.ensures.counted)
+    failed (Unit {0}) c.count_write.result _ _ c.args.name.now c.args.bytes.now c.count_write.ensures.failed
+    refl

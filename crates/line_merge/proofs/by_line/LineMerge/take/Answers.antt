@@ -1,4 +1,3 @@
-use Rattle.std.proofs.Common.{List, map, subst}
 use Rattle.lattice.specs.Points.{of_dir}
 use Rattle.line_merge.proofs.Taken.{taken_ends, taken_none, taken_more, taken_all}
 use Rattle.line_merge.proofs.by_line.LineMerge.take.Goals as goal

@@ -1,7 +1,7 @@
 use Rattle.std.proofs.Common.{ℕ, List, Vec, Global, length, sym, subst, ap, arith}
 use Rattle.lattice.specs.Points.{of_dir}
 use Rattle.solid_mesh.specs.Solids.{solid_part, edge_halves}
-use Rattle.solid_mesh.specs.inner.Stars.{lists_of}
+use Rattle.solid_mesh.specs.Stars.{lists_of}
 use Rattle.edge_pick.proofs.PickedSizes.{few_outlines}
 use Rattle.out_grid.specs.inner.Lists.{AreHeld}
 use Rattle.out_grid.specs.inner.Places.{raster_of}

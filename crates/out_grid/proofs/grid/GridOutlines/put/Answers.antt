@@ -1,6 +1,6 @@
 use Rattle.std.proofs.Common.{◌≡◌, ℕ, ◌+◌, ◌*◌, ◌<◌, Result, Ok, Err, OnOk, OnErr, inl, [], get_or, Vec, Global, length, refl, sym, ◌∙◌, arith}
 use Rattle.std.proofs.lemmas.List.{length-map}
-use Rattle.solid_mesh.specs.inner.Stars.{lists_of}
+use Rattle.solid_mesh.specs.Stars.{lists_of}
 use Rattle.out_grid.specs.Grids.{along_list, over_list, is_listed_near}
 use Rattle.out_grid.proofs.CellPuts.{cell_below}
 use Rattle.out_grid.proofs.Puts.{put_other_cell, over_here, over_elsewhere, over_maybe, put_law}

@@ -2,12 +2,12 @@ use Rattle.std.proofs.Common.{◌≡◌, ℕ, ◌<◌, List, [], Contains, Vec, 
 use Rattle.std.specs.List.Sorted.{IsNonDecreasing}
 use Rattle.std.proofs.lemmas.List.{get_or-map, get_or_past, length-map}
 use Rattle.std.proofs.lemmas.Option.{get_or_from_slice_get}
-use Rattle.solid_mesh.specs.inner.Stars.{lists_of}
+use Rattle.solid_mesh.specs.Stars.{lists_of}
 use Rattle.span_count.specs.Finders.{IsNext}
 use Rattle.span_count.proofs.Lists.{none_past}
 use Rattle.out_grid.specs.declared.near.TriangleCells.{TriangleCells}
 use Rattle.out_grid.specs.Near.{near_list}
-use Rattle.out_grid.proofs.Marks.{none_in}
+use Rattle.out_grid.proofs.Stamps.{none_in}
 use Rattle.out_grid.proofs.near.TriangleCells.next_near.Goals as goal
 
 abbrev items_of : Vec ℕ Global → List ℕ

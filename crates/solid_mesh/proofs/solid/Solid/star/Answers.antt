@@ -1,7 +1,7 @@
 use Rattle.std.proofs.Common.{◌≡◌, ℕ, ◌<◌, List, [], All, length, get_or, sym, subst, ap, ◌∙◌, arith, Vec, Global}
 use Rattle.std.proofs.lemmas.List.{get_or-map, length-map}
 use Rattle.solid_mesh.specs.Solids.{solid_part, AreTrianglesAt}
-use Rattle.solid_mesh.specs.inner.Stars.{first_at}
+use Rattle.solid_mesh.specs.Stars.{first_at}
 use Rattle.solid_mesh.specs.declared.solid.Solid.{Solid}
 use Rattle.solid_mesh.proofs.StarLemmas.{triangles_at, star_within}
 use Rattle.solid_mesh.proofs.solid.Solid.star.Goals as goal

@@ -1,4 +1,0 @@
-pub mod Lengths
-pub mod Boxes
-pub mod Greatest
-pub mod Moves

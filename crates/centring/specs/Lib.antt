@@ -1,2 +1,0 @@
-pub mod Centred
-pub mod inner

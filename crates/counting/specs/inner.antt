@@ -1,2 +1,0 @@
--- What only functions that aren't public cite.
-pub mod CountsNext

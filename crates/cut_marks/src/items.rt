@@ -1,0 +1,240 @@
+// The marks and headings of cuts on a page.
+ghost use Rattle.std.specs.Prelude.{◌≡◌, ◌≤◌, ◌<◌, ◌^◌, ◌++◌, ◌∷◌, [], pos, ◌+ℤ◌, ◌-ℤ◌, unsigned_abs, IfOk, OnOk};
+ghost use Rattle.std.specs.List.{flat_map};
+ghost use Rattle.cut_marks.specs.MarkLetters.{half_of, width_of, heading_width};
+ghost use Rattle.cut_marks.specs.Ranges.{IsPlaceInRange, IsEndInRange, IsMarkInRange, IsHeadingInRange};
+ghost use Rattle.cut_marks.specs.Items.{rule_to, text_at, heading_item, heading_items, behind, is_upright, upright_head, level_head, head_at, arrow_items, letter_item, beside_items, end_items, items_of_mark, items_of_view, items_of_marks};
+
+use crate::figures::{CutMark, Heading, MarkEnd, SheetPoint};
+use crate::mark_letters::{half_of, heading_text, heading_width, letter_text, width_of};
+use crate::views::ViewMarks;
+use dec_text::Name;
+use exact_frac::OutOfMemory;
+use sheet_page::{Item, Label, Pen, Rule};
+use std::alloc::Global;
+use stroke_paths::Point;
+
+/// The size of the letters of marks.
+const MARK_SIZE: u32 = 350;
+
+/// And that of headings.
+const HEADING_SIZE: u32 = 500;
+
+/// A straight line from one place to another.
+fn rule_to(pen: Pen, from: &SheetPoint, to: &SheetPoint) -> Item
+    ensures { result ≡ rule_to pen from.now to.now }
+{
+    Item::Rule(Rule {
+        pen,
+        from: Point {
+            x: from.x,
+            y: from.y,
+        },
+        to: Point { x: to.x, y: to.y },
+    })
+}
+
+/// The number, less so much.
+fn less(n: i64, by: u32) -> i64
+    requires here { unsigned_abs n < 2 ^ 62 }
+    requires near { by ≤ 750 }
+    ensures { result ≡ n -ℤ pos by }
+{
+    n - i64::from(by)
+}
+
+/// A text of this width with its middle at this place.
+fn text_at(
+    alloc: Global,
+    place: &SheetPoint,
+    width: u32,
+    size: u32,
+    text: &str,
+) -> Result<Item, OutOfMemory>
+    requires here { unsigned_abs place.now.x < 2 ^ 62 }
+    requires wide { width ≤ 3000 }
+    requires large { size ≤ 500 }
+    ensures { IfOk result (λ item. item ≡ text_at place.now width size text.now) }
+{
+    Ok(Item::Label(Label {
+        x: less(place.x, half_of(width, size)),
+        y: place.y,
+        size,
+        text: Name::new(alloc, text)?,
+    }))
+}
+
+/// Adds the heading of a view.
+fn add_heading(alloc: Global, items: &mut Vec<Item>, heading: &Heading) -> Result<(), OutOfMemory>
+    requires { IsHeadingInRange heading.now }
+    ensures { OnOk result (items.new.items ≡ items.old.items ++ heading_item heading.now ∷ []) }
+{
+    let text = heading_text(alloc, heading)?;
+    let place = SheetPoint {
+        x: heading.x,
+        y: heading.y,
+    };
+    items.push(text_at(
+        alloc,
+        &place,
+        heading_width(heading),
+        HEADING_SIZE,
+        text.as_str(),
+    )?)?;
+    Ok(())
+}
+
+/// Behind the tip of an arrow that comes from the tail, as far as its head is long.
+fn behind(tip: i64, tail: i64) -> i64
+    requires { unsigned_abs tip < 2 ^ 62 }
+    ensures { result ≡ behind tip tail }
+{
+    if tail < tip { tip - 100 } else { tip + 100 }
+}
+
+/// Beside the tip of an arrow.
+fn beside(tip: i64, side: i64) -> i64
+    requires here { unsigned_abs tip < 2 ^ 62 }
+    requires near { unsigned_abs side ≤ 40 }
+    ensures { result ≡ tip +ℤ side }
+{
+    tip + side
+}
+
+/// The arrow goes up or down.
+fn is_upright(end: &MarkEnd) -> bool
+    ensures { result ≡ is_upright end.now }
+{
+    end.tail.x == end.tip.x
+}
+
+/// Where a line of its head ends, so far beside the arrow.
+fn upright_head(end: &MarkEnd, side: i64) -> SheetPoint
+    requires here { IsEndInRange end.now }
+    requires near { unsigned_abs side ≤ 40 }
+    ensures { result ≡ upright_head end.now side }
+{
+    SheetPoint {
+        x: beside(end.tip.x, side),
+        y: behind(end.tip.y, end.tail.y),
+    }
+}
+
+/// The same of an arrow that goes to the left or to the right.
+fn level_head(end: &MarkEnd, side: i64) -> SheetPoint
+    requires here { IsEndInRange end.now }
+    requires near { unsigned_abs side ≤ 40 }
+    ensures { result ≡ level_head end.now side }
+{
+    SheetPoint {
+        x: behind(end.tip.x, end.tail.x),
+        y: beside(end.tip.y, side),
+    }
+}
+
+/// Where a line of an arrow's head ends, so far beside the arrow.
+fn head_at(end: &MarkEnd, side: i64) -> SheetPoint
+    requires here { IsEndInRange end.now }
+    requires near { unsigned_abs side ≤ 40 }
+    ensures { result ≡ head_at end.now side }
+{
+    if is_upright(end) {
+        upright_head(end, side)
+    } else {
+        level_head(end, side)
+    }
+}
+
+/// Adds an arrow.
+fn add_arrow(items: &mut Vec<Item>, end: &MarkEnd) -> Result<(), OutOfMemory>
+    requires { IsEndInRange end.now }
+    ensures { OnOk result (items.new.items ≡ items.old.items ++ arrow_items end.now) }
+{
+    items.push(rule_to(Pen::Strong, &end.tail, &end.tip))?;
+    items.push(rule_to(Pen::Strong, &end.tip, &head_at(end, -40)))?;
+    items.push(rule_to(Pen::Strong, &end.tip, &head_at(end, 40)))?;
+    Ok(())
+}
+
+/// Adds a letter at an end of a mark.
+fn add_letter(
+    alloc: Global,
+    items: &mut Vec<Item>,
+    letter: u8,
+    place: &SheetPoint,
+) -> Result<(), OutOfMemory>
+    requires { IsPlaceInRange place.now }
+    ensures { OnOk result (items.new.items ≡ items.old.items ++ letter_item letter place.now ∷ []) }
+{
+    let text = letter_text(alloc, letter)?;
+    items.push(text_at(alloc, place, width_of(letter), MARK_SIZE, text.as_str())?)?;
+    Ok(())
+}
+
+/// Adds the letter that stands beside a mark's own, if there is one.
+fn add_beside(
+    alloc: Global,
+    items: &mut Vec<Item>,
+    beside: Option<u8>,
+    place: &SheetPoint,
+) -> Result<(), OutOfMemory>
+    requires { IsPlaceInRange place.now }
+    ensures { OnOk result (items.new.items ≡ items.old.items ++ beside_items beside place.now) }
+{
+    match beside {
+        Some(letter) => add_letter(alloc, items, letter, place),
+        None => Ok(()),
+    }
+}
+
+/// Adds an end of a mark.
+fn add_end(
+    alloc: Global,
+    items: &mut Vec<Item>,
+    mark: &CutMark,
+    end: &MarkEnd,
+) -> Result<(), OutOfMemory>
+    requires { IsEndInRange end.now }
+    ensures { OnOk result (items.new.items ≡ items.old.items ++ end_items mark.now end.now) }
+{
+    add_arrow(items, end)?;
+    add_letter(alloc, items, mark.letter, &end.letter)?;
+    add_beside(alloc, items, mark.beside, &end.beside)?;
+    Ok(())
+}
+
+/// Adds a mark.
+fn add_mark(alloc: Global, items: &mut Vec<Item>, mark: &CutMark) -> Result<(), OutOfMemory>
+    requires { IsMarkInRange mark.now }
+    ensures { OnOk result (items.new.items ≡ items.old.items ++ items_of_mark mark.now) }
+{
+    items.push(rule_to(Pen::Chain, &mark.first.tail, &mark.second.tail))?;
+    add_end(alloc, items, mark, &mark.first)?;
+    add_end(alloc, items, mark, &mark.second)?;
+    Ok(())
+}
+
+/// Adds what tells the cuts in a view.
+fn add_view(alloc: Global, items: &mut Vec<Item>, view: &ViewMarks) -> Result<(), OutOfMemory>
+    ensures { OnOk result (items.new.items ≡ items.old.items ++ items_of_view view.now) }
+{
+    if let Some(heading) = &view.heading {
+        add_heading(alloc, items, heading)?;
+    }
+    for mark in &view.marks {
+        add_mark(alloc, items, mark)?;
+    }
+    Ok(())
+}
+
+/// What tells the cuts on a page, view by view: for a heading a text, and for a mark a chain line from end to end and at each end an
+/// arrow and a text. No path is among it. The time goes with the number of marks.
+pub fn mark_items(alloc: Global, views: &[ViewMarks]) -> Result<Vec<Item>, OutOfMemory>
+    ensures { IfOk result (λ items. items.items ≡ items_of_marks views.now) }
+{
+    let mut items = Vec::new(alloc);
+    for view in views {
+        add_view(alloc, &mut items, view)?;
+    }
+    Ok(items)
+}

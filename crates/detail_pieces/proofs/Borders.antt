@@ -1,0 +1,97 @@
+-- How far points are over the border of a half plane: along a line of sight, and at sums of two spots.
+use Rattle.std.proofs.Common.{◌≡◌, Bool, true, false, ℕ, [], ◌∷◌, refl, sym, ap, ◌∙◌, arith}
+use Rattle.std.specs.Prelude.{ℤ, pos, ◌+ℤ◌, ◌-ℤ◌, ◌*ℤ◌, ◌<ℤ◌, ◌≤ℤ◌}
+use Rattle.std.proofs.lemmas.Int.{ints}
+use Rattle.integers.proofs.Comparisons.{not_negative_at, not_negative_of_positive, sum_not_negative}
+use Rattle.integers.proofs.Absolutes.{natural_not_negative}
+use Rattle.integers.proofs.Ring.{var, con, ◌⊕◌, ◌⊖◌, ◌⊗◌, ring, by_one, mul_comm}
+use Rattle.integers.proofs.Signs.{mul_nonneg, nonneg_of_mul}
+use Rattle.lattice.specs.declared.points.Spot.{Spot}
+use Rattle.lattice.specs.Triple.{Triple, right_axis, up_axis}
+use Rattle.lattice.specs.Points.{Point, IsPoint, of_spot, OnOneSight}
+use Rattle.lattice.proofs.OnLines.{product_of_sum}
+use Rattle.geometry.specs.Pieces.{spot_sum, LiesBetween}
+use Rattle.geometry.proofs.OnLines.{sum_is_point}
+use Rattle.detail_pieces.specs.declared.sides.Side.{Side}
+use Rattle.detail_pieces.specs.inner.Sides.{seen_of, over_by, over_of}
+
+-- ---- along a line of sight
+seen_same : (d : Triple) (upward : Bool) (p q : Point) → OnOneSight d p q → seen_of d upward p *ℤ q.w ≡ seen_of d upward q *ℤ p.w
+seen_same d true p q h = h.upward
+seen_same d false p q h = h.across
+
+pub over_by_same : (least : Bool) (k s w t v : ℤ) → s *ℤ v ≡ t *ℤ w → over_by least s (k *ℤ w) *ℤ v ≡ over_by least t (k *ℤ v) *ℤ w
+over_by_same true k s w t v e = by_one _ _ (s *ℤ v) (t *ℤ w) (pos 1)
+    (ring (k ∷ s ∷ w ∷ t ∷ v ∷ []) (((var 1 ⊖ (var 0 ⊗ var 2)) ⊗ var 4) ⊖ ((var 3 ⊖ (var 0 ⊗ var 4)) ⊗ var 2)) (((var 1 ⊗ var 4) ⊖ (var 3 ⊗ var 2)) ⊗ con (pos 1)) refl) e
+over_by_same false k s w t v e = by_one _ _ (s *ℤ v) (t *ℤ w) (pos 0 -ℤ pos 1)
+    (ring (k ∷ s ∷ w ∷ t ∷ v ∷ []) ((((var 0 ⊗ var 2) ⊖ var 1) ⊗ var 4) ⊖ (((var 0 ⊗ var 4) ⊖ var 3) ⊗ var 2)) (((var 1 ⊗ var 4) ⊖ (var 3 ⊗ var 2)) ⊗ (con (pos 0) ⊖ con (pos 1))) refl) e
+
+pub over_same : (d : Triple) (h : Side) (p q : Point) → OnOneSight d p q → over_of d h p *ℤ q.w ≡ over_of d h q *ℤ p.w
+over_same d h p q k = over_by_same h.least h.at (seen_of d h.upward p) p.w (seen_of d h.upward q) q.w (seen_same d h.upward p q k)
+
+-- ---- sums
+seen_sum : (d : Triple) (upward : Bool) (a b : Spot) (i j : ℕ) → seen_of d upward (spot_sum a b i j) ≡ (pos i *ℤ seen_of d upward (of_spot a)) +ℤ (pos j *ℤ seen_of d upward (of_spot b))
+seen_sum d true a b i j = product_of_sum (up_axis d) (pos i) (pos j) (of_spot a) (of_spot b)
+seen_sum d false a b i j = product_of_sum (right_axis d) (pos i) (pos j) (of_spot a) (of_spot b)
+
+over_by_sum : (least : Bool) (k i j s t w v : ℤ) → over_by least ((i *ℤ s) +ℤ (j *ℤ t)) (k *ℤ ((i *ℤ w) +ℤ (j *ℤ v))) ≡ (i *ℤ over_by least s (k *ℤ w)) +ℤ (j *ℤ over_by least t (k *ℤ v))
+over_by_sum true k i j s t w v =
+    ring (k ∷ i ∷ j ∷ s ∷ t ∷ w ∷ v ∷ []) (((var 1 ⊗ var 3) ⊕ (var 2 ⊗ var 4)) ⊖ (var 0 ⊗ ((var 1 ⊗ var 5) ⊕ (var 2 ⊗ var 6)))) ((var 1 ⊗ (var 3 ⊖ (var 0 ⊗ var 5))) ⊕ (var 2 ⊗ (var 4 ⊖ (var 0 ⊗ var 6)))) refl
+over_by_sum false k i j s t w v =
+    ring (k ∷ i ∷ j ∷ s ∷ t ∷ w ∷ v ∷ []) ((var 0 ⊗ ((var 1 ⊗ var 5) ⊕ (var 2 ⊗ var 6))) ⊖ ((var 1 ⊗ var 3) ⊕ (var 2 ⊗ var 4))) ((var 1 ⊗ ((var 0 ⊗ var 5) ⊖ var 3)) ⊕ (var 2 ⊗ ((var 0 ⊗ var 6) ⊖ var 4))) refl
+
+pub over_sum : (d : Triple) (h : Side) (a b : Spot) (i j : ℕ) → over_of d h (spot_sum a b i j) ≡ (pos i *ℤ over_of d h (of_spot a)) +ℤ (pos j *ℤ over_of d h (of_spot b))
+over_sum d h a b i j =
+    ap (λ (x : ℤ). over_by h.least x (h.at *ℤ ((pos i *ℤ a.w) +ℤ (pos j *ℤ b.w)))) (seen_sum d h.upward a b i j)
+    ∙ over_by_sum h.least h.at (pos i) (pos j) (seen_of d h.upward (of_spot a)) (seen_of d h.upward (of_spot b)) a.w b.w
+
+-- ---- signs along a line of sight
+pub not_negative_along : (d : Triple) (h : Side) (p q : Point) → IsPoint p → IsPoint q → OnOneSight d p q → pos 0 ≤ℤ over_of d h p → pos 0 ≤ℤ over_of d h q
+not_negative_along d h p q hp hq same k =
+    nonneg_of_mul p.w (over_of d h q) hp
+    (not_negative_at _ _ (mul_comm p.w (over_of d h q) ∙ sym (over_same d h p q same)) (mul_nonneg (over_of d h p) q.w k (not_negative_of_positive q.w hq)))
+
+pub not_positive_along : (d : Triple) (h : Side) (p q : Point) → IsPoint p → IsPoint q → OnOneSight d p q → over_of d h p ≤ℤ pos 0 → over_of d h q ≤ℤ pos 0
+not_positive_along d h p q hp hq same k = go (over_of d h p) (over_of d h q) p.w q.w hp hq (over_same d h p q same) k
+  where
+    back : (f : ℤ) → f ≤ℤ pos 0 → pos 0 ≤ℤ (pos 0 -ℤ f)
+    back f h = omega (arith, ints)
+
+    forth : (f : ℤ) → pos 0 ≤ℤ (pos 0 -ℤ f) → f ≤ℤ pos 0
+    forth f h = omega (arith, ints)
+
+    go : (f g w v : ℤ) → pos 0 <ℤ w → pos 0 <ℤ v → f *ℤ v ≡ g *ℤ w → f ≤ℤ pos 0 → g ≤ℤ pos 0
+    go f g w v hw hv e k = forth g (nonneg_of_mul w (pos 0 -ℤ g) hw
+        (not_negative_at _ _ (by_one (w *ℤ (pos 0 -ℤ g)) ((pos 0 -ℤ f) *ℤ v) (f *ℤ v) (g *ℤ w) (pos 1)
+        (ring (f ∷ g ∷ w ∷ v ∷ []) ((var 2 ⊗ (con (pos 0) ⊖ var 1)) ⊖ ((con (pos 0) ⊖ var 0) ⊗ var 3)) (((var 0 ⊗ var 3) ⊖ (var 1 ⊗ var 2)) ⊗ con (pos 1)) refl) e)
+        (mul_nonneg (pos 0 -ℤ f) v (back f k) (not_negative_of_positive v hv))))
+
+module _ (d : Triple) (h : Side) (a b : Spot) (p : Point) (hp : IsPoint p) where
+  -- between two spots that are not outside nothing is
+  pub not_outside : pos 0 ≤ℤ over_of d h (of_spot a) → pos 0 ≤ℤ over_of d h (of_spot b) → LiesBetween d a b p → pos 0 ≤ℤ over_of d h p
+  not_outside ha hb (i, j, some, same) =
+      not_negative_along d h (spot_sum a b i j) p (sum_is_point a b i j some) hp same
+      (not_negative_at _ _ (over_sum d h a b i j) (sum_not_negative _ _ (mul_nonneg (pos i) _ (natural_not_negative i) ha) (mul_nonneg (pos j) _ (natural_not_negative j) hb)))
+
+  -- between two that are not inside nothing is
+  pub not_inside : over_of d h (of_spot a) ≤ℤ pos 0 → over_of d h (of_spot b) ≤ℤ pos 0 → LiesBetween d a b p → over_of d h p ≤ℤ pos 0
+  not_inside ha hb (i, j, some, same) =
+      not_positive_along d h (spot_sum a b i j) p (sum_is_point a b i j some) hp same
+      (at _ _ (over_sum d h a b i j) (sum _ _ (part i _ ha) (part j _ hb)))
+    where
+      part : (i : ℕ) (f : ℤ) → f ≤ℤ pos 0 → (pos i *ℤ f) ≤ℤ pos 0
+      part i f h =
+          let k = mul_nonneg (pos i) (pos 0 -ℤ f) (natural_not_negative i) (back f h) in
+          forth _ _ (ring (pos i ∷ f ∷ []) (var 0 ⊗ (con (pos 0) ⊖ var 1)) (con (pos 0) ⊖ (var 0 ⊗ var 1)) refl) k
+        where
+          back : (f : ℤ) → f ≤ℤ pos 0 → pos 0 ≤ℤ (pos 0 -ℤ f)
+          back f h = omega (arith, ints)
+
+          forth : (g f : ℤ) → g ≡ pos 0 -ℤ f → pos 0 ≤ℤ g → f ≤ℤ pos 0
+          forth g f e h = omega (arith, ints)
+
+      sum : (f g : ℤ) → f ≤ℤ pos 0 → g ≤ℤ pos 0 → (f +ℤ g) ≤ℤ pos 0
+      sum f g h k = omega (arith, ints)
+
+      at : (f g : ℤ) → f ≡ g → g ≤ℤ pos 0 → f ≤ℤ pos 0
+      at f g e h = omega (arith, ints)

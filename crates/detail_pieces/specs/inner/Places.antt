@@ -1,0 +1,44 @@
+-- Places of a view, and whether a spot can be seen there.
+use Rattle.std.specs.Prelude.{◌≡◌, Bool, true, false, ℤ, pos, ◌-ℤ◌, ◌+ℤ◌, ◌*ℤ◌, ◌≤ℤ◌, ◌^◌}
+use Rattle.lattice.specs.declared.lines.Line.{Line}
+use Rattle.lattice.specs.Triple.{Triple}
+use Rattle.lattice.specs.Points.{Point, IsPoint, across_of, upward_of}
+use Rattle.detail_pieces.specs.declared.places.ViewPlace.{ViewPlace}
+
+-- the point is seen at this place
+pub record IsSeenAt (d : Triple) (t : ViewPlace) (p : Point) : Type 0 where
+  pub across : across_of d p *ℤ t.den ≡ t.across *ℤ p.w
+  pub upward : upward_of d p *ℤ t.den ≡ t.upward *ℤ p.w
+
+-- x / w is not farther out than a spot's coordinate
+pub record IsNear (x w : ℤ) : Type 0 where
+  pub low : pos 0 ≤ℤ (x +ℤ (pos (2 ^ 21) *ℤ w))
+  pub high : pos 0 ≤ℤ ((pos (2 ^ 21) *ℤ w) -ℤ x)
+
+-- where spots are
+pub record IsInBox (p : Point) : Type 0 where
+  pub x : IsNear p.x p.w
+  pub y : IsNear p.y p.w
+  pub z : IsNear p.z p.w
+
+-- a point where spots are is seen at this place
+pub record HasSpot (d : Triple) (t : ViewPlace) : Type 0 where
+  pub at : Point
+  pub is : IsPoint at
+  pub in_box : IsInBox at
+  pub seen : IsSeenAt d t at
+
+-- what of the line isn't 0 where it crosses a border of this kind
+abbrev pub crossing_of : Bool → Line → ℤ
+crossing_of true l = l.a
+crossing_of false l = l.b
+
+-- U or V of a place
+abbrev pub number_of : Bool → ViewPlace → ℤ
+number_of true t = t.upward
+number_of false t = t.across
+
+-- the place on the line with this number as its U or its V
+pub record IsCrossing (l : Line) (upward : Bool) (at : ℤ) (t : ViewPlace) : Type 0 where
+  pub on_line : (l.a *ℤ t.across) +ℤ (l.b *ℤ t.upward) ≡ l.c *ℤ t.den
+  pub on_border : number_of upward t ≡ at *ℤ t.den

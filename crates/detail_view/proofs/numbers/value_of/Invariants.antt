@@ -1,8 +1,0 @@
-use Rattle.std.proofs.Common.{◌≡◌, take}
-use Rattle.dec_text.specs.Numbers.{value_of}
-use Rattle.detail_view.proofs.numbers.value_of.Given as goal
-
-abbrev pub invariant-loop-digit : goal.invariant-loop-digit
-invariant-loop-digit l = record {
-  value : l.value ≡ value_of (take l.digit-index l.digits);
-}

@@ -1,5 +1,0 @@
--- What only functions that aren't public cite.
-pub mod CornerTests
-pub mod Perturbations
-pub mod Sums
-pub mod Tallies

@@ -1,9 +1,0 @@
-pub mod Lengths
-pub mod Nearness
-pub mod Feet
-pub mod FootFaces
-pub mod Slivers
-pub mod FlipFaces
-pub mod FlipTriangles
-pub mod Changed
-pub mod FlipsNear

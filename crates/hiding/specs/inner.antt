@@ -1,3 +1,0 @@
--- What only functions that aren't public cite.
-pub mod CutValues
-pub mod Values

@@ -1,0 +1,4 @@
+pub mod inner
+pub mod Values
+pub mod CutValues
+pub mod Sums

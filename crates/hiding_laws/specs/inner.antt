@@ -1,0 +1,4 @@
+-- What only functions that aren't public cite.
+pub mod CornerTests
+pub mod Perturbations
+pub mod Tallies

@@ -1,4 +1,0 @@
--- What only this crate's own functions cite.
-pub mod Digits
-pub mod Pairs
-pub mod Ratios

@@ -1,8 +1,0 @@
-use Rattle.std.proofs.Common.{◌≡◌, All, length}
-use Rattle.out_grid.proofs.listing.no_marks.Given as goal
-
-abbrev pub invariant-loop : goal.invariant-loop
-invariant-loop l = record {
-  long : length l.marks.items ≡ l.counter;
-  none : All (λ m. m ≡ 0) l.marks.items;
-}

@@ -1,3 +1,0 @@
-pub mod Crossings
-pub mod Diagonals
-pub mod inner

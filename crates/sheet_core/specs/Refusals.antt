@@ -1,0 +1,144 @@
+-- The lines that `sheet` tells its faults by: the file, the place there, what is wrong, and what is allowed.
+use Rattle.std.specs.Prelude.{ℕ, ℤ, List, [], Option, Some, None, codes, unwrap_or}
+use Rattle.std.specs.Fmt.{decimal, signed_decimal}
+use Rattle.fault_lines.specs.Lines.{shown, key_text, axis_text, kind_text}
+use Rattle.job_file.specs.declared.fault.JobFault.{JobFault}
+use Rattle.job_file.specs.declared.fault.JobFault.TheVariants.{NotToml, Version, UnknownKey, Wrong, TooManyViews, ZeroDirection, DirectionRange, CutRange}
+use Rattle.job_file.specs.declared.fault.Key.{Key}
+use Rattle.job_file.specs.declared.fault.Key.TheVariants as key
+use Rattle.part_input.specs.declared.fault.Fault.{Fault}
+use Rattle.part_input.specs.declared.fault.Fault.TheVariants.{Usage, ReadFault, JobTooLong, Job, NoPlotter, SampleRange, PartTooLong, Part, Nothing, Mesh, DoesNotFit, WriteFault, Memory}
+use Rattle.part_input.specs.declared.fault.Input.TheVariants as input
+use Rattle.part_input.specs.declared.fault.Target.{Target}
+use Rattle.part_input.specs.declared.fault.Target.TheVariants as target
+use Rattle.sheet_core.specs.Places.{mm_text, near_text}
+use Rattle.sheet_core.specs.declared.place.FaultPlace.{FaultPlace}
+use Rattle.sheet_words.specs.Names.{Goal, ListGoal, Named, said, svg_file, pdf_file, list_said, list_file}
+use Rattle.solid_mesh.specs.declared.faults.MeshFault.{MeshFault}
+use Rattle.solid_mesh.specs.declared.faults.MeshFault.TheVariants.{Flat, SameWay, Unpaired, Double, Meet}
+use Rattle.svg_page.specs.Texts.{◌⊕◌}
+use Rattle.weld.specs.declared.fault.PartFault.{PartFault}
+
+-- ---- a job
+-- what is allowed for a key
+abbrev pub allowed : Key → List ℕ
+allowed key.Version = codes "1 or 2"
+allowed key.Decimals = codes "0 to 6"
+allowed key.Angle = codes "\"first\" or \"third\""
+allowed key.Sheet = codes "\"A0\", \"A1\", \"A2\", \"A3\" or \"A4\""
+allowed key.Scale = codes "one of \"50:1\", \"20:1\", \"10:1\", \"5:1\", \"2:1\", \"1:1\", \"1:2\", \"1:5\", \"1:10\", \"1:20\", \"1:50\", \"1:100\", or \"fit\""
+allowed key.Crease = codes "\"fine\", \"normal\" or \"coarse\""
+allowed key.Title = codes "a text of at most 120 bytes, without bytes below 32, the byte 127, U+FFFE and U+FFFF"
+allowed key.Outputs = codes "at most 8 different texts of 1 to 16 bytes from a to z and 0 to 9, none of them \"svg\""
+allowed key.Unit = codes "\"mm\" or \"inch\""
+allowed key.Layout = codes "\"landscape\" or \"portrait\""
+allowed key.View = codes "1 to 12 tables, each with exactly one of name, toward and cut"
+allowed key.Name = codes "\"front\", \"back\", \"left\", \"right\", \"above\" or \"below\", each at most once"
+allowed key.Toward = codes "three whole numbers from -9 to 9, not all 0"
+allowed key.Cut = codes "\"x\", \"y\" or \"z\", with at and from beside it"
+allowed key.At = codes "a whole number from -1048576 to 1048576"
+allowed key.From = codes "\"high\" or \"low\""
+
+-- what is wrong with a job
+abbrev pub job_text : JobFault → List ℕ
+job_text NotToml = codes "not TOML"
+job_text (Version n) = codes "version " ⊕ signed_decimal n ⊕ codes ": 1 and 2 are known"
+job_text (UnknownKey name) = codes "unknown key " ⊕ shown name
+job_text (Wrong key) = codes "wrong " ⊕ key_text key ⊕ codes ": " ⊕ allowed key
+job_text TooManyViews = codes "more than 12 views"
+job_text (ZeroDirection v) = codes "view " ⊕ decimal v ⊕ codes ": zero direction"
+job_text (DirectionRange v axis) = codes "view " ⊕ decimal v ⊕ codes ": direction " ⊕ axis_text axis ⊕ codes " outside -9 to 9"
+job_text (CutRange v) = codes "view " ⊕ decimal v ⊕ codes ": cut outside -1048576 to 1048576"
+
+-- ---- a part
+-- the place in a text, and what is wrong there
+abbrev pub place_text : PartFault → List ℕ
+place_text fault = codes "line " ⊕ decimal fault.line ⊕ codes ": " ⊕ kind_text fault.kind
+
+-- what is wrong with a surface
+abbrev pub mesh_text : MeshFault → List ℕ
+mesh_text (Flat t) = codes "triangle " ⊕ decimal t ⊕ codes " is flat"
+mesh_text (SameWay a b) = codes "triangles " ⊕ decimal a ⊕ codes " and " ⊕ decimal b ⊕ codes " use a side the same way"
+mesh_text (Unpaired t side) = codes "side " ⊕ decimal side ⊕ codes " of triangle " ⊕ decimal t ⊕ codes " has no partner"
+mesh_text (Double a b) = codes "triangles " ⊕ decimal a ⊕ codes " and " ⊕ decimal b ⊕ codes " have the same corners"
+mesh_text (Meet e t) = codes "edge " ⊕ decimal e ⊕ codes " meets triangle " ⊕ decimal t
+
+-- and near which place, if one is given
+abbrev pub placed_text : Option FaultPlace → List ℕ
+placed_text None = []
+placed_text (Some place) = codes ", " ⊕ near_text place
+
+-- and where the mending is told
+abbrev pub surface_text : Option FaultPlace → MeshFault → List ℕ
+surface_text place fault = mesh_text fault ⊕ placed_text place ⊕ codes ": docs/from-cad.md says how it is mended"
+
+-- what the views need, and what the sheet has, from hundredths of a millimetre
+abbrev pub size_text : ℤ → ℤ → List ℕ
+size_text width height = mm_text 2 width ⊕ codes " by " ⊕ mm_text 2 height ⊕ codes " mm"
+
+abbrev pub room_text : List ℕ → List ℕ → List ℕ
+room_text need have = codes "views need " ⊕ need ⊕ codes ", the sheet has room for " ⊕ have
+
+-- ---- lines
+-- a line about a file: its name, and what is wrong
+abbrev pub about : List ℕ → List ℕ → List ℕ
+about name text = codes "sheet: " ⊕ shown name ⊕ codes ": " ⊕ text ⊕ codes "\n"
+
+-- the part by its name, as far as the words name one
+abbrev pub part_in : Option Named → List ℕ
+part_in None = []
+part_in (Some named) = named.part
+
+-- the job by its name, or the usual one
+abbrev pub job_in : Option Named → List ℕ
+job_in None = []
+job_in (Some named) = unwrap_or named.job (codes "the usual job")
+
+-- where the sheet was to go; what was to be told, where no sheet was asked for, is said
+abbrev pub goal_in : Option Named → Goal
+goal_in None = said
+goal_in (Some named) = named.out
+
+-- the line of what couldn't be said, and of a sheet that couldn't be written where it goes
+abbrev pub said_line : List ℕ
+said_line = codes "sheet: cannot write the standard output\n"
+
+abbrev pub write_line : Goal → List ℕ
+write_line said = said_line
+write_line (svg_file name) = codes "sheet: cannot write " ⊕ shown name ⊕ codes "\n"
+write_line (pdf_file name) = codes "sheet: cannot write " ⊕ shown name ⊕ codes "\n"
+
+-- and of a list
+abbrev pub list_line : Option ListGoal → List ℕ
+list_line None = said_line
+list_line (Some list_said) = said_line
+list_line (Some (list_file name)) = codes "sheet: cannot write " ⊕ shown name ⊕ codes "\n"
+
+-- where the list was to go
+abbrev pub list_in : Option Named → Option ListGoal
+list_in None = None
+list_in (Some named) = named.list
+
+-- the line of what couldn't be written: the sheet, its list, or the summary that is said of both
+abbrev pub target_line : Option Named → Target → List ℕ
+target_line named target.Out = write_line (goal_in named)
+target_line named (target.Plot number) = list_line (list_in named)
+target_line named target.Summary = said_line
+
+-- The line of a fault, with the names that the words give; they give none where they are refused or ask for no sheet. That of a surface
+-- tells the place, if one is given.
+abbrev pub fault_line : Option Named → Option FaultPlace → Fault → List ℕ
+fault_line named place Usage = codes "sheet: usage: sheet PART [--job JOB] [--out OUT] [--list LIST] [--hidden all|plain|none]; sheet --help tells more\n"
+fault_line named place (ReadFault input.Job) = about (job_in named) (codes "cannot be read")
+fault_line named place JobTooLong = about (job_in named) (codes "more than 65536 bytes")
+fault_line named place (Job fault) = about (job_in named) (job_text fault)
+fault_line named place (NoPlotter name) = about (job_in named) (codes "no plotter " ⊕ shown name)
+fault_line named place SampleRange = about (part_in named) (codes "outside sample:1 to sample:8")
+fault_line named place (ReadFault input.Part) = about (part_in named) (codes "cannot be read")
+fault_line named place PartTooLong = about (part_in named) (codes "more than 16777216 bytes")
+fault_line named place (Part fault) = about (part_in named) (place_text fault)
+fault_line named place Nothing = about (part_in named) (codes "no triangle")
+fault_line named place (Mesh fault) = about (part_in named) (surface_text place fault)
+fault_line named place (DoesNotFit need_w need_h have_w have_h) = about (part_in named) (room_text (size_text need_w need_h) (size_text have_w have_h))
+fault_line named place (WriteFault target) = target_line named target
+fault_line named place Memory = codes "sheet: out of memory\n"

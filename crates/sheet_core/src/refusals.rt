@@ -1,0 +1,196 @@
+// The lines of faults.
+ghost use Rattle.std.specs.Prelude.{◌≡◌, IfOk, None, Some, codes, option_map, string_bytes};
+ghost use Rattle.svg_page.specs.Texts.{◌⊕◌};
+ghost use Rattle.fault_lines.specs.Lines.{shown};
+ghost use Rattle.sheet_core.specs.Refusals.{about, fault_line, job_in, job_text, list_line, place_text, room_text, size_text, surface_text, target_line, write_line};
+ghost use Rattle.sheet_words.specs.Seen.{goal_seen, list_seen, named_seen};
+
+use crate::jobs::{job_text, plotter_text};
+use crate::parts::{Size, place_text, room_text, size_text, surface_text};
+use crate::place::FaultPlace;
+use fault_lines::shown;
+use job_file::JobFault;
+use part_input::{Fault, Input, Target};
+use sheet_words::{ListOut, Out, SheetRequest};
+use solid_mesh::MeshFault;
+use std::alloc::{AllocError, Global};
+use weld::PartFault;
+
+/// The line of words that are refused.
+pub const USAGE_LINE: &str =
+    "sheet: usage: sheet PART [--job JOB] [--out OUT] [--list LIST] [--hidden all|plain|none]; sheet --help tells more\n";
+
+/// The line of want of memory.
+pub const MEMORY_LINE: &str = "sheet: out of memory\n";
+
+/// The line of a text that couldn't be said.
+pub const SAID_LINE: &str = "sheet: cannot write the standard output\n";
+
+// A line about a file, and what is wrong.
+fn about(alloc: Global, name: &str, text: &str) -> Result<String, AllocError>
+    ensures { IfOk result (λ line. string_bytes line ≡ about name.now text.now) }
+{
+    let name = shown(alloc, name)?;
+    format!(in alloc; "sheet: {name}: {text}\n")
+}
+
+// The line of a file that can't be written.
+fn unwritten(alloc: Global, name: &str) -> Result<String, AllocError>
+    ensures { IfOk result (λ line. string_bytes line ≡ codes "sheet: cannot write " ⊕ shown name.now ⊕ codes "\n") }
+{
+    let name = shown(alloc, name)?;
+    format!(in alloc; "sheet: cannot write {name}\n")
+}
+
+/// The line of a sheet that can't be written where it goes.
+pub fn write_line(alloc: Global, out: &Out) -> Result<String, AllocError>
+    ensures { IfOk result (λ line. string_bytes line ≡ write_line (goal_seen out.now)) }
+{
+    match out {
+        Out::Said => String::from_str(alloc, SAID_LINE),
+        Out::Svg(name) => unwritten(alloc, name.as_str()),
+        Out::Pdf(name) => unwritten(alloc, name.as_str()),
+    }
+}
+
+/// The line of a list that can't be written where it goes.
+pub fn list_line(alloc: Global, list: &Option<ListOut>) -> Result<String, AllocError>
+    ensures { IfOk result (λ line. string_bytes line ≡ list_line (option_map list_seen list.now)) }
+{
+    match list {
+        None | Some(ListOut::Said) => String::from_str(alloc, SAID_LINE),
+        Some(ListOut::File(name)) => unwritten(alloc, name.as_str()),
+    }
+}
+
+// The job's name, or what stands for it.
+fn job_name(request: &SheetRequest) -> &str
+    ensures { result.now ≡ job_in (Some (named_seen request.now)) }
+{
+    match &request.job {
+        Some(name) => name.as_str(),
+        None => "the usual job",
+    }
+}
+
+// A line about a job, and what is wrong with it.
+fn job_line(alloc: Global, job: &str, fault: &JobFault) -> Result<String, AllocError>
+    ensures { IfOk result (λ line. string_bytes line ≡ about job.now (job_text fault.now)) }
+{
+    let text = job_text(alloc, fault)?;
+    about(alloc, job, text.as_str())
+}
+
+// A line about a job one of whose outputs has no plotter.
+fn plotter_line(alloc: Global, job: &str, name: &str) -> Result<String, AllocError>
+    ensures { IfOk result (λ line. string_bytes line ≡ about job.now (codes "no plotter " ⊕ shown name.now)) }
+{
+    let text = plotter_text(alloc, name)?;
+    about(alloc, job, text.as_str())
+}
+
+// A line about a part, the place in its text, and what is wrong there.
+fn place_line(alloc: Global, part: &str, fault: &PartFault) -> Result<String, AllocError>
+    ensures { IfOk result (λ line. string_bytes line ≡ about part.now (place_text fault.now)) }
+{
+    let text = place_text(alloc, fault)?;
+    about(alloc, part, text.as_str())
+}
+
+// A line about a part, and what is wrong with its surface.
+fn surface_line(
+    alloc: Global,
+    part: &str,
+    place: &Option<FaultPlace>,
+    fault: &MeshFault,
+) -> Result<String, AllocError>
+    ensures { IfOk result (λ line. string_bytes line ≡ about part.now (surface_text place.now fault.now)) }
+{
+    let text = surface_text(alloc, place, fault)?;
+    about(alloc, part, text.as_str())
+}
+
+// A line about a part, what its views need, and what the sheet has.
+fn room_line(alloc: Global, part: &str, need: &str, have: &str) -> Result<String, AllocError>
+    ensures { IfOk result (λ line. string_bytes line ≡ about part.now (room_text need.now have.now)) }
+{
+    let text = room_text(alloc, need, have)?;
+    about(alloc, part, text.as_str())
+}
+
+// The same, by the numbers.
+fn size_line(alloc: Global, part: &str, need: &Size, have: &Size) -> Result<String, AllocError>
+    ensures { IfOk result (λ line. string_bytes line ≡ about part.now (room_text (size_text need.now.width need.now.height) (size_text have.now.width have.now.height))) }
+{
+    let need = size_text(alloc, need)?;
+    let have = size_text(alloc, have)?;
+    room_line(alloc, part, need.as_str(), have.as_str())
+}
+
+// The line of a file that can't be read.
+pub(crate) fn unread(
+    alloc: Global,
+    request: &SheetRequest,
+    input: &Input,
+) -> Result<String, AllocError>
+    ensures { IfOk result (λ line. string_bytes line ≡ fault_line (Some (named_seen request.now)) None (Fault.ReadFault input.now)) }
+{
+    match input {
+        Input::Job => about(alloc, job_name(request), "cannot be read"),
+        Input::Part => about(alloc, request.part.as_str(), "cannot be read"),
+    }
+}
+
+// The line of what couldn't be written: the sheet, its list, or the summary that is said of both.
+fn target_line(alloc: Global, request: &SheetRequest, target: &Target) -> Result<String, AllocError>
+    ensures { IfOk result (λ line. string_bytes line ≡ target_line (Some (named_seen request.now)) target.now) }
+{
+    match target {
+        Target::Out => write_line(alloc, &request.out),
+        Target::Plot(_) => list_line(alloc, &request.list),
+        Target::Summary => String::from_str(alloc, SAID_LINE),
+    }
+}
+
+/// The line of a fault in a run of this request: the file's name, the place there, what is wrong, and what is allowed. The place of
+/// a surface's fault is looked at where one is given.
+pub fn line_of(
+    alloc: Global,
+    request: &SheetRequest,
+    place: &Option<FaultPlace>,
+    fault: &Fault,
+) -> Result<String, AllocError>
+    ensures { IfOk result (λ line. string_bytes line ≡ fault_line (Some (named_seen request.now)) place.now fault.now) }
+{
+    let (part, job) = (request.part.as_str(), job_name(request));
+    match fault {
+        Fault::Usage => String::from_str(alloc, USAGE_LINE),
+        Fault::ReadFault(input) => unread(alloc, request, input),
+        Fault::JobTooLong => about(alloc, job, "more than 65536 bytes"),
+        Fault::Job(fault) => job_line(alloc, job, fault),
+        Fault::NoPlotter(name) => plotter_line(alloc, job, name.as_str()),
+        Fault::SampleRange => about(alloc, part, "outside sample:1 to sample:8"),
+        Fault::PartTooLong => about(alloc, part, "more than 16777216 bytes"),
+        Fault::Part(fault) => place_line(alloc, part, fault),
+        Fault::Nothing => about(alloc, part, "no triangle"),
+        Fault::Mesh(fault) => surface_line(alloc, part, place, fault),
+        Fault::DoesNotFit {
+            need_w,
+            need_h,
+            have_w,
+            have_h,
+        } => {
+            let need = Size {
+                width: *need_w,
+                height: *need_h,
+            };
+            let have = Size {
+                width: *have_w,
+                height: *have_h,
+            };
+            size_line(alloc, part, &need, &have)
+        }
+        Fault::WriteFault(target) => target_line(alloc, request, target),
+        Fault::Memory => String::from_str(alloc, MEMORY_LINE),
+    }
+}

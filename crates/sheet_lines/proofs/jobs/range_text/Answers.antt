@@ -1,4 +1,0 @@
-use Rattle.sheet_lines.proofs.jobs.range_text.Goals as goal
-
-pub returns : goal.returns
-returns c = simp (c.axis_text-axis.ensures) at c.format.ensures.ok

@@ -1,0 +1,9 @@
+use Rattle.sheet_page.proofs.InCorner.{written_in, written_clear}
+use Rattle.sheet_page.proofs.block.title_block.Goals as goal
+
+pub returns-clause-corner : goal.returns-clause-corner
+returns-clause-corner c = written_in (λ items. items.items) _ c.args.sheet.now c.args.job.now c.args.part.now c.items_of.ensures
+
+pub returns-clause-clear : goal.returns-clause-clear
+returns-clause-clear c box within =
+    written_clear (λ items. items.items) _ c.args.sheet.now box within (written_in (λ items. items.items) _ c.args.sheet.now c.args.job.now c.args.part.now c.items_of.ensures)

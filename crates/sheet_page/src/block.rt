@@ -1,0 +1,42 @@
+// The title block of a sheet.
+ghost use Rattle.std.specs.Prelude.{◌≡◌, IfOk, pos, ◌+ℤ◌};
+ghost use Rattle.std.specs.List.{All};
+ghost use Rattle.sheet_plan.specs.Boxes.{Box, IsWithinMargins};
+ghost use Rattle.sheet_page.specs.Blocks.{block_of};
+ghost use Rattle.sheet_page.specs.Corners.{IsInCorner, IsBelow};
+
+use crate::labels::add_labels;
+use crate::page::Item;
+use crate::rules::{Corner, add_rules, rules_of};
+use crate::symbol::add_symbol;
+use exact_frac::OutOfMemory;
+use job_file::Job;
+use sheet_plan::Sheet;
+use std::alloc::Global;
+
+/// All that stands in the block.
+fn items_of(alloc: Global, sheet: &Sheet, job: &Job, part: &str) -> Result<Vec<Item>, OutOfMemory>
+    ensures { IfOk result (λ items. items.items ≡ block_of sheet.now job.now part.now) }
+{
+    let corner = Corner::of(sheet);
+    let mut items = Vec::new(alloc);
+    add_rules(&mut items, &rules_of(&corner))?;
+    add_labels(alloc, &mut items, &corner, sheet, job, part)?;
+    add_symbol(&mut items, &corner, job.third)?;
+    Ok(items)
+}
+
+/// The title block of a job's sheet that shows the part of this name. It is in the sheet's corner, and below each view that is within
+/// the sheet's margins, by more than the 7 mm that the marks of cuts reach. The time goes with the name's length.
+pub fn title_block(
+    alloc: Global,
+    sheet: &Sheet,
+    job: &Job,
+    part: &str,
+) -> Result<Vec<Item>, OutOfMemory>
+    ensures value { IfOk result (λ items. items.items ≡ block_of sheet.now job.now part.now) }
+    ensures corner { IfOk result (λ items. All (IsInCorner sheet.now.width sheet.now.height) items.items) }
+    ensures clear { (box : Box) → IsWithinMargins sheet.now box → IfOk result (λ items. All (IsBelow (box.bottom +ℤ pos 700)) items.items) }
+{
+    items_of(alloc, sheet, job, part)
+}

@@ -1,8 +1,0 @@
-use Rattle.std.proofs.Common.{◌≡◌, ◌++◌, drop}
-use Rattle.std.specs.List.{flat_map}
-use Rattle.svg_page.specs.Svg.{escaped, before_title}
-use Rattle.svg_page.proofs.page.add_title.Given as goal
-
--- the bytes so far and those of what is left are all bytes
-abbrev pub invariant-loop-byte : goal.invariant-loop-byte
-invariant-loop-byte l = l.text.items ++ flat_map escaped (drop l.byte-index l.title) ≡ (l.fn.text.items ++ before_title l.height) ++ flat_map escaped l.title

@@ -1,0 +1,24 @@
+//! Tests of what is read and of what is written: numbers, tokens and the texts of parts; where views stand on a sheet, strokes and their
+//! paths, dashes, pages, and plotters.
+#![tactic(auto)]
+
+#[cfg(test)]
+mod numbers;
+#[cfg(test)]
+mod pages;
+#[cfg(test)]
+mod paths;
+#[cfg(test)]
+mod places;
+#[cfg(test)]
+mod plotters;
+#[cfg(test)]
+mod readers;
+#[cfg(test)]
+mod sheets;
+#[cfg(test)]
+mod stretches;
+#[cfg(test)]
+mod tokens;
+#[cfg(test)]
+mod views;

@@ -1,2 +1,0 @@
-pub mod InCorner
-pub mod PartNames

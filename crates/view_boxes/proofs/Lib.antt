@@ -1,5 +1,0 @@
-pub mod OnPaper
-pub mod Reach
-pub mod Drawn
-pub mod Hatched
-mod Traced
