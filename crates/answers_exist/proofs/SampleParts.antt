@@ -17,7 +17,8 @@ use Rattle.sample_part.specs.Boxes.{cube_corners, cube_triangles, corners_of, tr
 use Rattle.sample_part.specs.inner.Cubes.{cube_at}
 use Rattle.answers_exist.proofs.CubeChecks.{own_corners, own_triangles, tri_at, own_corner, own_numbers}
 use Rattle.answers_exist.proofs.Decided.{by_option}
-use Rattle.answers_exist.proofs.SomeSample.{corners_are, many_given}
+use Rattle.sample_part.proofs.Numbered.{corners_by_number}
+use Rattle.answers_exist.proofs.SomeSample.{many_given}
 
 -- ---- blocks of b things each
 record IsInBlock {Y : Type 0} (f : ℕ → List Y) (b start n i : ℕ) (x : Y) : Type 0 where
@@ -159,7 +160,7 @@ module _ (n : ℕ) (least : 0 < n) (most : n ≤ 8) (s : Part) (corners : map of
   corner_in : (k : ℕ) (p : Corner) → slice_get s.corners k ≡ Some p → IsCornerIn k p
   corner_in k p at =
       let listed : slice_get (corners_of n) k ≡ Some (of_corner p) = ap (λ (ts : List Triple). slice_get ts k) (sym corners) ∙ slice_get-map of_corner s.corners k ∙ ap (option_map of_corner) at in
-      let b = in_block (λ c. cube_corners (cube_at n c)) 8 (λ c. refl) 0 (n * n * n) k (of_corner p) (subst (λ (ts : List Triple). slice_get ts k ≡ Some (of_corner p)) (corners_are n least most) listed) in
+      let b = in_block (λ c. cube_corners (cube_at n c)) 8 (λ c. refl) 0 (n * n * n) k (of_corner p) (subst (λ (ts : List Triple). slice_get ts k ≡ Some (of_corner p)) (corners_by_number n least most) listed) in
       let number : b.number ≡ b.block = omega (arith, b.numbered) in
       let (t, own, same) = from_map (moved (offset n b.number)) own_corners b.place (of_corner p) (subst (λ (ts : List Triple). slice_get ts b.place ≡ Some (of_corner p)) (corners_moved n b.number) b.at) in
       let there : own_corner b.place ≡ t = get_or_from_slice_get own_corners b.place t _ own in

@@ -38,7 +38,9 @@ use Rattle.part_input.specs.Parts.{ReadsText, WeldsPart, ReadsPart, ChecksPart, 
 use Rattle.part_input.specs.Reading.{begins_solid, ReadsAs, ReadsPartText}
 use Rattle.part_input.specs.Steps.{◌and_then◌}
 use Rattle.draw_core.specs.Outputs.{first_unmet}
-use Rattle.draw_core.specs.Run.{NamesFiles, HasPlotters, Drawn, PlansSheet, TakesMetJob, DrawsFiles, RunsDraw}
+use Rattle.draw_core.specs.Run.{NamesFiles, HasPlotters, TakesMetJob, DrawsFiles, RunsDraw}
+use Rattle.sheet_plan.specs.JobSheets.{Drawn}
+use Rattle.part_input.specs.Sheets.{PlansSheet}
 use Rattle.answers_exist.proofs.Decided.{by_option}
 use Rattle.answers_exist.proofs.SomeExtents.{some_extents}
 use Rattle.answers_exist.proofs.SomeFault.{some_fault}

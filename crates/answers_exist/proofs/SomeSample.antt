@@ -3,14 +3,14 @@ use Rattle.std.proofs.Common.{◌≡◌, ℕ, zero, suc, ◌+◌, ◌*◌, ◌/�
 use Rattle.std.specs.List.{range_with_len}
 use Rattle.std.proofs.lemmas.List.{length-map, length-append}
 use Rattle.std.proofs.lemmas.List.Elements.{All-nil, All-append, All-from_recursion}
-use Rattle.std.proofs.lemmas.List.Folds.{flat_map-map}
 use Rattle.std.proofs.lemmas.Nat.{mod_below, div_below}
 use Rattle.lattice.specs.declared.points.Corner.{Corner}
 use Rattle.lattice.specs.Points.{of_corner}
 use Rattle.lattice.specs.Triangles.{IsBelow}
 use Rattle.geometry.specs.Parts.{Part}
-use Rattle.sample_part.specs.Boxes.{CubePlace, below, cubes, corner_of, cube_corners, cube_triangles, corners_of, triangles_of}
+use Rattle.sample_part.specs.Boxes.{CubePlace, below, corner_of, cube_corners, cube_triangles, corners_of, triangles_of}
 use Rattle.sample_part.specs.inner.Cubes.{cube_at}
+use Rattle.sample_part.proofs.Numbered.{corners_by_number}
 use Rattle.answers_exist.proofs.SomeWeld.{IsCornerPlace, corners_at}
 
 -- ---- what holds of all that the first numbers give
@@ -27,21 +27,6 @@ many_given f b each start (suc n) = length-append (f start) (flat_map f (range_w
     more n b = omega arith
 
 -- ---- cubes by their numbers
-cubes_are : (n : ℕ) → 0 < n → n ≤ 8 → cubes n ≡ map (cube_at n) (below (n * n * n))
-cubes_are zero h k = absurd (omega (arith, h))
-cubes_are (suc zero) h k = refl
-cubes_are (suc (suc zero)) h k = refl
-cubes_are (suc (suc (suc zero))) h k = refl
-cubes_are (suc (suc (suc (suc zero)))) h k = refl
-cubes_are (suc (suc (suc (suc (suc zero))))) h k = refl
-cubes_are (suc (suc (suc (suc (suc (suc zero)))))) h k = refl
-cubes_are (suc (suc (suc (suc (suc (suc (suc zero))))))) h k = refl
-cubes_are (suc (suc (suc (suc (suc (suc (suc (suc zero)))))))) h k = refl
-cubes_are (suc (suc (suc (suc (suc (suc (suc (suc (suc n))))))))) h k = absurd (omega (arith, k))
-
-pub corners_are : (n : ℕ) → 0 < n → n ≤ 8 → corners_of n ≡ flat_map (λ c. cube_corners (cube_at n c)) (below (n * n * n))
-corners_are n h k = ap (flat_map cube_corners) (cubes_are n h k) ∙ flat_map-map cube_corners (cube_at n) (below (n * n * n))
-
 -- fewer than 8 cubes stand before it along each axis
 record IsNear (p : CubePlace) : Type 0 where
   i : p.i < 8
@@ -86,10 +71,10 @@ module _ (n : ℕ) (least : 0 < n) (most : n ≤ 8) where
       turned n = omega arith
 
   places : All IsCornerPlace (corners_of n)
-  places = subst (All IsCornerPlace) (sym (corners_are n least most)) (all_given IsCornerPlace (λ c. cube_corners (cube_at n c)) (n * n * n) (λ c less. cube_places (cube_at n c) (near_at c less)) 0 (n * n * n) (omega arith))
+  places = subst (All IsCornerPlace) (sym (corners_by_number n least most)) (all_given IsCornerPlace (λ c. cube_corners (cube_at n c)) (n * n * n) (λ c less. cube_places (cube_at n c) (near_at c less)) 0 (n * n * n) (omega arith))
 
   many : length (corners_of n) ≡ n * n * n * 8
-  many = ap length (corners_are n least most) ∙ many_given (λ c. cube_corners (cube_at n c)) 8 (λ c. refl) 0 (n * n * n)
+  many = ap length (corners_by_number n least most) ∙ many_given (λ c. cube_corners (cube_at n c)) 8 (λ c. refl) 0 (n * n * n)
 
   numbers_in_range : All (IsBelow (n * n * n * 8)) (triangles_of n)
   numbers_in_range = all_given (IsBelow (n * n * n * 8)) cube_triangles (n * n * n) (λ c less. cube_in_range (n * n * n * 8) c (omega (arith, less))) 0 (n * n * n) (omega arith)

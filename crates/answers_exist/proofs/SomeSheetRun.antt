@@ -2,7 +2,8 @@
 use Rattle.std.proofs.Common.{◌≡◌, ℕ, List, Option, Some, None, Result, Ok, Err, refl}
 use Rattle.std.specs.Global.{Global}
 use Rattle.desk.specs.Files.{Files}
-use Rattle.draw_core.specs.Run.{Drawn, PlansSheet}
+use Rattle.sheet_plan.specs.JobSheets.{Drawn}
+use Rattle.part_input.specs.Sheets.{PlansSheet}
 use Rattle.part_input.specs.declared.fault.Fault.{Fault}
 use Rattle.part_input.specs.declared.fault.Fault.TheVariants.{Usage}
 use Rattle.part_input.specs.Jobs.{TakesReadJob}

@@ -12,7 +12,7 @@ use Rattle.geometry.specs.Faces.{IsFlat, IsPointOfEdge, IsPointOfFace}
 use Rattle.geometry.specs.Parts.{Part, Face, Edge, IsHalf, IsCornerOf, part_with, start_of, end_of}
 use Rattle.geometry.specs.Sound.{IsSound, IsAtSharedCorner}
 use Rattle.geometry.proofs.EachEdge.{flat_face}
-use Rattle.geometry.proofs.Listed.{same_element, triangle_below, face_at}
+use Rattle.geometry.proofs.Listed.{same_element, triangle_below, face_at, edge_of}
 use Rattle.answers_unique.proofs.OneCorner.{same_corner}
 
 -- ---- triangles with two equal corners are flat
@@ -119,32 +119,13 @@ module _ (s : Part) (in_range : All (IsBelow (length s.corners)) s.triangles) (s
       by (inr (inr e)) (inr (inl h)) = sound.closed.none_flat f (flat_second f.a f.b f.c (read t.b n f.b h f.at_b there ∙ sym (read t.c m f.c e f.at_c here)))
       by (inr (inr e)) (inr (inr h)) = differ (sym e ∙ h)
 
-  -- the edge of a half and one back
-  abbrev edge_of : (half other m n : ℕ) (a b : Corner) → IsHalf s half m n → IsHalf s other n m → slice_get s.corners m ≡ Some a → slice_get s.corners n ≡ Some b → Edge s
-  edge_of half other m n a b goes returns at_m at_n = record {
-    half = half;
-    other = other;
-    m = m;
-    n = n;
-    a = a;
-    b = b;
-    left = face_at s in_range goes.tri (half / 3) goes.at;
-    right = face_at s in_range returns.tri (other / 3) returns.at;
-    goes = goes;
-    returns = returns;
-    on_left = refl;
-    on_right = refl;
-    at_m = at_m;
-    at_n = at_n;
-  }
-
   -- the edge ends at the place of a corner that the face has, and not its own
   end_met : (half other m k j n : ℕ) (u : Tri) (a b : Corner) → IsHalf s half m k → IsHalf s other k m → slice_get s.corners m ≡ Some a → slice_get s.corners k ≡ Some b
       → slice_get s.triangles j ≡ Some u → IsCornerOf u n → slice_get s.corners n ≡ Some a → m ≢ n → ⊥
   end_met half other m k j n u a b goes returns at_m at_k at has at_n differ = from (sound.apart e f (point_of a) (record { not_left = not_left; not_right = not_right; on_edge = first_on_edge a b; on_face = on_face has }))
     where
       e : Edge s
-      e = edge_of half other m k a b goes returns at_m at_k
+      e = edge_of s in_range half other m k a b goes returns at_m at_k
 
       f : Face s
       f = face_at s in_range u j at

@@ -1,6 +1,7 @@
 -- What two lines and the marks of two corners say of an edge and an outline with these corners.
-use Rattle.std.proofs.Common.{◌≡◌, [], ◌∷◌, refl, sym, subst, ◌∙◌}
+use Rattle.std.proofs.Common.{◌≡◌, ◌<◌, ◌≤◌, ◌^◌, [], ◌∷◌, refl, sym, subst, ◌∙◌, unsigned_abs, to_z, of_z}
 use Rattle.std.specs.Prelude.{ℤ, pos, ◌-ℤ◌, ◌*ℤ◌}
+use Rattle.std.specs.Int.{w8, w128}
 use Rattle.integers.proofs.Ring.{var, con, ◌⊖◌, ◌⊗◌, ring}
 use Rattle.lattice.specs.declared.points.Corner.{Corner}
 use Rattle.lattice.specs.Triple.{Triple, det}
@@ -13,6 +14,7 @@ use Rattle.geometry.specs.Shares.{mark, change_of, denominator_of, numerator_of,
 use Rattle.lattice.proofs.PointLetters.{ways}
 use Rattle.exact_frac.specs.declared.Frac.{Frac}
 use Rattle.cross_find.specs.Lines.{PassesBy, IsCrossedBy}
+use Rattle.cross_find.proofs.Passed.{passed, turn_passed}
 
 module _ (d : Triple) {s : Part} (e o : Edge s) (a b p q : Corner) (at_a : e.a ≡ a) (at_b : e.b ≡ b) (at_p : o.a ≡ p) (at_q : o.b ≡ q) where
   module _ (denominator numerator height_numerator : ℤ) (is_denominator : denominator ≡ det d (difference a b) (difference p q)) (is_numerator : numerator ≡ det d (difference a p) (difference p q))
@@ -40,11 +42,19 @@ module _ (d : Triple) {s : Part} (e o : Edge s) (a b p q : Corner) (at_a : e.a �
     pub crossed_at : (r : Frac) → IsCrossedBy denominator numerator r → IsCrossedAt d e o r
     crossed_at r h = sym (λ i. r.num *ℤ same_denominator i) ∙ h.at ∙ (λ i. same_numerator i *ℤ r.den)
 
-  pub changed : (k : Side) (turn from to change : ℤ) → turn ≡ face_sign d o.left -ℤ face_sign d o.right → from ≡ orientation_of d a b p → to ≡ orientation_of d a b q
+  changed : (k : Side) (turn from to change : ℤ) → turn ≡ face_sign d o.left -ℤ face_sign d o.right → from ≡ orientation_of d a b p → to ≡ orientation_of d a b q
       → change ≡ turn *ℤ (mark k from -ℤ mark k to) → change ≡ change_of k d e o
   changed k turn from to change is_turn is_from is_to is =
       is ∙ (λ i. is_turn i *ℤ (mark k (is_from i) -ℤ mark k (is_to i)))
       ∙ sym (λ i. (face_sign d o.left -ℤ face_sign d o.right) *ℤ (mark k (orientation_of d (at_a i) (at_b i) (at_p i)) -ℤ mark k (orientation_of d (at_a i) (at_b i) (at_q i))))
+
+  -- the same of the machine's numbers
+  pub changed_passed : (k : Side) (turn from to change : ℤ) → unsigned_abs turn ≤ 2 → unsigned_abs from < 2 ^ 48 → unsigned_abs to < 2 ^ 48
+      → turn ≡ face_sign d o.left -ℤ face_sign d o.right → from ≡ orientation_of d a b p → to ≡ orientation_of d a b q
+      → change ≡ to_z w8 (of_z w8 turn) *ℤ (mark k (to_z w128 (of_z w128 from)) -ℤ mark k (to_z w128 (of_z w128 to))) → change ≡ change_of k d e o
+  changed_passed k turn from to change turn_small from_small to_small is_turn is_from is_to is =
+      changed k turn from to change is_turn is_from is_to
+      (is ∙ (λ i. turn_passed turn turn_small i *ℤ (mark k (passed from from_small i) -ℤ mark k (passed to to_small i))))
 
   -- ends that are marked alike change no count
   pub unchanged : (k : Side) (from to : ℤ) → from ≡ orientation_of d a b p → to ≡ orientation_of d a b q → mark k from ≡ mark k to → change_of k d e o ≡ pos 0

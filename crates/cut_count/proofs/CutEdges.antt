@@ -42,8 +42,12 @@ module _ (solid : Solid) (c : Plane) (tests : ℕ) where
     pub edge_within : edge < length (edge_halves solid)
     edge_within = (listings.seen_edge seen_in_cut seen picked is_picked along over near finder edge drawn).in_range
 
-    pub few_along : length (along edge) ≤ length picked.outlines.items
-    few_along = listings.few_along seen_in_cut seen picked is_picked along over near finder edge drawn
+    -- it costs a test of each triangle, of each outline that is listed for it and of each segment
+    pub few_tests : (segments : ℕ) → length (solid_part solid).triangles + length (along edge) + segments ≤ length (solid_part solid).triangles + length picked.outlines.items + 2 * segments
+    few_tests segments = at_most (length (solid_part solid).triangles) (length (along edge)) (length picked.outlines.items) segments (listings.few_along seen_in_cut seen picked is_picked along over near finder edge drawn)
+      where
+        at_most : (triangles along outlines segments : ℕ) → along ≤ outlines → triangles + along + segments ≤ triangles + outlines + 2 * segments
+        at_most triangles along outlines segments few = omega arith
 
     pub listed_in_cut : AreListedInCut c (solid_part solid) (edge_halves solid) edge (along edge)
     listed_in_cut =
@@ -72,6 +76,13 @@ module _ (c : Plane) (s : Part) (halves drawn : List ℕ) (cost tests : ℕ) whe
     one_more within one most =
         let all : suc i * cost ≤ length drawn * cost = mul-le-mul (omega arith) (omega arith) in
         omega (arith, known.most)
+
+    -- so they are where it stops there, with the tests that it took
+    pub stopped_within : i < length drawn → (one new bound : ℕ) → one ≤ cost → now ≤ new → new ≤ now + one → bound ≡ length drawn * cost → (tests ≤ new) × (new ≤ tests + bound)
+    stopped_within within one new bound small up most is = told tests now new one (length drawn * cost) bound known.least up most (one_more within one small) is
+      where
+        told : (tests now new one all bound : ℕ) → tests ≤ now → now ≤ new → new ≤ now + one → now + one ≤ tests + all → bound ≡ all → (tests ≤ new) × (new ≤ tests + bound)
+        told tests now new one all bound least up most within is = (omega arith, omega arith)
 
     pub all_within : i ≤ length drawn → (tests ≤ now) × (now ≤ tests + length drawn * cost)
     all_within within =

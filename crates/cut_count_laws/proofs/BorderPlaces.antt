@@ -17,7 +17,7 @@ use Rattle.lattice.proofs.SightLines.{right_axis-is}
 use Rattle.lattice.proofs.Vectors.{Letters, letters, dots, crosses}
 use Rattle.geometry.specs.Faces.{difference, normal, IsFlat, share_point, IsPointOfFace}
 use Rattle.geometry.specs.Parts.{Part, Face, Edge}
-use Rattle.geometry.specs.Cuts.{border, step_of, start_corner, end_corner, crossing_of, IsOnBorder, IsBorderOf}
+use Rattle.geometry.specs.Cuts.{border, step_of, IsOnBorder, IsBorderOf}
 use Rattle.geometry.proofs.BorderSteps.{step_between, border_runs}
 use Rattle.hiding_laws.specs.Values.{offset, side_of}
 use Rattle.geometry.specs.Counts.{Side, to_left, to_right}
@@ -27,7 +27,7 @@ use Rattle.hiding_laws.proofs.Screens.{Screen}
 use Rattle.hiding_laws.proofs.Shares.{Crosses, numerator_of, denominator_of, depth_of}
 use Rattle.cut_plane.proofs.Apart.{border_apart}
 use Rattle.cut_plane.proofs.BorderSums.{AreEnds, border_ends, IsMixOf}
-use Rattle.cut_plane.proofs.Following.{one_goes, one_returns}
+use Rattle.cut_plane.proofs.Following.{one_border}
 use Rattle.cut_plane.proofs.RightOf.{first_alone, second_alone, mix_product}
 use Rattle.cut_plane.specs.Crossings.{CrossesAt}
 use Rattle.cut_plane.proofs.Planes.{Seen, turns}
@@ -254,18 +254,6 @@ pub record HasPlaceBetween (c : Plane) {s : Part} (e : Edge s) (f : Face s) (n m
   pub before : (i *ℤ m') <ℤ (n' *ℤ j)
   pub beyond : IsBeyond c (share_point e.a e.b i j)
   pub crosses : CrossesAt c f e i j
-
-one_border : (c : Plane) {s : Part} (f : Face s) (p q p' q' : Point) → IsBorderOf c f p q → IsBorderOf c f p' q' → (p ≡ p') × (q ≡ q')
-one_border c f p q p' q' h h' = (
-  h.from ∙ (λ i. crossing_of c (start_corner f (goes i)) (end_corner f (goes i))) ∙ sym h'.from,
-  h.to ∙ (λ i. crossing_of c (end_corner f (returns i)) (start_corner f (returns i))) ∙ sym h'.to,
-)
-  where
-    goes : h.first ≡ h'.first
-    goes = one_goes c f h.first h'.first h.first_side h'.first_side h.goes h'.goes
-
-    returns : h.second ≡ h'.second
-    returns = one_returns c f h.second h'.second h.second_side h'.second_side h.returns h'.returns
 
 some_of : (i j : ℤ) → pos 0 ≤ℤ i → pos 0 ≤ℤ j → pos 0 <ℤ (i +ℤ j) → 0 < unsigned_abs i + unsigned_abs j
 some_of i j h g q = omega (arith, ints)

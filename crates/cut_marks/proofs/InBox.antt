@@ -1,10 +1,7 @@
 -- Where a view sees the plane of a cut edge-on, one axis of the view is a multiple of the way to the cut's viewer; so the plane's place
 -- is within the view's box where the plane goes through the part.
-use Rattle.std.proofs.Common.{◌≡◌, ◌≢◌, ◌⊎◌, inl, inr, Bool, true, false, List, Contains, [], ◌∷◌, refl, sym, subst, ap, ◌∙◌, arith}
-use Rattle.std.specs.Prelude.{ℤ, pos, neg_ℤ, ◌+ℤ◌, ◌-ℤ◌, ◌*ℤ◌, ◌<ℤ◌, ◌≤ℤ◌, if◌then◌else◌, ◌&&◌}
-use Rattle.std.specs.Bool.{Decides}
-use Rattle.std.specs.Cmp.{signed_Decides}
-use Rattle.std.specs.Ordering.{int_eq}
+use Rattle.std.proofs.Common.{◌≡◌, ◌⊎◌, inl, inr, Bool, true, false, List, Contains, [], ◌∷◌, refl, subst, ap, ◌∙◌, arith}
+use Rattle.std.specs.Prelude.{ℤ, pos, neg_ℤ, ◌+ℤ◌, ◌-ℤ◌, ◌*ℤ◌, ◌<ℤ◌, ◌≤ℤ◌, if◌then◌else◌}
 use Rattle.std.proofs.lemmas.Int.{ints, by_lt_z}
 use Rattle.std.proofs.lemmas.List.Elements.{All-contains}
 use Rattle.integers.proofs.Comparisons.{at_most_of_gap, gap_of_at_most}
@@ -15,10 +12,9 @@ use Rattle.lattice.specs.declared.points.Axis.TheVariants.{X, Y, Z}
 use Rattle.lattice.specs.declared.points.Corner.{Corner}
 use Rattle.lattice.specs.Cuts.{Plane, side_of, toward_of, level_of}
 use Rattle.lattice.specs.Points.{Point, point_of, scaled}
-use Rattle.lattice.specs.Triple.{Triple, dot, right_axis, up_axis}
+use Rattle.lattice.specs.Triple.{Triple, dot}
 use Rattle.lattice.proofs.AlongAxes.{IsOnly}
 use Rattle.lattice.proofs.CutSides.{corner_beyond, corner_before}
-use Rattle.lattice.specs.Axes.{component_of, IsAlong}
 use Rattle.sheet_plan.specs.Extents.{IsLeast, IsGreatest}
 use Rattle.geometry.specs.Traces.{GoesThrough}
 use Rattle.cut_marks.specs.Traces.{axis_point, foot_of}

@@ -1,6 +1,6 @@
 -- When corners are on both sides of a plane, and when they are spread along an axis.
 use Rattle.std.proofs.Common.{◌≡◌, ◌↔◌, Bool, IsTrue, List, Contains, sym, subst, ◌∙◌, arith}
-use Rattle.std.specs.Prelude.{ℤ, pos, ◌<ℤ◌, ◌≤ℤ◌}
+use Rattle.std.specs.Prelude.{ℤ, ◌<ℤ◌, ◌≤ℤ◌}
 use Rattle.std.proofs.lemmas.Int.{ints, by_lt_z}
 use Rattle.std.proofs.lemmas.List.Elements.{All-contains}
 use Rattle.integers.proofs.Logic.{↔-trans}
@@ -11,7 +11,7 @@ use Rattle.lattice.specs.Cuts.{Plane, toward_of, level_of, unit_of}
 use Rattle.lattice.specs.Points.{point_of, scaled}
 use Rattle.lattice.specs.Triple.{Triple, dot}
 use Rattle.lattice.proofs.CutSides.{corner_beyond, corner_before}
-use Rattle.lattice.specs.Axes.{coordinate_of, IsAlong}
+use Rattle.lattice.specs.Axes.{coordinate_of}
 use Rattle.sheet_plan.specs.Extents.{IsLeast, IsGreatest}
 use Rattle.geometry.specs.Traces.{GoesThrough}
 use Rattle.cut_marks.specs.Traces.{IsSpread}

@@ -1,19 +1,14 @@
 -- How far from a view's origin a corner is shown.
-use Rattle.std.proofs.Common.{◌≡◌, ℕ, zero, suc, ◌+◌, ◌*◌, ◌/◌, ◌<◌, ◌≤◌, ◌^◌, ◌⊎◌, inl, inr, Bool, true, false, refl, arith, mul-le-mul, unsigned_abs}
-use Rattle.std.specs.Prelude.{ℤ, pos, neg_ℤ, nat_le, ◌+ℤ◌, ◌-ℤ◌, ◌*ℤ◌, ◌<ℤ◌, if◌then◌else◌, ◌&&◌}
+use Rattle.std.proofs.Common.{◌≡◌, ◌+◌, ◌<◌, ◌≤◌, ◌^◌, Bool, true, false, arith, unsigned_abs}
+use Rattle.std.specs.Prelude.{ℤ, pos, neg_ℤ, ◌+ℤ◌, ◌-ℤ◌, if◌then◌else◌, ◌&&◌}
 use Rattle.std.specs.Ordering.{int_eq}
 use Rattle.std.proofs.lemmas.Int.{ints}
-use Rattle.std.proofs.lemmas.Bool.{leb-true, cases_lt}
-use Rattle.std.proofs.Math.Nat.{div-le_self}
-use Rattle.integers.proofs.Comparisons.{twice_positive}
-use Rattle.integers.proofs.Floors.{floor_of-is}
-use Rattle.integers.proofs.Sizes.{abs_times}
 use Rattle.lattice.specs.declared.points.Corner.{Corner}
 use Rattle.lattice.specs.declared.points.Dir.{Dir}
 use Rattle.lattice.specs.Points.{of_dir, point_of, scaled, across_of, upward_of}
 use Rattle.lattice.specs.Triple.{Triple, IsWithin, dot, right_axis, up_axis}
 use Rattle.lattice.proofs.VectorSizes.{dot_reads, cross_within, wider}
-use Rattle.sheet_plan.specs.Numbers.{Measure, measure_of, nearest, root_up_to, root_of, shortening_of, square_of, sheet_length}
+use Rattle.sheet_plan.specs.Numbers.{Measure, measure_of, square_of, sheet_length}
 use Rattle.sheet_plan.specs.Sheets.{IsShownAt}
 use Rattle.sheet_plan.specs.declared.sheet.Sheet.{Sheet}
 use Rattle.sheet_plan.specs.declared.sheet.Spread.{Spread}

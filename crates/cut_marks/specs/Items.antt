@@ -12,7 +12,6 @@ use Rattle.sheet_page.specs.declared.page.Item.{Item}
 use Rattle.sheet_page.specs.declared.page.Item.TheVariants as item
 use Rattle.sheet_page.specs.declared.page.Pen.{Pen}
 use Rattle.sheet_page.specs.declared.page.Pen.TheVariants as pen
-use Rattle.stroke_paths.specs.declared.path.Point.{Point}
 use Rattle.cut_marks.specs.MarkLetters.{half_of, width_of, heading_text, heading_width}
 
 -- a straight line from one place to another

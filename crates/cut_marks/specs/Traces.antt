@@ -4,7 +4,7 @@ use Rattle.lattice.specs.declared.cuts.Cut.{Cut}
 use Rattle.lattice.specs.declared.points.Axis.{Axis}
 use Rattle.lattice.specs.declared.points.Axis.TheVariants.{X, Y, Z}
 use Rattle.lattice.specs.declared.points.Corner.{Corner}
-use Rattle.lattice.specs.Cuts.{Plane, plane_of, toward_of, IsBeyond, IsBeforePlane}
+use Rattle.lattice.specs.Cuts.{Plane, plane_of, toward_of}
 use Rattle.lattice.specs.Points.{Point, of_dir, point_of}
 use Rattle.lattice.specs.Triple.{Triple, dot, right_axis, up_axis}
 use Rattle.geometry.specs.Parts.{Part}

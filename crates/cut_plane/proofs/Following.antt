@@ -6,7 +6,7 @@ use Rattle.lattice.specs.declared.soup.Tri.{Tri}
 use Rattle.lattice.specs.Points.{Point, point_of, of_spot}
 use Rattle.lattice.specs.Cuts.{Plane, IsBeyond, IsBeforePlane}
 use Rattle.geometry.specs.Parts.{Part, Face, IsHalf, IsTwin, HasNoSideTwice, start_of, end_of}
-use Rattle.geometry.specs.Cuts.{start_corner, end_corner, GoesBeyond, crossing_of}
+use Rattle.geometry.specs.Cuts.{IsBorderOf, GoesBeyond, crossing_of, start_corner, end_corner}
 use Rattle.geometry.proofs.Listed.{same_element}
 use Rattle.geometry.proofs.Borders.{not_both_sides}
 use Rattle.cut_plane.specs.declared.segments.Segment.{Segment}
@@ -40,6 +40,19 @@ module _ (c : Plane) {s : Part} (f : Face s) where
   one_returns (suc (suc m)) zero hm hn p q = absurd (apart f.a q.1 p.0)
   one_returns (suc (suc m)) (suc zero) hm hn p q = absurd (apart f.c p.1 q.0)
   one_returns (suc (suc m)) (suc (suc n)) hm hn p q = omega arith
+
+  -- a face has one border
+  pub one_border : (p q p' q' : Point) → IsBorderOf c f p q → IsBorderOf c f p' q' → (p ≡ p') × (q ≡ q')
+  one_border p q p' q' h h' = (
+    h.from ∙ (λ i. crossing_of c (start_corner f (goes i)) (end_corner f (goes i))) ∙ sym h'.from,
+    h.to ∙ (λ i. crossing_of c (end_corner f (returns i)) (start_corner f (returns i))) ∙ sym h'.to,
+  )
+    where
+      goes : h.first ≡ h'.first
+      goes = one_goes h.first h'.first h.first_side h'.first_side h.goes h'.goes
+
+      returns : h.second ≡ h'.second
+      returns = one_returns h.second h'.second h.second_side h'.second_side h.returns h'.returns
 
 module _ (c : Plane) (s : Part) where
   -- ---- faces with one number

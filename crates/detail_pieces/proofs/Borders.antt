@@ -1,5 +1,5 @@
 -- How far points are over the border of a half plane: along a line of sight, and at sums of two spots.
-use Rattle.std.proofs.Common.{◌≡◌, Bool, true, false, ℕ, [], ◌∷◌, refl, sym, ap, ◌∙◌, arith}
+use Rattle.std.proofs.Common.{◌≡◌, ℕ, [], ◌∷◌, refl, sym, ap, ◌∙◌, arith}
 use Rattle.std.specs.Prelude.{ℤ, pos, ◌+ℤ◌, ◌-ℤ◌, ◌*ℤ◌, ◌<ℤ◌, ◌≤ℤ◌}
 use Rattle.std.proofs.lemmas.Int.{ints}
 use Rattle.integers.proofs.Comparisons.{not_negative_at, not_negative_of_positive, sum_not_negative}
@@ -12,38 +12,42 @@ use Rattle.lattice.specs.Points.{Point, IsPoint, of_spot, OnOneSight}
 use Rattle.lattice.proofs.OnLines.{product_of_sum}
 use Rattle.geometry.specs.Pieces.{spot_sum, LiesBetween}
 use Rattle.geometry.proofs.OnLines.{sum_is_point}
+use Rattle.detail_pieces.specs.declared.sides.Bound.{Bound}
+use Rattle.detail_pieces.specs.declared.sides.Bound.TheVariants.{Least, Most}
 use Rattle.detail_pieces.specs.declared.sides.Side.{Side}
+use Rattle.detail_pieces.specs.declared.sides.ViewAxis.{ViewAxis}
+use Rattle.detail_pieces.specs.declared.sides.ViewAxis.TheVariants.{Across, Upward}
 use Rattle.detail_pieces.specs.inner.Sides.{seen_of, over_by, over_of}
 
 -- ---- along a line of sight
-seen_same : (d : Triple) (upward : Bool) (p q : Point) → OnOneSight d p q → seen_of d upward p *ℤ q.w ≡ seen_of d upward q *ℤ p.w
-seen_same d true p q h = h.upward
-seen_same d false p q h = h.across
+seen_same : (d : Triple) (axis : ViewAxis) (p q : Point) → OnOneSight d p q → seen_of d axis p *ℤ q.w ≡ seen_of d axis q *ℤ p.w
+seen_same d Upward p q h = h.upward
+seen_same d Across p q h = h.across
 
-pub over_by_same : (least : Bool) (k s w t v : ℤ) → s *ℤ v ≡ t *ℤ w → over_by least s (k *ℤ w) *ℤ v ≡ over_by least t (k *ℤ v) *ℤ w
-over_by_same true k s w t v e = by_one _ _ (s *ℤ v) (t *ℤ w) (pos 1)
+pub over_by_same : (bound : Bound) (k s w t v : ℤ) → s *ℤ v ≡ t *ℤ w → over_by bound s (k *ℤ w) *ℤ v ≡ over_by bound t (k *ℤ v) *ℤ w
+over_by_same Least k s w t v e = by_one _ _ (s *ℤ v) (t *ℤ w) (pos 1)
     (ring (k ∷ s ∷ w ∷ t ∷ v ∷ []) (((var 1 ⊖ (var 0 ⊗ var 2)) ⊗ var 4) ⊖ ((var 3 ⊖ (var 0 ⊗ var 4)) ⊗ var 2)) (((var 1 ⊗ var 4) ⊖ (var 3 ⊗ var 2)) ⊗ con (pos 1)) refl) e
-over_by_same false k s w t v e = by_one _ _ (s *ℤ v) (t *ℤ w) (pos 0 -ℤ pos 1)
+over_by_same Most k s w t v e = by_one _ _ (s *ℤ v) (t *ℤ w) (pos 0 -ℤ pos 1)
     (ring (k ∷ s ∷ w ∷ t ∷ v ∷ []) ((((var 0 ⊗ var 2) ⊖ var 1) ⊗ var 4) ⊖ (((var 0 ⊗ var 4) ⊖ var 3) ⊗ var 2)) (((var 1 ⊗ var 4) ⊖ (var 3 ⊗ var 2)) ⊗ (con (pos 0) ⊖ con (pos 1))) refl) e
 
 pub over_same : (d : Triple) (h : Side) (p q : Point) → OnOneSight d p q → over_of d h p *ℤ q.w ≡ over_of d h q *ℤ p.w
-over_same d h p q k = over_by_same h.least h.at (seen_of d h.upward p) p.w (seen_of d h.upward q) q.w (seen_same d h.upward p q k)
+over_same d h p q k = over_by_same h.bound h.at (seen_of d h.axis p) p.w (seen_of d h.axis q) q.w (seen_same d h.axis p q k)
 
 -- ---- sums
-seen_sum : (d : Triple) (upward : Bool) (a b : Spot) (i j : ℕ) → seen_of d upward (spot_sum a b i j) ≡ (pos i *ℤ seen_of d upward (of_spot a)) +ℤ (pos j *ℤ seen_of d upward (of_spot b))
-seen_sum d true a b i j = product_of_sum (up_axis d) (pos i) (pos j) (of_spot a) (of_spot b)
-seen_sum d false a b i j = product_of_sum (right_axis d) (pos i) (pos j) (of_spot a) (of_spot b)
+seen_sum : (d : Triple) (axis : ViewAxis) (a b : Spot) (i j : ℕ) → seen_of d axis (spot_sum a b i j) ≡ (pos i *ℤ seen_of d axis (of_spot a)) +ℤ (pos j *ℤ seen_of d axis (of_spot b))
+seen_sum d Upward a b i j = product_of_sum (up_axis d) (pos i) (pos j) (of_spot a) (of_spot b)
+seen_sum d Across a b i j = product_of_sum (right_axis d) (pos i) (pos j) (of_spot a) (of_spot b)
 
-over_by_sum : (least : Bool) (k i j s t w v : ℤ) → over_by least ((i *ℤ s) +ℤ (j *ℤ t)) (k *ℤ ((i *ℤ w) +ℤ (j *ℤ v))) ≡ (i *ℤ over_by least s (k *ℤ w)) +ℤ (j *ℤ over_by least t (k *ℤ v))
-over_by_sum true k i j s t w v =
+over_by_sum : (bound : Bound) (k i j s t w v : ℤ) → over_by bound ((i *ℤ s) +ℤ (j *ℤ t)) (k *ℤ ((i *ℤ w) +ℤ (j *ℤ v))) ≡ (i *ℤ over_by bound s (k *ℤ w)) +ℤ (j *ℤ over_by bound t (k *ℤ v))
+over_by_sum Least k i j s t w v =
     ring (k ∷ i ∷ j ∷ s ∷ t ∷ w ∷ v ∷ []) (((var 1 ⊗ var 3) ⊕ (var 2 ⊗ var 4)) ⊖ (var 0 ⊗ ((var 1 ⊗ var 5) ⊕ (var 2 ⊗ var 6)))) ((var 1 ⊗ (var 3 ⊖ (var 0 ⊗ var 5))) ⊕ (var 2 ⊗ (var 4 ⊖ (var 0 ⊗ var 6)))) refl
-over_by_sum false k i j s t w v =
+over_by_sum Most k i j s t w v =
     ring (k ∷ i ∷ j ∷ s ∷ t ∷ w ∷ v ∷ []) ((var 0 ⊗ ((var 1 ⊗ var 5) ⊕ (var 2 ⊗ var 6))) ⊖ ((var 1 ⊗ var 3) ⊕ (var 2 ⊗ var 4))) ((var 1 ⊗ ((var 0 ⊗ var 5) ⊖ var 3)) ⊕ (var 2 ⊗ ((var 0 ⊗ var 6) ⊖ var 4))) refl
 
 pub over_sum : (d : Triple) (h : Side) (a b : Spot) (i j : ℕ) → over_of d h (spot_sum a b i j) ≡ (pos i *ℤ over_of d h (of_spot a)) +ℤ (pos j *ℤ over_of d h (of_spot b))
 over_sum d h a b i j =
-    ap (λ (x : ℤ). over_by h.least x (h.at *ℤ ((pos i *ℤ a.w) +ℤ (pos j *ℤ b.w)))) (seen_sum d h.upward a b i j)
-    ∙ over_by_sum h.least h.at (pos i) (pos j) (seen_of d h.upward (of_spot a)) (seen_of d h.upward (of_spot b)) a.w b.w
+    ap (λ (x : ℤ). over_by h.bound x (h.at *ℤ ((pos i *ℤ a.w) +ℤ (pos j *ℤ b.w)))) (seen_sum d h.axis a b i j)
+    ∙ over_by_sum h.bound h.at (pos i) (pos j) (seen_of d h.axis (of_spot a)) (seen_of d h.axis (of_spot b)) a.w b.w
 
 -- ---- signs along a line of sight
 pub not_negative_along : (d : Triple) (h : Side) (p q : Point) → IsPoint p → IsPoint q → OnOneSight d p q → pos 0 ≤ℤ over_of d h p → pos 0 ≤ℤ over_of d h q

@@ -12,8 +12,7 @@ use Rattle.lattice.specs.Lines.{IsSameLine, AreStripEnds}
 use Rattle.lattice.specs.Triple.{Triple}
 use Rattle.lattice.specs.Points.{Point, IsPoint, of_spot, OnOneSight}
 use Rattle.lattice.proofs.SameLines.{same_line}
-use Rattle.geometry.specs.Pieces.{LiesBetween, LiesOn, IsBefore}
-use Rattle.geometry.proofs.Shares.{sum_turned}
+use Rattle.geometry.specs.Pieces.{LiesOn, IsBefore}
 use Rattle.geometry.proofs.Sights.{sight_back}
 use Rattle.line_merge.specs.Merging.{AreStrips, LiesOnStrip, IsClear, AreMerged}
 use Rattle.line_merge.proofs.Lists.{map_contains}

@@ -1,5 +1,5 @@
 -- What is left of a strip between two borders, in a window, and of a list of strips.
-use Rattle.std.proofs.Common.{◌≡◌, ◌⊎◌, inl, inr, Bool, true, false, List, [], ◌∷◌, ◌++◌, Contains, sym, ap, subst, ◌∙◌, arith}
+use Rattle.std.proofs.Common.{◌≡◌, ◌⊎◌, inl, inr, List, [], ◌∷◌, ◌++◌, Contains, sym, ap, subst, ◌∙◌, arith}
 use Rattle.std.specs.Prelude.{ℤ, pos, ◌-ℤ◌, ◌*ℤ◌, ◌<ℤ◌, ◌≤ℤ◌}
 use Rattle.std.proofs.lemmas.Int.{ints}
 use Rattle.std.proofs.lemmas.List.Elements.{Contains-append_left, Contains-push, Contains-push_cases}
@@ -10,7 +10,10 @@ use Rattle.lattice.specs.Triple.{Triple}
 use Rattle.lattice.specs.Points.{Point, IsPoint, of_spot}
 use Rattle.lattice.specs.Lines.{IsSameLine}
 use Rattle.line_merge.specs.Merging.{AreStrips, LiesOnStrip}
+use Rattle.detail_pieces.specs.declared.sides.Bound.TheVariants.{Least, Most}
 use Rattle.detail_pieces.specs.declared.sides.Side.{Side}
+use Rattle.detail_pieces.specs.declared.sides.ViewAxis.{ViewAxis}
+use Rattle.detail_pieces.specs.declared.sides.ViewAxis.TheVariants.{Across, Upward}
 use Rattle.detail_pieces.specs.declared.windows.Window.{Window}
 use Rattle.detail_pieces.specs.Windows.{IsInside, IsWithinWindow, IsOnSide, IsEndOf, AreClipped}
 use Rattle.detail_pieces.specs.inner.Sides.{seen_of, over_by, over_of, IsKeptOrCut, IsLeftOf, IsOut}
@@ -41,21 +44,21 @@ on_it f s k e h = omega (arith, ints)
 on_that : (f s k : ℤ) → f ≡ k -ℤ s → f ≡ pos 0 → s ≡ k
 on_that f s k e h = omega (arith, ints)
 
-above_is : (d : Triple) (u : Bool) (least : ℤ) (h : Side) → h.upward ≡ u → h.at ≡ least → h.least ≡ true → (p : Point) → over_of d h p ≡ seen_of d u p -ℤ (least *ℤ p.w)
+above_is : (d : Triple) (u : ViewAxis) (least : ℤ) (h : Side) → h.axis ≡ u → h.at ≡ least → h.bound ≡ Least → (p : Point) → over_of d h p ≡ seen_of d u p -ℤ (least *ℤ p.w)
 above_is d u least h e f g p = λ i. over_by (g i) (seen_of d (e i) p) (f i *ℤ p.w)
 
-below_is : (d : Triple) (u : Bool) (most : ℤ) (h : Side) → h.upward ≡ u → h.at ≡ most → h.least ≡ false → (p : Point) → over_of d h p ≡ (most *ℤ p.w) -ℤ seen_of d u p
+below_is : (d : Triple) (u : ViewAxis) (most : ℤ) (h : Side) → h.axis ≡ u → h.at ≡ most → h.bound ≡ Most → (p : Point) → over_of d h p ≡ (most *ℤ p.w) -ℤ seen_of d u p
 below_is d u most h e f g p = λ i. over_by (g i) (seen_of d (e i) p) (f i *ℤ p.w)
 
-pub out_first : (d : Triple) (u : Bool) (least most : ℤ) (h : Side) → h.upward ≡ u → h.at ≡ least → h.least ≡ true → (r : Strip) → IsOut d h r → IsOutBetween d u least most r
+pub out_first : (d : Triple) (u : ViewAxis) (least most : ℤ) (h : Side) → h.axis ≡ u → h.at ≡ least → h.bound ≡ Least → (r : Strip) → IsOut d h r → IsOutBetween d u least most r
 out_first d u least most h e f g r out p hp lies more less = never _ _ _ (above_is d u least h e f g p) more (out.none p hp lies)
 
-module _ (d : Triple) (u : Bool) (least most : ℤ) (h g : Side) (h-upward : h.upward ≡ u) (h-at : h.at ≡ least) (h-least : h.least ≡ true) (g-upward : g.upward ≡ u) (g-at : g.at ≡ most) (g-most : g.least ≡ false) where
+module _ (d : Triple) (u : ViewAxis) (least most : ℤ) (h g : Side) (h-axis : h.axis ≡ u) (h-at : h.at ≡ least) (h-least : h.bound ≡ Least) (g-axis : g.axis ≡ u) (g-at : g.at ≡ most) (g-most : g.bound ≡ Most) where
   above : (p : Point) → over_of d h p ≡ seen_of d u p -ℤ (least *ℤ p.w)
-  above p = above_is d u least h h-upward h-at h-least p
+  above p = above_is d u least h h-axis h-at h-least p
 
   below : (p : Point) → over_of d g p ≡ (most *ℤ p.w) -ℤ seen_of d u p
-  below p = below_is d u most g g-upward g-at g-most p
+  below p = below_is d u most g g-axis g-at g-most p
 
   kept_or_on : (r s t : Spot) → IsKeptOrCut d h r s → IsKeptOrCut d g s t → IsKeptOrOn d u least most r t
   kept_or_on r s t (inl e) (inl f) = inl (f ∙ e)
@@ -83,14 +86,14 @@ module _ (d : Triple) (u : Bool) (least most : ℤ) (h g : Side) (h-upward : h.u
 
 -- ---- in a window
 module _ (d : Triple) (o : Window) where
-  kept_or_side : (r s t : Spot) → IsKeptOrOn d false o.u1 o.u2 r s → IsKeptOrOn d true o.v1 o.v2 s t → (of_spot t ≡ of_spot r) ⊎ IsOnSide d o (of_spot t)
+  kept_or_side : (r s t : Spot) → IsKeptOrOn d Across o.u1 o.u2 r s → IsKeptOrOn d Upward o.v1 o.v2 s t → (of_spot t ≡ of_spot r) ⊎ IsOnSide d o (of_spot t)
   kept_or_side r s t (inl e) (inl f) = inl (f ∙ e)
-  kept_or_side r s t (inr (inl z)) (inl f) = inr (inl (subst (λ (p : Point). seen_of d false p ≡ o.u1 *ℤ p.w) (sym f) z))
-  kept_or_side r s t (inr (inr z)) (inl f) = inr (inr (inl (subst (λ (p : Point). seen_of d false p ≡ o.u2 *ℤ p.w) (sym f) z)))
+  kept_or_side r s t (inr (inl z)) (inl f) = inr (inl (subst (λ (p : Point). seen_of d Across p ≡ o.u1 *ℤ p.w) (sym f) z))
+  kept_or_side r s t (inr (inr z)) (inl f) = inr (inr (inl (subst (λ (p : Point). seen_of d Across p ≡ o.u2 *ℤ p.w) (sym f) z)))
   kept_or_side r s t k (inr (inl z)) = inr (inr (inr (inl z)))
   kept_or_side r s t k (inr (inr z)) = inr (inr (inr (inr z)))
 
-  pub part_of : (r s t : Strip) → IsLeftBetween d false o.u1 o.u2 r s → IsLeftBetween d true o.v1 o.v2 s t → IsPartIn d o r t
+  pub part_of : (r s t : Strip) → IsLeftBetween d Across o.u1 o.u2 r s → IsLeftBetween d Upward o.v1 o.v2 s t → IsPartIn d o r t
   part_of r s t one two = record {
     line = same_on t.line s.line r.line two.line one.line;
     kind = two.kind ∙ one.kind;
@@ -106,10 +109,10 @@ module _ (d : Triple) (o : Window) where
     second = kept_or_side r.b s.b t.b one.second two.second;
   }
 
-  pub unseen_first : (r : Strip) → IsOutBetween d false o.u1 o.u2 r → IsUnseen d o r
+  pub unseen_first : (r : Strip) → IsOutBetween d Across o.u1 o.u2 r → IsUnseen d o r
   unseen_first r out p hp lies inside = out p hp lies inside.left inside.right
 
-  pub unseen_second : (r s : Strip) → IsLeftBetween d false o.u1 o.u2 r s → IsOutBetween d true o.v1 o.v2 s → IsUnseen d o r
+  pub unseen_second : (r s : Strip) → IsLeftBetween d Across o.u1 o.u2 r s → IsOutBetween d Upward o.v1 o.v2 s → IsUnseen d o r
   unseen_second r s one out p hp lies inside = out p hp ((one.lies p hp).1 (lies, (at_most _ _ inside.left, at_most _ _ inside.right))) inside.below inside.above
     where
       at_most : (a b : ℤ) → a <ℤ b → a ≤ℤ b

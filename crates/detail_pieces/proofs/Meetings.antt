@@ -1,5 +1,5 @@
 -- Where the way from a spot inside a half plane to one outside meets the border, and that a spot can be seen there.
-use Rattle.std.proofs.Common.{◌≡◌, Bool, true, false, ℕ, [], ◌∷◌, refl, sym, ap, subst, ◌∙◌, ◌+◌, ◌<◌, ◌≤◌, ◌*◌, ◌^◌, unsigned_abs, arith}
+use Rattle.std.proofs.Common.{◌≡◌, ℕ, [], ◌∷◌, refl, sym, ap, subst, ◌∙◌, ◌+◌, ◌<◌, ◌≤◌, ◌*◌, ◌^◌, unsigned_abs, arith}
 use Rattle.std.specs.Prelude.{ℤ, pos, ◌+ℤ◌, ◌-ℤ◌, ◌*ℤ◌, ◌<ℤ◌}
 use Rattle.std.proofs.lemmas.Int.{ints}
 use Rattle.integers.proofs.Absolutes.{abs_of_positive, abs_of_negative, natural_not_negative}
@@ -16,7 +16,11 @@ use Rattle.lattice.proofs.OnLines.{on_line_of_sum}
 use Rattle.lattice.proofs.SameLines.{along_line}
 use Rattle.geometry.specs.Pieces.{spot_sum}
 use Rattle.geometry.proofs.OnLines.{sum_is_point}
+use Rattle.detail_pieces.specs.declared.sides.Bound.{Bound}
+use Rattle.detail_pieces.specs.declared.sides.Bound.TheVariants.{Least, Most}
 use Rattle.detail_pieces.specs.declared.sides.Side.{Side}
+use Rattle.detail_pieces.specs.declared.sides.ViewAxis.{ViewAxis}
+use Rattle.detail_pieces.specs.declared.sides.ViewAxis.TheVariants.{Across, Upward}
 use Rattle.detail_pieces.specs.declared.places.ViewPlace.{ViewPlace}
 use Rattle.detail_pieces.specs.inner.Places.{IsSeenAt, IsNear, IsInBox, HasSpot, crossing_of, IsCrossing}
 use Rattle.detail_pieces.specs.inner.Sides.{seen_of, over_by, over_of, meeting_of}
@@ -72,8 +76,8 @@ other_coordinate a b c u v w s t z some e f g =
 -- ---- the meeting
 module _ (d : Triple) (h : Side) (a b : Spot) (inside : pos 0 <ℤ over_of d h (of_spot a)) (outside : over_of d h (of_spot b) <ℤ pos 0) where
   -- the two are not seen at one distance from the border
-  apart : seen_of d h.upward (of_spot b) *ℤ a.w ≡ seen_of d h.upward (of_spot a) *ℤ b.w → ⊥
-  apart e = go _ _ (over_by_same h.least h.at (seen_of d h.upward (of_spot b)) b.w (seen_of d h.upward (of_spot a)) a.w e) (times_neg _ _ a.positive outside) (mul_pos _ b.w inside b.positive)
+  apart : seen_of d h.axis (of_spot b) *ℤ a.w ≡ seen_of d h.axis (of_spot a) *ℤ b.w → ⊥
+  apart e = go _ _ (over_by_same h.bound h.at (seen_of d h.axis (of_spot b)) b.w (seen_of d h.axis (of_spot a)) a.w e) (times_neg _ _ a.positive outside) (mul_pos _ b.w inside b.positive)
     where
       times_neg : (f w : ℤ) → pos 0 <ℤ w → f <ℤ pos 0 → (f *ℤ w) <ℤ pos 0
       times_neg f w h k = let m = mul_neg w f h k in turned m
@@ -105,33 +109,33 @@ module _ (d : Triple) (h : Side) (a b : Spot) (inside : pos 0 <ℤ over_of d h (
     meeting_on_line = on_line_of_sum d l (pos (unsigned_abs (over_of d h (of_spot b)))) (pos (unsigned_abs (over_of d h (of_spot a)))) (of_spot a) (of_spot b) on_a on_b
 
     -- the line doesn't run along the border
-    pub crosses : ¬ (crossing_of h.upward l ≡ pos 0)
-    crosses = by h.upward apart
+    pub crosses : ¬ (crossing_of h.axis l ≡ pos 0)
+    crosses = by h.axis apart
       where
-        by : (u : Bool) → (seen_of d u (of_spot b) *ℤ a.w ≡ seen_of d u (of_spot a) *ℤ b.w → ⊥) → crossing_of u l ≡ pos 0 → ⊥
-        by true far e = far (same_of_gap _ _ (no_step_up l.a l.b _ _ l.leads e (along_line d l (of_spot a) (of_spot b) on_a on_b)))
-        by false far e = far (same_of_gap _ _ (no_step l.a l.b _ _ l.leads e (along_line d l (of_spot a) (of_spot b) on_a on_b)))
+        by : (u : ViewAxis) → (seen_of d u (of_spot b) *ℤ a.w ≡ seen_of d u (of_spot a) *ℤ b.w → ⊥) → crossing_of u l ≡ pos 0 → ⊥
+        by Upward far e = far (same_of_gap _ _ (no_step_up l.a l.b _ _ l.leads e (along_line d l (of_spot a) (of_spot b) on_a on_b)))
+        by Across far e = far (same_of_gap _ _ (no_step l.a l.b _ _ l.leads e (along_line d l (of_spot a) (of_spot b) on_a on_b)))
 
     -- it is seen at the line's place on the border
-    pub seen_there : (t : ViewPlace) → IsCrossing l h.upward h.at t → IsSeenAt d t (meeting_of d h a b)
-    seen_there t k = seen h.upward (meeting_of d h a b) crosses meeting_on_line k (on_border h.least _ _ meets)
+    pub seen_there : (t : ViewPlace) → IsCrossing l h.axis h.at t → IsSeenAt d t (meeting_of d h a b)
+    seen_there t k = seen h.axis (meeting_of d h a b) crosses meeting_on_line k (on_border h.bound _ _ meets)
       where
-        on_border : (least : Bool) (x y : ℤ) → over_by least x y ≡ pos 0 → x ≡ y
-        on_border true x y e = same_of_gap x y e
-        on_border false x y e = sym (same_of_gap y x e)
+        on_border : (bound : Bound) (x y : ℤ) → over_by bound x y ≡ pos 0 → x ≡ y
+        on_border Least x y e = same_of_gap x y e
+        on_border Most x y e = sym (same_of_gap y x e)
 
         border : (u n w z k : ℤ) → u ≡ k *ℤ w → n ≡ k *ℤ z → u *ℤ z ≡ n *ℤ w
         border u n w z k e f = ap (λ (v : ℤ). v *ℤ z) e ∙ ring (k ∷ w ∷ z ∷ []) ((var 0 ⊗ var 1) ⊗ var 2) ((var 0 ⊗ var 2) ⊗ var 1) refl ∙ ap (λ (v : ℤ). v *ℤ w) (sym f)
 
-        seen : (u : Bool) (p : Point) → (crossing_of u l ≡ pos 0 → ⊥) → IsOnLine d l p → IsCrossing l u h.at t → seen_of d u p ≡ h.at *ℤ p.w → IsSeenAt d t p
-        seen true p some on k e =
+        seen : (u : ViewAxis) (p : Point) → (crossing_of u l ≡ pos 0 → ⊥) → IsOnLine d l p → IsCrossing l u h.at t → seen_of d u p ≡ h.at *ℤ p.w → IsSeenAt d t p
+        seen Upward p some on k e =
             let same = border (upward_of d p) t.upward p.w t.den h.at e k.on_border in
             record {
               across = other_coordinate l.b l.a l.c (upward_of d p) (across_of d p) p.w t.upward t.across t.den some
                   (sum_exchanged (l.b *ℤ upward_of d p) (l.a *ℤ across_of d p) ∙ on) (sum_exchanged (l.b *ℤ t.upward) (l.a *ℤ t.across) ∙ k.on_line) same;
               upward = same;
             }
-        seen false p some on k e =
+        seen Across p some on k e =
             let same = border (across_of d p) t.across p.w t.den h.at e k.on_border in
             record {
               across = same;
@@ -139,7 +143,7 @@ module _ (d : Triple) (h : Side) (a b : Spot) (inside : pos 0 <ℤ over_of d h (
             }
 
     -- where spots are some point is seen there
-    pub has_spot : (t : ViewPlace) → IsCrossing l h.upward h.at t → HasSpot d t
+    pub has_spot : (t : ViewPlace) → IsCrossing l h.axis h.at t → HasSpot d t
     has_spot t k = record {
       at = meeting_of d h a b;
       is = meeting_is_point;

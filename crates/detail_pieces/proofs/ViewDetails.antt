@@ -8,7 +8,7 @@ use Rattle.job_file.specs.declared.job.Job.{Job}
 use Rattle.solid_mesh.specs.Solids.{solid_part}
 use Rattle.solid_mesh.specs.declared.solid.Solid.{Solid}
 use Rattle.job_file.specs.ShownCuts.{planes_in}
-use Rattle.drawn_strips.specs.Views.{IsOrderedView}
+use Rattle.drawing_laws.specs.Views.{IsOrderedView}
 use Rattle.drawn_strips.proofs.StripsRight.{strips_of_view, ordered_of_view}
 use Rattle.lattice.specs.Cuts.{Plane, plane_of, toward_of}
 use Rattle.lattice.specs.Points.{of_dir}

@@ -7,7 +7,7 @@ ghost use Rattle.detail_pieces.specs.Windows.{AreClipped};
 ghost use Rattle.detail_pieces.specs.inner.Parts.{IsPartIn, IsUnseen, IsLeftBetween, IsOutBetween};
 
 use crate::halves::left_of;
-use crate::sides::Side;
+use crate::sides::{Bound, Side, ViewAxis};
 use crate::windows::Window;
 use exact_frac::OutOfMemory;
 use lattice::{Dir, Strip};
@@ -39,29 +39,29 @@ fn part_in(d: &Dir, window: &Window, strip: &Strip) -> Option<Strip>
     ensures some { IfSome result (IsPartIn (of_dir d.now) window.now strip.now) }
     ensures none { IsNone result → IsUnseen (of_dir d.now) window.now strip.now }
 {
-    match between(d, strip, false, window.u1, window.u2) {
-        Some(part) => between(d, &part, true, window.v1, window.v2),
+    match between(d, strip, ViewAxis::Across, window.u1, window.u2) {
+        Some(part) => between(d, &part, ViewAxis::Upward, window.v1, window.v2),
         None => None,
     }
 }
 
 /// What of the strip has its U, or its V, from the one number to the other.
-fn between(d: &Dir, strip: &Strip, upward: bool, least: i64, most: i64) -> Option<Strip>
+fn between(d: &Dir, strip: &Strip, axis: ViewAxis, least: i64, most: i64) -> Option<Strip>
     requires strip { AreStripEnds (of_dir d.now) strip.now.line strip.now.a strip.now.b }
     requires least { unsigned_abs least ≤ 2 ^ 40 }
     requires most { unsigned_abs most ≤ 2 ^ 40 }
-    ensures some { IfSome result (IsLeftBetween (of_dir d.now) upward least most strip.now) }
-    ensures none { IsNone result → IsOutBetween (of_dir d.now) upward least most strip.now }
+    ensures some { IfSome result (IsLeftBetween (of_dir d.now) axis least most strip.now) }
+    ensures none { IsNone result → IsOutBetween (of_dir d.now) axis least most strip.now }
 {
     let above = Side {
-        upward,
+        axis,
         at: least,
-        least: true,
+        bound: Bound::Least,
     };
     let below = Side {
-        upward,
+        axis,
         at: most,
-        least: false,
+        bound: Bound::Most,
     };
     match left_of(d, &above, strip) {
         Some(part) => left_of(d, &below, &part),

@@ -1,29 +1,49 @@
 // Where lines of a view meet the borders of half planes.
 ghost use Rattle.std.specs.Prelude.{◌≡◌, ◌<◌, ◌≤◌, ◌^◌, pos, ◌+ℤ◌, ◌-ℤ◌, ◌*ℤ◌, ◌<ℤ◌, unsigned_abs};
+ghost use Rattle.detail_pieces.specs.declared.sides.ViewAxis.TheVariants.{Across, Upward};
 ghost use Rattle.detail_pieces.specs.inner.Places.{crossing_of, IsCrossing};
 
 use crate::places::ViewPlace;
+use crate::sides::ViewAxis;
 use exact_frac::Frac;
 use lattice::Line;
 
-/// The place of the line where U, or V if `is_upward`, is this number. The line may not run along that border.
-pub(crate) fn crossing(line: &Line, is_upward: bool, at: i64) -> ViewPlace
+/// The place of the line where U, or V if the axis is `Upward`, is this number. The line may not run along that border.
+pub(crate) fn crossing(line: &Line, axis: ViewAxis, at: i64) -> ViewPlace
     requires number { unsigned_abs at ≤ 2 ^ 40 }
-    requires crosses { ¬ (crossing_of is_upward line.now ≡ pos 0) }
-    ensures { IsCrossing line.now is_upward at result }
+    requires crosses { ¬ (crossing_of axis line.now ≡ pos 0) }
+    ensures { IsCrossing line.now axis at result }
 {
-    if is_upward {
-        let other = other(line.b, line.a, line.c, at);
-        return ViewPlace {
-            across: other.num,
-            upward: times(at, other.den),
-            den: other.den,
-        };
+    match axis {
+        ViewAxis::Across => crossing_across(line, at),
+        ViewAxis::Upward => crossing_upward(line, at),
     }
+}
+
+/// The place of the line where U is this number.
+fn crossing_across(line: &Line, at: i64) -> ViewPlace
+    requires number { unsigned_abs at ≤ 2 ^ 40 }
+    requires crosses { ¬ (crossing_of Across line.now ≡ pos 0) }
+    ensures { IsCrossing line.now Across at result }
+{
     let other = other(line.a, line.b, line.c, at);
     ViewPlace {
         across: times(at, other.den),
         upward: other.num,
+        den: other.den,
+    }
+}
+
+/// The place of the line where V is this number.
+fn crossing_upward(line: &Line, at: i64) -> ViewPlace
+    requires number { unsigned_abs at ≤ 2 ^ 40 }
+    requires crosses { ¬ (crossing_of Upward line.now ≡ pos 0) }
+    ensures { IsCrossing line.now Upward at result }
+{
+    let other = other(line.b, line.a, line.c, at);
+    ViewPlace {
+        across: other.num,
+        upward: times(at, other.den),
         den: other.den,
     }
 }

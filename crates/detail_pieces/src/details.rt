@@ -4,7 +4,7 @@ ghost use Rattle.lattice.specs.Creases.{fraction_of};
 ghost use Rattle.job_file.specs.declared.view.JobView.{JobView};
 ghost use Rattle.solid_mesh.specs.Solids.{solid_part};
 ghost use Rattle.job_file.specs.ShownCuts.{planes_in};
-ghost use Rattle.drawn_strips.specs.Views.{IsOrderedView};
+ghost use Rattle.drawing_laws.specs.Views.{IsOrderedView};
 ghost use Rattle.piece_verify.specs.Checked.{IsViewOf};
 ghost use Rattle.detail_pieces.specs.Details.{IsDetailView};
 

@@ -5,7 +5,7 @@ ghost use Rattle.lattice.specs.Lines.{IsOnLine, AreStripEnds};
 ghost use Rattle.detail_pieces.specs.inner.Sides.{seen_of, over_of, meeting_of, IsLeftOf, IsOut};
 
 use crate::crossings::crossing;
-use crate::sides::Side;
+use crate::sides::{Bound, Side, ViewAxis};
 use crate::spots::spot_at;
 use lattice::{Dir, Line, Spot, Strip, across, upward};
 
@@ -49,31 +49,29 @@ fn meeting(d: &Dir, side: &Side, line: &Line, inside: &Spot, outside: &Spot) -> 
     requires outside { over_of (of_dir d.now) side.now (of_spot outside.now) <ℤ pos 0 }
     ensures { OnOneSight (of_dir d.now) (meeting_of (of_dir d.now) side.now inside.now outside.now) (of_spot result) }
 {
-    spot_at(d, &crossing(line, side.upward, side.at))
+    spot_at(d, &crossing(line, side.axis, side.at))
 }
 
 /// How far the spot is over the border, times its divisor.
 fn over(d: &Dir, side: &Side, p: &Spot) -> i128
     ensures { result ≡ over_of (of_dir d.now) side.now (of_spot p.now) }
 {
-    let seen = seen(d, side.upward, p);
+    let seen = seen(d, side.axis, p);
     let border = border(side.at, p.w);
-    if side.least {
-        seen - border
-    } else {
-        border - seen
+    match side.bound {
+        Bound::Least => seen - border,
+        Bound::Most => border - seen,
     }
 }
 
 /// U of the spot, or V, times its divisor.
-fn seen(d: &Dir, is_upward: bool, p: &Spot) -> i128
-    ensures value { result ≡ seen_of (of_dir d.now) is_upward (of_spot p.now) }
+fn seen(d: &Dir, axis: ViewAxis, p: &Spot) -> i128
+    ensures value { result ≡ seen_of (of_dir d.now) axis (of_spot p.now) }
     ensures size { unsigned_abs result ≤ 2 ^ 100 }
 {
-    if is_upward {
-        upward(d, p).num
-    } else {
-        across(d, p).num
+    match axis {
+        ViewAxis::Across => across(d, p).num,
+        ViewAxis::Upward => upward(d, p).num,
     }
 }
 

@@ -2,7 +2,6 @@
 use Rattle.std.proofs.Common.{◌≡◌, ◌<◌, ◌≤◌, ℕ, List, length, inl, inr, Option, Some, None, IsSomeAnd, refl, sym, ap, subst, ◌∙◌, arith}
 use Rattle.std.specs.Prelude.{Result, Ok, Err}
 use Rattle.desk.specs.Files.{Files}
-use Rattle.geometry.specs.Parts.{Part}
 use Rattle.job_file.specs.Documents.{JobValues}
 use Rattle.sheet_plan.specs.declared.sheet.Stroke.{Stroke}
 use Rattle.part_input.specs.Jobs.{TakesReadJob}
@@ -10,7 +9,7 @@ use Rattle.part_input.specs.Parts.{TakesSolid}
 use Rattle.part_input.specs.declared.fault.Fault.{Fault}
 use Rattle.part_input.proofs.Singles.{same_value, same_fault, not_both, none_some, same_some, named_job_single, solid_single}
 use Rattle.piece_verify.specs.Lists.{IsList, IsFaultLine}
-use Rattle.detail_view.specs.Run.{AsksFor, TakesList, ReadsList, TakesReadList, HasView, Given, listed, viewed, TakesPart, ChecksBy, Checks, TakesViewed, Details, Takes, RunsPieces}
+use Rattle.detail_view.specs.Run.{AsksFor, TakesList, ReadsList, TakesReadList, HasView, listed, viewed, TakesPart, ChecksBy, Checks, TakesViewed, Details, Takes, RunsPieces}
 use Rattle.detail_view.specs.Steps.{◌and_then◌, Lifted, Yields}
 use Rattle.detail_view.specs.Words.{Check, Detail, Asked, checks, details, asked_by}
 use Rattle.detail_view.specs.declared.fault.PiecesFault.{PiecesFault}

@@ -1,15 +1,13 @@
 -- What is left where a detail is drawn and its page is kept.
 use Rattle.std.proofs.Common.{◌≡◌, ℕ, List, Option, Some, None, refl, sym, subst}
-use Rattle.std.specs.Prelude.{Result, Ok, IfSome, is_some, Bool, false, Vec}
+use Rattle.std.specs.Prelude.{Result, Ok, IfSome, is_some, false, Vec}
 use Rattle.std.specs.declared.alloc.Global.{Global}
 use Rattle.std.proofs.lemmas.Option.{none-some}
 use Rattle.desk.specs.Files.{Files, DeskState}
-use Rattle.job_file.specs.Seen.{scale_seen, job_seen}
 use Rattle.lattice.specs.declared.pieces.Piece.{Piece}
-use Rattle.solid_mesh.specs.Solids.{solid_part}
 use Rattle.detail_view.specs.Drawn.{IsDrawnOf, IsDrawnBy, pieces_told, HasDetail, LeavesDrawn, KeepsPage}
 use Rattle.detail_view.specs.Run.{Given, Details, OnlyAsked}
-use Rattle.detail_view.specs.Seen.{window_seen, detail_seen}
+use Rattle.detail_view.specs.Seen.{detail_seen}
 use Rattle.detail_view.specs.Words.{Detail, Asked, checks, details}
 use Rattle.detail_view.specs.declared.detail.Shown.{Shown}
 use Rattle.detail_view.specs.declared.words.DetailWords.{DetailWords}

@@ -1,12 +1,8 @@
 -- What numbers and words say, read part by part.
-use Rattle.std.proofs.Common.{◌≡◌, ℕ, ◌<◌, ◌≤◌, ◌^◌, zero, suc, true, List, [], ◌∷◌, length, take, get_or, String, string_bytes, ap, arith}
+use Rattle.std.proofs.Common.{◌≡◌, ℕ, ◌<◌, ◌≤◌, ◌^◌, zero, suc, true, List, [], ◌∷◌, length, get_or, String, string_bytes, ap, arith}
 use Rattle.std.specs.Prelude.{ℤ, ◌<ℤ◌, int_lt, ◌&&◌, unsigned_abs}
 use Rattle.std.proofs.lemmas.Bool.{and_parts, leb-true}
 use Rattle.std.proofs.lemmas.Int.{ints}
-use Rattle.std.proofs.lemmas.List.{length-take}
-use Rattle.std.proofs.Math.Nat.{pow-le-pow_right}
-use Rattle.dec_text.specs.Numbers.{AreDigits, value_of}
-use Rattle.dec_text.proofs.Digits.{value_less, digits-take}
 use Rattle.std.specs.declared.alloc.Global.{Global}
 use Rattle.draw_words.specs.Seen.{texts}
 use Rattle.detail_view.specs.Words.{is_near, is_span, word_at}

@@ -1,5 +1,5 @@
 -- What a run of `pieces` draws of a view, and the file that it keeps.
-use Rattle.std.specs.Prelude.{◌≡◌, ℕ, List, Option, Some, None, option_map, Bool, true, false, Result, Ok, Err, Vec}
+use Rattle.std.specs.Prelude.{◌≡◌, ℕ, List, Option, Some, None, option_map, Bool, true, false, Result, Ok, Vec}
 use Rattle.std.specs.declared.alloc.Global.{Global}
 use Rattle.desk.specs.Files.{Files, Keeps, MayKeepFront}
 use Rattle.job_file.specs.Seen.{direction_seen, scale_seen, job_seen}
@@ -13,14 +13,14 @@ use Rattle.lattice.specs.declared.points.Dir.{Dir}
 use Rattle.solid_mesh.specs.Solids.{solid_part}
 use Rattle.solid_mesh.specs.declared.solid.Solid.{Solid}
 use Rattle.job_file.specs.ShownCuts.{planes_in}
-use Rattle.drawn_strips.specs.Views.{IsOrderedView}
+use Rattle.drawing_laws.specs.Views.{IsOrderedView}
 use Rattle.piece_verify.specs.Checked.{IsViewOf}
 use Rattle.detail_pieces.specs.declared.windows.Window.{Window}
 use Rattle.detail_pieces.specs.Details.{IsDetailView}
 use Rattle.detail_pieces.specs.Pages.{IsDetailText}
 use Rattle.detail_view.specs.Run.{Given, viewed, Details}
 use Rattle.detail_view.specs.Seen.{window_seen}
-use Rattle.detail_view.specs.Words.{Detail, Asked, checks, details}
+use Rattle.detail_view.specs.Words.{Detail, Asked, details}
 use Rattle.detail_view.specs.declared.fault.PiecesFault.{PiecesFault}
 use Rattle.detail_view.specs.declared.fault.PiecesFault.TheVariants.{WriteFault}
 

@@ -1,5 +1,5 @@
 -- The status of a run, and which of its faults are the desk's.
-use Rattle.std.specs.Prelude.{◌≡◌, ◌⊎◌, ℕ, Option, Some, None}
+use Rattle.std.specs.Prelude.{◌≡◌, ℕ, Option, Some, None}
 use Rattle.desk.specs.Files.{Rose}
 use Rattle.part_input.specs.Faults.{CountsReads as CountsInput, status_of as input_status}
 use Rattle.part_input.specs.declared.fault.Fault.{Fault}

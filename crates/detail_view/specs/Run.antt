@@ -14,7 +14,7 @@ use Rattle.piece_verify.specs.ListLines.{IsEntryOf}
 use Rattle.piece_verify.specs.declared.line.Entry.{Entry}
 use Rattle.part_input.specs.Jobs.{TakesReadJob, IsOfJobFile}
 use Rattle.part_input.specs.Parts.{sample_size, TakesSolid, IsOfPart, HasSampleOr}
-use Rattle.part_input.specs.declared.fault.Input.TheVariants.{Job as TheJob, Part as ThePart}
+use Rattle.part_input.specs.declared.fault.Input.TheVariants.{Part as ThePart}
 use Rattle.part_input.specs.declared.fault.Fault.TheVariants.{ReadFault}
 use Rattle.piece_verify.specs.Lists.{IsList, IsFaultLine}
 use Rattle.piece_verify.specs.Checked.{IsVerdict}

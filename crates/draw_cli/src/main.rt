@@ -2,36 +2,23 @@
 #![tactic(auto)]
 
 use desk::Desk;
-use disk_desk::DiskDesk;
+use disk_desk::{DiskDesk, without_memory, words_of};
 use draw_core::{MEMORY_LINE, draw};
 use plot_rack::{DxfPlotter, HpglPlotter, ListPlotter, Plotter};
 use std::alloc::Global;
 use std::process::ExitCode;
-use std::rt::{Env, Stderr, Stdout};
-use std::{env, io};
+use std::rt::{Stderr, Stdout};
 
-// The words after the program's name.
-fn words_of<R: Env + AllocGlobal>(rt: &R) -> io::Result<Vec<String>> {
-    Ok(env::args(rt)?.skip(1).collect(rt.alloc())?)
-}
-
-// The end of a run that found no memory before it began.
-fn without_memory<D: Desk>(desk: &mut D) -> u8 {
-    let _unheard = desk.warn(MEMORY_LINE.as_bytes());
-    9
-}
-
-// The status of a run. Where the words can't be had, as where they aren't UTF-8, there are none.
+// The status of a run.
 fn status_of<D: Desk>(
     alloc: Global,
-    words: io::Result<Vec<String>>,
+    words: Option<Vec<String>>,
     desk: &mut D,
     extras: Vec<Box<dyn Plotter>>,
 ) -> u8 {
     match words {
-        Ok(words) => draw(alloc, &words, desk, extras).status,
-        Err(fault) if fault.kind() == io::ErrorKind::OutOfMemory => without_memory(desk),
-        Err(_) => draw(alloc, &[], desk, extras).status,
+        Some(words) => draw(alloc, &words, desk, extras).status,
+        None => without_memory(MEMORY_LINE, desk),
     }
 }
 
@@ -46,10 +33,10 @@ fn main(rt: HostRuntime) -> ExitCode {
         Box::new(alloc, HpglPlotter::new(alloc)),
         Box::new(alloc, DxfPlotter::new(alloc)),
     ) else {
-        return ExitCode::from(without_memory(&mut desk));
+        return ExitCode::from(without_memory(MEMORY_LINE, &mut desk));
     };
     if extras.push(list).is_err() || extras.push(hpgl).is_err() || extras.push(dxf).is_err() {
-        return ExitCode::from(without_memory(&mut desk));
+        return ExitCode::from(without_memory(MEMORY_LINE, &mut desk));
     }
     ExitCode::from(status_of(alloc, words, &mut desk, extras))
 }
@@ -66,18 +53,15 @@ mod tests {
         let mut desk = MemoryDesk::new(alloc, Vec::new(alloc), Vec::new(alloc));
         let mut words = Vec::new(alloc);
         assert_eq!(rt;
-            status_of(alloc, Ok(Vec::new(alloc)), &mut desk, Vec::new(alloc)),
+            status_of(alloc, Some(Vec::new(alloc)), &mut desk, Vec::new(alloc)),
             2
         );
         words.push(String::from_str(alloc, "missing")?)?;
-        assert_eq!(rt; status_of(alloc, Ok(words), &mut desk, Vec::new(alloc)), 7);
-        for (kind, status) in [
-            (io::ErrorKind::OutOfMemory, 9),
-            (io::ErrorKind::InvalidData, 2),
-        ] {
-            let words = Err(io::Error::from(kind));
-            assert_eq!(rt; status_of(alloc, words, &mut desk, Vec::new(alloc)), status);
-        }
+        assert_eq!(rt;
+            status_of(alloc, Some(words), &mut desk, Vec::new(alloc)),
+            7
+        );
+        assert_eq!(rt; status_of(alloc, None, &mut desk, Vec::new(alloc)), 9);
         Ok(())
     }
 }

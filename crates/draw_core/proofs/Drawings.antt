@@ -7,9 +7,10 @@ use Rattle.plot_rack.specs.Choices.{AreChosen}
 use Rattle.plot_rack.specs.Plotters.{Plot}
 use Rattle.part_input.specs.declared.fault.Fault.{Fault}
 use Rattle.draw_core.specs.inner.Kept.{WritesRack}
-use Rattle.draw_core.specs.declared.drawing.Drawing.{Drawing}
-use Rattle.draw_core.specs.Drawing.{drawn_in, Writes, WritesNamed}
-use Rattle.draw_core.specs.Run.{Drawn}
+use Rattle.drawing.specs.declared.drawn.Drawing.{Drawing}
+use Rattle.drawing.specs.Drawing.{drawn_in}
+use Rattle.draw_core.specs.Drawing.{Writes, WritesNamed}
+use Rattle.sheet_plan.specs.JobSheets.{Drawn}
 
 pub made_of : (made : Option Drawing) (P : Drawn → Type 0) (x : Drawn) → IfSome made (λ d. drawn_in d ≡ x) → P x → IfSome made (λ d. P (drawn_in d))
 made_of None P x e p = tt

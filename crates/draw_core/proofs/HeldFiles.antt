@@ -16,7 +16,7 @@ use Rattle.plot_rack.specs.Plotters.{Plot}
 use Rattle.sheet_plan.specs.declared.sheet.Stroke.{Stroke}
 use Rattle.draw_core.specs.Drawing.{plot_file, files_of, Writes, WritesNamed, Holds, HoldsNamed}
 use Rattle.draw_core.specs.Outputs.{File, KeepsAll, HoldsAll, stem_of, plot_name}
-use Rattle.draw_core.specs.declared.drawing.Drawing.{Drawing}
+use Rattle.drawing.specs.declared.drawn.Drawing.{Drawing}
 use Rattle.draw_core.proofs.Unmet.{and_left, and_right, not_true, outputs_differ}
 
 -- ---- names

@@ -1,9 +1,7 @@
 pub mod Answered
 pub mod Drawings
-pub mod DrawnViews
 pub mod FileNames
 pub mod HeldFiles
-pub mod InBoxes
 pub mod Keeping
 pub mod MadeFiles
 pub mod NoFile
@@ -11,7 +9,5 @@ pub mod OneAnswer
 pub mod Orders
 pub mod PlotFiles
 pub mod Saying
-pub mod SheetFacts
 pub mod StrokeLists
 pub mod Unmet
-pub mod ViewSums

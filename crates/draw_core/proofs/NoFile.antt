@@ -14,7 +14,9 @@ use Rattle.part_input.specs.declared.fault.Fault.{Fault}
 use Rattle.part_input.specs.declared.fault.Fault.TheVariants.{ReadFault, WriteFault, Memory}
 use Rattle.part_input.proofs.Answered.{IsOfNoDesk}
 use Rattle.put_texts.specs.Faults.{HasNoWriteFault}
-use Rattle.draw_core.specs.Run.{Drawn, PlansSheet, IsOfJob, IsOfFiles, AnswersDrawWords, NamesNoFile, IsJobOf, IsPartOf, IsOfWords}
+use Rattle.sheet_plan.specs.JobSheets.{Drawn}
+use Rattle.part_input.specs.Sheets.{PlansSheet}
+use Rattle.draw_core.specs.Run.{IsOfJob, IsOfFiles, AnswersDrawWords, NamesNoFile, IsJobOf, IsPartOf, IsOfWords}
 
 -- ---- what they say
 abbrev no_files : Files

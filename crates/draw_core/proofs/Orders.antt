@@ -1,22 +1,18 @@
 -- Faults of reading come in their order: of the job where it is named, of the part once the job was taken.
-use Rattle.std.proofs.Common.{◌≡◌, ℕ, List, [], Option, Some, None, refl, sym, subst}
+use Rattle.std.proofs.Common.{◌≡◌, ℕ, List, Option, Some, None, refl, sym, subst}
 use Rattle.std.specs.Prelude.{Result, Ok, Err, IfErr, IsSome, IsSomeAnd}
 use Rattle.desk.specs.Files.{Files}
 use Rattle.draw_words.specs.Names.{Named, named_by}
-use Rattle.job_file.specs.Documents.{JobValues, job_of_bytes}
-use Rattle.job_file.proofs.DocumentLemmas.{empty, usual}
+use Rattle.job_file.specs.Documents.{JobValues}
 use Rattle.part_input.specs.Jobs.{IsOfJobFile}
 use Rattle.part_input.specs.Parts.{sample_size, IsOfPart}
 use Rattle.part_input.proofs.Missing.{no_job, no_size}
-use Rattle.draw_core.specs.Run.{TakesMetJob, IsOfNamedJob, IsOfJob, IsOfSheet, ComesTo, RunsInOrder}
+use Rattle.draw_core.specs.Run.{TakesMetJob, IsOfNamedJob, IsOfJob, ComesTo, RunsInOrder}
+use Rattle.part_input.specs.Sheets.{IsOfSheet}
 use Rattle.draw_core.specs.inner.Faults.{ReadsInOrder}
 use Rattle.part_input.specs.declared.fault.Fault.{Fault}
 use Rattle.part_input.specs.declared.fault.Fault.TheVariants.{ReadFault, JobTooLong, Job as JobUnread, Memory}
 use Rattle.part_input.specs.declared.fault.Input.TheVariants.{Job as TheJob, Part as ThePart}
-
--- the usual job asks for no output
-pub usual_outputs : (values : JobValues) → job_of_bytes [] ≡ Ok values → values.outputs ≡ []
-usual_outputs values h = cc (empty, usual)
 
 -- a fault of the file of a job is one of a named job
 pub named_job : {X : Type 0} (r : Result X Fault) → IfErr r IsOfJobFile → IfErr r IsOfNamedJob

@@ -10,7 +10,8 @@ use Rattle.job_file.specs.Texts.{are_different, are_outputs, is_output}
 use Rattle.plot_rack.specs.Choices.{first_with, AreChosen, IsFirstMissing}
 use Rattle.draw_core.specs.Outputs.{first_unmet}
 use Rattle.part_input.specs.Steps.{Refuses}
-use Rattle.draw_core.specs.Run.{HasPlotters, IsOfUsualJob, IsOfJob}
+use Rattle.draw_core.specs.Run.{HasPlotters, IsOfJob}
+use Rattle.part_input.specs.Jobs.{IsOfUsualJob}
 use Rattle.draw_core.specs.inner.Faults.{IsOfOutputs}
 use Rattle.part_input.specs.declared.fault.Fault.{Fault}
 use Rattle.part_input.specs.declared.fault.Fault.TheVariants.{NoPlotter, Memory}

@@ -1,9 +1,6 @@
 pub mod Drawing
 pub mod Lines
-pub mod Numbers
 pub mod Outputs
 pub mod Run
-pub mod Sheets
-pub mod Strokes
 pub mod Summary
 pub mod inner

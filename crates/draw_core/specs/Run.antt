@@ -4,15 +4,16 @@ use Rattle.desk.specs.Files.{Files}
 use Rattle.draw_words.specs.Names.{Named, named_by}
 use Rattle.geometry.specs.Parts.{Part}
 use Rattle.job_file.specs.Documents.{JobValues}
-use Rattle.part_input.specs.Jobs.{ReadsJob, TakesReadJob}
+use Rattle.part_input.specs.Jobs.{ReadsJob, TakesReadJob, IsOfUsualJob, HasJobFile}
 use Rattle.part_input.specs.Parts.{sample_size, MakesSample, TakesSolid, IsOfPart, HasSampleOr}
+use Rattle.part_input.specs.Sheets.{PlansSheet, IsOfSheet}
 use Rattle.part_input.specs.Steps.{◌and_then◌}
+use Rattle.sheet_plan.specs.JobSheets.{Drawn}
 use Rattle.part_input.specs.declared.fault.Input.{Input}
 use Rattle.part_input.specs.declared.fault.Input.TheVariants.{Job as TheJob, Part as ThePart}
 use Rattle.part_input.specs.declared.fault.Fault.{Fault}
-use Rattle.part_input.specs.declared.fault.Fault.TheVariants.{Usage, ReadFault, JobTooLong, Job as JobUnread, NoPlotter, DoesNotFit, WriteFault, Memory}
+use Rattle.part_input.specs.declared.fault.Fault.TheVariants.{Usage, ReadFault, JobTooLong, Job as JobUnread, NoPlotter, WriteFault, Memory}
 use Rattle.draw_core.specs.Outputs.{first_unmet}
-use Rattle.draw_core.specs.Sheets.{HasSheet, HasNoSheet}
 
 -- ---- the steps of a run
 -- the words name files
@@ -24,17 +25,6 @@ NamesFiles words (Err e) = (e ≡ Usage) × (named_by words ≡ None)
 abbrev pub HasPlotters : List (List ℕ) → JobValues → Result JobValues Fault → Type 0
 HasPlotters suffixes job (Ok same) = (same ≡ job) × (first_unmet suffixes job.outputs ≡ None)
 HasPlotters suffixes job (Err e) = (name : List ℕ) × (e ≡ NoPlotter name) × (first_unmet suffixes job.outputs ≡ Some name)
-
--- what is drawn
-pub record Drawn : Type 0 where
-  pub job : JobValues
-  pub part : Part
-
--- the part is drawn by the job, whose views of it fit the sheet
-abbrev pub PlansSheet : JobValues → Part → Result Drawn Fault → Type 0
-PlansSheet job part (Ok drawn) = (drawn ≡ record { job = job; part = part }) × HasSheet job part.corners
-PlansSheet job part (Err (DoesNotFit need_w need_h have_w have_h)) = HasNoSheet job part.corners need_w need_h have_w have_h
-PlansSheet job part (Err e) = ⊥
 
 -- the job is taken and read, and its outputs have plotters with these suffixes
 abbrev pub TakesMetJob : List (List ℕ) → Files → Option (List ℕ) → Result JobValues Fault → Type 0
@@ -50,11 +40,7 @@ abbrev pub RunsDraw : List (List ℕ) → List (List ℕ) → Files → Result D
 RunsDraw suffixes words files = NamesFiles words and_then DrawsFiles suffixes files
 
 -- ---- answers
--- the faults of the usual job, and those of a named one
-abbrev pub IsOfUsualJob : Fault → Type 0
-IsOfUsualJob Memory = Unit {0}
-IsOfUsualJob fault = ⊥
-
+-- the faults of a named job
 abbrev pub IsOfNamedJob : Fault → Type 0
 IsOfNamedJob (ReadFault TheJob) = Unit {0}
 IsOfNamedJob JobTooLong = Unit {0}
@@ -66,12 +52,6 @@ IsOfNamedJob fault = ⊥
 abbrev pub IsOfJob : Option (List ℕ) → Fault → Type 0
 IsOfJob None fault = IsOfUsualJob fault
 IsOfJob (Some name) fault = IsOfNamedJob fault
-
--- the fault of a sheet
-abbrev pub IsOfSheet : Fault → Type 0
-IsOfSheet (DoesNotFit need_w need_h have_w have_h) = Unit {0}
-IsOfSheet Memory = Unit {0}
-IsOfSheet fault = ⊥
 
 -- the faults of what was named: of the job, of the part, or of the sheet
 abbrev pub IsOfFiles : Named → Fault → Type 0
@@ -114,11 +94,6 @@ ComesTo suffixes files named ThePart = (sample_size named.part ≡ None) × (job
 abbrev pub RunsInOrder : List (List ℕ) → List (List ℕ) → Files → Fault → Type 0
 RunsInOrder suffixes words files (ReadFault input) = IsSomeAnd (named_by words) (λ named. ComesTo suffixes files named input)
 RunsInOrder suffixes words files fault = Unit {0}
-
--- a job that is named is there
-abbrev pub HasJobFile : Files → Option (List ℕ) → Type 0
-HasJobFile files None = Unit {0}
-HasJobFile files (Some name) = IsSome (files name)
 
 -- the files that were named to be read are there
 abbrev pub HasFiles : Files → Named → Type 0

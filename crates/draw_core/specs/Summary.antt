@@ -7,8 +7,8 @@ use Rattle.lattice.specs.declared.pieces.Style.{Style}
 use Rattle.lattice.specs.declared.pieces.Style.TheVariants.{Solid, Dashed, Chain}
 use Rattle.solid_mesh.specs.Solids.{solid_part}
 use Rattle.svg_page.specs.Texts.{◌⊕◌}
-use Rattle.draw_core.specs.Numbers.{SumsViews}
-use Rattle.draw_core.specs.declared.drawing.Drawing.{Drawing}
+use Rattle.drawing.specs.Numbers.{SumsViews}
+use Rattle.drawing.specs.declared.drawn.Drawing.{Drawing}
 use Rattle.part_input.specs.declared.fault.Fault.{Fault}
 use Rattle.part_input.specs.declared.fault.Fault.TheVariants.{WriteFault}
 use Rattle.part_input.specs.declared.fault.Target.TheVariants.{Summary}

@@ -3,15 +3,14 @@ ghost use Rattle.std.specs.Prelude.{◌≡◌, ◌<◌, ◌≤◌, List, ◌++�
 ghost use Rattle.std.specs.List.{AllZip, flat_map};
 ghost use Rattle.sheet_plan.specs.declared.sheet.Stroke.{Stroke};
 ghost use Rattle.svg_page.specs.Svg.{stroke_line, group_begin, group_end, svg_of};
-ghost use Rattle.draw_core.specs.Strokes.{AreStrokesOf, AreStrokes};
+ghost use Rattle.drawing.specs.Strokes.{AreStrokesOf, AreStrokes};
 
-use crate::strokes::Stroked;
 use dec_text::Name;
+use drawing::{Stroked, ViewDrawing};
 use exact_frac::OutOfMemory;
 use sheet_plan::Sheet;
 use std::alloc::Global;
 use svg_page::{add_line, begin_group, begin_page, end_group, end_page};
-use view_lines::ViewDrawing;
 
 /// Adds the lines of the strokes of these in the view with this number.
 fn add_lines<S: Stroked>(

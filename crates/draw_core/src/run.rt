@@ -11,23 +11,24 @@ ghost use Rattle.draw_core.specs.Run.{RunsDraw, AnswersDrawWords, NamesNoFile, I
 ghost use Rattle.draw_core.specs.inner.Faults.{IsWriteOutcome};
 ghost use Rattle.draw_core.specs.Lines.{Warns, WarnsWhole};
 ghost use Rattle.fault_lines.specs.Lines.{NamesNothing};
-ghost use Rattle.draw_core.specs.Drawing.{drawn_in, IsDrawing, WritesNamed, HoldsNamed};
+ghost use Rattle.drawing.specs.Drawing.{drawn_in, IsPlannedDrawing};
+ghost use Rattle.draw_core.specs.Drawing.{WritesNamed, HoldsNamed};
 ghost use Rattle.draw_core.specs.inner.Kept.{AreRackFiles, WritesRack};
 ghost use Rattle.draw_core.specs.Summary.{IsSummaryOf, SaysSummary};
 ghost use Rattle.put_texts.specs.Desks.{HearsAll, OnlyRuns, OnlyWrites};
 ghost use Rattle.put_texts.specs.Faults.{CountsWrites, HasNoWriteFault};
 
-use crate::drawing::{Drawing, Outcome};
 use crate::keep::write_all;
 use crate::lines::{MEMORY_LINE, draw_line};
 use crate::made::outputs_of;
+use crate::outcome::Outcome;
 use crate::outputs::Output;
 use crate::pages::page_text;
-use crate::strokes::strokes_of;
 use crate::summary::{Summary, summary_of};
 use crate::take::{Taken, take};
 use dec_text::Name;
 use desk::Desk;
+use drawing::{Drawing, strokes_of};
 use exact_frac::OutOfMemory;
 use part_input::Fault;
 use plot_rack::{Plotter, Rack};
@@ -50,7 +51,7 @@ fn plotted_files(
     rack: Rack,
     drawing: &Drawing,
 ) -> Result<Vec<Output>, OutOfMemory>
-    requires { IsDrawing drawing.now }
+    requires { IsPlannedDrawing drawing.now }
     ensures { IfOk result (λ outputs. AreRackFiles (λ b. plot (b.vtable, b.value)) (boxes_of rack) drawing.now out outputs.items) }
 {
     let mut rack = rack;
@@ -68,7 +69,7 @@ fn files_of(
     rack: Rack,
     drawing: &Drawing,
 ) -> Result<Vec<Output>, OutOfMemory>
-    requires { IsDrawing drawing.now }
+    requires { IsPlannedDrawing drawing.now }
     ensures { IfOk result (λ outputs. AreRackFiles (λ b. plot (b.vtable, b.value)) (boxes_of rack) drawing.now out outputs.items) }
 {
     if rack.len() != 0 {
@@ -83,7 +84,7 @@ fn files_of(
 fn made_of(alloc: Global, taken: Taken) -> Result<Made, OutOfMemory>
     requires { IsDrawn taken }
     ensures drawn { IfOk result (λ made. drawn_in made.drawing ≡ drawn_of taken) }
-    ensures shows { IfOk result (λ made. IsDrawing made.drawing) }
+    ensures shows { IfOk result (λ made. IsPlannedDrawing made.drawing) }
     ensures summary { IfOk result (λ made. IsSummaryOf made.drawing (string_bytes made.summary.text)) }
     ensures files { IfOk result (λ made. AreRackFiles (λ b. plot (b.vtable, b.value)) (boxes_of taken.rack) made.drawing taken.out made.outputs.items) }
 {
@@ -146,7 +147,7 @@ fn write_drawing<D: Desk>(alloc: Global, taken: Taken, desk: &mut D) -> Outcome
     ensures fault { IfSome result.fault IsWriteOutcome }
     ensures drawn { HasDrawing result.fault (is_some result.drawing) }
     ensures made { IfSome result.drawing (λ d. drawn_in d ≡ drawn_of taken) }
-    ensures shows { IfSome result.drawing IsDrawing }
+    ensures shows { IfSome result.drawing IsPlannedDrawing }
     ensures files { (D.state desk.old).tells ≡ true →
         IfSome result.drawing (WritesRack (λ b. plot (b.vtable, b.value)) (boxes_of taken.rack) result.fault (D.state desk.old).files (D.state desk.new).files taken.out) }
     ensures untouched { IfNone result.drawing ((D.state desk.new).files ≡ (D.state desk.old).files) }
@@ -241,7 +242,7 @@ pub fn draw<D: Desk>(
     ensures drawn { HasDrawing result.fault (is_some result.drawing) }
     ensures part { (D.state desk.old).tells ≡ true →
         IfSome result.drawing (λ d. RunsDraw (map (λ b. (plot b).suffix) extras.items) (texts words.now) (D.state desk.old).files (Ok (drawn_in d))) }
-    ensures shows { IfSome result.drawing IsDrawing }
+    ensures shows { IfSome result.drawing IsPlannedDrawing }
     ensures files { (D.state desk.old).tells ≡ true →
         IfSome result.drawing (WritesNamed (map (λ b. plot b) extras.items) (named_by (texts words.now)) result.fault (D.state desk.old).files (D.state desk.new).files) }
     ensures holds { (D.state desk.old).tells ≡ true → result.fault ≡ None →

@@ -1,19 +1,18 @@
 // The line that a run says of its drawing.
 ghost use Rattle.std.specs.Prelude.{◌≡◌, ◌*◌, ◌<◌, ◌≤◌, ◌^◌, length, count_by, string_bytes, IfOk};
 ghost use Rattle.draw_core.specs.Lines.{write_line};
-ghost use Rattle.draw_core.specs.Numbers.{SumsViews};
+ghost use Rattle.drawing.specs.Numbers.{SumsViews};
 ghost use Rattle.draw_core.specs.Summary.{first_half, second_half, chain_part, summary_line, is_style, pieces_in, hatches_in, IsSummaryOf};
 ghost use Rattle.fault_lines.specs.Told.{text_of as line_text};
 ghost use Rattle.part_input.specs.declared.fault.Target.{Target};
 
-use crate::drawing::Drawing;
 use crate::lines::draw_line;
+use drawing::{Drawing, ViewDrawing, ViewNumbers};
 use exact_frac::OutOfMemory;
 use fault_lines::Line;
 use lattice::{HatchLine, Piece, Style};
 use part_input::{Fault, Target};
 use std::alloc::{AllocError, Global};
-use view_lines::{ViewDrawing, ViewNumbers};
 
 /// The line that is said of a drawing, and the line that tells that it couldn't be said.
 #[derive(Drop)]

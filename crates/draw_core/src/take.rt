@@ -6,27 +6,27 @@ ghost use Rattle.draw_words.specs.Names.{named_by};
 ghost use Rattle.draw_words.specs.Seen.{named_seen, texts};
 ghost use Rattle.job_file.specs.Seen.{job_seen};
 ghost use Rattle.part_input.specs.Faults.{CountsReads};
-ghost use Rattle.part_input.specs.Jobs.{TakesReadJob};
+ghost use Rattle.part_input.specs.Jobs.{TakesReadJob, IsOfUsualJob};
 ghost use Rattle.part_input.specs.Steps.{GivesInput, IsMissing};
 ghost use Rattle.plot_rack.specs.Choices.{AreChosen};
 ghost use Rattle.plot_rack.specs.Racks.{boxes_of};
 ghost use Rattle.solid_mesh.specs.Solids.{solid_part};
-ghost use Rattle.draw_core.specs.Run.{HasPlotters, PlansSheet, DrawsFiles, RunsDraw, AnswersDrawWords, IsOfUsualJob, IsOfJob, IsOfSheet, IsOfFiles, NamesNoFile, IsOfWords, RunsInOrder};
+ghost use Rattle.draw_core.specs.Run.{HasPlotters, DrawsFiles, RunsDraw, AnswersDrawWords, IsOfJob, IsOfFiles, NamesNoFile, IsOfWords, RunsInOrder};
+ghost use Rattle.part_input.specs.Sheets.{PlansSheet, IsOfSheet};
 ghost use Rattle.draw_core.specs.inner.Faults.{IsOfOutputs, ReadsInOrder};
 ghost use Rattle.draw_core.specs.inner.Taken.{drawn_of, IsDrawn, HasItsPlotters, GoesWhereNamed};
 ghost use Rattle.put_texts.specs.Faults.{HasNoWriteFault};
 
-use crate::drawing::Drawing;
-use crate::numbered::{Numbered, numbered_drawing};
+use crate::planned::planned_drawing;
 use dec_text::Name;
 use desk::Desk;
 use draw_words::{Words, WordsError, read_words};
+use drawing::{Drawing, Numbered, ViewNumbers};
 use job_file::Job;
-use part_input::{Fault, fetch_job, fetch_solid};
+use part_input::{Fault, fetch_job, fetch_solid, usual_job};
 use plot_rack::{Plotter, Rack, RackError};
 use solid_mesh::Solid;
 use std::alloc::Global;
-use view_lines::ViewNumbers;
 
 /// The drawing of what was taken, the sums of the numbers of its views, the plotters for its job's outputs, and the name that it is
 /// written under.
@@ -62,18 +62,6 @@ fn no_plotter(alloc: Global, name: &Name) -> Fault
     }
 }
 
-/// The usual job.
-fn usual_job(alloc: Global) -> Result<Job, Fault>
-    ensures answer { (files : Files) → GivesInput job_seen (TakesReadJob files None) result }
-    ensures of_job { IfErr result IsOfUsualJob }
-    ensures outputs { IfOk result (λ job. job.outputs.items ≡ []) }
-{
-    match Job::usual(alloc) {
-        Ok(job) => Ok(job),
-        Err(_) => Err(Fault::Memory),
-    }
-}
-
 /// The job of the file with this name, or with no name the usual one.
 fn take_job<D: Desk>(alloc: Global, name: &Option<Name>, desk: &mut D) -> Result<Job, Fault>
     ensures answer { (D.state desk.old).tells ≡ true →
@@ -100,7 +88,7 @@ fn draw_solid(alloc: Global, out: Name, job: Job, rack: Rack, solid: Solid) -> R
     ensures out { IfOk result (λ taken. taken.out ≡ out) }
     ensures plotters { IfOk result (λ taken. (taken.drawing.job.outputs.items ≡ job.outputs.items) × (boxes_of taken.rack ≡ boxes_of rack)) }
 {
-    match numbered_drawing(alloc, solid, job) {
+    match planned_drawing(alloc, solid, job) {
         Ok(Numbered { drawing, numbers }) => Ok(Taken {
             out,
             rack,

@@ -1,7 +1,6 @@
 //! The words behind the program's name: `PART [--job JOB] [--out OUT]`.
 #![tactic(auto)]
 
-mod command;
 mod errors;
 mod words;
 

@@ -1,13 +1,12 @@
 // What the words of a run name.
-ghost use Rattle.std.specs.Prelude.{◌≡◌, IfOk, IsErrOf, Some, None, option_copied};
-ghost use Rattle.draw_words.specs.Names.{is_empty_value, named, named_by};
-ghost use Rattle.draw_words.specs.Seen.{named_seen, texts};
-ghost use Rattle.draw_words.specs.inner.Seen.{found_seen};
+ghost use Rattle.std.specs.Prelude.{◌≡◌, IfOk, IsErrOf, Some, None};
+ghost use Rattle.command_words.specs.Seen.{given_seen, texts};
+ghost use Rattle.draw_words.specs.Names.{named, named_by};
+ghost use Rattle.draw_words.specs.Seen.{named_seen};
 
-use crate::command::{DrawTexts, read};
 use crate::errors::WordsError;
+use command_words::{Given, Sentence, WordOption, read};
 use dec_text::Name;
-use exact_frac::OutOfMemory;
 use std::alloc::Global;
 
 /// The names of the files of a run: the part's, the job's if there is one, and the drawing's.
@@ -18,24 +17,25 @@ pub struct Words {
     pub out: Name,
 }
 
-/// There is a text, and it is empty.
-fn is_empty_value(text: Option<&str>) -> bool
-    ensures { result ≡ is_empty_value (option_copied text.entry) }
-{
-    match text {
-        Some(text) => text.is_empty(),
-        None => false,
-    }
-}
+/// The options.
+const OPTIONS: [WordOption<'static>; 2] = [WordOption::Value("job"), WordOption::Value("out")];
 
-/// A copy of the job's name.
-fn job_name(alloc: Global, job: Option<&str>) -> Result<Option<Name>, OutOfMemory>
-    ensures { IfOk result (λ name. name ≡ option_copied job.entry) }
+/// What the texts name that the words give.
+fn names_of(alloc: Global, given: &Given<'_>) -> Result<Words, WordsError>
+    ensures names { IfOk result (λ w. named (given_seen given.now) ≡ Some (named_seen w)) }
+    ensures usage { IsErrOf result WordsError.Usage → named (given_seen given.now) ≡ None }
 {
-    match job {
-        Some(job) => Ok(Some(Name::new(alloc, job)?)),
-        None => Ok(None),
+    if given.is_empty("part") || given.is_empty("job") || given.is_empty("out") {
+        return Err(WordsError::Usage);
     }
+    let Some(part) = given.text("part") else {
+        return Err(WordsError::Usage);
+    };
+    Ok(Words {
+        part: Name::new(alloc, part)?,
+        job: given.copied(alloc, "job")?,
+        out: Name::new(alloc, given.text("out").unwrap_or("drawing.svg"))?,
+    })
 }
 
 /// Reads the words behind the program's name, from left to right: `PART`, `--job JOB` or `--job=JOB`, and `--out OUT` or
@@ -46,13 +46,8 @@ pub fn read_words(alloc: Global, words: &[String]) -> Result<Words, WordsError>
     ensures names { IfOk result (λ w. named_by (texts words.now) ≡ Some (named_seen w)) }
     ensures usage { IsErrOf result WordsError.Usage → named_by (texts words.now) ≡ None }
 {
-    let found = read(alloc, words)?;
-    if found.part.is_empty() || is_empty_value(found.job) || is_empty_value(found.out) {
-        return Err(WordsError::Usage);
+    match read(alloc, "part", &OPTIONS, words)? {
+        Sentence::Refused | Sentence::Help | Sentence::Version => Err(WordsError::Usage),
+        Sentence::Given(given) => names_of(alloc, &given),
     }
-    Ok(Words {
-        part: Name::new(alloc, found.part)?,
-        job: job_name(alloc, found.job)?,
-        out: Name::new(alloc, found.out.unwrap_or("drawing.svg"))?,
-    })
 }

@@ -1,16 +1,12 @@
 -- The lines of a part's corners and edges in a view.
-use Rattle.std.proofs.Common.{◌≡◌, ℕ, ◌+◌, ◌<◌, List, [], ◌∷◌, ◌++◌, Contains, Some, flat_map, slice_get, refl, sym, subst, arith}
-use Rattle.std.specs.Prelude.{ℤ, pos, ◌+ℤ◌, ◌-ℤ◌, ◌*ℤ◌}
-use Rattle.std.proofs.lemmas.Int.{ints}
+use Rattle.std.proofs.Common.{◌≡◌, ℕ, ◌+◌, List, [], ◌∷◌, ◌++◌, Contains, Some, flat_map, slice_get}
+use Rattle.std.specs.Prelude.{ℤ, pos, ◌*ℤ◌}
 use Rattle.std.proofs.lemmas.List.Elements.{Contains-append_left, Contains-append_right}
 use Rattle.std.proofs.lemmas.Option.{slice_get_within, get_or_from_slice_get}
-use Rattle.integers.proofs.Absolutes.{pos-sum}
-use Rattle.integers.proofs.Ring.{Expr, var, con, ◌⊕◌, ◌⊖◌, ◌⊗◌, ring, by_one}
 use Rattle.lattice.specs.declared.points.Corner.{Corner}
 use Rattle.lattice.specs.Triple.{Triple, det}
-use Rattle.lattice.specs.Points.{Point, IsPoint, point_of, scaled, difference}
-use Rattle.lattice.proofs.Vectors.{Letters, letters, dots, crosses}
-use Rattle.geometry.specs.Faces.{edge_sum, IsPointOfEdge}
+use Rattle.lattice.specs.Points.{Point, point_of, scaled, difference}
+use Rattle.geometry.specs.Faces.{IsPointOfEdge}
 use Rattle.geometry.specs.Parts.{Part, Edge}
 use Rattle.geometry.specs.Views.{IsSeenOver}
 use Rattle.drawing_laws.proofs.EdgeStepLines.{on_line_between, edge_point-is_point}

@@ -1,15 +1,13 @@
 -- The points that aren't ordinary in a cut view are on few lines of sight: those of the corners and of the ends of borders, and one for
 -- each pair of edges or borders.
-use Rattle.std.proofs.Common.{◌≡◌, ◌⊎◌, inr, ℕ, ◌+◌, ◌≤◌, List, [], ◌∷◌, ◌++◌, length, refl, sym, subst}
+use Rattle.std.proofs.Common.{◌⊎◌, inr, ℕ, ◌+◌, ◌≤◌, List, ◌++◌, length, sym, subst}
 use Rattle.std.specs.Prelude.{ℤ, pos, ◌-ℤ◌, ◌*ℤ◌}
 use Rattle.std.proofs.lemmas.List.Elements.{All-append, Contains-append_left, Contains-append_right}
 use Rattle.integers.proofs.Absolutes.{natural_positive}
-use Rattle.integers.proofs.Ring.{var, con, ◌⊕◌, ◌⊖◌, ◌⊗◌, ring, by_two}
 use Rattle.lattice.specs.declared.points.Corner.{Corner}
 use Rattle.lattice.specs.Cuts.{Plane, toward_of, plane_height}
 use Rattle.lattice.specs.Points.{Point, IsPoint, point_of, scaled}
-use Rattle.lattice.specs.Triple.{Triple, dot, cross, det}
-use Rattle.lattice.proofs.Vectors.{letters, dots, crosses}
+use Rattle.lattice.specs.Triple.{Triple, dot, cross}
 use Rattle.geometry.specs.Cuts.{EdgeOrBorder, edge, border, step_of, IsOnBorder, IsSeenOverInCut, IsOrdinaryInCut}
 use Rattle.geometry.specs.Faces.{normal, IsPointOfFace}
 use Rattle.geometry.specs.Parts.{Part, Face, AreEdges}

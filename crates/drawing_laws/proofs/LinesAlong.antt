@@ -1,8 +1,8 @@
 -- Lines along steps, and that steps are parallel as they are seen whose lines hold one point that is beside both.
 use Rattle.std.proofs.Common.{◌≡◌, List, [], ◌∷◌, Contains, refl, arith}
-use Rattle.std.specs.Prelude.{ℤ, pos, ◌+ℤ◌, ◌-ℤ◌, ◌*ℤ◌, ◌<ℤ◌}
+use Rattle.std.specs.Prelude.{ℤ, pos, ◌+ℤ◌, ◌-ℤ◌, ◌*ℤ◌}
 use Rattle.std.proofs.lemmas.Int.{ints}
-use Rattle.integers.proofs.Ring.{var, con, ◌⊕◌, ◌⊖◌, ◌⊗◌, ring, by_one, by_two, by_three, same_of_gap}
+use Rattle.integers.proofs.Ring.{var, con, ◌⊕◌, ◌⊖◌, ◌⊗◌, ring, by_one, by_two}
 use Rattle.integers.proofs.Signs.{zero_of_mul, zero_of_either}
 use Rattle.lattice.specs.Triple.{Triple, dot, cross, det, right_axis, up_axis}
 use Rattle.lattice.specs.Points.{Point, IsPoint, scaled, across_of, upward_of, OnOneSight}

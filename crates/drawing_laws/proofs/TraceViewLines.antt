@@ -1,19 +1,17 @@
 -- The lines of traces and of their ends in a plain view, by the numbers that are on them.
 use Rattle.std.proofs.Common.{◌≡◌, ◌≢◌, ◌⊎◌, inl, inr, List, [], ◌∷◌, ◌++◌, Contains, flat_map, refl, sym, subst, ◌∙◌, arith}
-use Rattle.std.specs.Prelude.{ℤ, pos, negsuc, ◌-ℤ◌, ◌*ℤ◌}
+use Rattle.std.specs.Prelude.{ℤ, pos, ◌*ℤ◌}
 use Rattle.std.proofs.lemmas.Int.{ints}
 use Rattle.std.proofs.lemmas.List.Elements.{Contains-append_left, Contains-append_right}
 use Rattle.integers.proofs.Comparisons.{same_of_both}
-use Rattle.integers.proofs.Ring.{Expr, var, con, ◌⊕◌, ◌⊖◌, ◌⊗◌, ring, by_two}
 use Rattle.lattice.specs.declared.points.Axis.{Axis}
 use Rattle.lattice.specs.declared.points.Axis.TheVariants.{X, Y, Z}
 use Rattle.lattice.specs.declared.points.Corner.{Corner}
 use Rattle.lattice.specs.Cuts.{Plane, unit_of}
-use Rattle.lattice.specs.Triple.{Triple, det}
-use Rattle.lattice.specs.Points.{Point, point_of, scaled, OnOneSight}
-use Rattle.lattice.proofs.Vectors.{Letters, letters, dots, crosses}
+use Rattle.lattice.specs.Triple.{Triple}
+use Rattle.lattice.specs.Points.{Point, point_of, OnOneSight}
 use Rattle.geometry.specs.Parts.{Part}
-use Rattle.lattice.specs.Axes.{coordinate_of, third_of, IsAlong}
+use Rattle.lattice.specs.Axes.{coordinate_of, third_of}
 use Rattle.geometry.specs.Traces.{IsAmongCorners, IsOnTrace, IsOutermost, IsTraceEnd, TraceRuns}
 use Rattle.geometry.proofs.Sights.{sight_on}
 use Rattle.geometry.proofs.TracePoints.{one_of_others, third_aside, sight_of_coordinates}

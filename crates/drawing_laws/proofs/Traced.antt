@@ -1,7 +1,6 @@
 -- Points of traces reach no farther across a view, and no farther upward, than the part's corners do.
-use Rattle.std.proofs.Common.{◌≡◌, ◌≢◌, ◌⊎◌, inl, inr, ℕ, Bool, true, false, [], ◌∷◌, refl, sym, ap, subst, arith}
-use Rattle.std.specs.Prelude.{ℤ, pos, negsuc, neg_ℤ, ◌+ℤ◌, ◌-ℤ◌, ◌*ℤ◌, ◌<ℤ◌, ◌≤ℤ◌, if◌then◌else◌, ◌&&◌}
-use Rattle.std.specs.Ordering.{int_eq}
+use Rattle.std.proofs.Common.{◌≡◌, ◌≢◌, ◌⊎◌, inl, inr, ℕ, Bool, true, false, [], ◌∷◌, refl, sym, subst, arith}
+use Rattle.std.specs.Prelude.{ℤ, pos, negsuc, neg_ℤ, ◌+ℤ◌, ◌-ℤ◌, ◌*ℤ◌, ◌<ℤ◌, ◌≤ℤ◌}
 use Rattle.std.proofs.lemmas.Int.{ints}
 use Rattle.integers.proofs.Absolutes.{natural_not_negative}
 use Rattle.integers.proofs.Comparisons.{gap_of_at_most, at_most_by, sum_not_negative, not_negative_of_positive}
@@ -9,14 +8,13 @@ use Rattle.integers.proofs.Ring.{var, con, ◌⊕◌, ◌⊖◌, ◌⊗◌, ring
 use Rattle.integers.proofs.Signs.{mul_nonneg}
 use Rattle.lattice.specs.declared.points.Axis.{Axis}
 use Rattle.lattice.specs.declared.points.Axis.TheVariants.{X, Y, Z}
-use Rattle.lattice.specs.declared.points.Corner.{Corner}
 use Rattle.lattice.specs.Cuts.{Plane, toward_of}
 use Rattle.lattice.specs.Points.{Point, IsPoint, point_of, scaled, across_of, upward_of, height_of}
 use Rattle.lattice.specs.Triple.{Triple, dot, right_axis, up_axis}
 use Rattle.lattice.proofs.AlongAxes.{IsOnly, level_axis, upright_axis, level_only, upright_only}
 use Rattle.lattice.proofs.CutSides.{corner_beyond, corner_before, height_high, height_low}
 use Rattle.geometry.specs.Parts.{Part}
-use Rattle.lattice.specs.Axes.{component_of, coordinate_of, third_of, IsAlong}
+use Rattle.lattice.specs.Axes.{component_of, coordinate_of, third_of}
 use Rattle.geometry.specs.Traces.{IsAmongCorners, IsOnTrace}
 use Rattle.geometry.proofs.TracePoints.{same_or_other, one_of_others}
 use Rattle.drawing_laws.proofs.HalfPlanes.{IsUpToLine}

@@ -1,10 +1,9 @@
 -- Points on one line of a view: the line through two points, sums of points, and an axis along which the points are in order.
-use Rattle.std.proofs.Common.{◌≡◌, ◌⊎◌, inl, inr, ℕ, zero, suc, [], ◌∷◌, refl, sym, ◌∙◌, arith}
-use Rattle.std.specs.Prelude.{ℤ, pos, negsuc, ◌+ℤ◌, ◌-ℤ◌, ◌*ℤ◌, ◌<ℤ◌}
-use Rattle.std.proofs.lemmas.Int.{ints}
+use Rattle.std.proofs.Common.{◌≡◌, ◌⊎◌, inl, inr, ℕ, [], ◌∷◌, refl, sym, ◌∙◌}
+use Rattle.std.specs.Prelude.{ℤ, pos, ◌+ℤ◌, ◌-ℤ◌, ◌*ℤ◌, ◌<ℤ◌}
 use Rattle.integers.proofs.Comparisons.{gap_of_same, less_not_same}
 use Rattle.integers.proofs.Ring.{var, con, ◌⊕◌, ◌⊖◌, ◌⊗◌, ring, by_two, by_three, same_of_gap}
-use Rattle.integers.proofs.Signs.{zero_of_mul, zero_of_either}
+use Rattle.integers.proofs.Signs.{zero_of_either}
 use Rattle.lattice.specs.Triple.{Triple, dot, right_axis, up_axis}
 use Rattle.lattice.specs.Points.{Point, IsPoint, of_spot, scaled, across_of, upward_of, OnOneSight}
 use Rattle.lattice.specs.declared.points.Spot.{Spot}

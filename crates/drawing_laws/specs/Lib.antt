@@ -1,3 +1,4 @@
 pub mod Alike
 pub mod Exceptions
 pub mod Standing
+pub mod Views

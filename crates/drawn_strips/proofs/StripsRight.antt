@@ -17,7 +17,7 @@ use Rattle.geometry.specs.Views.{IsHidden, IsDrawnPoint}
 use Rattle.job_file.specs.Seen.{direction_seen}
 use Rattle.line_merge.specs.Merging.{AreStrips, LiesOnStrip, LiesOnKind, LiesOnTracesOnly, AreMerged}
 use Rattle.drawn_strips.specs.Scenes.{AreStripsIn, AreViewStrips}
-use Rattle.drawn_strips.specs.Views.{IsRightView, IsOrderedView}
+use Rattle.drawing_laws.specs.Views.{IsRightView, IsOrderedView}
 use Rattle.drawn_strips.proofs.StripScenes.{not_seen, not_hidden, both}
 
 kind_or : (k : StripKind) → (k ≡ Seen) ⊎ (k ≡ Hidden) ⊎ (k ≡ Trace)

@@ -1,19 +1,17 @@
 -- When corners are on both sides of the plane of a cut, by those that are first and last on its axis.
-use Rattle.std.proofs.Common.{◌≡◌, ◌≢◌, ◌⊎◌, inl, inr, ◌↔◌, ℕ, ◌<◌, ◌≤◌, ◌+◌, Bool, true, false, IsTrue, List, All, length, take, slice_get, Some, Contains, refl, sym, subst, arith, unsigned_abs}
-use Rattle.std.specs.Prelude.{ℤ, pos, neg_ℤ, ◌<ℤ◌, ◌≤ℤ◌}
+use Rattle.std.proofs.Common.{◌≡◌, ◌⊎◌, inl, inr, ◌↔◌, ℕ, ◌<◌, ◌≤◌, ◌+◌, Bool, true, false, IsTrue, List, All, length, take, slice_get, Some, Contains, sym, subst, arith}
+use Rattle.std.specs.Prelude.{ℤ, neg_ℤ, ◌<ℤ◌, ◌≤ℤ◌}
 use Rattle.std.proofs.lemmas.Int.{ints}
 use Rattle.std.proofs.lemmas.List.{take_all}
 use Rattle.std.proofs.lemmas.List.Elements.{All-contains, All-more, All-weaker, All-same}
 use Rattle.std.proofs.lemmas.Option.{slice_get_within, get_or_from_slice_get}
 use Rattle.integers.proofs.Logic.{↔-trans}
 use Rattle.lattice.specs.declared.points.Axis.{Axis}
-use Rattle.lattice.specs.declared.points.Axis.TheVariants.{X, Y, Z}
 use Rattle.lattice.specs.declared.points.Corner.{Corner}
-use Rattle.lattice.specs.Cuts.{Plane, toward_of}
-use Rattle.lattice.specs.Points.{point_of, height_of}
-use Rattle.lattice.specs.Triple.{Triple}
+use Rattle.lattice.specs.Cuts.{Plane}
+use Rattle.lattice.specs.Points.{point_of}
 use Rattle.lattice.proofs.CutSides.{corner_beyond, corner_before, height_high, height_low}
-use Rattle.lattice.specs.Axes.{component_of, coordinate_of, IsAlong}
+use Rattle.lattice.specs.Axes.{coordinate_of}
 use Rattle.geometry.specs.Traces.{GoesThrough}
 use Rattle.drawn_strips.specs.Traces.{IsFirstOn, IsLastOn}
 

@@ -1,4 +1,3 @@
 pub mod Scenes
 pub mod Strips
 pub mod Traces
-pub mod Views

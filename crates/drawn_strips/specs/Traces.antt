@@ -4,7 +4,7 @@ use Rattle.lattice.specs.declared.points.Axis.{Axis}
 use Rattle.lattice.specs.declared.points.Corner.{Corner}
 use Rattle.lattice.specs.declared.pieces.Strip.{Strip}
 use Rattle.lattice.specs.declared.pieces.StripKind.TheVariants.{Trace}
-use Rattle.lattice.specs.Cuts.{Plane, IsBeyond, IsBeforePlane}
+use Rattle.lattice.specs.Cuts.{Plane}
 use Rattle.lattice.specs.Lines.{IsOnLine}
 use Rattle.lattice.specs.Points.{point_of, of_spot}
 use Rattle.lattice.specs.Triple.{Triple}

@@ -1,5 +1,5 @@
 -- The segments that cross a diagonal left of a point are as many as the triangles whose borders do.
-use Rattle.std.proofs.Common.{◌≡◌, ◌↔◌, ◌⊎◌, inl, inr, ℕ, zero, suc, ◌%◌, List, sym, subst, ◌∙◌}
+use Rattle.std.proofs.Common.{◌≡◌, ◌↔◌, ◌⊎◌, inl, inr, ℕ, zero, suc, ◌%◌, List, subst, ◌∙◌}
 use Rattle.std.specs.Prelude.{pos, ◌*ℤ◌}
 use Rattle.std.proofs.lemmas.Int.{by_lt_z}
 use Rattle.integers.proofs.Comparisons.{less_not_at_most}
@@ -14,7 +14,7 @@ use Rattle.geometry.proofs.Counts.{count_of}
 use Rattle.cut_plane.specs.declared.segments.Segment.{Segment}
 use Rattle.cut_plane.specs.Loops.{IsSegmentOf, AreBorders}
 use Rattle.cut_plane.proofs.BySegments.{odd_alike}
-use Rattle.cut_plane.proofs.Following.{one_goes, one_returns}
+use Rattle.cut_plane.proofs.Following.{one_border}
 use Rattle.cut_plane.proofs.Sights.{sight_of, turn_of}
 use Rattle.cut_plane.specs.Diagonals.{diagonal_of}
 use Rattle.cut_plane.proofs.OverDiagonals.{GoesOver, CrossesLeftOf, HasOddLeft}
@@ -42,19 +42,6 @@ module _ (c : Plane) {s : Part} (f g : Face s) (ea : f.a ≡ g.a) (eb : f.b ≡ 
     from = h.from ∙ (λ i. crossing_of c (start_same h.first i) (end_same h.first i));
     to = h.to ∙ (λ i. crossing_of c (end_same h.second i) (start_same h.second i));
   }
-
--- a face has one border
-pub one_border : (c : Plane) {s : Part} (f : Face s) (p q p' q' : Point) → IsBorderOf c f p q → IsBorderOf c f p' q' → (p ≡ p') × (q ≡ q')
-one_border c f p q p' q' h h' = (
-  h.from ∙ (λ i. crossing_of c (start_corner f (goes i)) (end_corner f (goes i))) ∙ sym h'.from,
-  h.to ∙ (λ i. crossing_of c (end_corner f (returns i)) (start_corner f (returns i))) ∙ sym h'.to,
-)
-  where
-    goes : h.first ≡ h'.first
-    goes = one_goes c f h.first h'.first h.first_side h'.first_side h.goes h'.goes
-
-    returns : h.second ≡ h'.second
-    returns = one_returns c f h.second h'.second h.second_side h'.second_side h.returns h'.returns
 
 -- ---- over or not
 module _ (d : Triple) (p : Point) where

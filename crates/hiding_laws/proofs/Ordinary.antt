@@ -12,7 +12,7 @@ use Rattle.geometry.specs.Faces.{IsPointOfEdge}
 use Rattle.geometry.specs.Parts.{Part, Face, Edge, IsHalf, IsClosed, start_of, end_of}
 use Rattle.geometry.specs.Views.{IsOrdinary, IsSeenOver}
 use Rattle.geometry.specs.Sound.{MeetsFace, MeetInSharedCorners}
-use Rattle.geometry.proofs.Listed.{face_at}
+use Rattle.geometry.proofs.Listed.{edge_of}
 use Rattle.geometry.proofs.Sights.{sight_on}
 use Rattle.hiding_laws.specs.Values.{IsSideOf}
 
@@ -37,26 +37,7 @@ side_half s f side h =
 module _ (s : Part) (closed : IsClosed s) (in_range : All (IsBelow (length s.corners)) s.triangles) where
   -- an edge from a half and a half that goes back
   edge_from : (half other m n : ℕ) (k l : Corner) → IsHalf s half m n → IsHalf s other n m → slice_get s.corners m ≡ Some k → slice_get s.corners n ≡ Some l → SideEdge s k l
-  edge_from half other m n k l goes returns at_m at_n = record {
-    edge = record {
-      half = half;
-      other = other;
-      m = m;
-      n = n;
-      a = k;
-      b = l;
-      left = face_at s in_range goes.tri (half / 3) goes.at;
-      right = face_at s in_range returns.tri (other / 3) returns.at;
-      goes = goes;
-      returns = returns;
-      on_left = refl;
-      on_right = refl;
-      at_m = at_m;
-      at_n = at_n;
-    };
-    at_a = refl;
-    at_b = refl;
-  }
+  edge_from half other m n k l goes returns at_m at_n = record { edge = edge_of s in_range half other m n k l goes returns at_m at_n; at_a = refl; at_b = refl }
 
   -- the two corners of a half, in its order and in the other
   half_edge : (half m n : ℕ) (x y k l : Corner) → IsHalf s half m n → slice_get s.corners m ≡ Some x → slice_get s.corners n ≡ Some y

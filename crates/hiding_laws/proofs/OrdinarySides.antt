@@ -19,7 +19,7 @@ use Rattle.hiding_laws.proofs.ScreenSides.{length_least, length_zero, pos_of_lea
 use Rattle.hiding_laws.proofs.Uprights.{rise_of}
 use Rattle.hiding_laws.proofs.EdgeOnFaces.{edge_on_faces}
 use Rattle.hiding_laws.proofs.HalfFaces.{start_corner, end_corner, apex_corner, at_start, at_end, facing_turned, flat_turned, flat_swap, hides_turned, starts_seen, ends_seen, apex_seen, first_free, second_free}
-use Rattle.hiding_laws.proofs.MeshOfPart.{count, triangle_at, starts_at, ends_at, apex_at, twin_of, twin_within, twin_starts, twin_ends, face_of_half, corner_seen, after_half, before_half, mesh_of, is_mesh, is_fan, first_seen, second_seen, third_seen}
+use Rattle.hiding_laws.proofs.MeshOfPart.{count, starts_at, ends_at, apex_at, twin_of, twin_within, twin_starts, twin_ends, face_of_half, corner_seen, after_half, before_half, mesh_of, is_mesh, is_fan}
 use Rattle.hiding_laws.proofs.MeshOfPart as mesh
 use Rattle.hiding_laws.proofs.Rises.{level_flat}
 use Rattle.hiding_laws.proofs.Seen.{area_some}

@@ -36,10 +36,11 @@ pub record IsRestUpTo {T : Type 0} (cmp : T → T → Ordering) (x : Interval T)
 abbrev pub BeginLater : {T : Type 0} → (T → T → Ordering) → List (Interval T) → ℕ → T → Type 0
 BeginLater {T} cmp parts k t = (j : ℕ) (d : Interval T) → k ≤ j → j < length parts → IsNotAfter cmp t (get_or parts j d).from
 
-pub added_on : (T : Type 0) (cmp : T → T → Ordering) (from to : T) (start added new : List (Interval T)) → IsAdded cmp from to (start ++ added) new → (more : List (Interval T)) × (new ≡ start ++ more) × IsAdded cmp from to added more
-added_on T cmp from to start added new h = ⊎_elim
-    (λ a. let r : Interval T = record { from = from; to = to } in (added ++ r ∷ [], a.1 ∙ append_assoc start added (r ∷ []), inl (a.0, refl)))
-    (λ a. (added, a.1, inr (a.0, refl))) h
+pub added_on : (T : Type 0) (cmp : T → T → Ordering) (from to : T) (start added whole new : List (Interval T)) → whole ≡ start ++ added → IsAdded cmp from to whole new
+    → (more : List (Interval T)) × (new ≡ start ++ more) × IsAdded cmp from to added more
+added_on T cmp from to start added whole new all h = ⊎_elim
+    (λ a. let r : Interval T = record { from = from; to = to } in (added ++ r ∷ [], a.1 ∙ ap (λ (us : List (Interval T)). us ++ r ∷ []) all ∙ append_assoc start added (r ∷ []), inl (a.0, refl)))
+    (λ a. (added, a.1 ∙ all, inr (a.0, refl))) h
 
 module _ {T : Type 0} {cmp : T → T → Ordering} (o : IsTotalOrder cmp) where
   pub rest_first : (x : Interval T) (parts : List (Interval T)) (k : ℕ) → IsProper cmp x → EndBefore cmp x.from parts k → IsRestUpTo cmp x parts k x.from []
@@ -55,7 +56,7 @@ module _ {T : Type 0} {cmp : T → T → Ordering} (o : IsTotalOrder cmp) where
   }
 
   -- the parts begin one after the other
-  pub begin_later : (parts : List (Interval T)) → AreApart cmp parts → (k : ℕ) (p : Interval T) → k < length parts → get_or parts k p ≡ p → (t : T) → IsNotAfter cmp t p.from → BeginLater cmp parts k t
+  begin_later : (parts : List (Interval T)) → AreApart cmp parts → (k : ℕ) (p : Interval T) → k < length parts → get_or parts k p ≡ p → (t : T) → IsNotAfter cmp t p.from → BeginLater cmp parts k t
   begin_later parts apart k p long at t before j d le l = ⊎_elim
       (λ h. less o t (get_or parts j d).from
       (o.trans t p.to (get_or parts j d).from (not_after_less o t p.from p.to before proper) (subst (λ (y : Interval T). cmp y.to (get_or parts j d).from ≡ Less) (here d) (apart.apart k j d h l))))
@@ -73,13 +74,13 @@ module _ {T : Type 0} {cmp : T → T → Ordering} (o : IsTotalOrder cmp) where
 
 -- the value where the part number k begins or x ends
 module _ {T : Type 0} {cmp : T → T → Ordering} (o : IsTotalOrder cmp) (x : Interval T) (parts : List (Interval T)) (k : ℕ) (p : Interval T) (long : k < length parts) (at : get_or parts k p ≡ p) (to : T) (which : (to ≡ p.from) ⊎ (to ≡ x.to)) where
-  pub known_first : IsKnown (x ∷ []) parts to
+  known_first : IsKnown (x ∷ []) parts to
   known_first = ⊎_elim
       (λ e. inr (any_of (λ y. (y.from ≡ to) ⊎ (y.to ≡ to)) parts p (k, long, at) (inl (sym e))))
       (λ e. inl (one (λ y. (y.from ≡ to) ⊎ (y.to ≡ to)) x (inr (sym e)))) which
 
   -- where the part doesn't end before x
-  pub closed_first : IsNotAfter cmp x.to p.to → (cut : T → Bool) → IsCut cmp cut → cut to ≡ true → cut x.to ≡ false → CrossesAny cut parts
+  closed_first : IsNotAfter cmp x.to p.to → (cut : T → Bool) → IsCut cmp cut → cut to ≡ true → cut x.to ≡ false → CrossesAny cut parts
   closed_first past cut is f g = ⊎_elim
       (λ e. any_of (Crosses cut) parts p (k, long, at) (sym (ap cut e) ∙ f, cut_false o cut is x.to p.to g past))
       (λ e. absurd (true≢false (sym f ∙ ap cut e ∙ g))) which
@@ -144,7 +145,7 @@ module _ {T : Type 0} {cmp : T → T → Ordering} (o : IsTotalOrder cmp) (x : I
     }
 
     -- the part number k ends at s or before, and x goes on
-    pub rest_more : (p : Interval T) → k < length parts → get_or parts k p ≡ p → IsProper cmp p → cmp p.to x.to ≡ Less → (to ≡ p.from) ⊎ (to ≡ x.to) → IsNotAfter cmp to p.from →
+    rest_more : (p : Interval T) → k < length parts → get_or parts k p ≡ p → IsProper cmp p → cmp p.to x.to ≡ Less → (to ≡ p.from) ⊎ (to ≡ x.to) → IsNotAfter cmp to p.from →
         (s : T) → (s ≡ t) ⊎ (s ≡ p.to) → IsNotAfter cmp t s → IsNotAfter cmp p.to s → IsRestUpTo cmp x parts (k + 1) s new
     rest_more p long at proper short which first s next forth past = record {
       apart = new_apart;
@@ -180,6 +181,20 @@ module _ {T : Type 0} {cmp : T → T → Ordering} (o : IsTotalOrder cmp) (x : I
         met cut is-cut e f g = ⊎_elim
             (λ same. any_of (Crosses cut) parts p (k, long, at) (sym (ap cut same) ∙ g, ended cut e f))
             (λ same. absurd (true≢false (sym (is-cut p.to x.to (sym (ap cut same) ∙ g) (less o p.to x.to short)) ∙ ended cut e f))) which
+
+-- x is taken from the value t as far as the part number k, or as x itself goes
+module _ {T : Type 0} {cmp : T → T → Ordering} (o : IsTotalOrder cmp) (x : Interval T) (parts : List (Interval T)) (apart : AreApart cmp parts) (k : ℕ) (p : Interval T) (long : k < length parts) (at : get_or parts k p ≡ p)
+    (t : T) (added : List (Interval T)) (old : IsRestUpTo cmp x parts k t added) (to : T) (which : (to ≡ p.from) ⊎ (to ≡ x.to)) (first : IsNotAfter cmp to p.from) (last : IsNotAfter cmp to x.to) (new : List (Interval T)) (is : IsAdded cmp t to added new) where
+  -- where the part ends before x, x goes on from the later of t and the part's end
+  pub rest_after_part : cmp p.to x.to ≡ Less → (s : T) → (s ≡ t) ⊎ (s ≡ p.to) → IsNotAfter cmp t s → IsNotAfter cmp p.to s → IsRestUpTo cmp x parts (k + 1) s new
+  rest_after_part short s next forth past =
+      rest_more o x parts k t added old to (known_first o x parts k p long at to which) last (begin_later o parts apart k p long at to first) new is p long at (subst (IsProper cmp) at (apart.inside k p long))
+      short which first s next forth past
+
+  -- where it doesn't, nothing more is left of x
+  pub rest_before_part : IsNotAfter cmp x.to p.to → AreRest cmp (x ∷ []) parts new
+  rest_before_part past =
+      rest_last o x parts k t added old to (known_first o x parts k p long at to which) last (begin_later o parts apart k p long at to first) new is (closed_first o x parts k p long at to which past)
 
 -- ---- one whole interval after the other
 module _ {T : Type 0} {cmp : T → T → Ordering} (o : IsTotalOrder cmp) where

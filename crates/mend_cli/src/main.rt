@@ -2,27 +2,17 @@
 #![tactic(auto)]
 
 use desk::Desk;
-use disk_desk::DiskDesk;
+use disk_desk::{DiskDesk, without_memory, words_of};
 use mend_core::{MEMORY_LINE, mend};
 use std::alloc::Global;
 use std::process::ExitCode;
-use std::rt::{Env, Stderr, Stdout};
-use std::{env, io};
+use std::rt::{Stderr, Stdout};
 
-// The words after the program's name.
-fn words_of<R: Env + AllocGlobal>(rt: &R) -> io::Result<Vec<String>> {
-    Ok(env::args(rt)?.skip(1).collect(rt.alloc())?)
-}
-
-// The status of a run. Where the words can't be had, as where they aren't UTF-8, there are none.
-fn status_of<D: Desk>(alloc: Global, words: io::Result<Vec<String>>, desk: &mut D) -> u8 {
+// The status of a run.
+fn status_of<D: Desk>(alloc: Global, words: Option<Vec<String>>, desk: &mut D) -> u8 {
     match words {
-        Ok(words) => mend(alloc, &words, desk).status,
-        Err(fault) if fault.kind() == io::ErrorKind::OutOfMemory => {
-            let _unheard = desk.warn(MEMORY_LINE.as_bytes());
-            9
-        }
-        Err(_) => mend(alloc, &[], desk).status,
+        Some(words) => mend(alloc, &words, desk).status,
+        None => without_memory(MEMORY_LINE, desk),
     }
 }
 

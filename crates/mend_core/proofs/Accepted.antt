@@ -14,6 +14,7 @@ use Rattle.part_input.specs.Parts.{ReadsText, TakesSoupOr, WeldsPart}
 use Rattle.part_input.specs.Reading.{ReadsPartText}
 use Rattle.part_input.specs.declared.fault.Fault.{Fault}
 use Rattle.part_input.proofs.Singles.{none_some, not_both, same_some, same_value, text_one}
+use Rattle.put_texts.specs.Faults.{common}
 use Rattle.put_texts.specs.Order.{KeepsTexts}
 use Rattle.weld.specs.Raw.{Raw}
 use Rattle.weld.specs.Welds.{proper_of}
@@ -51,12 +52,12 @@ module _ (decimals : ℕ) (part : Part) (text : List ℕ) (in_range : All (IsBel
         absurd (not_both raw cause (text_one decimals Millimetre text (Ok raw) (Err cause) reads (subst (λ (b : List ℕ). ReadsPartText decimals Millimetre b (Err cause)) is h)))
     taken (Err e) (inr (bytes, (at, small), (inr (found, read, (_, none))))) = absurd (some_welded (subst (λ (x : Raw). proper_of x ≡ []) (same_raw bytes found at read) none))
 
-  named : (name : List ℕ) (summary : List ℕ) (old new : Files) → KeepsTexts None (texts_for (file name) text summary) old new → ReadsSound decimals (file name) new
+  named : (name : List ℕ) (summary : List ℕ) (old new : Files) → KeepsTexts common None (texts_for (file name) text summary) old new → ReadsSound decimals (file name) new
   named name summary old new (between, keeps, (next, e, f)) no_sample r takes =
       let there : new name ≡ Some text = ap (λ (files : Files). files name) (f ∙ e) ∙ keeps.holds in
       taken new name there r (subst (λ (size : Option (List ℕ)). TakesSoupOr size new name decimals Millimetre r) no_sample takes)
 
-  pub accepted : (out : Goal) (summary : List ℕ) (fault : Option Fault) (old new : Files) → KeepsTexts fault (texts_for out text summary) old new → IfNone fault (ReadsSound decimals out new)
+  pub accepted : (out : Goal) (summary : List ℕ) (fault : Option Fault) (old new : Files) → KeepsTexts common fault (texts_for out text summary) old new → IfNone fault (ReadsSound decimals out new)
   accepted said summary None old new keeps = tt
   accepted (file name) summary None old new keeps = named name summary old new keeps
   accepted out summary (Some e) old new keeps = tt

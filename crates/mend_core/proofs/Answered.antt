@@ -10,28 +10,16 @@ use Rattle.part_input.specs.Faults.{CountsReads}
 use Rattle.part_input.specs.Steps.{Refuses, IsMissing}
 use Rattle.part_input.specs.declared.fault.Fault.{Fault}
 use Rattle.part_input.specs.declared.fault.Fault.TheVariants.{ReadFault, WriteFault, Memory}
-use Rattle.part_input.proofs.Answered.{IsOfNoWriting, IsOfSteps, of_steps, of_steady}
+use Rattle.part_input.proofs.Answered.{IsOfSteps, of_steps, of_steady}
 use Rattle.part_input.proofs.Singles.{not_both}
 use Rattle.put_texts.specs.Faults.{CountsWrites, HasNoWriteFault}
-
--- the steps come to something where no fault is answered
-abbrev pub ComesToSome : {A : Type 0} → (Result A Fault → Type 0) → Option Fault → Type 0
-ComesToSome {A} steps None = (x : A) × steps (Ok x)
-ComesToSome {A} steps (Some e) = Unit {0}
+use Rattle.put_texts.proofs.Counting.{not_written}
+use Rattle.put_texts.proofs.Ends.{ComesToSome}
 
 -- a refusal of the surface is one for its surface
 surface : (limit : ℕ) (given : Part) (e : Fault) → IsPartRefused limit given e → IsOfSurface e
 surface limit given e (inl (same, _)) = subst IsOfSurface (sym same) tt
 surface limit given e (inr (fault, same, _)) = subst IsOfSurface (sym same) tt
-
-not_written : (e : Fault) → HasNoWriteFault (Some e) → IsOfNoWriting e
-not_written (WriteFault target) w = w
-not_written e w = tt
-
--- without a fault of writing none was counted
-pub no_write : (fault : Option Fault) (old new : ℕ) → HasNoWriteFault fault → CountsWrites fault old new → new ≡ old
-no_write (Some (WriteFault target)) old new w counts = absurd w
-no_write fault old new w counts = counts
 
 module _ (words : List (List ℕ)) (files : Files) where
   -- what answers to one thing that was taken answers to each

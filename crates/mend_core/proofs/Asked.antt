@@ -1,5 +1,5 @@
 -- What holds of what the words ask for holds of the run, and which faults a part with names may have.
-use Rattle.std.proofs.Common.{◌≡◌, ◌⊎◌, inl, inr, ℕ, List, Option, Some, None, IfSome, is_some, true, false, true≢false, Result, Ok, Err, refl, sym, subst}
+use Rattle.std.proofs.Common.{◌≡◌, inl, inr, ℕ, List, Option, Some, None, IfSome, is_some, true, false, true≢false, Result, Ok, Err, refl, sym}
 use Rattle.std.specs.Prelude.{IfErr, codes}
 use Rattle.std.specs.Result.{result_err}
 use Rattle.desk.specs.Files.{Files}
@@ -12,7 +12,7 @@ use Rattle.mend_core.specs.Seen.{made_seen}
 use Rattle.mend_core.specs.declared.lines.TheConstants.{USAGE}
 use Rattle.mend_core.specs.declared.made.Mended.{Mended}
 use Rattle.mend_core.specs.inner.Faults.{IsOfWriting}
-use Rattle.mend_core.proofs.Answered.{ComesToSome}
+use Rattle.put_texts.proofs.Ends.{ComesToSome}
 use Rattle.mend_words.specs.Names.{Asks, Named, mend, asked_by}
 use Rattle.part_input.specs.Faults.{CountsReads}
 use Rattle.part_input.specs.Parts.{HasSize, IsOfSoupOr, sample_size}
@@ -26,11 +26,6 @@ use Rattle.part_input.proofs.Chains.{refuses_as, missing_as}
 use Rattle.solid_mesh.specs.Solids.{solid_part}
 use Rattle.solid_mesh.proofs.Facts.{sound}
 use Rattle.put_texts.specs.Faults.{CountsWrites, HasNoWriteFault}
-
--- the fault is this one, or its line found no memory: what is said of both, or of none
-pub either : (Q : Option Fault → Type 0) (e : Fault) (fault : Option Fault) → (fault ≡ Some e) ⊎ (fault ≡ Some Memory) → Q (Some e) → Q (Some Memory) → Q fault
-either Q e fault (inl is) h m = subst Q (sym is) h
-either Q e fault (inr is) h m = subst Q (sym is) m
 
 -- ---- lines
 -- a fault that isn't one of writing is told by the same line, whatever was asked for

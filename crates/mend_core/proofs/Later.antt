@@ -1,7 +1,7 @@
 -- What is warned and written from a later state of the desk on, seen from the beginning of a run.
 use Rattle.std.proofs.Common.{◌≡◌, ℕ, ◌++◌, List, Option, None, Some, ap, subst, ◌∙◌}
 use Rattle.std.specs.Prelude.{IfSome, IfNone}
-use Rattle.desk.specs.Files.{Files, DeskState, AppendsFront, OnlyReads, Rose}
+use Rattle.desk.specs.Files.{Files, DeskState, AppendsFront, OnlyReads}
 use Rattle.mend_core.specs.Lines.{mend_line, Warns, WarnsWhole}
 use Rattle.mend_core.specs.Mending.{Made}
 use Rattle.mend_core.specs.Seen.{made_seen}
@@ -10,22 +10,12 @@ use Rattle.mend_core.specs.Writing.{Writes, summary_way}
 use Rattle.mend_core.specs.declared.made.Mended.{Mended}
 use Rattle.mend_words.specs.Names.{Asks, Named}
 use Rattle.part_input.specs.declared.fault.Fault.{Fault}
-use Rattle.put_texts.specs.Desks.{HearsAll}
+use Rattle.put_texts.specs.Faults.{common}
 use Rattle.put_texts.specs.Noting.{Notes, NotesWhole}
 use Rattle.put_texts.specs.Order.{InOrder, KeepsText, KeepsTextPart, SaysText, SaysTextPart, SparesFile, SparesWord}
-
--- what is heard of the whole run is heard from there on
-pub heard_from : (old between new : DeskState) → between.tells_warned ≡ old.tells_warned → between.firm ≡ old.firm → between.warn_faults ≡ old.warn_faults → HearsAll old new → HearsAll between new
-heard_from old between new tells firm faults hears = record {
-  tells = tells ∙ hears.tells;
-  firm = firm ∙ hears.firm;
-  no_fault = λ rose. hears.no_fault (subst (λ (n : ℕ). Rose n new.warn_faults) faults rose);
-}
+use Rattle.put_texts.proofs.Ends.{heard_later}
 
 module _ (old between new : DeskState) (same : OnlyReads old between) where
-  pub heard_later : HearsAll old new → HearsAll between new
-  heard_later hears = heard_from old between new (ap (λ (s : DeskState). s.tells_warned) same) (ap (λ (s : DeskState). s.firm) same) (ap (λ (s : DeskState). s.warn_faults) same) hears
-
   warned_same : between.warned ≡ old.warned
   warned_same = ap (λ (s : DeskState). s.warned) same
 
@@ -50,13 +40,13 @@ module _ (old between new : DeskState) (same : OnlyReads old between) where
           reads_back = w.reads_back;
           texts = w.texts;
           are_texts = w.are_texts;
-          files = λ told. subst (λ (f : Files). InOrder KeepsText KeepsTextPart fault w.texts f new.files) files (w.files (ap (λ (s : DeskState). s.tells) same ∙ told));
-          said = λ told. subst (λ (t : List ℕ). InOrder SaysText SaysTextPart fault w.texts t new.said) said (w.said (ap (λ (s : DeskState). s.tells_said) same ∙ told));
+          files = λ told. subst (λ (f : Files). InOrder common KeepsText KeepsTextPart fault w.texts f new.files) files (w.files (ap (λ (s : DeskState). s.tells) same ∙ told));
+          said = λ told. subst (λ (t : List ℕ). InOrder common SaysText SaysTextPart fault w.texts t new.said) said (w.said (ap (λ (s : DeskState). s.tells_said) same ∙ told));
           accepted = λ told. w.accepted (ap (λ (s : DeskState). s.tells) same ∙ told);
-          spared = subst (λ (f : Files). InOrder (λ way bytes. SparesFile way) (λ way fault bytes. SparesFile way) fault w.texts f new.files) files w.spared;
-          silent = subst (λ (t : List ℕ). InOrder (λ way bytes. SparesWord way) (λ way fault bytes. SparesWord way) fault w.texts t new.said) said w.silent;
+          spared = subst (λ (f : Files). InOrder common (λ way bytes. SparesFile way) (λ way cause bytes. SparesFile way) fault w.texts f new.files) files w.spared;
+          silent = subst (λ (t : List ℕ). InOrder common (λ way bytes. SparesWord way) (λ way cause bytes. SparesWord way) fault w.texts t new.said) said w.silent;
           noted = λ told. subst (λ (t : List ℕ). IfNone fault (Notes (summary_way named.out) (told_text made.told) t new.warned)) warned_same (w.noted (ap (λ (s : DeskState). s.tells_warned) same ∙ told));
-          noted_whole = λ hears. subst (λ (t : List ℕ). IfNone fault (NotesWhole (summary_way named.out) (told_text made.told) t new.warned)) warned_same (w.noted_whole (heard_later hears));
+          noted_whole = λ hears. subst (λ (t : List ℕ). IfNone fault (NotesWhole (summary_way named.out) (told_text made.told) t new.warned)) warned_same (w.noted_whole (heard_later old between new same hears));
         }
 
     pub all_from : (m : Option Mended) → IfSome m (λ m. Writes named fault between new (made_seen m)) → IfSome m (λ m. Writes named fault old new (made_seen m))

@@ -12,9 +12,11 @@ use Rattle.off_writer.specs.OffTexts.{off_of, raw_of}
 use Rattle.part_input.specs.Parts.{TakesSoup, sample_size}
 use Rattle.part_input.specs.Reading.{ReadsPartText}
 use Rattle.part_input.specs.declared.fault.Fault.{Fault}
+use Rattle.part_input.specs.declared.fault.Fault.TheVariants.{WriteFault}
 use Rattle.part_input.specs.declared.fault.Target.{Target}
 use Rattle.part_input.specs.declared.fault.Target.TheVariants.{Out, Plot, Summary}
 use Rattle.put_texts.specs.Desks.{HearsAll}
+use Rattle.put_texts.specs.Faults.{common}
 use Rattle.put_texts.specs.Noting.{IsQuiet, Notes, NotesWhole, unless_said}
 use Rattle.put_texts.specs.Order.{Way, Text, aloud, under, SaysAlone, KeepsTexts, SaysTexts, SparesFiles, SparesSaid}
 
@@ -28,9 +30,9 @@ abbrev pub summary_way : Goal → Way
 summary_way out = unless_said (way_of out) aloud
 
 -- the part comes first, and then the line
-abbrev pub texts_for : Goal → List ℕ → List ℕ → List Text
+abbrev pub texts_for : Goal → List ℕ → List ℕ → List (Text Fault)
 texts_for out part summary =
-    record { way = way_of out; target = Out; bytes = part } ∷ record { way = summary_way out; target = Summary; bytes = summary } ∷ []
+    record { way = way_of out; unwritten = WriteFault Out; bytes = part } ∷ record { way = summary_way out; unwritten = WriteFault Summary; bytes = summary } ∷ []
 
 -- ---- what is read of it
 -- The file that the part was written to is read again as a sound part, with these decimals, in millimetres; but where its name is that of
@@ -48,13 +50,13 @@ pub record Writes (named : Named) (fault : Option Fault) (old new : DeskState) (
   pub text : List ℕ
   pub is_text : text ≡ off_of named.decimals made.part.corners made.part.triangles
   pub reads_back : ReadsPartText named.decimals Millimetre text (Ok (raw_of made.part.corners made.part.triangles))
-  pub texts : List Text
+  pub texts : List (Text Fault)
   pub are_texts : texts ≡ texts_for named.out text (told_text made.told)
-  pub files : old.tells ≡ true → KeepsTexts fault texts old.files new.files
-  pub said : old.tells_said ≡ true → SaysTexts fault texts old.said new.said
+  pub files : old.tells ≡ true → KeepsTexts common fault texts old.files new.files
+  pub said : old.tells_said ≡ true → SaysTexts common fault texts old.said new.said
   pub accepted : old.tells ≡ true → IfNone fault (ReadsSound named.decimals named.out new.files)
-  pub spared : SparesFiles fault texts old.files new.files
-  pub silent : SparesSaid fault texts old.said new.said
+  pub spared : SparesFiles common fault texts old.files new.files
+  pub silent : SparesSaid common fault texts old.said new.said
   pub noted : old.tells_warned ≡ true → IfNone fault (Notes (summary_way named.out) (told_text made.told) old.warned new.warned)
   pub noted_whole : HearsAll old new → IfNone fault (NotesWhole (summary_way named.out) (told_text made.told) old.warned new.warned)
 
@@ -85,8 +87,8 @@ IsQuietIfAsked None old new = new ≡ old
 
 -- without a part only help and the version are said
 abbrev pub TellsAsked : Option Asks → Option Fault → List ℕ → List ℕ → Type 0
-TellsAsked (Some help) fault old new = SaysAlone fault HELP.now old new
-TellsAsked (Some version) fault old new = SaysAlone fault VERSION.now old new
+TellsAsked (Some help) fault old new = SaysAlone common fault HELP.now old new
+TellsAsked (Some version) fault old new = SaysAlone common fault VERSION.now old new
 TellsAsked (Some (mend named)) fault old new = new ≡ old
 TellsAsked None fault old new = new ≡ old
 

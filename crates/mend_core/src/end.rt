@@ -1,6 +1,6 @@
 // The ends of runs.
-ghost use Rattle.std.specs.Prelude.{◌≡◌, ◌⊎◌, ◌++◌, true, None, Option, Some, IfSome};
-ghost use Rattle.desk.specs.Files.{AppendsFront, OnlyWarns};
+ghost use Rattle.std.specs.Prelude.{◌≡◌, ◌⊎◌, true, None, Option, Some, IfSome};
+ghost use Rattle.desk.specs.Files.{OnlyWarns};
 ghost use Rattle.fault_lines.specs.Lines.{NamesNothing};
 ghost use Rattle.mend_core.specs.Lines.{Warns, WarnsWhole};
 ghost use Rattle.mend_words.specs.Names.{Asks};
@@ -13,43 +13,19 @@ use crate::made::Mended;
 use desk::Desk;
 use fault_lines::line_of;
 use part_input::Fault;
-use put_texts::warn;
+use put_texts::{RunEnd, end_by};
 use std::alloc::Global;
 
 /// How a run ended: with a fault or none, and the part that it mended, where there is one. That was written, unless the fault is one
 /// of writing.
-#[derive(Debug, Drop)]
-pub struct MendOutcome {
-    pub status: u8,
-    pub fault: Option<Fault>,
-    pub mended: Option<Mended>,
-}
-
-/// Ends a run with a fault and no part, and warns by this line.
-pub(crate) fn end_by<D: Desk>(line: &str, fault: Fault, desk: &mut D) -> MendOutcome
-    ensures status { result.status ≡ status_of result.fault }
-    ensures fault { result.fault ≡ Some fault }
-    ensures none { result.mended ≡ None }
-    ensures warned { (D.state desk.old).tells_warned ≡ true →
-        AppendsFront (D.state desk.old).warned (D.state desk.new).warned line.now }
-    ensures whole { HearsAll (D.state desk.old) (D.state desk.new) →
-        (D.state desk.new).warned ≡ (D.state desk.old).warned ++ line.now }
-    ensures changes { OnlyWarns (D.state desk.old) (D.state desk.new) }
-{
-    warn(line, desk);
-    MendOutcome {
-        status: fault.status(),
-        fault: Some(fault),
-        mended: None,
-    }
-}
+pub type MendOutcome = RunEnd<Fault, Mended>;
 
 /// Ends a run with a fault that isn't one of writing, and warns of it. Where its line finds no memory, the fault is want of memory;
 /// that of a fault with neither a number nor a name takes none.
 pub(crate) fn refuse<D: Desk>(alloc: Global, fault: Fault, desk: &mut D) -> MendOutcome
     requires { HasNoWriteFault (Some fault) }
     ensures status { result.status ≡ status_of result.fault }
-    ensures none { result.mended ≡ None }
+    ensures none { result.made ≡ None }
     ensures fault { (result.fault ≡ Some fault) ⊎ (result.fault ≡ Some Fault.Memory) }
     ensures told { NamesNothing fault → result.fault ≡ Some fault }
     ensures warned { (D.state desk.old).tells_warned ≡ true →

@@ -5,6 +5,7 @@ ghost use Rattle.mend_core.specs.Writing.{summary_way, texts_for, way_of};
 ghost use Rattle.mend_words.specs.Names.{mend};
 ghost use Rattle.mend_words.specs.Seen.{goal_seen, named_seen};
 ghost use Rattle.put_texts.specs.Desks.{HearsAll, IsUnwarned};
+ghost use Rattle.put_texts.specs.Faults.{common};
 ghost use Rattle.put_texts.specs.Noting.{IsQuiet, Notes, NotesWhole};
 ghost use Rattle.put_texts.specs.Puts.{IsPut, one_text, way_seen};
 
@@ -42,7 +43,7 @@ fn put_one<D: Desk>(
     desk: &mut D,
 ) -> Option<Fault>
     requires { line.now ≡ mend_line (Some (mend (named_seen request.now))) (Fault.WriteFault target) }
-    ensures put { IsPut (mend_line (Some (mend (named_seen request.now)))) (one_text (way_seen way.entry) target bytes.now) result (D.state desk.old) (D.state desk.new) }
+    ensures put { IsPut common (mend_line (Some (mend (named_seen request.now)))) (one_text (way_seen way.entry) (Fault.WriteFault target) bytes.now) result (D.state desk.old) (D.state desk.new) }
     ensures unwarned { IfNone result (IsUnwarned (D.state desk.old) (D.state desk.new)) }
 {
     put_text(way, bytes, target, line, MEMORY_LINE, desk)
@@ -50,7 +51,7 @@ fn put_one<D: Desk>(
 
 /// Says the summary of a request, or warns by it, and tells why it couldn't be said.
 fn put_summary<D: Desk>(request: &MendRequest, summary: &str, desk: &mut D) -> Option<Fault>
-    ensures put { IsPut (mend_line (Some (mend (named_seen request.now)))) (one_text (summary_way (named_seen request.now).out) Target.Summary summary.now) result
+    ensures put { IsPut common (mend_line (Some (mend (named_seen request.now)))) (one_text (summary_way (named_seen request.now).out) (Fault.WriteFault Target.Summary) summary.now) result
         (D.state desk.old) (D.state desk.new) }
     ensures noted { (D.state desk.old).tells_warned ≡ true →
         IfNone result (Notes (summary_way (named_seen request.now).out) summary.now (D.state desk.old).warned (D.state desk.new).warned) }
@@ -78,7 +79,7 @@ fn put_summary<D: Desk>(request: &MendRequest, summary: &str, desk: &mut D) -> O
 /// Puts the part and the summary of a request where they go, one after the other up to the first that can't be written, and tells why
 /// it couldn't. A summary that isn't said is warned by; that it isn't heard is no fault.
 pub(crate) fn put<D: Desk>(request: &MendRequest, texts: &Texts, desk: &mut D) -> Option<Fault>
-    ensures put { IsPut (mend_line (Some (mend (named_seen request.now)))) (texts_for (named_seen request.now).out texts.now.part.items (string_bytes texts.now.summary)) result
+    ensures put { IsPut common (mend_line (Some (mend (named_seen request.now)))) (texts_for (named_seen request.now).out texts.now.part.items (string_bytes texts.now.summary)) result
         (D.state desk.old) (D.state desk.new) }
     ensures noted { (D.state desk.old).tells_warned ≡ true →
         IfNone result (Notes (summary_way (named_seen request.now).out) (string_bytes texts.now.summary) (D.state desk.old).warned (D.state desk.new).warned) }

@@ -13,12 +13,12 @@ ghost use Rattle.mend_words.specs.Seen.{named_seen};
 ghost use Rattle.part_input.specs.Faults.{CountsReads, status_of};
 ghost use Rattle.part_input.specs.Steps.{Refuses, IsMissing};
 ghost use Rattle.put_texts.specs.Desks.{HearsAll, OnlyRuns, OnlySaidAndWarned, OnlyWrites};
-ghost use Rattle.put_texts.specs.Faults.{CountsWrites, HasNoWriteFault};
+ghost use Rattle.put_texts.specs.Faults.{CountsWrites, HasNoWriteFault, common};
 ghost use Rattle.put_texts.specs.Noting.{IsQuiet};
 ghost use Rattle.put_texts.specs.Order.{SaysAlone};
 ghost use Rattle.solid_mesh.specs.Solids.{solid_part};
 
-use crate::end::{MendOutcome, end_by, refuse};
+use crate::end::{MendOutcome, refuse};
 use crate::lines::{HELP, MEMORY_LINE, SAID_LINE, VERSION};
 use crate::made::Mended;
 use crate::put::put;
@@ -28,15 +28,16 @@ use desk::{Desk, DeskFault};
 use draw_words::WordsError;
 use mend_words::{Asked, MendRequest, read_words};
 use part_input::{Fault, Target};
+use put_texts::{end_by, ended};
 use std::alloc::Global;
 
 /// The end of a run that says a text.
 fn tell<D: Desk>(text: &str, desk: &mut D) -> MendOutcome
     ensures status { result.status ≡ status_of result.fault }
     ensures fault { IfSome result.fault IsOfTelling }
-    ensures none { result.mended ≡ None }
+    ensures none { result.made ≡ None }
     ensures said { (D.state desk.old).tells_said ≡ true →
-        SaysAlone result.fault text.now (D.state desk.old).said (D.state desk.new).said }
+        SaysAlone common result.fault text.now (D.state desk.old).said (D.state desk.new).said }
     ensures writes { CountsWrites result.fault (D.state desk.old).write_faults (D.state desk.new).write_faults }
     ensures steady { (D.state desk.old).steady ≡ true → HasNoWriteFault result.fault }
     ensures warned { (D.state desk.old).tells_warned ≡ true →
@@ -48,11 +49,7 @@ fn tell<D: Desk>(text: &str, desk: &mut D) -> MendOutcome
     ensures changes { OnlySaidAndWarned (D.state desk.old) (D.state desk.new) }
 {
     match desk.say(text.as_bytes()) {
-        Ok(()) => MendOutcome {
-            status: 0,
-            fault: None,
-            mended: None,
-        },
+        Ok(()) => ended(None, None),
         Err(DeskFault::Failed) => end_by(SAID_LINE, Fault::WriteFault(Target::Out), desk),
         Err(DeskFault::Memory(_)) => end_by(MEMORY_LINE, Fault::Memory, desk),
     }
@@ -67,12 +64,12 @@ fn write_part<D: Desk>(
 ) -> MendOutcome
     ensures status { result.status ≡ status_of result.fault }
     ensures fault { IfSome result.fault (IsOfWriting (named_seen request.now)) }
-    ensures there { IsWritten result.fault (is_some result.mended) }
-    ensures made { IfSome result.mended (λ m. m ≡ mended) }
-    ensures written { IfSome result.mended (λ m. Writes (named_seen request.now) result.fault (D.state desk.old) (D.state desk.new) (made_seen m)) }
-    ensures untouched { IfNone result.mended ((D.state desk.new).files ≡ (D.state desk.old).files) }
-    ensures unsaid { IfNone result.mended ((D.state desk.new).said ≡ (D.state desk.old).said) }
-    ensures firm { (D.state desk.old).firm ≡ true → result.fault ≡ Some Fault.Memory → result.mended ≡ None }
+    ensures there { IsWritten result.fault (is_some result.made) }
+    ensures made { IfSome result.made (λ m. m ≡ mended) }
+    ensures written { IfSome result.made (λ m. Writes (named_seen request.now) result.fault (D.state desk.old) (D.state desk.new) (made_seen m)) }
+    ensures untouched { IfNone result.made ((D.state desk.new).files ≡ (D.state desk.old).files) }
+    ensures unsaid { IfNone result.made ((D.state desk.new).said ≡ (D.state desk.old).said) }
+    ensures firm { (D.state desk.old).firm ≡ true → result.fault ≡ Some Fault.Memory → result.made ≡ None }
     ensures writes { CountsWrites result.fault (D.state desk.old).write_faults (D.state desk.new).write_faults }
     ensures steady { (D.state desk.old).steady ≡ true → HasNoWriteFault result.fault }
     ensures warned { (D.state desk.old).tells_warned ≡ true →
@@ -87,11 +84,7 @@ fn write_part<D: Desk>(
         Err(_) => return end_by(MEMORY_LINE, Fault::Memory, desk),
     };
     let fault = put(request, &texts, desk);
-    MendOutcome {
-        status: Fault::end_status(&fault),
-        fault,
-        mended: Some(mended),
-    }
+    ended(fault, Some(mended))
 }
 
 /// Mends the part that was named, and writes it.
@@ -107,13 +100,13 @@ fn mend_part<D: Desk>(alloc: Global, request: &MendRequest, desk: &mut D) -> Men
     ensures steady { (D.state desk.old).steady ≡ true → HasNoWriteFault result.fault }
     ensures held { (D.state desk.old).steady ≡ true → HasFilesAsked (D.state desk.old).files (of_mend (named_seen request.now)) →
         (D.state desk.new).read_faults ≡ (D.state desk.old).read_faults }
-    ensures there { IsWritten result.fault (is_some result.mended) }
+    ensures there { IsWritten result.fault (is_some result.made) }
     ensures part { (D.state desk.old).tells ≡ true →
-        IfSome result.mended (λ m. MendsAsked (D.state desk.old).files (of_mend (named_seen request.now)) (Ok (Some (made_seen m)))) }
-    ensures written { IfSome result.mended (λ m. Writes (named_seen request.now) result.fault (D.state desk.old) (D.state desk.new) (made_seen m)) }
-    ensures untouched { IfNone result.mended ((D.state desk.new).files ≡ (D.state desk.old).files) }
-    ensures unsaid { IfNone result.mended ((D.state desk.new).said ≡ (D.state desk.old).said) }
-    ensures firm { (D.state desk.old).firm ≡ true → result.fault ≡ Some Fault.Memory → result.mended ≡ None }
+        IfSome result.made (λ m. MendsAsked (D.state desk.old).files (of_mend (named_seen request.now)) (Ok (Some (made_seen m)))) }
+    ensures written { IfSome result.made (λ m. Writes (named_seen request.now) result.fault (D.state desk.old) (D.state desk.new) (made_seen m)) }
+    ensures untouched { IfNone result.made ((D.state desk.new).files ≡ (D.state desk.old).files) }
+    ensures unsaid { IfNone result.made ((D.state desk.new).said ≡ (D.state desk.old).said) }
+    ensures firm { (D.state desk.old).firm ≡ true → result.fault ≡ Some Fault.Memory → result.made ≡ None }
     ensures warned { (D.state desk.old).tells_warned ≡ true →
         IfSome result.fault (Warns (Some (of_mend (named_seen request.now))) (D.state desk.old) (D.state desk.new)) }
     ensures whole { HearsAll (D.state desk.old) (D.state desk.new) →
@@ -172,21 +165,21 @@ pub fn mend<D: Desk>(alloc: Global, words: &[String], desk: &mut D) -> MendOutco
         ((D.state desk.new).read_faults ≡ (D.state desk.old).read_faults) × ((D.state desk.new).write_faults ≡ (D.state desk.old).write_faults) }
 
     // The part is that of the steps, from the texts at entry, and sound on every desk.
-    ensures made { HasMended (asked_by (texts words.now)) result.fault (is_some result.mended) }
+    ensures made { HasMended (asked_by (texts words.now)) result.fault (is_some result.made) }
     ensures part { (D.state desk.old).tells ≡ true →
-        IfSome result.mended (λ m. RunsMend (texts words.now) (D.state desk.old).files (Ok (Some (made_seen m)))) }
-    ensures sound { IfSome result.mended (λ m. IsSound (solid_part m.solid)) }
+        IfSome result.made (λ m. RunsMend (texts words.now) (D.state desk.old).files (Ok (Some (made_seen m)))) }
+    ensures sound { IfSome result.made (λ m. IsSound (solid_part m.solid)) }
 
     // Its text, which reads as the very part, and as a sound one once that is welded, is put where the words say, and then the line that
     // tells of it.
-    ensures written { IfSome result.mended (λ m. WritesAsked (asked_by (texts words.now)) result.fault (D.state desk.old) (D.state desk.new) (made_seen m)) }
-    ensures firm { (D.state desk.old).firm ≡ true → result.fault ≡ Some Fault.Memory → result.mended ≡ None }
+    ensures written { IfSome result.made (λ m. WritesAsked (asked_by (texts words.now)) result.fault (D.state desk.old) (D.state desk.new) (made_seen m)) }
+    ensures firm { (D.state desk.old).firm ≡ true → result.fault ≡ Some Fault.Memory → result.made ≡ None }
 
     // Without a part no file is touched, and nothing is said but what the words ask to be told.
-    ensures untouched { IfNone result.mended ((D.state desk.new).files ≡ (D.state desk.old).files) }
+    ensures untouched { IfNone result.made ((D.state desk.new).files ≡ (D.state desk.old).files) }
     ensures told { (D.state desk.old).tells_said ≡ true →
-        IfNone result.mended (TellsAsked (asked_by (texts words.now)) result.fault (D.state desk.old).said (D.state desk.new).said) }
-    ensures speaks { IfNone result.mended (SpeaksIfTold (asked_by (texts words.now)) (D.state desk.old).said (D.state desk.new).said) }
+        IfNone result.made (TellsAsked (asked_by (texts words.now)) result.fault (D.state desk.old).said (D.state desk.new).said) }
+    ensures speaks { IfNone result.made (SpeaksIfTold (asked_by (texts words.now)) (D.state desk.old).said (D.state desk.new).said) }
 
     // Of a fault it warns once, by its line.
     ensures warned { (D.state desk.old).tells_warned ≡ true →
@@ -195,7 +188,7 @@ pub fn mend<D: Desk>(alloc: Global, words: &[String], desk: &mut D) -> MendOutco
         IfSome result.fault (WarnsWhole (asked_by (texts words.now)) (D.state desk.old) (D.state desk.new)) }
 
     // With none it warns by a line that isn't said, and else not at all.
-    ensures unwarned { IfNone result.fault (IfNone result.mended ((D.state desk.new).warned ≡ (D.state desk.old).warned)) }
+    ensures unwarned { IfNone result.fault (IfNone result.made ((D.state desk.new).warned ≡ (D.state desk.old).warned)) }
     ensures quiet { IfNone result.fault (IsQuietIfAsked (asked_by (texts words.now)) (D.state desk.old).warn_faults (D.state desk.new).warn_faults) }
 
     // Nothing else of the desk changes.

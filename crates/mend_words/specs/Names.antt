@@ -2,9 +2,8 @@
 use Rattle.std.specs.Prelude.{ℕ, nat_le, ◌||◌, List, Option, Some, None, if◌then◌else◌, codes, option_map, unwrap_or}
 use Rattle.std.specs.Str.{bytes_eq}
 use Rattle.dec_text.specs.Numbers.{digits_value}
-use Rattle.draw_words.specs.Names.{is_empty_value}
-use Rattle.sheet_words.specs.Grammar.{for_help, for_version}
-use Rattle.mend_words.specs.Grammar.{Given, Reading, all_given, asks, reading_of, refused}
+use Rattle.command_words.specs.Grammar.{GivenTexts, Reading, all_given, asks, for_help, for_version, is_empty_value, reading_of, refused}
+use Rattle.mend_words.specs.Grammar.{mend_table}
 
 -- where a part goes: it is said, or it is kept under a name
 pub data Goal : Type 0 where
@@ -51,10 +50,10 @@ named_by (Some part) out (Some decimals) (Some limit) = Some (record { part = pa
 named_by _ _ _ _ = None
 
 -- there is a part, no name is empty, and each number is one that its option can have
-abbrev pub named : Given → Option Named
+abbrev pub named : GivenTexts → Option Named
 named given =
-    if is_empty_value given.part || is_empty_value given.out then None
-    else named_by given.part (goal_of given.out) (decimals_of given.decimals) (limit_of given.limit)
+    if is_empty_value (given (codes "part")) || is_empty_value (given (codes "out")) then None
+    else named_by (given (codes "part")) (goal_of (given (codes "out"))) (decimals_of (given (codes "decimals"))) (limit_of (given (codes "limit")))
 
 -- by what the words come to
 abbrev pub asks_of : Reading → Option Asks
@@ -65,4 +64,4 @@ asks_of (all_given given) = option_map mend (named given)
 
 -- what the words ask for; None where they are refused
 unfoldable pub asked_by : List (List ℕ) → Option Asks
-asked_by words = asks_of (reading_of words)
+asked_by words = asks_of (reading_of mend_table words)

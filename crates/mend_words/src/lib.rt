@@ -1,7 +1,6 @@
 //! The words behind the program's name: `PART [--out OUT] [--decimals K] [--limit N]`, or `--help` or `--version`.
 #![tactic(auto)]
 
-mod command;
 mod numbers;
 mod request;
 #[cfg(test)]

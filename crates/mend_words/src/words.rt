@@ -1,28 +1,25 @@
 // What the words of a run ask for.
-ghost use Rattle.std.specs.Prelude.{◌≡◌, IfOk, IsErrOf, Some, None, option_copied};
-ghost use Rattle.draw_words.specs.Names.{is_empty_value};
-ghost use Rattle.draw_words.specs.Seen.{texts};
+ghost use Rattle.std.specs.Prelude.{◌≡◌, IfOk, IsErrOf, Some, None};
+ghost use Rattle.command_words.specs.Seen.{given_seen, texts};
 ghost use Rattle.mend_words.specs.Names.{asked_by, goal_named, named};
 ghost use Rattle.mend_words.specs.Seen.{asked_seen, goal_seen, named_seen};
-ghost use Rattle.mend_words.specs.inner.Seen.{found_seen};
 
-use crate::command::{MendSentence, MendTexts, read};
 use crate::numbers::number;
 use crate::request::{Asked, MendRequest, Out};
+use command_words::{Given, Sentence, WordOption, read};
 use dec_text::Name;
 use draw_words::WordsError;
 use exact_frac::OutOfMemory;
 use std::alloc::Global;
 
-/// There is a text, and it is empty.
-fn is_empty_value(text: Option<&str>) -> bool
-    ensures { result ≡ is_empty_value (option_copied text.entry) }
-{
-    match text {
-        Some(text) => text.is_empty(),
-        None => false,
-    }
-}
+/// The options.
+const OPTIONS: [WordOption<'static>; 5] = [
+    WordOption::Value("out"),
+    WordOption::Value("decimals"),
+    WordOption::Value("limit"),
+    WordOption::Help("help"),
+    WordOption::Version("version"),
+];
 
 /// Where the part goes by a name.
 fn out_named(alloc: Global, name: &str) -> Result<Out, OutOfMemory>
@@ -36,25 +33,25 @@ fn out_named(alloc: Global, name: &str) -> Result<Out, OutOfMemory>
 }
 
 /// What is asked for by the texts that the words give.
-fn request_of(alloc: Global, found: MendTexts<'_>) -> Result<MendRequest, WordsError>
-    ensures named { IfOk result (λ r. named (found_seen found.entry) ≡ Some (named_seen r)) }
-    ensures usage { IsErrOf result WordsError.Usage → named (found_seen found.entry) ≡ None }
+fn request_of(alloc: Global, given: &Given<'_>) -> Result<MendRequest, WordsError>
+    ensures named { IfOk result (λ r. named (given_seen given.now) ≡ Some (named_seen r)) }
+    ensures usage { IsErrOf result WordsError.Usage → named (given_seen given.now) ≡ None }
 {
-    if is_empty_value(found.part) || is_empty_value(found.out) {
+    if given.is_empty("part") || given.is_empty("out") {
         return Err(WordsError::Usage);
     }
-    let Some(part) = found.part else {
+    let Some(part) = given.text("part") else {
         return Err(WordsError::Usage);
     };
-    let Some(decimals) = number(found.decimals.unwrap_or("3").as_bytes(), 1, 6) else {
+    let Some(decimals) = number(given.text("decimals").unwrap_or("3").as_bytes(), 1, 6) else {
         return Err(WordsError::Usage);
     };
-    let Some(limit) = number(found.limit.unwrap_or("4").as_bytes(), 3, 100) else {
+    let Some(limit) = number(given.text("limit").unwrap_or("4").as_bytes(), 3, 100) else {
         return Err(WordsError::Usage);
     };
     Ok(MendRequest {
         part: Name::new(alloc, part)?,
-        out: out_named(alloc, found.out.unwrap_or("mended.off"))?,
+        out: out_named(alloc, given.text("out").unwrap_or("mended.off"))?,
         decimals: decimals as u8,
         limit,
     })
@@ -71,9 +68,10 @@ pub fn read_words(alloc: Global, words: &[String]) -> Result<Asked, WordsError>
     ensures asked { IfOk result (λ asked. asked_by (texts words.now) ≡ Some (asked_seen asked)) }
     ensures usage { IsErrOf result WordsError.Usage → asked_by (texts words.now) ≡ None }
 {
-    match read(alloc, words)? {
-        MendSentence::Help => Ok(Asked::Help),
-        MendSentence::Version => Ok(Asked::Version),
-        MendSentence::Texts(found) => Ok(Asked::Mend(request_of(alloc, found)?)),
+    match read(alloc, "part", &OPTIONS, words)? {
+        Sentence::Refused => Err(WordsError::Usage),
+        Sentence::Help => Ok(Asked::Help),
+        Sentence::Version => Ok(Asked::Version),
+        Sentence::Given(given) => Ok(Asked::Mend(request_of(alloc, &given)?)),
     }
 }

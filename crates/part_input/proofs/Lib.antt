@@ -1,6 +1,9 @@
 pub mod Answered
 pub mod Blocks
 pub mod Chains
+pub mod Jobs
 pub mod Missing
+pub mod OneSheet
 pub mod Samples
 pub mod Singles
+pub mod There

@@ -1,5 +1,5 @@
 -- The job of a file, or the usual one: what is taken, what it says, and what may be at fault.
-use Rattle.std.specs.Prelude.{◌≡◌, ◌⊎◌, ◌<◌, ◌≤◌, ℕ, List, [], length, Option, Some, None, IsSomeAnd, Result, Ok, Err}
+use Rattle.std.specs.Prelude.{◌≡◌, ◌⊎◌, ◌<◌, ◌≤◌, ℕ, List, [], length, Option, Some, None, IsSome, IsSomeAnd, Result, Ok, Err}
 use Rattle.desk.specs.Files.{Files}
 use Rattle.job_file.specs.Documents.{JobValues, job_of_bytes}
 use Rattle.job_file.specs.declared.fault.JobFault.{JobFault}
@@ -47,3 +47,13 @@ IsOfJobFile JobTooLong = Unit {0}
 IsOfJobFile (JobUnread cause) = Unit {0}
 IsOfJobFile Memory = Unit {0}
 IsOfJobFile fault = ⊥
+
+-- those of the usual job
+abbrev pub IsOfUsualJob : Fault → Type 0
+IsOfUsualJob Memory = Unit {0}
+IsOfUsualJob fault = ⊥
+
+-- a job that is named is there
+abbrev pub HasJobFile : Files → Option (List ℕ) → Type 0
+HasJobFile files None = Unit {0}
+HasJobFile files (Some name) = IsSome (files name)

@@ -2,7 +2,7 @@
 use Rattle.std.specs.Prelude.{◌≡◌, ◌<◌, ◌-◌, ◌&&◌, nat_le, ℕ, List, [], ◌∷◌, length, map, codes, Option, Some, None, IfSome, IsSome, IsSomeAnd, Result, Ok, Err, if◌then◌else◌}
 use Rattle.dec_text.specs.declared.number.Length.{Length}
 use Rattle.desk.specs.Files.{Files}
-use Rattle.draw_words.specs.Grammar.{behind}
+use Rattle.command_words.specs.Grammar.{behind}
 use Rattle.geometry.specs.Parts.{Part}
 use Rattle.geometry.specs.Sound.{IsSound}
 use Rattle.lattice.specs.Points.{of_corner}

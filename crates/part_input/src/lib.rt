@@ -1,4 +1,4 @@
-//! The reading of a job, of a part and of a list from a desk, the faults of a run, and its status.
+//! The reading of a job, of a part and of a list from a desk, the sheet of both, the faults of a run, and its status.
 #![tactic(auto)]
 
 mod fault;
@@ -6,11 +6,15 @@ mod fetch;
 mod job;
 mod list;
 mod sample;
+mod sheets;
 mod solid;
 mod soup;
+mod usual;
 
 pub use fault::{Fault, Input, Target};
 pub use fetch::FetchFault;
 pub use job::fetch_job;
 pub use list::fetch_list;
+pub use sheets::sheet_of;
 pub use solid::{fetch_solid, fetch_soup};
+pub use usual::usual_job;

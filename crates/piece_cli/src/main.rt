@@ -3,23 +3,16 @@
 
 use desk::Desk;
 use detail_view::pieces;
-use disk_desk::DiskDesk;
+use disk_desk::{DiskDesk, words_of};
 use std::alloc::Global;
 use std::process::ExitCode;
-use std::rt::{Env, Stderr, Stdout};
-use std::{env, io};
+use std::rt::{Stderr, Stdout};
 
-// The words after the program's name.
-fn words_of<R: Env + AllocGlobal>(rt: &R) -> io::Result<Vec<String>> {
-    Ok(env::args(rt)?.skip(1).collect(rt.alloc())?)
-}
-
-// The status of a run. Where the words can't be had, as where they aren't UTF-8, there are none.
-fn status_of<D: Desk>(alloc: Global, words: io::Result<Vec<String>>, desk: &mut D) -> u8 {
+// The status of a run.
+fn status_of<D: Desk>(alloc: Global, words: Option<Vec<String>>, desk: &mut D) -> u8 {
     match words {
-        Ok(words) => pieces(alloc, &words, desk).status,
-        Err(fault) if fault.kind() == io::ErrorKind::OutOfMemory => 9,
-        Err(_) => pieces(alloc, &[], desk).status,
+        Some(words) => pieces(alloc, &words, desk).status,
+        None => 9,
     }
 }
 

@@ -10,7 +10,7 @@ use Rattle.job_file.specs.declared.view.JobView.{JobView}
 use Rattle.solid_mesh.specs.Solids.{solid_part}
 use Rattle.solid_mesh.specs.declared.solid.Solid.{Solid}
 use Rattle.job_file.specs.ShownCuts.{planes_in}
-use Rattle.drawn_strips.specs.Views.{IsRightView, IsOrderedView}
+use Rattle.drawing_laws.specs.Views.{IsRightView, IsOrderedView}
 use Rattle.drawing_laws.specs.Alike.{AreAlike}
 use Rattle.piece_verify.specs.Stands.{StandsFor, AgreeAt, pieces_in}
 use Rattle.piece_verify.specs.declared.line.Entry.{Entry}

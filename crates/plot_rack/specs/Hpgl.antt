@@ -1,7 +1,7 @@
 -- The text of a page for pen plotters, in the manner of HP-GL.
-use Rattle.std.specs.Prelude.{ℕ, ℤ, pos, ◌-ℤ◌, ◌*ℤ◌, if◌then◌else◌, List, [], ◌∷◌, ◌++◌, codes, Option, None, Some}
+use Rattle.std.specs.Prelude.{ℕ, ℤ, ◌==◌, pos, ◌-ℤ◌, ◌*ℤ◌, if◌then◌else◌, List, [], ◌∷◌, ◌++◌, codes, Option, None, Some}
 use Rattle.std.specs.Fmt.{decimal, signed_decimal}
-use Rattle.sheet_plan.specs.LineKinds.{is_same_mark, pen_of}
+use Rattle.sheet_plan.specs.LineKinds.{pen_of}
 use Rattle.sheet_plan.specs.Numbers.{nearest}
 use Rattle.sheet_plan.specs.declared.sheet.Mark.{Mark}
 use Rattle.sheet_plan.specs.declared.sheet.Stroke.{Stroke}
@@ -20,7 +20,7 @@ pen_text mark = codes "SP" ++ (decimal (pen_of mark) ++ codes ";")
 -- the pen is chosen for the first stroke, and where the one before has another
 abbrev pub choice_text : Option Mark → Mark → List ℕ
 choice_text None mark = pen_text mark
-choice_text (Some before) mark = if is_same_mark before mark then [] else pen_text mark
+choice_text (Some before) mark = if pen_of before == pen_of mark then [] else pen_text mark
 
 -- the pen is up to the first end of the stroke, and down to the second
 abbrev pub move_text : ℤ → Stroke → List ℕ

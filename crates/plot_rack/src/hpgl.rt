@@ -82,12 +82,12 @@ fn last_mark(strokes: &[Stroke]) -> Option<Mark>
     strokes.last().map(|stroke| stroke.mark)
 }
 
-/// The pen for a mark is the one that was chosen for the mark of the stroke before.
+/// The pen for a mark is that of the mark of the stroke before.
 fn is_chosen(before: Option<Mark>, mark: Mark) -> bool
     ensures { choice_text before mark ≡ (if result then [] else pen_text mark) }
 {
     match before {
-        Some(before) => before == mark,
+        Some(before) => before.pen() == mark.pen(),
         None => false,
     }
 }

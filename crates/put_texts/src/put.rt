@@ -2,16 +2,16 @@
 ghost use Rattle.std.specs.Prelude.{◌≡◌, ◌++◌, true, Some, IfSome, IfNone};
 ghost use Rattle.desk.specs.Files.{AppendsFront, OnlyKeeps, OnlySays, OnlyWarns};
 ghost use Rattle.put_texts.specs.Desks.{HearsAll, IsUnwarned, OnlyFilesAndWarned, OnlySaidAndWarned};
-ghost use Rattle.put_texts.specs.Faults.{CountsWrites, HasNoWriteFault};
+ghost use Rattle.put_texts.specs.Faults.{CountsWritesOf, HasNoWriteFaultOf, unwritten};
 ghost use Rattle.put_texts.specs.Noting.{IsQuiet, Notes, NotesWhole, unless_said};
 ghost use Rattle.put_texts.specs.Order.{IsFaultAt, aloud, under};
 ghost use Rattle.put_texts.specs.Puts.{IsPut, one_text, told_by, way_seen};
 ghost use Rattle.put_texts.specs.inner.Parts.{KeepsBy, SaysBy};
 
+use crate::fault::RunFault;
 use crate::warning::warn;
 use dec_text::Name;
 use desk::{Desk, DeskFault};
-use part_input::{Fault, Target};
 
 /// Where a text goes: nowhere, to the standard output, or into the file of a name.
 #[derive(Clone, Copy)]
@@ -21,25 +21,26 @@ pub enum Way<'a> {
     Under(&'a Name),
 }
 
-/// Keeps a text, and tells why it couldn't, of which it warns by its line or by that of want of memory.
-fn keep_text<D: Desk>(
+/// Keeps a text, and tells why it couldn't, by the fault of writing it or want of memory, of which it warns by its line or by that of want of memory.
+fn keep_text<F: RunFault, D: Desk>(
     name: &Name,
     bytes: &[u8],
-    target: Target,
+    its: F,
     line: &str,
     memory: &str,
     desk: &mut D,
-) -> Option<Fault>
-    ensures fault { IfSome result (IsFaultAt target) }
+) -> Option<F>
+    requires { F.faults.cause its ≡ unwritten }
+    ensures fault { IfSome result (IsFaultAt F.faults its) }
     ensures files { (D.state desk.old).tells ≡ true →
-        KeepsBy (under name.now) bytes.now result (D.state desk.old).files (D.state desk.new).files }
-    ensures writes { CountsWrites result (D.state desk.old).write_faults (D.state desk.new).write_faults }
-    ensures steady { (D.state desk.old).steady ≡ true → HasNoWriteFault result }
-    ensures firm { (D.state desk.old).firm ≡ true → result ≡ Some Fault.Memory → ⊥ }
+        KeepsBy F.faults (under name.now) bytes.now result (D.state desk.old).files (D.state desk.new).files }
+    ensures writes { CountsWritesOf F.faults result (D.state desk.old).write_faults (D.state desk.new).write_faults }
+    ensures steady { (D.state desk.old).steady ≡ true → HasNoWriteFaultOf F.faults result }
+    ensures firm { (D.state desk.old).firm ≡ true → result ≡ Some F.faults.memory → ⊥ }
     ensures warned { (D.state desk.old).tells_warned ≡ true →
-        IfSome result (λ f. AppendsFront (D.state desk.old).warned (D.state desk.new).warned (told_by memory.now line.now f)) }
+        IfSome result (λ f. AppendsFront (D.state desk.old).warned (D.state desk.new).warned (told_by F.faults memory.now line.now f)) }
     ensures whole { HearsAll (D.state desk.old) (D.state desk.new) →
-        IfSome result (λ f. (D.state desk.new).warned ≡ (D.state desk.old).warned ++ told_by memory.now line.now f) }
+        IfSome result (λ f. (D.state desk.new).warned ≡ (D.state desk.old).warned ++ told_by F.faults memory.now line.now f) }
     ensures kept { IfNone result (OnlyKeeps (D.state desk.old) (D.state desk.new)) }
     ensures changes { OnlyFilesAndWarned (D.state desk.old) (D.state desk.new) }
 {
@@ -47,33 +48,34 @@ fn keep_text<D: Desk>(
         Ok(()) => None,
         Err(DeskFault::Failed) => {
             warn(line, desk);
-            Some(Fault::WriteFault(target))
+            Some(its)
         }
         Err(DeskFault::Memory(_)) => {
             warn(memory, desk);
-            Some(Fault::Memory)
+            Some(F::memory())
         }
     }
 }
 
-/// Says a text, and tells why it couldn't, of which it warns by its line or by that of want of memory.
-fn say_text<D: Desk>(
+/// Says a text, and tells why it couldn't, by the fault of writing it or want of memory, of which it warns by its line or by that of want of memory.
+fn say_text<F: RunFault, D: Desk>(
     bytes: &[u8],
-    target: Target,
+    its: F,
     line: &str,
     memory: &str,
     desk: &mut D,
-) -> Option<Fault>
-    ensures fault { IfSome result (IsFaultAt target) }
+) -> Option<F>
+    requires { F.faults.cause its ≡ unwritten }
+    ensures fault { IfSome result (IsFaultAt F.faults its) }
     ensures said { (D.state desk.old).tells_said ≡ true →
-        SaysBy aloud bytes.now result (D.state desk.old).said (D.state desk.new).said }
-    ensures writes { CountsWrites result (D.state desk.old).write_faults (D.state desk.new).write_faults }
-    ensures steady { (D.state desk.old).steady ≡ true → HasNoWriteFault result }
-    ensures firm { (D.state desk.old).firm ≡ true → result ≡ Some Fault.Memory → ⊥ }
+        SaysBy F.faults aloud bytes.now result (D.state desk.old).said (D.state desk.new).said }
+    ensures writes { CountsWritesOf F.faults result (D.state desk.old).write_faults (D.state desk.new).write_faults }
+    ensures steady { (D.state desk.old).steady ≡ true → HasNoWriteFaultOf F.faults result }
+    ensures firm { (D.state desk.old).firm ≡ true → result ≡ Some F.faults.memory → ⊥ }
     ensures warned { (D.state desk.old).tells_warned ≡ true →
-        IfSome result (λ f. AppendsFront (D.state desk.old).warned (D.state desk.new).warned (told_by memory.now line.now f)) }
+        IfSome result (λ f. AppendsFront (D.state desk.old).warned (D.state desk.new).warned (told_by F.faults memory.now line.now f)) }
     ensures whole { HearsAll (D.state desk.old) (D.state desk.new) →
-        IfSome result (λ f. (D.state desk.new).warned ≡ (D.state desk.old).warned ++ told_by memory.now line.now f) }
+        IfSome result (λ f. (D.state desk.new).warned ≡ (D.state desk.old).warned ++ told_by F.faults memory.now line.now f) }
     ensures spoken { IfNone result (OnlySays (D.state desk.old) (D.state desk.new)) }
     ensures changes { OnlySaidAndWarned (D.state desk.old) (D.state desk.new) }
 {
@@ -81,32 +83,32 @@ fn say_text<D: Desk>(
         Ok(()) => None,
         Err(DeskFault::Failed) => {
             warn(line, desk);
-            Some(Fault::WriteFault(target))
+            Some(its)
         }
         Err(DeskFault::Memory(_)) => {
             warn(memory, desk);
-            Some(Fault::Memory)
+            Some(F::memory())
         }
     }
 }
 
-/// Puts a text where it goes, and tells why it couldn't. Where it couldn't be written it warns by its line, and where memory was
+/// Puts a text where it goes, and tells why it couldn't: by the fault of writing it, or by want of memory. Where it couldn't be written it warns by its line, and where memory was
 /// wanting by the line of that. Cost: one call of the desk, and with a fault one more.
-pub fn put_text<D: Desk>(
+pub fn put_text<F: RunFault, D: Desk>(
     way: Way<'_>,
     bytes: &[u8],
-    target: Target,
+    target: F::Target,
     line: &str,
     memory: &str,
     desk: &mut D,
-) -> Option<Fault>
-    ensures put { IsPut (told_by memory.now line.now) (one_text (way_seen way.entry) target bytes.now) result (D.state desk.old) (D.state desk.new) }
+) -> Option<F>
+    ensures put { IsPut F.faults (told_by F.faults memory.now line.now) (one_text (way_seen way.entry) (F.unwritten_of target) bytes.now) result (D.state desk.old) (D.state desk.new) }
     ensures unwarned { IfNone result (IsUnwarned (D.state desk.old) (D.state desk.new)) }
 {
     match way {
         Way::Nowhere => None,
-        Way::Aloud => say_text(bytes, target, line, memory, desk),
-        Way::Under(name) => keep_text(name, bytes, target, line, memory, desk),
+        Way::Aloud => say_text(bytes, F::unwritten(target), line, memory, desk),
+        Way::Under(name) => keep_text(name, bytes, F::unwritten(target), line, memory, desk),
     }
 }
 

@@ -1,1 +1,1 @@
-mod Numbered
+pub mod Numbered

@@ -1,31 +1,23 @@
 -- What holds of what the words ask for holds of the run.
-use Rattle.std.proofs.Common.{◌≡◌, ◌⊎◌, inl, inr, ℕ, List, Option, Some, None, IfSome, is_some, true, false, true≢false, Result, Ok, refl, sym, subst}
+use Rattle.std.proofs.Common.{◌≡◌, inl, inr, ℕ, List, Option, Some, None, IfSome, is_some, true, false, true≢false, Result, Ok, refl, sym}
 use Rattle.desk.specs.Files.{Files}
-use Rattle.draw_core.specs.Drawing.{drawn_in}
-use Rattle.draw_core.specs.Run.{Drawn}
-use Rattle.draw_core.specs.declared.drawing.Drawing.{Drawing}
+use Rattle.drawing.specs.Drawing.{drawn_in}
+use Rattle.sheet_plan.specs.JobSheets.{Drawn}
+use Rattle.drawing.specs.declared.drawn.Drawing.{Drawing}
 use Rattle.part_input.specs.Steps.{Refuses, IsMissing}
 use Rattle.part_input.specs.declared.fault.Fault.{Fault}
 use Rattle.part_input.specs.Parts.{IsOfSampleOr, sample_size}
 use Rattle.part_input.specs.declared.fault.Target.{Target}
 use Rattle.part_input.specs.declared.fault.Fault.TheVariants.{Usage, ReadFault, WriteFault, Memory}
 use Rattle.part_input.proofs.Chains.{refuses_as, missing_as}
-use Rattle.put_texts.specs.Faults.{CountsWrites, HasNoWriteFault}
+use Rattle.put_texts.proofs.Ends.{ComesToSome}
+use Rattle.sheet_core.specs.Faults.{AsCommon, CountsWrites, HasNoWriteFault}
 use Rattle.sheet_core.specs.Run.{Draws, RunsSheet, AnswersNamed, AnswersSheetWords, IsOfFiles, IsOfJob, ReadsInOrder, RunsInOrder, IsWritten}
 use Rattle.sheet_core.specs.inner.Faults.{IsOfWriting}
 use Rattle.sheet_core.proofs.Putting.{by_writing}
-use Rattle.sheet_core.proofs.Answered.{ComesToSome}
+use Rattle.sheet_core.specs.declared.fault.SheetFault.{SheetFault}
+use Rattle.sheet_core.specs.declared.fault.SheetFault.TheVariants.{Common, WriteList}
 use Rattle.sheet_words.specs.Names.{Asks, Named, sheet, asked_by}
-
--- the fault is this one, or its line found no memory
-pub said_or_memory : (P : Fault → Type 0) (e : Fault) (fault : Option Fault) → (fault ≡ Some e) ⊎ (fault ≡ Some Memory) → P e → P Memory → IfSome fault P
-said_or_memory P e fault (inl is) h m = subst (λ (f : Option Fault). IfSome f P) (sym is) h
-said_or_memory P e fault (inr is) h m = subst (λ (f : Option Fault). IfSome f P) (sym is) m
-
--- and so for what is said of all faults, or of none
-pub either : (Q : Option Fault → Type 0) (e : Fault) (fault : Option Fault) → (fault ≡ Some e) ⊎ (fault ≡ Some Memory) → Q (Some e) → Q (Some Memory) → Q fault
-either Q e fault (inl is) h m = subst Q (sym is) h
-either Q e fault (inr is) h m = subst Q (sym is) m
 
 -- ---- faults of taking a drawing are none of the words and none of writing
 job_no_usage : (job : Option (List ℕ)) → IsOfJob job Usage → ⊥
@@ -55,43 +47,45 @@ module _ (part : List ℕ) (job : Option (List ℕ)) where
   no_write target (inr (inl h)) = part_no_write (sample_size part) target h
   no_write target (inr (inr h)) = h
 
-  pub counts_files : (e : Fault) → IsOfFiles part job e → (old new : ℕ) → new ≡ old → CountsWrites (Some e) old new
+  pub counts_files : (e : Fault) → IsOfFiles part job e → (old new : ℕ) → new ≡ old → CountsWrites (Some (Common e)) old new
   counts_files (WriteFault target) h old new same = absurd (no_write target h)
   counts_files e h old new same = same
 
-  pub unwritten_files : (e : Fault) → IsOfFiles part job e → HasNoWriteFault (Some e)
+  pub unwritten_files : (e : Fault) → IsOfFiles part job e → HasNoWriteFault (Some (Common e))
   unwritten_files (WriteFault target) h = absurd (no_write target h)
   unwritten_files e h = tt
 
-  pub undrawn_files : (e : Fault) → IsOfFiles part job e → IsWritten (Some e) false
+  pub undrawn_files : (e : Fault) → IsOfFiles part job e → IsWritten (Some (Common e)) false
   undrawn_files (WriteFault target) h = absurd (no_write target h)
   undrawn_files Memory h = tt
   undrawn_files e h = refl
 
-pub answers_files : (named : Named) (e : Fault) → IsOfFiles named.part named.job e → AnswersNamed named (Some e)
+pub answers_files : (named : Named) (e : Fault) → IsOfFiles named.part named.job e → AnswersNamed named (Some (Common e))
 answers_files named Usage h = absurd (no_usage named.part named.job h)
 answers_files named Memory h = tt
 answers_files named (WriteFault target) h = absurd (no_write named.part named.job target h)
 answers_files named e h = h
 
 -- a drawing is there after each fault of writing it
-write_drawn : (named : Named) (e : Fault) → IsOfWriting named e → IsWritten (Some e) true
-write_drawn named e is = by_writing named (λ (e : Fault). IsWritten (Some e) true) (λ target at. refl) tt e is
+write_drawn : (named : Named) (e : SheetFault) → IsOfWriting named e → IsWritten (Some e) true
+write_drawn named e is = by_writing named (λ (e : SheetFault). IsWritten (Some e) true) (λ target at. refl) (λ some. refl) tt e is
 
-pub written_of : (named : Named) (fault : Option Fault) → IfSome fault (IsOfWriting named) → IsWritten fault true
+pub written_of : (named : Named) (fault : Option SheetFault) → IfSome fault (IsOfWriting named) → IsWritten fault true
 written_of named None is = refl
 written_of named (Some e) is = write_drawn named e is
 
 module _ (words : List (List ℕ)) (files : Files) (asks : Asks) (is : asked_by words ≡ Some asks) where
-  pub refuses : (fault : Option Fault) → IfSome fault (Refuses (Draws files asks)) → IfSome fault (Refuses (RunsSheet words files))
+  pub refuses : (fault : Option SheetFault) → IfSome fault (AsCommon (Refuses (Draws files asks))) → IfSome fault (AsCommon (Refuses (RunsSheet words files)))
   refuses None h = tt
-  refuses (Some e) h = refuses_as (Draws files asks) (RunsSheet words files) (λ e h. inr (asks, is, h)) e h
+  refuses (Some WriteList) h = tt
+  refuses (Some (Common e)) h = refuses_as (Draws files asks) (RunsSheet words files) (λ e h. inr (asks, is, h)) e h
 
-  pub misses : (fault : Option Fault) → IfSome fault (IsMissing (Draws files asks)) → IfSome fault (IsMissing (RunsSheet words files))
+  pub misses : (fault : Option SheetFault) → IfSome fault (AsCommon (IsMissing (Draws files asks))) → IfSome fault (AsCommon (IsMissing (RunsSheet words files)))
   misses None h = tt
-  misses (Some e) h = missing_as (Draws files asks) (RunsSheet words files) (λ e h. inr (asks, is, h)) e h
+  misses (Some WriteList) h = tt
+  misses (Some (Common e)) h = missing_as (Draws files asks) (RunsSheet words files) (λ e h. inr (asks, is, h)) e h
 
-  pub comes_to : (fault : Option Fault) → ComesToSome (Draws files asks) fault → ComesToSome (RunsSheet words files) fault
+  pub comes_to : (fault : Option SheetFault) → ComesToSome (Draws files asks) fault → ComesToSome (RunsSheet words files) fault
   comes_to None (x, h) = (x, (asks, is, h))
   comes_to (Some e) h = tt
 
@@ -99,23 +93,25 @@ module _ (words : List (List ℕ)) (files : Files) (asks : Asks) (is : asked_by 
   draws None h = tt
   draws (Some d) h = (asks, is, h)
 
-pub answers_words : (named : Named) (fault : Option Fault) → AnswersNamed named fault → AnswersSheetWords (Some (sheet named)) fault
+pub answers_words : (named : Named) (fault : Option SheetFault) → AnswersNamed named fault → AnswersSheetWords (Some (sheet named)) fault
 answers_words named None h = refl
-answers_words named (Some Usage) h = absurd h
-answers_words named (Some Memory) h = tt
-answers_words named (Some (WriteFault target)) h = h
-answers_words named (Some e) h = h
+answers_words named (Some WriteList) h = h
+answers_words named (Some (Common Usage)) h = absurd h
+answers_words named (Some (Common Memory)) h = tt
+answers_words named (Some (Common (WriteFault target))) h = h
+answers_words named (Some (Common e)) h = h
 
 in_order : (named : Named) (files : Files) (e : Fault) → ReadsInOrder files named.part named.job e → RunsInOrder (Some (sheet named)) files e
 in_order named files (ReadFault input) h = h
 in_order named files e h = tt
 
-pub runs_in_order : (named : Named) (files : Files) (fault : Option Fault) → IfSome fault (ReadsInOrder files named.part named.job) → IfSome fault (RunsInOrder (Some (sheet named)) files)
+pub runs_in_order : (named : Named) (files : Files) (fault : Option SheetFault) → IfSome fault (AsCommon (ReadsInOrder files named.part named.job)) → IfSome fault (AsCommon (RunsInOrder (Some (sheet named)) files))
 runs_in_order named files None h = tt
-runs_in_order named files (Some e) h = in_order named files e h
+runs_in_order named files (Some WriteList) h = tt
+runs_in_order named files (Some (Common e)) h = in_order named files e h
 
 -- without a fault there is a drawing, of which the steps tell
-pub some_drawn : (steps : Result (Option Drawn) Fault → Type 0) (fault : Option Fault) (made : Option Drawing) → IsWritten fault (is_some made) → IfSome made (λ d. steps (Ok (Some (drawn_in d)))) → ComesToSome steps fault
+pub some_drawn : (steps : Result (Option Drawn) Fault → Type 0) (fault : Option SheetFault) (made : Option Drawing) → IsWritten fault (is_some made) → IfSome made (λ d. steps (Ok (Some (drawn_in d)))) → ComesToSome steps fault
 some_drawn steps None None there h = absurd (true≢false (sym there))
 some_drawn steps None (Some d) there h = (Some (drawn_in d), h)
 some_drawn steps (Some e) made there h = tt

@@ -3,7 +3,7 @@ use Rattle.std.proofs.Common.{◌≡◌, ℕ, suc, List, [], ◌∷◌, ◌++◌
 use Rattle.std.specs.List.{AllZip}
 use Rattle.std.proofs.lemmas.Int.{ints}
 use Rattle.sheet_plan.specs.Centred.{IsMovedPlace, IsMoved}
-use Rattle.draw_core.specs.Strokes.{IsStrokeOn, IsHatchStrokeOn, AreStrokesOf, AreStrokesFrom, AreStrokes}
+use Rattle.drawing.specs.Strokes.{IsStrokeOn, IsHatchStrokeOn, AreStrokesOf, AreStrokesFrom, AreStrokes}
 use Rattle.exact_frac.specs.declared.Frac.{Frac}
 use Rattle.exact_frac.specs.Frac.{IsLowest}
 use Rattle.integers.proofs.Orders.{same_through}

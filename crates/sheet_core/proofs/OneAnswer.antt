@@ -1,8 +1,8 @@
 -- A run has one answer: each of its steps has, and so have steps in order.
 use Rattle.std.proofs.Common.{◌≡◌, ℕ, List, Option, Some, Ok, Err, sym, ap, ◌∙◌}
 use Rattle.desk.specs.Files.{Files}
-use Rattle.draw_core.specs.Run.{PlansSheet}
-use Rattle.draw_core.proofs.OneAnswer.{plan_single}
+use Rattle.part_input.specs.Sheets.{PlansSheet}
+use Rattle.part_input.proofs.OneSheet.{plan_single}
 use Rattle.part_input.specs.Jobs.{TakesReadJob}
 use Rattle.part_input.specs.Parts.{TakesSolid}
 use Rattle.part_input.specs.Steps.{◌and_then◌}

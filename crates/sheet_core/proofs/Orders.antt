@@ -2,7 +2,7 @@
 use Rattle.std.proofs.Common.{ℕ, List, Option, Some, None, refl}
 use Rattle.std.specs.Prelude.{Result, Ok, Err, IfErr, IsSome}
 use Rattle.desk.specs.Files.{Files}
-use Rattle.draw_core.specs.Run.{IsOfSheet}
+use Rattle.part_input.specs.Sheets.{IsOfSheet}
 use Rattle.job_file.specs.Documents.{JobValues}
 use Rattle.part_input.specs.Jobs.{TakesReadJob}
 use Rattle.part_input.specs.Parts.{sample_size, IsOfPart}

@@ -10,13 +10,13 @@ use Rattle.cut_marks.specs.declared.figures.CutMark.{CutMark}
 use Rattle.cut_marks.specs.declared.figures.MarkEnd.{MarkEnd}
 use Rattle.cut_marks.specs.declared.figures.SheetPoint.{SheetPoint}
 use Rattle.cut_marks.specs.declared.views.ViewMarks.{ViewMarks}
-use Rattle.draw_core.specs.Drawing.{IsDrawing}
+use Rattle.drawing.specs.Drawing.{IsPlannedDrawing}
 use Rattle.cut_marks.specs.Items.{rule_to, head_at, letter_item, beside_items, arrow_items, end_items, items_of_mark, heading_item, heading_items, items_of_view, items_of_marks}
 use Rattle.sheet_page.specs.Corners.{IsInCorner}
 use Rattle.lattice.specs.declared.points.Corner.{Corner}
 use Rattle.sheet_plan.specs.declared.sheet.Sheet.{Sheet}
 use Rattle.solid_mesh.specs.Solids.{solid_part}
-use Rattle.draw_core.specs.declared.drawing.Drawing.{Drawing}
+use Rattle.drawing.specs.declared.drawn.Drawing.{Drawing}
 use Rattle.sheet_page.specs.Pages.{IsInView}
 use Rattle.sheet_page.specs.declared.page.Item.{Item}
 use Rattle.sheet_page.specs.declared.page.Item.TheVariants as item
@@ -26,7 +26,7 @@ use Rattle.stroke_paths.specs.declared.path.Path.{Path}
 use Rattle.sheet_core.specs.Pages.{is_shown, frame_of, shown_paths}
 
 -- the sheet of a drawing was planned for it
-pub planned_for : (d : Drawing) → IsDrawing d → IsPlannedFor d.job (solid_part d.solid).corners d.sheet
+pub planned_for : (d : Drawing) → IsPlannedDrawing d → IsPlannedFor d.job (solid_part d.solid).corners d.sheet
 planned_for d is = record { extents = is.sheet.extents; reach = is.sheet.reach; planned = is.sheet.planned }
 
 -- and has as many places once they are moved

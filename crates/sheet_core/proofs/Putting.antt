@@ -4,49 +4,78 @@ use Rattle.std.specs.Prelude.{IfSome, IsSome}
 use Rattle.part_input.specs.declared.fault.Fault.{Fault}
 use Rattle.part_input.specs.declared.fault.Fault.TheVariants.{WriteFault, Memory}
 use Rattle.part_input.specs.declared.fault.Target.{Target}
-use Rattle.part_input.specs.declared.fault.Target.TheVariants.{Out, Plot, Summary}
+use Rattle.part_input.specs.declared.fault.Target.TheVariants.{Out, Summary}
+use Rattle.put_texts.specs.Faults.{unwritten, wanting}
 use Rattle.put_texts.specs.Noting.{unless_said}
 use Rattle.put_texts.specs.Order.{aloud, IsFaultAt, IsOfWay}
 use Rattle.put_texts.specs.Puts.{IsOfTexts}
+use Rattle.put_texts.proofs.Counting.{memory_only, wanting_only}
 use Rattle.put_texts.proofs.Putting.{by_fault, of_way}
+use Rattle.sheet_core.specs.Faults.{cause_of, sheet_faults, unwritten_of}
+use Rattle.sheet_core.specs.declared.fault.SheetFault.{SheetFault}
+use Rattle.sheet_core.specs.declared.fault.SheetFault.TheVariants.{Common, WriteList}
+use Rattle.sheet_core.specs.declared.fault.SheetTarget.{SheetTarget}
+use Rattle.sheet_core.specs.declared.fault.SheetTarget.TheVariants as sheet_target
 use Rattle.sheet_core.specs.Writing.{way_of, list_way, texts_for, IsOfTarget}
 use Rattle.sheet_core.specs.inner.Faults.{IsOfWriting}
 use Rattle.sheet_words.specs.Names.{Goal, ListGoal, Named, said, svg_file, pdf_file, list_said, list_file}
 
 -- what holds of a fault of writing each text of a request, and of want of memory, holds of each fault of writing them
-pub by_writing : (named : Named) (P : Fault → Type 0) → ((target : Target) → IsOfTarget named target → P (WriteFault target)) → P Memory → (f : Fault) → IsOfWriting named f → P f
-by_writing named P w m (WriteFault target) is = w target is
-by_writing named P w m Memory is = m
-by_writing named P w m e is = absurd is
+pub by_writing : (named : Named) (P : SheetFault → Type 0) → ((target : Target) → IsOfTarget named target → P (Common (WriteFault target))) → (IsSome named.list → P WriteList) → P (Common Memory) → (f : SheetFault) → IsOfWriting named f → P f
+by_writing named P w l m WriteList is = l is
+by_writing named P w l m (Common (WriteFault target)) is = w target is
+by_writing named P w l m (Common Memory) is = m
+by_writing named P w l m (Common e) is = absurd is
 
-module _ (named : Named) (f : Fault) where
-  of_list : (list : Option ListGoal) → IsOfWay (list_way list) (Plot 0) f → IsSome list × IsFaultAt (Plot 0) f
+-- one fault is want of memory
+pub short_only : (P : SheetFault → Type 0) → P (Common Memory) → (f : SheetFault) → cause_of f ≡ wanting → P f
+short_only P m WriteList is = absurd (wanting_only unwritten is)
+short_only P m (Common f) is = memory_only (λ (e : Fault). P (Common e)) m f is
+
+-- the fault of a target is one of writing
+pub is_unwritten : (target : SheetTarget) → cause_of (unwritten_of target) ≡ unwritten
+is_unwritten sheet_target.Page = refl
+is_unwritten sheet_target.Listing = refl
+is_unwritten sheet_target.Summary = refl
+
+abbrev said_sheet : SheetFault
+said_sheet = Common (WriteFault Out)
+
+abbrev said_summary : SheetFault
+said_summary = Common (WriteFault Summary)
+
+module _ (named : Named) (f : SheetFault) where
+  of_list : (list : Option ListGoal) → IsOfWay sheet_faults (list_way list) WriteList f → IsSome list × IsFaultAt sheet_faults WriteList f
   of_list None is = absurd is
   of_list (Some list_said) is = (refl, is)
   of_list (Some (list_file name)) is = (refl, is)
 
   -- what is said behind a list
-  behind_list : (list : Option ListGoal) → IsOfWay (unless_said (list_way list) aloud) Summary f → (unless_said (list_way list) aloud ≡ aloud) × IsFaultAt Summary f
+  behind_list : (list : Option ListGoal) → IsOfWay sheet_faults (unless_said (list_way list) aloud) said_summary f → (unless_said (list_way list) aloud ≡ aloud) × IsFaultAt sheet_faults said_summary f
   behind_list None is = (refl, is)
   behind_list (Some list_said) is = absurd is
   behind_list (Some (list_file name)) is = (refl, is)
 
-  of_summary : (out : Goal) (list : Option ListGoal) → IsOfWay (unless_said (way_of out) (unless_said (list_way list) aloud)) Summary f
-      → (unless_said (way_of out) (unless_said (list_way list) aloud) ≡ aloud) × IsFaultAt Summary f
+  of_summary : (out : Goal) (list : Option ListGoal) → IsOfWay sheet_faults (unless_said (way_of out) (unless_said (list_way list) aloud)) said_summary f
+      → (unless_said (way_of out) (unless_said (list_way list) aloud) ≡ aloud) × IsFaultAt sheet_faults said_summary f
   of_summary said list is = absurd is
   of_summary (svg_file name) list is = behind_list list is
   of_summary (pdf_file name) list is = behind_list list is
 
-  pub of_writing : (page list summary : List ℕ) → IsOfTexts (texts_for named page list summary) f → IsOfWriting named f
-  of_writing page list summary (inl h) = by_fault (IsOfWriting named) Out tt tt f (of_way (way_of named.out) Out f h)
+  -- a fault of writing a text that may be at fault
+  of_its : (its : SheetFault) → IsOfWriting named its → IsFaultAt sheet_faults its f → IsOfWriting named f
+  of_its its may is = by_fault sheet_faults (IsOfWriting named) its may (short_only (IsOfWriting named) tt) f is
+
+  pub of_writing : (page list summary : List ℕ) → IsOfTexts sheet_faults (texts_for named page list summary) f → IsOfWriting named f
+  of_writing page list summary (inl h) = of_its said_sheet tt (of_way sheet_faults (way_of named.out) said_sheet f h)
   of_writing page list summary (inr (inl h)) =
       let (some, at) = of_list named.list h in
-      by_fault (IsOfWriting named) (Plot 0) some tt f at
+      of_its WriteList some at
   of_writing page list summary (inr (inr (inl h))) =
       let (is, at) = of_summary named.out named.list h in
-      by_fault (IsOfWriting named) Summary is tt f at
+      of_its said_summary is at
   of_writing page list summary (inr (inr (inr h))) = absurd h
 
-pub all_of_writing : (named : Named) (page list summary : List ℕ) (fault : Option Fault) → IfSome fault (IsOfTexts (texts_for named page list summary)) → IfSome fault (IsOfWriting named)
+pub all_of_writing : (named : Named) (page list summary : List ℕ) (fault : Option SheetFault) → IfSome fault (IsOfTexts sheet_faults (texts_for named page list summary)) → IfSome fault (IsOfWriting named)
 all_of_writing named page list summary None h = tt
 all_of_writing named page list summary (Some f) h = of_writing named f page list summary h

@@ -4,7 +4,7 @@ use Rattle.std.specs.Prelude.{◌↔◌, IfErr, IsErrOf}
 use Rattle.std.specs.Result.{result_err}
 use Rattle.dec_text.specs.declared.number.Length.{Length}
 use Rattle.desk.specs.Files.{Files, DeskState, OnlyReads}
-use Rattle.draw_core.specs.Run.{IsOfSheet}
+use Rattle.part_input.specs.Sheets.{IsOfSheet}
 use Rattle.geometry.specs.Parts.{Part}
 use Rattle.job_file.specs.Documents.{JobValues}
 use Rattle.part_input.specs.Faults.{CountsReads}

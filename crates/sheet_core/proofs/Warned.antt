@@ -1,14 +1,17 @@
 -- What is warned and written from a later state of the desk on, seen from the beginning of a run.
 use Rattle.std.proofs.Common.{◌≡◌, ◌⊎◌, inl, inr, ℕ, ◌++◌, List, Option, None, Some, refl, sym, ap, subst, ◌∙◌}
 use Rattle.std.specs.Prelude.{IfSome, IfNone}
-use Rattle.desk.specs.Files.{Files, DeskState, AppendsFront, OnlyReads, Rose}
-use Rattle.draw_core.specs.declared.drawing.Drawing.{Drawing}
+use Rattle.desk.specs.Files.{Files, DeskState, AppendsFront, OnlyReads}
+use Rattle.drawing.specs.declared.drawn.Drawing.{Drawing}
 use Rattle.part_input.specs.declared.fault.Fault.{Fault}
 use Rattle.part_input.specs.declared.fault.Fault.TheVariants.{Memory}
-use Rattle.put_texts.specs.Desks.{HearsAll}
 use Rattle.put_texts.specs.Noting.{Notes, NotesWhole}
 use Rattle.put_texts.specs.Order.{InOrder, KeepsText, KeepsTextPart, SaysText, SaysTextPart, SparesFile, SparesWord}
-use Rattle.sheet_core.specs.Lines.{IsPlaceFor, Warns, WarnsWhole}
+use Rattle.put_texts.proofs.Ends.{heard_later}
+use Rattle.sheet_core.specs.Faults.{sheet_faults}
+use Rattle.sheet_core.specs.declared.fault.SheetFault.{SheetFault}
+use Rattle.sheet_core.specs.declared.fault.SheetFault.TheVariants.{Common}
+use Rattle.sheet_core.specs.Lines.{IsPlaceFor, IsPlaceToTell, Warns, WarnsWhole}
 use Rattle.sheet_core.specs.Summary.{summary_of}
 use Rattle.sheet_core.specs.Writing.{Writes, summary_way}
 use Rattle.sheet_core.specs.inner.Faults.{IsOfWriting}
@@ -17,60 +20,52 @@ use Rattle.sheet_core.specs.Refusals.{fault_line}
 use Rattle.sheet_core.specs.declared.place.FaultPlace.{FaultPlace}
 use Rattle.sheet_words.specs.Names.{Named}
 
--- what is heard from the writing on is heard of the whole run
-pub heard_later : (old between new : DeskState) → OnlyReads old between → HearsAll old new → HearsAll between new
-heard_later old between new same hears = record {
-  tells = ap (λ (s : DeskState). s.tells_warned) same ∙ hears.tells;
-  firm = ap (λ (s : DeskState). s.firm) same ∙ hears.firm;
-  no_fault = λ rose. hears.no_fault (subst (λ (n : ℕ). Rose n new.warn_faults) (ap (λ (s : DeskState). s.warn_faults) same) rose);
-}
-
 module _ (named : Named) (old between new : DeskState) (same : OnlyReads old between) where
   warned_same : between.warned ≡ old.warned
   warned_same = ap (λ (s : DeskState). s.warned) same
 
   -- ---- a fault of writing has no place
-  pub no_place : (f : Fault) → IsOfWriting named f → IsPlaceFor (Some named) old f None
-  no_place f is = by_writing named (λ (f : Fault). IsPlaceFor (Some named) old f None) (λ target at. refl) refl f is
+  no_place : (f : SheetFault) → IsOfWriting named f → IsPlaceToTell (Some named) old f None
+  no_place f is = by_writing named (λ (f : SheetFault). IsPlaceToTell (Some named) old f None) (λ target at. refl) (λ some. refl) refl f is
 
-  pub warns_writing : (fault : Option Fault) → IfSome fault (IsOfWriting named) → IfSome fault (λ f. AppendsFront between.warned new.warned (fault_line (Some named) None f))
+  pub warns_writing : (fault : Option SheetFault) → IfSome fault (IsOfWriting named) → IfSome fault (λ f. AppendsFront between.warned new.warned (fault_line (Some named) None f))
       → IfSome fault (Warns (Some named) old new)
   warns_writing None is h = tt
   warns_writing (Some f) is h = (None, no_place f is, subst (λ (w : List ℕ). AppendsFront w new.warned (fault_line (Some named) None f)) warned_same h)
 
-  pub warns_writing_whole : (fault : Option Fault) → IfSome fault (IsOfWriting named) → IfSome fault (λ f. new.warned ≡ between.warned ++ fault_line (Some named) None f)
+  pub warns_writing_whole : (fault : Option SheetFault) → IfSome fault (IsOfWriting named) → IfSome fault (λ f. new.warned ≡ between.warned ++ fault_line (Some named) None f)
       → IfSome fault (WarnsWhole (Some named) old new)
   warns_writing_whole None is h = tt
   warns_writing_whole (Some f) is h = (None, no_place f is, subst (λ (w : List ℕ). new.warned ≡ w ++ fault_line (Some named) None f) warned_same h)
 
   -- ---- a refusal has the place that came with it
   module _ (e : Fault) (place : Option FaultPlace) (there : IsPlaceFor (Some named) old e place) where
-    pub warns_refused : (fault : Option Fault) → (fault ≡ Some e) ⊎ (fault ≡ Some Memory) → IfSome fault (λ f. AppendsFront between.warned new.warned (fault_line (Some named) place f))
+    pub warns_refused : (fault : Option SheetFault) → (fault ≡ Some (Common e)) ⊎ (fault ≡ Some (Common Memory)) → IfSome fault (λ f. AppendsFront between.warned new.warned (fault_line (Some named) place f))
         → IfSome fault (Warns (Some named) old new)
     warns_refused None is h = tt
     warns_refused (Some f) (inl is) h =
-        let P : Option Fault → Type 0 = λ fault. IfSome fault (λ f. AppendsFront between.warned new.warned (fault_line (Some named) place f)) in
-        let told : AppendsFront old.warned new.warned (fault_line (Some named) place e) = subst (λ (w : List ℕ). AppendsFront w new.warned (fault_line (Some named) place e)) warned_same (subst P is h) in
-        subst (λ (fault : Option Fault). IfSome fault (Warns (Some named) old new)) (sym is) (place, there, told)
+        let P : Option SheetFault → Type 0 = λ fault. IfSome fault (λ f. AppendsFront between.warned new.warned (fault_line (Some named) place f)) in
+        let told : AppendsFront old.warned new.warned (fault_line (Some named) place (Common e)) = subst (λ (w : List ℕ). AppendsFront w new.warned (fault_line (Some named) place (Common e))) warned_same (subst P is h) in
+        subst (λ (fault : Option SheetFault). IfSome fault (Warns (Some named) old new)) (sym is) (place, there, told)
     warns_refused (Some f) (inr is) h =
-        let P : Option Fault → Type 0 = λ fault. IfSome fault (λ f. AppendsFront between.warned new.warned (fault_line (Some named) place f)) in
-        let told : AppendsFront old.warned new.warned (fault_line (Some named) place Memory) = subst (λ (w : List ℕ). AppendsFront w new.warned (fault_line (Some named) place Memory)) warned_same (subst P is h) in
-        subst (λ (fault : Option Fault). IfSome fault (Warns (Some named) old new)) (sym is) (None, refl, told)
+        let P : Option SheetFault → Type 0 = λ fault. IfSome fault (λ f. AppendsFront between.warned new.warned (fault_line (Some named) place f)) in
+        let told : AppendsFront old.warned new.warned (fault_line (Some named) place (Common Memory)) = subst (λ (w : List ℕ). AppendsFront w new.warned (fault_line (Some named) place (Common Memory))) warned_same (subst P is h) in
+        subst (λ (fault : Option SheetFault). IfSome fault (Warns (Some named) old new)) (sym is) (None, refl, told)
 
-    pub warns_refused_whole : (fault : Option Fault) → (fault ≡ Some e) ⊎ (fault ≡ Some Memory) → IfSome fault (λ f. new.warned ≡ between.warned ++ fault_line (Some named) place f)
+    pub warns_refused_whole : (fault : Option SheetFault) → (fault ≡ Some (Common e)) ⊎ (fault ≡ Some (Common Memory)) → IfSome fault (λ f. new.warned ≡ between.warned ++ fault_line (Some named) place f)
         → IfSome fault (WarnsWhole (Some named) old new)
     warns_refused_whole None is h = tt
     warns_refused_whole (Some f) (inl is) h =
-        let P : Option Fault → Type 0 = λ fault. IfSome fault (λ f. new.warned ≡ between.warned ++ fault_line (Some named) place f) in
-        let told : new.warned ≡ old.warned ++ fault_line (Some named) place e = subst (λ (w : List ℕ). new.warned ≡ w ++ fault_line (Some named) place e) warned_same (subst P is h) in
-        subst (λ (fault : Option Fault). IfSome fault (WarnsWhole (Some named) old new)) (sym is) (place, there, told)
+        let P : Option SheetFault → Type 0 = λ fault. IfSome fault (λ f. new.warned ≡ between.warned ++ fault_line (Some named) place f) in
+        let told : new.warned ≡ old.warned ++ fault_line (Some named) place (Common e) = subst (λ (w : List ℕ). new.warned ≡ w ++ fault_line (Some named) place (Common e)) warned_same (subst P is h) in
+        subst (λ (fault : Option SheetFault). IfSome fault (WarnsWhole (Some named) old new)) (sym is) (place, there, told)
     warns_refused_whole (Some f) (inr is) h =
-        let P : Option Fault → Type 0 = λ fault. IfSome fault (λ f. new.warned ≡ between.warned ++ fault_line (Some named) place f) in
-        let told : new.warned ≡ old.warned ++ fault_line (Some named) place Memory = subst (λ (w : List ℕ). new.warned ≡ w ++ fault_line (Some named) place Memory) warned_same (subst P is h) in
-        subst (λ (fault : Option Fault). IfSome fault (WarnsWhole (Some named) old new)) (sym is) (None, refl, told)
+        let P : Option SheetFault → Type 0 = λ fault. IfSome fault (λ f. new.warned ≡ between.warned ++ fault_line (Some named) place f) in
+        let told : new.warned ≡ old.warned ++ fault_line (Some named) place (Common Memory) = subst (λ (w : List ℕ). new.warned ≡ w ++ fault_line (Some named) place (Common Memory)) warned_same (subst P is h) in
+        subst (λ (fault : Option SheetFault). IfSome fault (WarnsWhole (Some named) old new)) (sym is) (None, refl, told)
 
   -- ---- what is written
-  pub writes_from : (fault : Option Fault) (d : Drawing) → Writes named fault between new d → Writes named fault old new d
+  pub writes_from : (fault : Option SheetFault) (d : Drawing) → Writes named fault between new d → Writes named fault old new d
   writes_from fault d w =
       let files = ap (λ (s : DeskState). s.files) same in
       let said = ap (λ (s : DeskState). s.said) same in
@@ -82,14 +77,14 @@ module _ (named : Named) (old between new : DeskState) (same : OnlyReads old bet
         shows = w.shows;
         texts = w.texts;
         are_texts = w.are_texts;
-        files = λ told. subst (λ (f : Files). InOrder KeepsText KeepsTextPart fault w.texts f new.files) files (w.files (ap (λ (s : DeskState). s.tells) same ∙ told));
-        said = λ told. subst (λ (t : List ℕ). InOrder SaysText SaysTextPart fault w.texts t new.said) said (w.said (ap (λ (s : DeskState). s.tells_said) same ∙ told));
-        spared = subst (λ (f : Files). InOrder (λ way bytes. SparesFile way) (λ way fault bytes. SparesFile way) fault w.texts f new.files) files w.spared;
-        silent = subst (λ (t : List ℕ). InOrder (λ way bytes. SparesWord way) (λ way fault bytes. SparesWord way) fault w.texts t new.said) said w.silent;
+        files = λ told. subst (λ (f : Files). InOrder sheet_faults KeepsText KeepsTextPart fault w.texts f new.files) files (w.files (ap (λ (s : DeskState). s.tells) same ∙ told));
+        said = λ told. subst (λ (t : List ℕ). InOrder sheet_faults SaysText SaysTextPart fault w.texts t new.said) said (w.said (ap (λ (s : DeskState). s.tells_said) same ∙ told));
+        spared = subst (λ (f : Files). InOrder sheet_faults (λ way bytes. SparesFile way) (λ way cause bytes. SparesFile way) fault w.texts f new.files) files w.spared;
+        silent = subst (λ (t : List ℕ). InOrder sheet_faults (λ way bytes. SparesWord way) (λ way cause bytes. SparesWord way) fault w.texts t new.said) said w.silent;
         noted = λ told. subst (λ (t : List ℕ). IfNone fault (Notes (summary_way named) (summary_of d w.page w.marks) t new.warned)) warned_same (w.noted (ap (λ (s : DeskState). s.tells_warned) same ∙ told));
         noted_whole = λ hears. subst (λ (t : List ℕ). IfNone fault (NotesWhole (summary_way named) (summary_of d w.page w.marks) t new.warned)) warned_same (w.noted_whole (heard_later old between new same hears));
       }
 
-  pub all_from : (fault : Option Fault) (made : Option Drawing) → IfSome made (Writes named fault between new) → IfSome made (Writes named fault old new)
+  pub all_from : (fault : Option SheetFault) (made : Option Drawing) → IfSome made (Writes named fault between new) → IfSome made (Writes named fault old new)
   all_from fault None h = tt
   all_from fault (Some d) h = writes_from fault d h

@@ -11,6 +11,8 @@ use Rattle.part_input.specs.declared.fault.Fault.TheVariants.{Mesh}
 use Rattle.solid_mesh.specs.Faults.{HasFault}
 use Rattle.solid_mesh.specs.declared.faults.MeshFault.{MeshFault}
 use Rattle.sheet_core.specs.Refusals.{fault_line}
+use Rattle.sheet_core.specs.declared.fault.SheetFault.{SheetFault}
+use Rattle.sheet_core.specs.declared.fault.SheetFault.TheVariants.{Common, WriteList}
 use Rattle.sheet_core.specs.declared.place.FaultPlace.{FaultPlace}
 use Rattle.sheet_words.specs.Names.{Asks, Named, help, version, sheet}
 
@@ -40,10 +42,15 @@ abbrev pub IsPlaceFor : Option Named → DeskState → Fault → Option FaultPla
 IsPlaceFor named old (Mesh fault) place = IsSomeAnd named (λ n. IsSomeAnd place (IsFaultThere n old fault))
 IsPlaceFor named old fault place = place ≡ None
 
+-- an unwritten list has none
+abbrev pub IsPlaceToTell : Option Named → DeskState → SheetFault → Option FaultPlace → Type 0
+IsPlaceToTell named old (Common fault) place = IsPlaceFor named old fault place
+IsPlaceToTell named old WriteList place = place ≡ None
+
 -- what a run with a fault adds to what was warned: a prefix of the fault's line, with its place
-abbrev pub Warns : Option Named → DeskState → DeskState → Fault → Type 0
-Warns named old new fault = (place : Option FaultPlace) × IsPlaceFor named old fault place × AppendsFront old.warned new.warned (fault_line named place fault)
+abbrev pub Warns : Option Named → DeskState → DeskState → SheetFault → Type 0
+Warns named old new fault = (place : Option FaultPlace) × IsPlaceToTell named old fault place × AppendsFront old.warned new.warned (fault_line named place fault)
 
 -- and where no warning fails, the whole line
-abbrev pub WarnsWhole : Option Named → DeskState → DeskState → Fault → Type 0
-WarnsWhole named old new fault = (place : Option FaultPlace) × IsPlaceFor named old fault place × (new.warned ≡ old.warned ++ fault_line named place fault)
+abbrev pub WarnsWhole : Option Named → DeskState → DeskState → SheetFault → Type 0
+WarnsWhole named old new fault = (place : Option FaultPlace) × IsPlaceToTell named old fault place × (new.warned ≡ old.warned ++ fault_line named place fault)

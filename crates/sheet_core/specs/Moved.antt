@@ -2,8 +2,8 @@
 use Rattle.std.specs.Prelude.{◌≡◌, ℤ, ◌+ℤ◌, List}
 use Rattle.std.specs.List.{AllZip}
 use Rattle.sheet_plan.specs.Centred.{IsMoved}
-use Rattle.draw_core.specs.Strokes.{AreStrokes}
-use Rattle.draw_core.specs.declared.drawing.Drawing.{Drawing}
+use Rattle.drawing.specs.Strokes.{AreStrokes}
+use Rattle.drawing.specs.declared.drawn.Drawing.{Drawing}
 use Rattle.lattice.specs.Points.{IsRatio}
 use Rattle.sheet_plan.specs.declared.sheet.Sheet.{Sheet}
 use Rattle.sheet_plan.specs.declared.sheet.Stroke.{Stroke}

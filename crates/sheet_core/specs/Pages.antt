@@ -18,8 +18,8 @@ use Rattle.sheet_plan.specs.declared.sheet.Mark.{Mark}
 use Rattle.sheet_plan.specs.declared.sheet.Mark.TheVariants.{Dashed}
 use Rattle.sheet_plan.specs.declared.sheet.Sheet.{Sheet}
 use Rattle.sheet_plan.specs.declared.sheet.Stroke.{Stroke}
-use Rattle.draw_core.specs.Strokes.{AreStrokes}
-use Rattle.draw_core.specs.declared.drawing.Drawing.{Drawing}
+use Rattle.drawing.specs.Strokes.{AreStrokes}
+use Rattle.drawing.specs.declared.drawn.Drawing.{Drawing}
 use Rattle.stroke_paths.specs.Paths.{ArePaths}
 use Rattle.stroke_paths.specs.declared.path.Path.{Path}
 use Rattle.sheet_page.specs.declared.page.Item.{Item}

@@ -12,6 +12,8 @@ use Rattle.part_input.specs.declared.fault.Input.TheVariants as input
 use Rattle.part_input.specs.declared.fault.Target.{Target}
 use Rattle.part_input.specs.declared.fault.Target.TheVariants as target
 use Rattle.sheet_core.specs.Places.{mm_text, near_text}
+use Rattle.sheet_core.specs.declared.fault.SheetFault.{SheetFault}
+use Rattle.sheet_core.specs.declared.fault.SheetFault.TheVariants.{Common, WriteList}
 use Rattle.sheet_core.specs.declared.place.FaultPlace.{FaultPlace}
 use Rattle.sheet_words.specs.Names.{Goal, ListGoal, Named, said, svg_file, pdf_file, list_said, list_file}
 use Rattle.solid_mesh.specs.declared.faults.MeshFault.{MeshFault}
@@ -119,26 +121,29 @@ abbrev pub list_in : Option Named → Option ListGoal
 list_in None = None
 list_in (Some named) = named.list
 
--- the line of what couldn't be written: the sheet, its list, or the summary that is said of both
+-- the line of what couldn't be written: the sheet, or the summary of it and of its list
 abbrev pub target_line : Option Named → Target → List ℕ
 target_line named target.Out = write_line (goal_in named)
-target_line named (target.Plot number) = list_line (list_in named)
-target_line named target.Summary = said_line
+target_line named other = said_line
 
--- The line of a fault, with the names that the words give; they give none where they are refused or ask for no sheet. That of a surface
--- tells the place, if one is given.
-abbrev pub fault_line : Option Named → Option FaultPlace → Fault → List ℕ
-fault_line named place Usage = codes "sheet: usage: sheet PART [--job JOB] [--out OUT] [--list LIST] [--hidden all|plain|none]; sheet --help tells more\n"
-fault_line named place (ReadFault input.Job) = about (job_in named) (codes "cannot be read")
-fault_line named place JobTooLong = about (job_in named) (codes "more than 65536 bytes")
-fault_line named place (Job fault) = about (job_in named) (job_text fault)
-fault_line named place (NoPlotter name) = about (job_in named) (codes "no plotter " ⊕ shown name)
-fault_line named place SampleRange = about (part_in named) (codes "outside sample:1 to sample:8")
-fault_line named place (ReadFault input.Part) = about (part_in named) (codes "cannot be read")
-fault_line named place PartTooLong = about (part_in named) (codes "more than 16777216 bytes")
-fault_line named place (Part fault) = about (part_in named) (place_text fault)
-fault_line named place Nothing = about (part_in named) (codes "no triangle")
-fault_line named place (Mesh fault) = about (part_in named) (surface_text place fault)
-fault_line named place (DoesNotFit need_w need_h have_w have_h) = about (part_in named) (room_text (size_text need_w need_h) (size_text have_w have_h))
-fault_line named place (WriteFault target) = target_line named target
-fault_line named place Memory = codes "sheet: out of memory\n"
+-- the line of a fault that `draw` has too; that of a surface tells the place, if one is given
+abbrev pub common_line : Option Named → Option FaultPlace → Fault → List ℕ
+common_line named place Usage = codes "sheet: usage: sheet PART [--job JOB] [--out OUT] [--list LIST] [--hidden all|plain|none]; sheet --help tells more\n"
+common_line named place (ReadFault input.Job) = about (job_in named) (codes "cannot be read")
+common_line named place JobTooLong = about (job_in named) (codes "more than 65536 bytes")
+common_line named place (Job fault) = about (job_in named) (job_text fault)
+common_line named place (NoPlotter name) = about (job_in named) (codes "no plotter " ⊕ shown name)
+common_line named place SampleRange = about (part_in named) (codes "outside sample:1 to sample:8")
+common_line named place (ReadFault input.Part) = about (part_in named) (codes "cannot be read")
+common_line named place PartTooLong = about (part_in named) (codes "more than 16777216 bytes")
+common_line named place (Part fault) = about (part_in named) (place_text fault)
+common_line named place Nothing = about (part_in named) (codes "no triangle")
+common_line named place (Mesh fault) = about (part_in named) (surface_text place fault)
+common_line named place (DoesNotFit need_w need_h have_w have_h) = about (part_in named) (room_text (size_text need_w need_h) (size_text have_w have_h))
+common_line named place (WriteFault target) = target_line named target
+common_line named place Memory = codes "sheet: out of memory\n"
+
+-- The line of a fault, with the names that the words give; they give none where they are refused or ask for no sheet.
+abbrev pub fault_line : Option Named → Option FaultPlace → SheetFault → List ℕ
+fault_line named place (Common fault) = common_line named place fault
+fault_line named place WriteList = list_line (list_in named)

@@ -1,9 +1,10 @@
 -- What a run answers, from its words and the files at entry: steps in order, each with what it gives and what it refuses.
 use Rattle.std.specs.Prelude.{◌≡◌, ◌⊎◌, ℕ, List, Option, Some, None, IsSome, Result, Ok, Err, Bool, false, IsTrue}
 use Rattle.desk.specs.Files.{Files}
-use Rattle.draw_core.specs.Run.{Drawn, PlansSheet, IsOfUsualJob, IsOfSheet, HasJobFile}
+use Rattle.sheet_plan.specs.JobSheets.{Drawn}
+use Rattle.part_input.specs.Sheets.{PlansSheet, IsOfSheet}
+use Rattle.part_input.specs.Jobs.{IsOfUsualJob, HasJobFile, TakesReadJob, IsOfJobFile}
 use Rattle.job_file.specs.Documents.{JobValues}
-use Rattle.part_input.specs.Jobs.{TakesReadJob, IsOfJobFile}
 use Rattle.part_input.specs.Parts.{sample_size, TakesSolid, IsOfPart, HasSampleOr}
 use Rattle.part_input.specs.Steps.{◌and_then◌}
 use Rattle.part_input.specs.declared.fault.Input.{Input}
@@ -13,6 +14,8 @@ use Rattle.part_input.specs.declared.fault.Fault.TheVariants.{Usage, ReadFault, 
 use Rattle.part_input.specs.declared.fault.Target.{Target}
 use Rattle.part_input.specs.declared.fault.Target.TheVariants.{Out}
 use Rattle.sheet_core.specs.Writing.{AsksSheetAnd, IsOfTarget}
+use Rattle.sheet_core.specs.declared.fault.SheetFault.{SheetFault}
+use Rattle.sheet_core.specs.declared.fault.SheetFault.TheVariants.{Common, WriteList}
 use Rattle.sheet_words.specs.Names.{Asks, Named, help, version, sheet, asked_by}
 
 -- ---- the steps of a run
@@ -47,12 +50,13 @@ abbrev pub IsOfFiles : List ℕ → Option (List ℕ) → Fault → Type 0
 IsOfFiles part job fault = IsOfJob job fault ⊎ IsOfPart part fault ⊎ IsOfSheet fault
 
 -- with a request of these names
-abbrev pub AnswersNamed : Named → Option Fault → Type 0
+abbrev pub AnswersNamed : Named → Option SheetFault → Type 0
 AnswersNamed named None = Unit {0}
-AnswersNamed named (Some Usage) = ⊥
-AnswersNamed named (Some Memory) = Unit {0}
-AnswersNamed named (Some (WriteFault target)) = IsOfTarget named target
-AnswersNamed named (Some fault) = IsOfFiles named.part named.job fault
+AnswersNamed named (Some WriteList) = IsSome named.list
+AnswersNamed named (Some (Common Usage)) = ⊥
+AnswersNamed named (Some (Common Memory)) = Unit {0}
+AnswersNamed named (Some (Common (WriteFault target))) = IsOfTarget named target
+AnswersNamed named (Some (Common fault)) = IsOfFiles named.part named.job fault
 
 -- help and the version may be what couldn't be said
 abbrev pub IsOfAsked : Option Asks → Target → Type 0
@@ -62,11 +66,12 @@ IsOfAsked (Some version) target = target ≡ Out
 IsOfAsked (Some (sheet named)) target = IsOfTarget named target
 
 -- on every desk the words are refused exactly so, unless memory ran out, and the job and the part are at fault only as they may be
-abbrev pub AnswersSheetWords : Option Asks → Option Fault → Type 0
-AnswersSheetWords asked (Some Usage) = asked ≡ None
-AnswersSheetWords asked (Some Memory) = Unit {0}
-AnswersSheetWords asked (Some (WriteFault target)) = IsOfAsked asked target
-AnswersSheetWords asked (Some fault) = AsksSheetAnd asked (λ named. IsOfFiles named.part named.job fault)
+abbrev pub AnswersSheetWords : Option Asks → Option SheetFault → Type 0
+AnswersSheetWords asked (Some WriteList) = AsksSheetAnd asked (λ named. IsSome named.list)
+AnswersSheetWords asked (Some (Common Usage)) = asked ≡ None
+AnswersSheetWords asked (Some (Common Memory)) = Unit {0}
+AnswersSheetWords asked (Some (Common (WriteFault target))) = IsOfAsked asked target
+AnswersSheetWords asked (Some (Common fault)) = AsksSheetAnd asked (λ named. IsOfFiles named.part named.job fault)
 AnswersSheetWords asked None = IsSome asked
 
 -- the run comes to reading the job where it is named, and to a part that isn't a sample once the job was taken
@@ -93,13 +98,14 @@ HasFilesAsked files version = Unit {0}
 HasFilesAsked files (sheet named) = HasFiles files named.part named.job
 
 -- a drawing is there with status 0 and 8, may be there with status 9, and else is not
-abbrev pub IsWritten : Option Fault → Bool → Type 0
+abbrev pub IsWritten : Option SheetFault → Bool → Type 0
 IsWritten None there = IsTrue there
-IsWritten (Some (WriteFault target)) there = IsTrue there
-IsWritten (Some Memory) there = Unit {0}
-IsWritten (Some fault) there = there ≡ false
+IsWritten (Some WriteList) there = IsTrue there
+IsWritten (Some (Common (WriteFault target))) there = IsTrue there
+IsWritten (Some (Common Memory)) there = Unit {0}
+IsWritten (Some (Common fault)) there = there ≡ false
 
 -- so it is where a sheet was asked for, and else there is none
-abbrev pub HasDrawing : Option Asks → Option Fault → Bool → Type 0
+abbrev pub HasDrawing : Option Asks → Option SheetFault → Bool → Type 0
 HasDrawing (Some (sheet named)) fault there = IsWritten fault there
 HasDrawing asked fault there = there ≡ false

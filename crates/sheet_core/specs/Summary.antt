@@ -3,7 +3,7 @@ use Rattle.std.specs.Prelude.{ℕ, Bool, false, List, length, codes, count_by}
 use Rattle.std.specs.Fmt.{decimal}
 use Rattle.cut_marks.specs.Notes.{notes_of}
 use Rattle.cut_marks.specs.declared.views.ViewMarks.{ViewMarks}
-use Rattle.draw_core.specs.declared.drawing.Drawing.{Drawing}
+use Rattle.drawing.specs.declared.drawn.Drawing.{Drawing}
 use Rattle.job_file.specs.Papers.{paper_name}
 use Rattle.job_file.specs.declared.job.Paper.{Paper}
 use Rattle.job_file.specs.declared.job.Scale.{Scale}

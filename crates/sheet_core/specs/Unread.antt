@@ -3,7 +3,7 @@ use Rattle.std.specs.Prelude.{◌≡◌, ℕ, List, None, Some, string_bytes}
 use Rattle.part_input.specs.declared.fault.Input.{Input}
 use Rattle.part_input.specs.declared.fault.Input.TheVariants.{Job, Part}
 use Rattle.part_input.specs.declared.fault.Fault.TheVariants.{ReadFault}
-use Rattle.sheet_core.specs.Refusals.{fault_line}
+use Rattle.sheet_core.specs.Refusals.{common_line}
 use Rattle.sheet_core.specs.declared.unread.UnreadLines.{UnreadLines}
 use Rattle.sheet_words.specs.Names.{Named}
 
@@ -13,5 +13,5 @@ unread_line lines Part = string_bytes lines.part
 
 -- each is that of its fault, with these names
 pub record AreUnreadLines (named : Named) (lines : UnreadLines) : Type 0 where
-  pub job : unread_line lines Job ≡ fault_line (Some named) None (ReadFault Job)
-  pub part : unread_line lines Part ≡ fault_line (Some named) None (ReadFault Part)
+  pub job : unread_line lines Job ≡ common_line (Some named) None (ReadFault Job)
+  pub part : unread_line lines Part ≡ common_line (Some named) None (ReadFault Part)

@@ -1,17 +1,19 @@
 -- Where the texts of a drawing go, and what a run leaves of them.
-use Rattle.std.specs.Prelude.{◌≡◌, ℕ, true, List, [], ◌∷◌, Option, Some, None, IfNone, IsSome}
-use Rattle.std.proofs.Common.{zero, suc}
+use Rattle.std.specs.Prelude.{◌≡◌, ℕ, true, List, [], ◌∷◌, Option, Some, None, IfNone}
 use Rattle.desk.specs.Files.{DeskState}
 use Rattle.cut_marks.specs.declared.views.ViewMarks.{ViewMarks}
-use Rattle.draw_core.specs.declared.drawing.Drawing.{Drawing}
-use Rattle.part_input.specs.declared.fault.Fault.{Fault}
+use Rattle.drawing.specs.declared.drawn.Drawing.{Drawing}
+use Rattle.part_input.specs.declared.fault.Fault.TheVariants.{WriteFault}
 use Rattle.part_input.specs.declared.fault.Target.{Target}
 use Rattle.part_input.specs.declared.fault.Target.TheVariants.{Out, Plot, Summary}
 use Rattle.put_texts.specs.Desks.{HearsAll}
 use Rattle.put_texts.specs.Noting.{IsQuiet, Notes, NotesWhole, unless_said}
 use Rattle.put_texts.specs.Order.{Way, Text, nowhere, aloud, under, SaysAlone, KeepsTexts, SaysTexts, SparesFiles, SparesSaid}
+use Rattle.sheet_core.specs.Faults.{sheet_faults}
 use Rattle.sheet_core.specs.Pages.{IsPageWith, shown_strokes}
 use Rattle.sheet_core.specs.Summary.{summary_of}
+use Rattle.sheet_core.specs.declared.fault.SheetFault.{SheetFault}
+use Rattle.sheet_core.specs.declared.fault.SheetFault.TheVariants.{Common, WriteList}
 use Rattle.sheet_core.specs.declared.lines.TheConstants.{HELP, VERSION}
 use Rattle.sheet_list.specs.Lists.{list_text}
 use Rattle.sheet_page.specs.Pdf.{pdf_of}
@@ -49,36 +51,35 @@ abbrev pub summary_way : Named → Way
 summary_way named = unless_said (way_of named.out) (unless_said (list_way named.list) aloud)
 
 -- the sheet comes first, then the list, and then the summary
-abbrev pub texts_for : Named → List ℕ → List ℕ → List ℕ → List Text
+abbrev pub texts_for : Named → List ℕ → List ℕ → List ℕ → List (Text SheetFault)
 texts_for named page list summary =
-    record { way = way_of named.out; target = Out; bytes = page }
-    ∷ record { way = list_way named.list; target = Plot 0; bytes = list }
-    ∷ record { way = summary_way named; target = Summary; bytes = summary }
+    record { way = way_of named.out; unwritten = Common (WriteFault Out); bytes = page }
+    ∷ record { way = list_way named.list; unwritten = WriteList; bytes = list }
+    ∷ record { way = summary_way named; unwritten = Common (WriteFault Summary); bytes = summary }
     ∷ []
 
 -- What a run with a drawing writes: the text of one page that shows it, the list of that page's strokes, and the summary of both, put
 -- in this order, as far as the fault allows; and with no fault the warning in place of a summary that isn't said. On every desk what
 -- isn't kept touches no file, and what isn't said adds nothing to what was said.
-pub record Writes (named : Named) (fault : Option Fault) (old new : DeskState) (d : Drawing) : Type 0 where
+pub record Writes (named : Named) (fault : Option SheetFault) (old new : DeskState) (d : Drawing) : Type 0 where
   pub page : Page
   pub on : Sheet
   pub strokes : List Stroke
   pub marks : List ViewMarks
   pub shows : IsPageWith named.hidden named.part d page on strokes marks
-  pub texts : List Text
+  pub texts : List (Text SheetFault)
   pub are_texts : texts ≡ texts_for named (page_text named.out page) (listed named.list (list_text d.job on (shown_strokes named.hidden d.job.views.items strokes))) (summary_of d page marks)
-  pub files : old.tells ≡ true → KeepsTexts fault texts old.files new.files
-  pub said : old.tells_said ≡ true → SaysTexts fault texts old.said new.said
-  pub spared : SparesFiles fault texts old.files new.files
-  pub silent : SparesSaid fault texts old.said new.said
+  pub files : old.tells ≡ true → KeepsTexts sheet_faults fault texts old.files new.files
+  pub said : old.tells_said ≡ true → SaysTexts sheet_faults fault texts old.said new.said
+  pub spared : SparesFiles sheet_faults fault texts old.files new.files
+  pub silent : SparesSaid sheet_faults fault texts old.said new.said
   pub noted : old.tells_warned ≡ true → IfNone fault (Notes (summary_way named) (summary_of d page marks) old.warned new.warned)
   pub noted_whole : HearsAll old new → IfNone fault (NotesWhole (summary_way named) (summary_of d page marks) old.warned new.warned)
 
--- the faults of writing: of the sheet, of a list that was asked for, of a summary that is said; or want of memory
+-- the faults of writing beside that of a list: of the sheet, or of a summary that is said
 abbrev pub IsOfTarget : Named → Target → Type 0
 IsOfTarget named Out = Unit {0}
-IsOfTarget named (Plot zero) = IsSome named.list
-IsOfTarget named (Plot (suc n)) = ⊥
+IsOfTarget named (Plot number) = ⊥
 IsOfTarget named Summary = summary_way named ≡ aloud
 
 -- ---- what was asked
@@ -90,7 +91,7 @@ AsksSheetAnd (Some version) P = ⊥
 AsksSheetAnd (Some (sheet named)) P = P named
 
 -- the drawing is written as it was asked for
-abbrev pub WritesAsked : Option Asks → Option Fault → DeskState → DeskState → Drawing → Type 0
+abbrev pub WritesAsked : Option Asks → Option SheetFault → DeskState → DeskState → Drawing → Type 0
 WritesAsked asked fault old new d = AsksSheetAnd asked (λ named. Writes named fault old new d)
 
 -- without a fault no warning fails but beside a text that is said
@@ -101,9 +102,9 @@ IsQuietIfAsked (Some (sheet named)) old new = IsQuiet (summary_way named) old ne
 IsQuietIfAsked None old new = new ≡ old
 
 -- without a drawing only help and the version are said
-abbrev pub TellsAsked : Option Asks → Option Fault → List ℕ → List ℕ → Type 0
-TellsAsked (Some help) fault old new = SaysAlone fault HELP.now old new
-TellsAsked (Some version) fault old new = SaysAlone fault VERSION.now old new
+abbrev pub TellsAsked : Option Asks → Option SheetFault → List ℕ → List ℕ → Type 0
+TellsAsked (Some help) fault old new = SaysAlone sheet_faults fault HELP.now old new
+TellsAsked (Some version) fault old new = SaysAlone sheet_faults fault VERSION.now old new
 TellsAsked (Some (sheet named)) fault old new = new ≡ old
 TellsAsked None fault old new = new ≡ old
 

@@ -5,6 +5,7 @@
 #![tactic(auto)]
 
 mod end;
+mod fault;
 mod jobs;
 mod lines;
 mod millimetres;
@@ -19,7 +20,9 @@ mod take;
 mod texts;
 mod unread;
 
-pub use draw_core::{Drawing, Outcome};
+pub use drawing::Drawing;
+pub use end::SheetOutcome;
+pub use fault::{SheetFault, SheetTarget};
 pub use lines::{HELP, VERSION};
 pub use page::page_of;
 pub use part_input::{Fault, Input, Target};

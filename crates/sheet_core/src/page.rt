@@ -1,7 +1,7 @@
 // The page of a drawing.
 ghost use Rattle.std.specs.Prelude.{◌≡◌, ◌<◌, ◌≤◌, ◌++◌, ℕ, List, length, map, IfOk, OnOk, slice_get};
 ghost use Rattle.std.specs.List.{All};
-ghost use Rattle.draw_core.specs.Drawing.{IsDrawing};
+ghost use Rattle.drawing.specs.Drawing.{IsPlannedDrawing};
 ghost use Rattle.sheet_page.specs.Pages.{IsInView};
 ghost use Rattle.sheet_page.specs.Blocks.{block_of};
 ghost use Rattle.sheet_page.specs.declared.page.Item.TheVariants as item;
@@ -9,7 +9,7 @@ ghost use Rattle.sheet_core.specs.Pages.{is_cut, draws_hidden, is_shown, shown_p
 
 use cut_marks::{ViewMarks, mark_items, marks};
 use dec_text::Name;
-use draw_core::{Drawing, strokes_of};
+use drawing::{Drawing, strokes_of};
 use exact_frac::OutOfMemory;
 use job_file::JobView;
 use lattice::ViewSpec;
@@ -148,7 +148,7 @@ pub(crate) fn show(
     part: &str,
     drawing: &Drawing,
 ) -> Result<Shown, OutOfMemory>
-    requires { IsDrawing drawing.now }
+    requires { IsPlannedDrawing drawing.now }
     ensures shows { IfOk result (λ shown. IsPageWith hidden part.now drawing.now shown.page shown.on shown.strokes.items shown.marks.items) }
     ensures in_views { IfOk result (λ shown. All (IsInView shown.page.views) shown.page.items.items) }
     ensures placed { IfOk result (λ shown. length drawing.now.job.views.items ≤ length shown.on.places.items) }
@@ -183,7 +183,7 @@ pub fn page_of(
     part: &str,
     drawing: &Drawing,
 ) -> Result<Page, OutOfMemory>
-    requires { IsDrawing drawing.now }
+    requires { IsPlannedDrawing drawing.now }
     ensures page { IfOk result (IsPageOf hidden part.now drawing.now) }
     ensures in_views { IfOk result (λ page. All (IsInView page.views) page.items.items) }
 {

@@ -3,11 +3,13 @@ ghost use Rattle.std.specs.Prelude.{◌≡◌, true, None, Some, IfNone, string_
 ghost use Rattle.put_texts.specs.Desks.{HearsAll, IsUnwarned};
 ghost use Rattle.put_texts.specs.Noting.{IsQuiet, Notes, NotesWhole};
 ghost use Rattle.put_texts.specs.Puts.{IsPut, one_text, way_seen};
+ghost use Rattle.sheet_core.specs.Faults.{sheet_faults, unwritten_of};
 ghost use Rattle.sheet_core.specs.Writing.{list_way, summary_way, texts_for, way_of};
 ghost use Rattle.sheet_core.specs.inner.Puts.{texts_after_sheet};
 ghost use Rattle.sheet_core.specs.Refusals.{fault_line, list_line, write_line};
 ghost use Rattle.sheet_words.specs.Seen.{goal_seen, named_seen};
 
+use crate::fault::{SheetFault, SheetTarget};
 use crate::refusals::{MEMORY_LINE, SAID_LINE};
 use crate::texts::Texts;
 use desk::Desk;
@@ -21,11 +23,11 @@ fn put_asked<D: Desk>(
     way: Way<'_>,
     bytes: &[u8],
     line: &str,
-    target: Target,
+    target: SheetTarget,
     desk: &mut D,
-) -> Option<Fault>
-    requires { line.now ≡ fault_line (Some (named_seen request.now)) None (Fault.WriteFault target) }
-    ensures put { IsPut (fault_line (Some (named_seen request.now)) None) (one_text (way_seen way.entry) target bytes.now) result (D.state desk.old) (D.state desk.new) }
+) -> Option<SheetFault>
+    requires { line.now ≡ fault_line (Some (named_seen request.now)) None (unwritten_of target) }
+    ensures put { IsPut sheet_faults (fault_line (Some (named_seen request.now)) None) (one_text (way_seen way.entry) (unwritten_of target) bytes.now) result (D.state desk.old) (D.state desk.new) }
     ensures unwarned { IfNone result (IsUnwarned (D.state desk.old) (D.state desk.new)) }
 {
     put_text(way, bytes, target, line, MEMORY_LINE, desk)
@@ -62,8 +64,8 @@ fn summary_way(request: &SheetRequest) -> Way<'_>
 }
 
 /// Says the summary of a request, or warns by it, and tells why it couldn't be said.
-fn put_summary<D: Desk>(request: &SheetRequest, summary: &str, desk: &mut D) -> Option<Fault>
-    ensures put { IsPut (fault_line (Some (named_seen request.now)) None) (one_text (summary_way (named_seen request.now)) Target.Summary summary.now) result
+fn put_summary<D: Desk>(request: &SheetRequest, summary: &str, desk: &mut D) -> Option<SheetFault>
+    ensures put { IsPut sheet_faults (fault_line (Some (named_seen request.now)) None) (one_text (summary_way (named_seen request.now)) (SheetFault.Common (Fault.WriteFault Target.Summary)) summary.now) result
         (D.state desk.old) (D.state desk.new) }
     ensures noted { (D.state desk.old).tells_warned ≡ true →
         IfNone result (Notes (summary_way (named_seen request.now)) summary.now (D.state desk.old).warned (D.state desk.new).warned) }
@@ -77,7 +79,7 @@ fn put_summary<D: Desk>(request: &SheetRequest, summary: &str, desk: &mut D) -> 
         way,
         summary.as_bytes(),
         SAID_LINE,
-        Target::Summary,
+        SheetTarget::Summary,
         desk,
     ) {
         None => {
@@ -89,9 +91,9 @@ fn put_summary<D: Desk>(request: &SheetRequest, summary: &str, desk: &mut D) -> 
 }
 
 /// Puts the list and the summary of a request where they go, and tells why it couldn't.
-fn put_list<D: Desk>(request: &SheetRequest, texts: &Texts, desk: &mut D) -> Option<Fault>
+fn put_list<D: Desk>(request: &SheetRequest, texts: &Texts, desk: &mut D) -> Option<SheetFault>
     requires { string_bytes texts.now.unlisted ≡ list_line (named_seen request.now).list }
-    ensures put { IsPut (fault_line (Some (named_seen request.now)) None) (texts_after_sheet (named_seen request.now) texts.now.list.items (string_bytes texts.now.summary)) result
+    ensures put { IsPut sheet_faults (fault_line (Some (named_seen request.now)) None) (texts_after_sheet (named_seen request.now) texts.now.list.items (string_bytes texts.now.summary)) result
         (D.state desk.old) (D.state desk.new) }
     ensures noted { (D.state desk.old).tells_warned ≡ true →
         IfNone result (Notes (summary_way (named_seen request.now)) (string_bytes texts.now.summary) (D.state desk.old).warned (D.state desk.new).warned) }
@@ -105,7 +107,7 @@ fn put_list<D: Desk>(request: &SheetRequest, texts: &Texts, desk: &mut D) -> Opt
         way,
         &texts.list,
         texts.unlisted.as_str(),
-        Target::Plot(0),
+        SheetTarget::Listing,
         desk,
     ) {
         None => put_summary(request, texts.summary.as_str(), desk),
@@ -115,10 +117,14 @@ fn put_list<D: Desk>(request: &SheetRequest, texts: &Texts, desk: &mut D) -> Opt
 
 /// Puts the sheet, the list and the summary of a request where they go, one after the other up to the first that can't be written, and
 /// tells why it couldn't. A summary that isn't said is warned by; that it isn't heard is no fault.
-pub(crate) fn put<D: Desk>(request: &SheetRequest, texts: &Texts, desk: &mut D) -> Option<Fault>
+pub(crate) fn put<D: Desk>(
+    request: &SheetRequest,
+    texts: &Texts,
+    desk: &mut D,
+) -> Option<SheetFault>
     requires sheet { string_bytes texts.now.unwritten ≡ write_line (named_seen request.now).out }
     requires list { string_bytes texts.now.unlisted ≡ list_line (named_seen request.now).list }
-    ensures put { IsPut (fault_line (Some (named_seen request.now)) None) (texts_for (named_seen request.now) texts.now.page.items texts.now.list.items (string_bytes texts.now.summary)) result
+    ensures put { IsPut sheet_faults (fault_line (Some (named_seen request.now)) None) (texts_for (named_seen request.now) texts.now.page.items texts.now.list.items (string_bytes texts.now.summary)) result
         (D.state desk.old) (D.state desk.new) }
     ensures noted { (D.state desk.old).tells_warned ≡ true →
         IfNone result (Notes (summary_way (named_seen request.now)) (string_bytes texts.now.summary) (D.state desk.old).warned (D.state desk.new).warned) }
@@ -132,7 +138,7 @@ pub(crate) fn put<D: Desk>(request: &SheetRequest, texts: &Texts, desk: &mut D) 
         way,
         &texts.page,
         texts.unwritten.as_str(),
-        Target::Out,
+        SheetTarget::Page,
         desk,
     ) {
         None => put_list(request, texts, desk),

@@ -2,7 +2,7 @@
 ghost use Rattle.std.specs.Prelude.{◌≡◌, IfOk, None, Some, codes, option_map, string_bytes};
 ghost use Rattle.svg_page.specs.Texts.{◌⊕◌};
 ghost use Rattle.fault_lines.specs.Lines.{shown};
-ghost use Rattle.sheet_core.specs.Refusals.{about, fault_line, job_in, job_text, list_line, place_text, room_text, size_text, surface_text, target_line, write_line};
+ghost use Rattle.sheet_core.specs.Refusals.{about, common_line, job_in, job_text, list_line, place_text, room_text, size_text, surface_text, target_line, write_line};
 ghost use Rattle.sheet_words.specs.Seen.{goal_seen, list_seen, named_seen};
 
 use crate::jobs::{job_text, plotter_text};
@@ -133,7 +133,7 @@ pub(crate) fn unread(
     request: &SheetRequest,
     input: &Input,
 ) -> Result<String, AllocError>
-    ensures { IfOk result (λ line. string_bytes line ≡ fault_line (Some (named_seen request.now)) None (Fault.ReadFault input.now)) }
+    ensures { IfOk result (λ line. string_bytes line ≡ common_line (Some (named_seen request.now)) None (Fault.ReadFault input.now)) }
 {
     match input {
         Input::Job => about(alloc, job_name(request), "cannot be read"),
@@ -141,18 +141,17 @@ pub(crate) fn unread(
     }
 }
 
-// The line of what couldn't be written: the sheet, its list, or the summary that is said of both.
+// The line of what couldn't be written: the sheet, or the summary of it and of its list.
 fn target_line(alloc: Global, request: &SheetRequest, target: &Target) -> Result<String, AllocError>
     ensures { IfOk result (λ line. string_bytes line ≡ target_line (Some (named_seen request.now)) target.now) }
 {
     match target {
         Target::Out => write_line(alloc, &request.out),
-        Target::Plot(_) => list_line(alloc, &request.list),
-        Target::Summary => String::from_str(alloc, SAID_LINE),
+        Target::Plot(_) | Target::Summary => String::from_str(alloc, SAID_LINE),
     }
 }
 
-/// The line of a fault in a run of this request: the file's name, the place there, what is wrong, and what is allowed. The place of
+/// The line of a fault that `draw` has too, in a run of this request: the file's name, the place there, what is wrong, and what is allowed. The place of
 /// a surface's fault is looked at where one is given.
 pub fn line_of(
     alloc: Global,
@@ -160,7 +159,7 @@ pub fn line_of(
     place: &Option<FaultPlace>,
     fault: &Fault,
 ) -> Result<String, AllocError>
-    ensures { IfOk result (λ line. string_bytes line ≡ fault_line (Some (named_seen request.now)) place.now fault.now) }
+    ensures { IfOk result (λ line. string_bytes line ≡ common_line (Some (named_seen request.now)) place.now fault.now) }
 {
     let (part, job) = (request.part.as_str(), job_name(request));
     match fault {

@@ -3,7 +3,7 @@ ghost use Rattle.std.specs.Prelude.{◌≡◌, IfOk, count_by, string_bytes};
 ghost use Rattle.sheet_core.specs.Summary.{is_path_of, paths_of, paths_text, sheet_text, summary_of};
 
 use cut_marks::{ViewMarks, notes};
-use draw_core::Drawing;
+use drawing::Drawing;
 use exact_frac::OutOfMemory;
 use job_file::{Paper, Scale};
 use sheet_page::{Item, Page};

@@ -5,12 +5,12 @@ ghost use Rattle.desk.specs.Files.{Files, OnlyReads};
 ghost use Rattle.geometry.specs.Parts.{part_of};
 ghost use Rattle.job_file.specs.Seen.{job_seen};
 ghost use Rattle.part_input.specs.Faults.{CountsReads};
-ghost use Rattle.part_input.specs.Jobs.{TakesReadJob};
+ghost use Rattle.part_input.specs.Jobs.{TakesReadJob, IsOfUsualJob};
 ghost use Rattle.part_input.specs.Parts.{ChecksPart, IsOfPart, TakesSolid, sample_size};
 ghost use Rattle.part_input.specs.Steps.{GivesInput, IsMissing};
 ghost use Rattle.part_input.specs.inner.Texts.{IsOfMesh};
-ghost use Rattle.draw_core.specs.Drawing.{drawn_in, IsDrawing};
-ghost use Rattle.draw_core.specs.Run.{IsOfSheet, IsOfUsualJob, PlansSheet};
+ghost use Rattle.drawing.specs.Drawing.{drawn_in, IsPlannedDrawing};
+ghost use Rattle.part_input.specs.Sheets.{IsOfSheet, PlansSheet};
 ghost use Rattle.solid_mesh.specs.Faults.{HasFault};
 ghost use Rattle.solid_mesh.specs.Solids.{solid_part};
 ghost use Rattle.sheet_core.specs.Lines.{IsPlaceFor};
@@ -21,11 +21,11 @@ ghost use Rattle.sheet_words.specs.Seen.{named_seen};
 use crate::place::FaultPlace;
 use dec_text::Name;
 use desk::Desk;
-use draw_core::{Drawing, drawing_of};
+use drawing::{Drawing, drawing_on};
 use fault_place::fault_place;
 use job_file::Job;
 use lattice::Soup;
-use part_input::{Fault, Input, fetch_job, fetch_soup};
+use part_input::{Fault, Input, fetch_job, fetch_soup, sheet_of, usual_job};
 use sheet_words::SheetRequest;
 use solid_mesh::{MeshError, MeshFault, Solid};
 use std::alloc::Global;
@@ -35,17 +35,6 @@ use std::alloc::Global;
 pub(crate) struct Refusal {
     pub(crate) fault: Fault,
     pub(crate) place: Option<FaultPlace>,
-}
-
-/// The usual job.
-fn usual_job(alloc: Global) -> Result<Job, Fault>
-    ensures answer { (files : Files) → GivesInput job_seen (TakesReadJob files None) result }
-    ensures of_job { IfErr result IsOfUsualJob }
-{
-    match Job::usual(alloc) {
-        Ok(job) => Ok(job),
-        Err(_) => Err(Fault::Memory),
-    }
 }
 
 /// The job of the file with this name, or with no name the usual one.
@@ -136,12 +125,19 @@ fn take_solid<D: Desk>(
 fn drawn(alloc: Global, solid: Solid, job: Job) -> Result<Drawing, Refusal>
     ensures answer { GivesInput drawn_in (PlansSheet (job_seen job) (solid_part solid)) (fault_in result) }
     ensures of_sheet { IfErr (fault_in result) IsOfSheet }
-    ensures shows { IfOk result IsDrawing }
+    ensures shows { IfOk result IsPlannedDrawing }
     ensures placed { IfErr result (λ r. r.place ≡ None) }
 {
-    match drawing_of(alloc, solid, job) {
-        Ok(drawing) => Ok(drawing),
-        Err(fault) => Err(Refusal { fault, place: None }),
+    let sheet = match sheet_of(alloc, &job, &solid) {
+        Ok(sheet) => sheet,
+        Err(fault) => return Err(Refusal { fault, place: None }),
+    };
+    match drawing_on(alloc, solid, job, sheet) {
+        Ok(made) => Ok(made.drawing),
+        Err(_) => Err(Refusal {
+            fault: Fault::Memory,
+            place: None,
+        }),
     }
 }
 
@@ -155,7 +151,7 @@ pub(crate) fn take<D: Desk>(
         GivesInput drawn_in (DrawsPart (D.state desk.old).files (named_seen request.now).part (named_seen request.now).job) (fault_in result) }
     ensures of_files { IfErr (fault_in result) (IsOfFiles (named_seen request.now).part (named_seen request.now).job) }
     ensures placed { IfErr result (λ r. IsPlaceFor (Some (named_seen request.now)) (D.state desk.old) r.fault r.place) }
-    ensures shows { IfOk result IsDrawing }
+    ensures shows { IfOk result IsPlannedDrawing }
     ensures order { (D.state desk.old).tells ≡ true →
         IfErr (fault_in result) (ReadsInOrder (D.state desk.old).files (named_seen request.now).part (named_seen request.now).job) }
     ensures reads { CountsReads (result_err (fault_in result)) (D.state desk.old).read_faults (D.state desk.new).read_faults }

@@ -1,7 +1,7 @@
 // What is written of a drawing, made before anything is.
 ghost use Rattle.std.specs.Prelude.{◌≡◌, ◌≤◌, length, IfOk};
 ghost use Rattle.std.specs.List.{All};
-ghost use Rattle.draw_core.specs.Drawing.{IsDrawing};
+ghost use Rattle.drawing.specs.Drawing.{IsPlannedDrawing};
 ghost use Rattle.sheet_core.specs.Pages.{shown_strokes};
 ghost use Rattle.sheet_core.specs.Writing.{listed, page_text};
 ghost use Rattle.sheet_core.specs.inner.Texts.{AreTextsOf};
@@ -12,7 +12,7 @@ ghost use Rattle.sheet_words.specs.Seen.{goal_seen, named_seen};
 use crate::page::{Shown, show, shown_strokes};
 use crate::refusals::{list_line, write_line};
 use crate::summary::summary_of;
-use draw_core::Drawing;
+use drawing::Drawing;
 use exact_frac::OutOfMemory;
 use sheet_list::list_text;
 use sheet_page::{Page, pdf, svg};
@@ -48,7 +48,7 @@ fn listed(
     drawing: &Drawing,
     shown: &Shown,
 ) -> Result<Vec<u8>, OutOfMemory>
-    requires drawing { IsDrawing drawing.now }
+    requires drawing { IsPlannedDrawing drawing.now }
     requires placed { length drawing.now.job.views.items ≤ length shown.now.on.places.items }
     ensures { IfOk result (λ text. text.items ≡
         listed (named_seen request.now).list (list_text drawing.now.job shown.now.on (shown_strokes request.now.hidden drawing.now.job.views.items shown.now.strokes.items))) }
@@ -68,7 +68,7 @@ pub(crate) fn texts_of(
     request: &SheetRequest,
     drawing: &Drawing,
 ) -> Result<Texts, OutOfMemory>
-    requires { IsDrawing drawing.now }
+    requires { IsPlannedDrawing drawing.now }
     ensures { IfOk result (AreTextsOf (named_seen request.now) drawing.now) }
 {
     let shown = show(alloc, request.hidden, request.part.as_str(), drawing)?;

@@ -1,6 +1,7 @@
 pub mod Boxes
 pub mod Centred
 pub mod Extents
+pub mod JobSheets
 pub mod Layout
 pub mod LineKinds
 pub mod Numbers

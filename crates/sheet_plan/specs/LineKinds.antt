@@ -1,5 +1,5 @@
 -- The kinds of lines of a drawing, in one table. Each text that tells marks apart takes its words and numbers from here.
-use Rattle.std.specs.Prelude.{ℕ, ◌==◌, Bool, true, false, List, [], codes}
+use Rattle.std.specs.Prelude.{ℕ, Bool, true, false, List, [], codes}
 use Rattle.sheet_plan.specs.declared.sheet.Mark.{Mark}
 use Rattle.sheet_plan.specs.declared.sheet.Mark.TheVariants.{Solid, Dashed, Chain, Hatch}
 
@@ -33,9 +33,13 @@ pen_of mark = (line_kind mark).pen
 abbrev pub look_of : Mark → Look
 look_of mark = (line_kind mark).look
 
--- two marks are one where their pens are
+-- two marks are one
 abbrev pub is_same_mark : Mark → Mark → Bool
-is_same_mark mark other = pen_of mark == pen_of other
+is_same_mark Solid Solid = true
+is_same_mark Dashed Dashed = true
+is_same_mark Chain Chain = true
+is_same_mark Hatch Hatch = true
+is_same_mark mark other = false
 
 -- the frame of a sheet, which is no line of a view
 abbrev pub frame_look : Look

@@ -2,8 +2,8 @@
 use Rattle.std.specs.Prelude.{ℕ, Bool, true, false, ◌||◌, List, Option, Some, None, if◌then◌else◌, codes, nat_eq, option_map, unwrap_or}
 use Rattle.std.specs.List.{ends_with}
 use Rattle.std.specs.Str.{bytes_eq}
-use Rattle.draw_words.specs.Names.{is_empty_value}
-use Rattle.sheet_words.specs.Grammar.{Given, Reading, all_given, asks, for_help, for_version, reading_of, refused}
+use Rattle.command_words.specs.Grammar.{GivenTexts, Reading, all_given, asks, for_help, for_version, is_empty_value, reading_of, refused}
+use Rattle.sheet_words.specs.Grammar.{sheet_table}
 use Rattle.sheet_words.specs.declared.words.Hidden.{Hidden}
 use Rattle.sheet_words.specs.declared.words.Hidden.TheVariants.{All, Plain, Never}
 
@@ -76,10 +76,10 @@ named_by (Some part) job (Some out) list (Some hidden) =
 named_by _ _ _ _ _ = None
 
 -- there is a part, no name is empty, each value is one of those that its option has, and the list has a place of its own
-abbrev pub named : Given → Option Named
+abbrev pub named : GivenTexts → Option Named
 named given =
-    if is_empty_value given.part || is_empty_value given.job || is_empty_value given.list then None
-    else named_by given.part given.job (goal_of given.out) (option_map list_named given.list) (hidden_of given.hidden)
+    if is_empty_value (given (codes "part")) || is_empty_value (given (codes "job")) || is_empty_value (given (codes "list")) then None
+    else named_by (given (codes "part")) (given (codes "job")) (goal_of (given (codes "out"))) (option_map list_named (given (codes "list"))) (hidden_of (given (codes "hidden")))
 
 -- by what the words come to
 abbrev pub asks_of : Reading → Option Asks
@@ -90,4 +90,4 @@ asks_of (all_given given) = option_map sheet (named given)
 
 -- what the words ask for; None where they are refused
 unfoldable pub asked_by : List (List ℕ) → Option Asks
-asked_by words = asks_of (reading_of words)
+asked_by words = asks_of (reading_of sheet_table words)

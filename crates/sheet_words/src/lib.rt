@@ -2,7 +2,6 @@
 //! `--version`.
 #![tactic(auto)]
 
-mod command;
 mod words;
 
 pub use words::{Asked, Hidden, ListOut, Out, SheetRequest, read_words};

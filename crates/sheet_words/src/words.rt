@@ -1,12 +1,10 @@
 // What the words of a run ask for.
 ghost use Rattle.std.specs.Prelude.{◌≡◌, IfOk, IsErrOf, Some, None, option_copied, option_map};
-ghost use Rattle.draw_words.specs.Names.{is_empty_value};
-ghost use Rattle.draw_words.specs.Seen.{texts};
+ghost use Rattle.command_words.specs.Seen.{given_seen, texts};
 ghost use Rattle.sheet_words.specs.Names.{asked_by, goal_named, shares_place, hidden_named, list_named, named};
 ghost use Rattle.sheet_words.specs.Seen.{asked_seen, goal_seen, list_seen, named_seen};
-ghost use Rattle.sheet_words.specs.inner.Seen.{found_seen};
 
-use crate::command::{SheetSentence, SheetTexts, read};
+use command_words::{Given, Sentence, WordOption, read};
 use dec_text::Name;
 use draw_words::WordsError;
 use exact_frac::OutOfMemory;
@@ -62,26 +60,6 @@ pub enum Asked {
     Sheet(SheetRequest),
 }
 
-/// There is a text, and it is empty.
-fn is_empty_value(text: Option<&str>) -> bool
-    ensures { result ≡ is_empty_value (option_copied text.entry) }
-{
-    match text {
-        Some(text) => text.is_empty(),
-        None => false,
-    }
-}
-
-/// A copy of the job's name.
-fn job_name(alloc: Global, job: Option<&str>) -> Result<Option<Name>, OutOfMemory>
-    ensures { IfOk result (λ name. name ≡ option_copied job.entry) }
-{
-    match job {
-        Some(job) => Ok(Some(Name::new(alloc, job)?)),
-        None => Ok(None),
-    }
-}
-
 /// Where the sheet goes by a name.
 fn out_named(alloc: Global, name: &str) -> Result<Out, WordsError>
     ensures goal { IfOk result (λ out. goal_named name.now ≡ Some (goal_seen out)) }
@@ -133,32 +111,42 @@ fn hidden_named(word: &str) -> Option<Hidden>
 }
 
 /// What is asked for by the texts that the words give.
-fn request_of(alloc: Global, found: SheetTexts<'_>) -> Result<SheetRequest, WordsError>
-    ensures named { IfOk result (λ r. named (found_seen found.entry) ≡ Some (named_seen r)) }
-    ensures usage { IsErrOf result WordsError.Usage → named (found_seen found.entry) ≡ None }
+fn request_of(alloc: Global, given: &Given<'_>) -> Result<SheetRequest, WordsError>
+    ensures named { IfOk result (λ r. named (given_seen given.now) ≡ Some (named_seen r)) }
+    ensures usage { IsErrOf result WordsError.Usage → named (given_seen given.now) ≡ None }
 {
-    if is_empty_value(found.part) || is_empty_value(found.job) || is_empty_value(found.list) {
+    if given.is_empty("part") || given.is_empty("job") || given.is_empty("list") {
         return Err(WordsError::Usage);
     }
-    let Some(part) = found.part else {
+    let Some(part) = given.text("part") else {
         return Err(WordsError::Usage);
     };
-    let Some(hidden) = hidden_named(found.hidden.unwrap_or("all")) else {
+    let Some(hidden) = hidden_named(given.text("hidden").unwrap_or("all")) else {
         return Err(WordsError::Usage);
     };
-    let out = out_named(alloc, found.out.unwrap_or("sheet.svg"))?;
-    let list = list_named(alloc, found.list)?;
+    let out = out_named(alloc, given.text("out").unwrap_or("sheet.svg"))?;
+    let list = list_named(alloc, given.text("list"))?;
     if shares_place(&list, &out) {
         return Err(WordsError::Usage);
     }
     Ok(SheetRequest {
         part: Name::new(alloc, part)?,
-        job: job_name(alloc, found.job)?,
+        job: given.copied(alloc, "job")?,
         out,
         list,
         hidden,
     })
 }
+
+/// The options.
+const OPTIONS: [WordOption<'static>; 6] = [
+    WordOption::Value("job"),
+    WordOption::Value("out"),
+    WordOption::Value("list"),
+    WordOption::Value("hidden"),
+    WordOption::Help("help"),
+    WordOption::Version("version"),
+];
 
 /// Reads the words behind the program's name, from left to right: `PART`, and `--job JOB`, `--out OUT`, `--list LIST` and
 /// `--hidden all|plain|none`, or these with `=`. PART is the one plain word, and each option is there at most once. A word
@@ -173,9 +161,10 @@ pub fn read_words(alloc: Global, words: &[String]) -> Result<Asked, WordsError>
     ensures asked { IfOk result (λ asked. asked_by (texts words.now) ≡ Some (asked_seen asked)) }
     ensures usage { IsErrOf result WordsError.Usage → asked_by (texts words.now) ≡ None }
 {
-    match read(alloc, words)? {
-        SheetSentence::Help => Ok(Asked::Help),
-        SheetSentence::Version => Ok(Asked::Version),
-        SheetSentence::Texts(found) => Ok(Asked::Sheet(request_of(alloc, found)?)),
+    match read(alloc, "part", &OPTIONS, words)? {
+        Sentence::Refused => Err(WordsError::Usage),
+        Sentence::Help => Ok(Asked::Help),
+        Sentence::Version => Ok(Asked::Version),
+        Sentence::Given(given) => Ok(Asked::Sheet(request_of(alloc, &given)?)),
     }
 }

@@ -1,32 +1,35 @@
 -- Steps that follow one another, by a table in which each end is joined to one other at most: from where their inner ends go on.
-use Rattle.std.proofs.Common.{◌≡◌, ◌⊎◌, inl, inr, ℕ, Bool, true, false, not, List, [], ◌∷◌, Some, refl, sym, ap, subst, ◌∙◌}
+use Rattle.std.proofs.Common.{◌≡◌, ◌⊎◌, inl, inr, ℕ, List, [], ◌∷◌, Some, refl, sym, ap, subst, ◌∙◌}
 use Rattle.stroke_paths.specs.declared.joint.Joint.{Joint}
 use Rattle.stroke_paths.specs.declared.path.End.{End}
 use Rattle.stroke_paths.specs.declared.path.Step.{Step}
+use Rattle.stroke_paths.specs.declared.path.Tip.{Tip}
+use Rattle.stroke_paths.specs.declared.path.Tip.TheVariants.{First, Second}
+use Rattle.stroke_paths.specs.Joints.{other_tip}
 use Rattle.stroke_paths.specs.inner.Tables.{partner}
 use Rattle.stroke_paths.specs.inner.Walks.{IsAmong, AreApart, strokes_of, AreMatched, AreLinked}
-use Rattle.stroke_paths.specs.Routes.{first_end, last_end, last_of}
+use Rattle.stroke_paths.specs.Routes.{first_end, last_end, last_of, start_of}
 
 -- ---- ends of steps
 abbrev pub stroke_of : End → ℕ
 stroke_of e = e.stroke
 
 pub ends_differ : (s : Step) → first_end s ≡ last_end s → ⊥
-ends_differ s e = by s.turned (ap (λ (f : End). f.second) e)
+ends_differ s e = by (start_of s.turned) (ap (λ (f : End). f.tip) e)
   where
-    by : (b : Bool) → b ≡ not b → ⊥
-    by true h = cc
-    by false h = cc
+    by : (t : Tip) → t ≡ other_tip t → ⊥
+    by First h = cc
+    by Second h = cc
 
 -- an end of a stroke that is passed is where the step begins or where it ends
 pub one_of_two : (s : Step) (e : End) → e.stroke ≡ s.stroke → (e ≡ first_end s) ⊎ (e ≡ last_end s)
-one_of_two s e same = by s.turned e.second refl refl
+one_of_two s e same = by (start_of s.turned) e.tip refl refl
   where
-    by : (a b : Bool) → s.turned ≡ a → e.second ≡ b → (e ≡ first_end s) ⊎ (e ≡ last_end s)
-    by true true h k = inl (λ i. record { stroke = same i; second = (k ∙ sym h) i })
-    by false false h k = inl (λ i. record { stroke = same i; second = (k ∙ sym h) i })
-    by true false h k = inr (λ i. record { stroke = same i; second = (k ∙ sym (ap not h)) i })
-    by false true h k = inr (λ i. record { stroke = same i; second = (k ∙ sym (ap not h)) i })
+    by : (a b : Tip) → start_of s.turned ≡ a → e.tip ≡ b → (e ≡ first_end s) ⊎ (e ≡ last_end s)
+    by First First h k = inl (λ i. record { stroke = same i; tip = (k ∙ sym h) i })
+    by Second Second h k = inl (λ i. record { stroke = same i; tip = (k ∙ sym h) i })
+    by First Second h k = inr (λ i. record { stroke = same i; tip = (k ∙ sym (ap other_tip h)) i })
+    by Second First h k = inr (λ i. record { stroke = same i; tip = (k ∙ sym (ap other_tip h)) i })
 
 pub last_among : (s : Step) (rest : List Step) → IsAmong (strokes_of (s ∷ rest)) (last_of s rest).stroke
 last_among s [] = inl refl

@@ -18,6 +18,8 @@ use Rattle.stroke_paths.specs.declared.corners.Corner.TheVariants.{One, Two, Mor
 use Rattle.stroke_paths.specs.declared.corners.StrokePlace.{StrokePlace}
 use Rattle.stroke_paths.specs.declared.path.End.{End}
 use Rattle.stroke_paths.specs.declared.path.Point.{Point}
+use Rattle.stroke_paths.specs.declared.path.Tip.{Tip}
+use Rattle.stroke_paths.specs.declared.path.Tip.TheVariants.{First, Second}
 use Rattle.stroke_paths.specs.Joints.{IsDot, point_of}
 use Rattle.stroke_paths.specs.inner.Corners.{place_for, place_of, same_place, with_end, Tells, EndsBelow, AreCorners, IsNoted}
 use Rattle.stroke_paths.specs.inner.Tables.{MayJoin}
@@ -37,12 +39,12 @@ decides_same p q =
     (Decides-and (nat_eq p.mark q.mark) points (Decides-eqb p.mark q.mark) (decides_point p.point q.point)))
 
 -- a stroke's end is at this point, for the strokes of this view and mark
-pub record IsAt (s : Stroke) (second : Bool) (view : ℕ) (mark : Mark) (p : Point) : Type 0 where
+pub record IsAt (s : Stroke) (tip : Tip) (view : ℕ) (mark : Mark) (p : Point) : Type 0 where
   pub view_is : s.view ≡ view
   pub mark_is : s.mark ≡ mark
-  pub at : point_of second s ≡ p
+  pub at : point_of tip s ≡ p
 
-at_of_same : (s : Stroke) (b : Bool) (view : ℕ) (mark : Mark) (p : Point) → same_place (place_of b s) (place_for view mark p) ≡ true → IsAt s b view mark p
+at_of_same : (s : Stroke) (b : Tip) (view : ℕ) (mark : Mark) (p : Point) → same_place (place_of b s) (place_for view mark p) ≡ true → IsAt s b view mark p
 at_of_same s b view mark p h =
     let e = (decides_same (place_of b s) (place_for view mark p)).0 h in
     record {
@@ -51,7 +53,7 @@ at_of_same s b view mark p h =
       at = ap (λ (q : StrokePlace). q.point) e;
     }
 
-same_of_at : (s : Stroke) (b : Bool) (view : ℕ) (mark : Mark) (p : Point) → IsAt s b view mark p → same_place (place_of b s) (place_for view mark p) ≡ true
+same_of_at : (s : Stroke) (b : Tip) (view : ℕ) (mark : Mark) (p : Point) → IsAt s b view mark p → same_place (place_of b s) (place_for view mark p) ≡ true
 same_of_at s b view mark p h = (decides_same (place_of b s) (place_for view mark p)).1 (λ i. place_for (h.view_is i) (h.mark_is i) (h.at i))
 
 -- ---- one more end that counts, or none
@@ -97,7 +99,7 @@ module _ (strokes : List Stroke) (i : ℕ) (s : Stroke) (listed : slice_get stro
   -- an end below i + 1 is below i, or an end of the stroke at i
   pub record IsEndHere (view : ℕ) (mark : Mark) (p : Point) (g : End) : Type 0 where
     pub here : g.stroke ≡ i
-    pub at : IsAt s g.second view mark p
+    pub at : IsAt s g.tip view mark p
     pub no_dot : IsDot s → ⊥
 
   below_parts : (view : ℕ) (mark : Mark) (p : Point) (g : End) → EndsBelow strokes (i + 1) view mark p g → EndsBelow strokes i view mark p g ⊎ IsEndHere view mark p g
@@ -112,20 +114,20 @@ module _ (strokes : List Stroke) (i : ℕ) (s : Stroke) (listed : slice_get stro
             at = record {
               view_is = ap (λ (t : Stroke). t.view) (sym same) ∙ h.ends.view_is;
               mark_is = ap (λ (t : Stroke). t.mark) (sym same) ∙ h.ends.mark_is;
-              at = ap (point_of g.second) (sym same) ∙ h.ends.at;
+              at = ap (point_of g.tip) (sym same) ∙ h.ends.at;
             };
             no_dot = subst (λ (t : Stroke). IsDot t → ⊥) same h.ends.no_dot;
           })
       by (inr n) = inl (record { below = omega (arith, h.below, n); ends = h.ends })
 
-  end_here : (b : Bool) (view : ℕ) (mark : Mark) (p : Point) → (IsDot s → ⊥) → IsAt s b view mark p → EndsBelow strokes (i + 1) view mark p (record { stroke = i; second = b })
+  end_here : (b : Tip) (view : ℕ) (mark : Mark) (p : Point) → (IsDot s → ⊥) → IsAt s b view mark p → EndsBelow strokes (i + 1) view mark p (record { stroke = i; tip = b })
   end_here b view mark p no_dot at =
       record {
         below = omega arith;
         ends = record { stroke = s; listed = listed; no_dot = no_dot; view_is = at.view_is; mark_is = at.mark_is; at = at.at };
       }
 
-  dot_of : (view : ℕ) (mark : Mark) (p : Point) → IsAt s false view mark p → IsAt s true view mark p → IsDot s
+  dot_of : (view : ℕ) (mark : Mark) (p : Point) → IsAt s First view mark p → IsAt s Second view mark p → IsDot s
   dot_of view mark p h k = h.at ∙ sym k.at
 
   module _ {S : Type 0} (old : IndexMap StrokePlace Corner S) (so_far : AreCorners strokes i old) where
@@ -142,8 +144,8 @@ module _ (strokes : List Stroke) (i : ℕ) (s : Stroke) (listed : slice_get stro
             by (inr k) = absurd (alone (record { no_dot = k.no_dot; no_hatch = λ e. drawn (sym k.at.mark_is ∙ e) }))
 
     -- one that may be is noted at its first end and at its second
-    module _ (no_dot : IsDot s → ⊥) (middle after : IndexMap StrokePlace Corner S) (first : IsNoted old middle (place_of false s) (record { stroke = i; second = false }))
-        (second : IsNoted middle after (place_of true s) (record { stroke = i; second = true })) where
+    module _ (no_dot : IsDot s → ⊥) (middle after : IndexMap StrokePlace Corner S) (first : IsNoted old middle (place_of First s) (record { stroke = i; tip = First }))
+        (second : IsNoted middle after (place_of Second s) (record { stroke = i; tip = Second })) where
       module _ (view : ℕ) (mark : Mark) (p : Point) (drawn : mark ≢ Hatch) where
         abbrev Was : End → Type 0
         Was = EndsBelow strokes i view mark p
@@ -158,19 +160,19 @@ module _ (strokes : List Stroke) (i : ℕ) (s : Stroke) (listed : slice_get stro
         told o e = subst (Tells Was) (sym e) (so_far view mark p drawn)
 
         -- the end b alone is here
-        one_here : (b : Bool) → IsAt s b view mark p → ((c : Bool) → IsAt s c view mark p → c ≡ b) → (o : Option Corner) → o ≡ get same_place old q
-            → Tells Is (Some (with_end o (record { stroke = i; second = b })))
+        one_here : (b : Tip) → IsAt s b view mark p → ((c : Tip) → IsAt s c view mark p → c ≡ b) → (o : Option Corner) → o ≡ get same_place old q
+            → Tells Is (Some (with_end o (record { stroke = i; tip = b })))
         one_here b at only o e =
-            tells_more Was Is (below_more view mark p) (record { stroke = i; second = b }) (end_here b view mark p no_dot at) (λ g h k. absurd (omega (arith, h.below, k))) back o (told o e)
+            tells_more Was Is (below_more view mark p) (record { stroke = i; tip = b }) (end_here b view mark p no_dot at) (λ g h k. absurd (omega (arith, h.below, k))) back o (told o e)
           where
-            back : (g : End) → Is g → Was g ⊎ (g ≡ record { stroke = i; second = b })
+            back : (g : End) → Is g → Was g ⊎ (g ≡ record { stroke = i; tip = b })
             back g h = by (below_parts view mark p g h)
               where
-                by : Was g ⊎ IsEndHere view mark p g → Was g ⊎ (g ≡ record { stroke = i; second = b })
+                by : Was g ⊎ IsEndHere view mark p g → Was g ⊎ (g ≡ record { stroke = i; tip = b })
                 by (inl k) = inl k
-                by (inr k) = inr (λ j. record { stroke = k.here j; second = (only g.second k.at) j })
+                by (inr k) = inr (λ j. record { stroke = k.here j; tip = (only g.tip k.at) j })
 
-        none_here : ((c : Bool) → IsAt s c view mark p → ⊥) → Tells Is (get same_place old q)
+        none_here : ((c : Tip) → IsAt s c view mark p → ⊥) → Tells Is (get same_place old q)
         none_here none = tells_same Was Is (below_more view mark p) back (get same_place old q) (so_far view mark p drawn)
           where
             back : (g : End) → Is g → Was g
@@ -178,65 +180,65 @@ module _ (strokes : List Stroke) (i : ℕ) (s : Stroke) (listed : slice_get stro
               where
                 by : Was g ⊎ IsEndHere view mark p g → Was g
                 by (inl k) = k
-                by (inr k) = absurd (none g.second k.at)
+                by (inr k) = absurd (none g.tip k.at)
 
-        not_at : (b : Bool) → same_place (place_of b s) q ≡ false → IsAt s b view mark p → ⊥
+        not_at : (b : Tip) → same_place (place_of b s) q ≡ false → IsAt s b view mark p → ⊥
         not_at b h k = false≢true (sym h ∙ same_of_at s b view mark p k)
 
-        other_differs : same_place (place_of true s) q ≡ true → same_place (place_of false s) (place_of true s) ≡ false
-        other_differs h = by (same_place (place_of false s) (place_of true s)) refl
+        other_differs : same_place (place_of Second s) q ≡ true → same_place (place_of First s) (place_of Second s) ≡ false
+        other_differs h = by (same_place (place_of First s) (place_of Second s)) refl
           where
-            by : (b : Bool) → same_place (place_of false s) (place_of true s) ≡ b → b ≡ false
-            by true e = absurd (no_dot ((at_of_same s false s.view s.mark (point_of true s) e).at))
+            by : (b : Bool) → same_place (place_of First s) (place_of Second s) ≡ b → b ≡ false
+            by true e = absurd (no_dot ((at_of_same s First s.view s.mark (point_of Second s) e).at))
             by false e = refl
 
-        at_place : (a b : Bool) → same_place (place_of false s) q ≡ a → same_place (place_of true s) q ≡ b → Tells Is (get same_place after q)
+        at_place : (a b : Bool) → same_place (place_of First s) q ≡ a → same_place (place_of Second s) q ≡ b → Tells Is (get same_place after q)
         at_place a true h k =
-            let here = at_of_same s true view mark p k in
-            let is : q ≡ place_of true s = sym ((decides_same (place_of true s) q).0 k) in
-            let before : get same_place middle (place_of true s) ≡ get same_place old q =
-            first (place_of true s) ∙ ap (λ c. cond c (Some (with_end (get same_place old (place_of false s)) (record { stroke = i; second = false }))) (get same_place old (place_of true s))) (other_differs k)
+            let here = at_of_same s Second view mark p k in
+            let is : q ≡ place_of Second s = sym ((decides_same (place_of Second s) q).0 k) in
+            let before : get same_place middle (place_of Second s) ≡ get same_place old q =
+            first (place_of Second s) ∙ ap (λ c. cond c (Some (with_end (get same_place old (place_of First s)) (record { stroke = i; tip = First }))) (get same_place old (place_of Second s))) (other_differs k)
             ∙ ap (get same_place old) (sym is) in
-            let now : get same_place after q ≡ Some (with_end (get same_place middle (place_of true s)) (record { stroke = i; second = true })) =
-            second q ∙ ap (λ c. cond c (Some (with_end (get same_place middle (place_of true s)) (record { stroke = i; second = true }))) (get same_place middle q)) k in
-            subst (Tells Is) (sym now) (one_here true here only (get same_place middle (place_of true s)) before)
+            let now : get same_place after q ≡ Some (with_end (get same_place middle (place_of Second s)) (record { stroke = i; tip = Second })) =
+            second q ∙ ap (λ c. cond c (Some (with_end (get same_place middle (place_of Second s)) (record { stroke = i; tip = Second }))) (get same_place middle q)) k in
+            subst (Tells Is) (sym now) (one_here Second here only (get same_place middle (place_of Second s)) before)
           where
-            only : (c : Bool) → IsAt s c view mark p → c ≡ true
-            only true h' = refl
-            only false h' = absurd (no_dot (dot_of view mark p h' (at_of_same s true view mark p k)))
+            only : (c : Tip) → IsAt s c view mark p → c ≡ Second
+            only Second h' = refl
+            only First h' = absurd (no_dot (dot_of view mark p h' (at_of_same s Second view mark p k)))
         at_place true false h k =
-            let here = at_of_same s false view mark p h in
-            let is : q ≡ place_of false s = sym ((decides_same (place_of false s) q).0 h) in
-            let now : get same_place after q ≡ Some (with_end (get same_place old (place_of false s)) (record { stroke = i; second = false })) =
-            second q ∙ ap (λ c. cond c (Some (with_end (get same_place middle (place_of true s)) (record { stroke = i; second = true }))) (get same_place middle q)) k
-            ∙ first q ∙ ap (λ c. cond c (Some (with_end (get same_place old (place_of false s)) (record { stroke = i; second = false }))) (get same_place old q)) h in
-            subst (Tells Is) (sym now) (one_here false here only (get same_place old (place_of false s)) (ap (get same_place old) (sym is)))
+            let here = at_of_same s First view mark p h in
+            let is : q ≡ place_of First s = sym ((decides_same (place_of First s) q).0 h) in
+            let now : get same_place after q ≡ Some (with_end (get same_place old (place_of First s)) (record { stroke = i; tip = First })) =
+            second q ∙ ap (λ c. cond c (Some (with_end (get same_place middle (place_of Second s)) (record { stroke = i; tip = Second }))) (get same_place middle q)) k
+            ∙ first q ∙ ap (λ c. cond c (Some (with_end (get same_place old (place_of First s)) (record { stroke = i; tip = First }))) (get same_place old q)) h in
+            subst (Tells Is) (sym now) (one_here First here only (get same_place old (place_of First s)) (ap (get same_place old) (sym is)))
           where
-            only : (c : Bool) → IsAt s c view mark p → c ≡ false
-            only true h' = absurd (not_at true k h')
-            only false h' = refl
+            only : (c : Tip) → IsAt s c view mark p → c ≡ First
+            only Second h' = absurd (not_at Second k h')
+            only First h' = refl
         at_place false false h k =
             let now : get same_place after q ≡ get same_place old q =
-            second q ∙ ap (λ c. cond c (Some (with_end (get same_place middle (place_of true s)) (record { stroke = i; second = true }))) (get same_place middle q)) k
-            ∙ first q ∙ ap (λ c. cond c (Some (with_end (get same_place old (place_of false s)) (record { stroke = i; second = false }))) (get same_place old q)) h in
+            second q ∙ ap (λ c. cond c (Some (with_end (get same_place middle (place_of Second s)) (record { stroke = i; tip = Second }))) (get same_place middle q)) k
+            ∙ first q ∙ ap (λ c. cond c (Some (with_end (get same_place old (place_of First s)) (record { stroke = i; tip = First }))) (get same_place old q)) h in
             subst (Tells Is) (sym now) (none_here none)
           where
-            none : (c : Bool) → IsAt s c view mark p → ⊥
-            none true = not_at true k
-            none false = not_at false h
+            none : (c : Tip) → IsAt s c view mark p → ⊥
+            none Second = not_at Second k
+            none First = not_at First h
 
       pub both_noted : AreCorners strokes (i + 1) after
-      both_noted view mark p drawn = at_place view mark p drawn (same_place (place_of false s) (place_for view mark p)) (same_place (place_of true s) (place_for view mark p)) refl refl
+      both_noted view mark p drawn = at_place view mark p drawn (same_place (place_of First s) (place_for view mark p)) (same_place (place_of Second s) (place_for view mark p)) refl refl
 
 -- the same, by what the two calls say
 pub both_noted_by : {S : Type 0} (strokes : List Stroke) (i : ℕ) (s : Stroke) → slice_get strokes i ≡ Some s → (old : IndexMap StrokePlace Corner S) → AreCorners strokes i old → MayJoin s → (middle after : IndexMap StrokePlace Corner S)
-    (p q : StrokePlace) → p ≡ place_of false s → q ≡ place_of true s → IsNoted old middle p (record { stroke = i; second = false })
-    → {E : Type 0} (r : Result (Unit {0}) E) → OnOk r (IsNoted middle after q (record { stroke = i; second = true })) → OnOk r (AreCorners strokes (i + 1) after)
+    (p q : StrokePlace) → p ≡ place_of First s → q ≡ place_of Second s → IsNoted old middle p (record { stroke = i; tip = First })
+    → {E : Type 0} (r : Result (Unit {0}) E) → OnOk r (IsNoted middle after q (record { stroke = i; tip = Second })) → OnOk r (AreCorners strokes (i + 1) after)
 both_noted_by strokes i s listed old so_far may middle after p q p_is q_is first r second =
     on_ok_weaker r
     (λ k.
-    both_noted strokes i s listed old so_far may.no_dot middle after (subst (λ (x : StrokePlace). IsNoted old middle x (record { stroke = i; second = false })) p_is first)
-    (subst (λ (x : StrokePlace). IsNoted middle after x (record { stroke = i; second = true })) q_is k)) second
+    both_noted strokes i s listed old so_far may.no_dot middle after (subst (λ (x : StrokePlace). IsNoted old middle x (record { stroke = i; tip = First })) p_is first)
+    (subst (λ (x : StrokePlace). IsNoted middle after x (record { stroke = i; tip = Second })) q_is k)) second
 
 pub no_corners : {S : Type 0} (strokes : List Stroke) (corners : IndexMap StrokePlace Corner S) → corners.entries ≡ [] → AreCorners strokes 0 corners
 no_corners strokes corners empty view mark p drawn =

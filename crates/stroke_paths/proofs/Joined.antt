@@ -1,14 +1,16 @@
 -- Ends at which a path goes on: each from both sides, and each to one other end only.
-use Rattle.std.proofs.Common.{◌≡◌, ◌⊎◌, inl, inr, ℕ, Bool, true, false, List, [], ◌∷◌, Some, slice_get, unsigned_abs, refl, sym, subst, ap, ◌∙◌, arith}
-use Rattle.std.specs.Prelude.{ℤ, pos, ◌+ℤ◌, ◌-ℤ◌, ◌*ℤ◌, ◌≤ℤ◌, not}
+use Rattle.std.proofs.Common.{◌≡◌, ◌⊎◌, inl, inr, ℕ, List, [], ◌∷◌, Some, slice_get, unsigned_abs, refl, sym, subst, ap, ◌∙◌, arith}
+use Rattle.std.specs.Prelude.{ℤ, pos, ◌+ℤ◌, ◌-ℤ◌, ◌*ℤ◌, ◌≤ℤ◌}
 use Rattle.std.proofs.lemmas.Int.{ints}
 use Rattle.std.proofs.lemmas.Option.{same_Some}
 use Rattle.integers.proofs.Ring.{ring, var, con, ◌⊕◌, ◌⊖◌, ◌⊗◌}
 use Rattle.sheet_plan.specs.declared.sheet.Mark.{Mark}
 use Rattle.sheet_plan.specs.declared.sheet.Stroke.{Stroke}
-use Rattle.stroke_paths.specs.Joints.{point_of, IsDot, EndsAt, IsKept, across, down, TurnsLittle, GoesOn, AreJoined}
+use Rattle.stroke_paths.specs.Joints.{other_tip, point_of, IsDot, EndsAt, IsKept, across, down, TurnsLittle, GoesOn, AreJoined}
 use Rattle.stroke_paths.specs.declared.path.End.{End}
 use Rattle.stroke_paths.specs.declared.path.Point.{Point}
+use Rattle.stroke_paths.specs.declared.path.Tip.{Tip}
+use Rattle.stroke_paths.specs.declared.path.Tip.TheVariants.{First, Second}
 
 -- ---- a turn, gone back
 minus_back : (a b : ℤ) → a -ℤ b ≡ pos 0 -ℤ (b -ℤ a)
@@ -31,19 +33,19 @@ turn_back a b c d h =
     subst (λ z. z ≤ℤ ((c *ℤ (pos 0 -ℤ a)) +ℤ (d *ℤ (pos 0 -ℤ b)))) (sym (ap (λ z. pos (unsigned_abs z)) (cross_back a b c d) ∙ ap pos (abs_back ((a *ℤ (pos 0 -ℤ d)) -ℤ (b *ℤ (pos 0 -ℤ c))))))
     (subst (λ z. pos (unsigned_abs ((a *ℤ (pos 0 -ℤ d)) -ℤ (b *ℤ (pos 0 -ℤ c)))) ≤ℤ z) (sym (along_back a b c d)) h)
 
-across_back : (b : Bool) (s : Stroke) → across (not b) s ≡ pos 0 -ℤ across b s
-across_back false s = minus_back s.x2 s.x1
-across_back true s = minus_back s.x1 s.x2
+across_back : (b : Tip) (s : Stroke) → across (other_tip b) s ≡ pos 0 -ℤ across b s
+across_back First s = minus_back s.x2 s.x1
+across_back Second s = minus_back s.x1 s.x2
 
-down_back : (b : Bool) (s : Stroke) → down (not b) s ≡ pos 0 -ℤ down b s
-down_back false s = minus_back s.y2 s.y1
-down_back true s = minus_back s.y1 s.y2
+down_back : (b : Tip) (s : Stroke) → down (other_tip b) s ≡ pos 0 -ℤ down b s
+down_back First s = minus_back s.y2 s.y1
+down_back Second s = minus_back s.y1 s.y2
 
-goes_back : (e : Bool) (s : Stroke) (f : Bool) (t : Stroke) → GoesOn e s f t → GoesOn f t e s
+goes_back : (e : Tip) (s : Stroke) (f : Tip) (t : Stroke) → GoesOn e s f t → GoesOn f t e s
 goes_back e s f t h =
     let from : TurnsLittle (across e s) (down e s) (pos 0 -ℤ across f t) (pos 0 -ℤ down f t) =
-    subst (λ z. TurnsLittle (across e s) (down e s) z (pos 0 -ℤ down f t)) (across_back f t) (subst (λ z. TurnsLittle (across e s) (down e s) (across (not f) t) z) (down_back f t) h) in
-    subst (λ z. TurnsLittle (across f t) (down f t) z (down (not e) s)) (sym (across_back e s))
+    subst (λ z. TurnsLittle (across e s) (down e s) z (pos 0 -ℤ down f t)) (across_back f t) (subst (λ z. TurnsLittle (across e s) (down e s) (across (other_tip f) t) z) (down_back f t) h) in
+    subst (λ z. TurnsLittle (across f t) (down f t) z (down (other_tip e) s)) (sym (across_back e s))
     (subst (λ z. TurnsLittle (across f t) (down f t) (pos 0 -ℤ across e s) z) (sym (down_back e s)) (turn_back (across e s) (down e s) (across f t) (down f t) from))
 
 -- ---- from both sides
@@ -59,7 +61,7 @@ joined_back strokes e f j = record {
   no_hatch = j.no_hatch;
   first_fits = j.second_fits;
   second_fits = j.first_fits;
-  turns = goes_back e.second j.first.stroke f.second j.second.stroke j.turns;
+  turns = goes_back e.tip j.first.stroke f.tip j.second.stroke j.turns;
 }
   where
     swapped : {P Q : Type 0} → P ⊎ Q → Q ⊎ P
@@ -71,11 +73,11 @@ joined_kept strokes e f j = record { stroke = j.first.stroke; listed = j.first.l
 
 -- ---- one only
 -- a stroke that is no dot has one end at a point
-one_end : (b c : Bool) (s : Stroke) (p : Point) → (IsDot s → ⊥) → point_of b s ≡ p → point_of c s ≡ p → b ≡ c
-one_end false false s p no_dot h k = refl
-one_end false true s p no_dot h k = absurd (no_dot (h ∙ sym k))
-one_end true false s p no_dot h k = absurd (no_dot (k ∙ sym h))
-one_end true true s p no_dot h k = refl
+one_end : (b c : Tip) (s : Stroke) (p : Point) → (IsDot s → ⊥) → point_of b s ≡ p → point_of c s ≡ p → b ≡ c
+one_end First First s p no_dot h k = refl
+one_end First Second s p no_dot h k = absurd (no_dot (h ∙ sym k))
+one_end Second First s p no_dot h k = absurd (no_dot (k ∙ sym h))
+one_end Second Second s p no_dot h k = refl
 
 module _ (strokes : List Stroke) where
   same_stroke : (i j : ℕ) (s t : Stroke) → i ≡ j → slice_get strokes i ≡ Some s → slice_get strokes j ≡ Some t → s ≡ t
@@ -85,8 +87,8 @@ module _ (strokes : List Stroke) where
   same_end : (view : ℕ) (mark : Mark) (p : Point) (e f : End) → EndsAt strokes view mark p e → EndsAt strokes view mark p f → e.stroke ≡ f.stroke → e ≡ f
   same_end view mark p e f x y same =
       let strokes_same = same_stroke e.stroke f.stroke x.stroke y.stroke same x.listed y.listed in
-      let ends_same = one_end e.second f.second x.stroke p x.no_dot x.at (subst (λ s. point_of f.second s ≡ p) (sym strokes_same) y.at) in
-      λ i. record { stroke = same i; second = ends_same i }
+      let ends_same = one_end e.tip f.tip x.stroke p x.no_dot x.at (subst (λ s. point_of f.tip s ≡ p) (sym strokes_same) y.at) in
+      λ i. record { stroke = same i; tip = ends_same i }
 
   -- an end is at one point, of one view and mark
   moved : (view other_view : ℕ) (mark other_mark : Mark) (p other : Point) (e f : End) → EndsAt strokes view mark p e → EndsAt strokes other_view other_mark other e → EndsAt strokes other_view other_mark other f → EndsAt strokes view mark p f
@@ -97,7 +99,7 @@ module _ (strokes : List Stroke) where
         no_dot = z.no_dot;
         view_is = z.view_is ∙ (sym y.view_is ∙ (ap (λ (s : Stroke). s.view) same ∙ x.view_is));
         mark_is = z.mark_is ∙ (sym y.mark_is ∙ (ap (λ (s : Stroke). s.mark) same ∙ x.mark_is));
-        at = z.at ∙ (sym y.at ∙ (ap (point_of e.second) same ∙ x.at));
+        at = z.at ∙ (sym y.at ∙ (ap (point_of e.tip) same ∙ x.at));
       }
 
   pub joined_one : (e f g : End) → AreJoined strokes e f → AreJoined strokes e g → f ≡ g

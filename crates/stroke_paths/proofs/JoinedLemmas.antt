@@ -10,6 +10,7 @@ use Rattle.stroke_paths.specs.declared.corners.Corner.TheVariants.{One, Two, Mor
 use Rattle.stroke_paths.specs.declared.corners.StrokePlace.{StrokePlace}
 use Rattle.stroke_paths.specs.declared.path.End.{End}
 use Rattle.stroke_paths.specs.declared.path.Point.{Point}
+use Rattle.stroke_paths.specs.declared.path.Tip.{Tip}
 use Rattle.stroke_paths.specs.Joints.{point_of, IsDot, EndsAt, FitsSheet, GoesOn, AreJoined}
 use Rattle.stroke_paths.specs.Routes.{IsLoose}
 use Rattle.stroke_paths.specs.inner.Corners.{other_end, place_of, same_place, AreOnly, Tells, EndsBelow, AreCorners}
@@ -21,7 +22,7 @@ same_stroke strokes i s t h k = same_Some s t (sym h ∙ k)
 
 -- an end at the point of another is at the point that the other's stroke says
 moved : (strokes : List Stroke) (view : ℕ) (mark : Mark) (p : Point) (e f : End) (s : Stroke) → EndsAt strokes view mark p e → slice_get strokes e.stroke ≡ Some s → EndsAt strokes view mark p f
-    → EndsAt strokes s.view s.mark (point_of e.second s) f
+    → EndsAt strokes s.view s.mark (point_of e.tip s) f
 moved strokes view mark p e f s h listed k =
     let same : h.stroke ≡ s = same_stroke strokes e.stroke h.stroke s h.listed listed in
     record {
@@ -30,7 +31,7 @@ moved strokes view mark p e f s h listed k =
       no_dot = k.no_dot;
       view_is = k.view_is ∙ sym h.view_is ∙ ap (λ (t : Stroke). t.view) same;
       mark_is = k.mark_is ∙ sym h.mark_is ∙ ap (λ (t : Stroke). t.mark) same;
-      at = k.at ∙ sym h.at ∙ ap (point_of e.second) same;
+      at = k.at ∙ sym h.at ∙ ap (point_of e.tip) same;
     }
 
 -- ---- what a corner says of an end that is there
@@ -78,7 +79,7 @@ none_found Counts (Some More) e f h here there two no_third is = by (no_third h.
 -- ---- what is told of an end of a stroke
 module _ (strokes : List Stroke) (e : End) (s : Stroke) (listed : slice_get strokes e.stroke ≡ Some s) where
   abbrev pub Counts : End → Type 0
-  Counts = EndsBelow strokes (length strokes) s.view s.mark (point_of e.second s)
+  Counts = EndsBelow strokes (length strokes) s.view s.mark (point_of e.tip s)
 
   counts_self : (IsDot s → ⊥) → Counts e
   counts_self no_dot =
@@ -118,7 +119,7 @@ module _ (strokes : List Stroke) (e : End) (s : Stroke) (listed : slice_get stro
             no_dot = k.ends.no_dot;
             view_is = k.ends.view_is ∙ ap (λ (t : Stroke). t.view) (sym (first_is f h)) ∙ h.first.view_is;
             mark_is = k.ends.mark_is ∙ ap (λ (t : Stroke). t.mark) (sym (first_is f h)) ∙ h.first.mark_is;
-            at = k.ends.at ∙ ap (point_of e.second) (sym (first_is f h)) ∙ h.first.at;
+            at = k.ends.at ∙ ap (point_of e.tip) (sym (first_is f h)) ∙ h.first.at;
           })
 
   module _ (o : Option Corner) (told : Tells Counts o) (may : MayJoin s) (f : End) (t : Stroke) (other_listed : slice_get strokes f.stroke ≡ Some t) (found : other_end o e.stroke ≡ Some f) where
@@ -128,12 +129,12 @@ module _ (strokes : List Stroke) (e : End) (s : Stroke) (listed : slice_get stro
     other_is : both.second.ends.stroke ≡ t
     other_is = same_stroke strokes f.stroke both.second.ends.stroke t both.second.ends.listed other_listed
 
-    pub joined_by : FitsSheet s × FitsSheet t × GoesOn e.second s f.second t → AreJoined strokes e f
+    pub joined_by : FitsSheet s × FitsSheet t × GoesOn e.tip s f.tip t → AreJoined strokes e f
     joined_by (fits, other_fits, turns) =
         record {
           view = s.view;
           mark = s.mark;
-          point = point_of e.second s;
+          point = point_of e.tip s;
           first = record { stroke = s; listed = listed; no_dot = may.no_dot; view_is = refl; mark_is = refl; at = refl };
           second = record {
             stroke = t;
@@ -141,7 +142,7 @@ module _ (strokes : List Stroke) (e : End) (s : Stroke) (listed : slice_get stro
             no_dot = subst (λ (x : Stroke). IsDot x → ⊥) other_is both.second.ends.no_dot;
             view_is = ap (λ (x : Stroke). x.view) (sym other_is) ∙ both.second.ends.view_is;
             mark_is = ap (λ (x : Stroke). x.mark) (sym other_is) ∙ both.second.ends.mark_is;
-            at = ap (point_of f.second) (sym other_is) ∙ both.second.ends.at;
+            at = ap (point_of f.tip) (sym other_is) ∙ both.second.ends.at;
           };
           two = both.two;
           no_third = λ g k. by g (both.only g (record { below = slice_get_within strokes g.stroke k.stroke k.listed; ends = k }));
@@ -155,7 +156,7 @@ module _ (strokes : List Stroke) (e : End) (s : Stroke) (listed : slice_get stro
         by g (inl q) = inl (ap (λ (z : End). z.stroke) q)
         by g (inr q) = inr (ap (λ (z : End). z.stroke) q)
 
-    pub loose_by : (FitsSheet s × FitsSheet t × GoesOn e.second s f.second t → ⊥) → IsLoose strokes e
+    pub loose_by : (FitsSheet s × FitsSheet t × GoesOn e.tip s f.tip t → ⊥) → IsLoose strokes e
     loose_by sharp g h = by (both.only g (counts_other g h))
       where
         by : (g ≡ e) ⊎ (g ≡ f) → ⊥
@@ -167,17 +168,17 @@ module _ (strokes : List Stroke) (e : End) (s : Stroke) (listed : slice_get stro
             sharp (
               subst FitsSheet first k.first_fits,
               subst FitsSheet second k.second_fits,
-              subst (λ (x : Stroke). GoesOn e.second x f.second t) first (subst (λ (x : Stroke). GoesOn e.second k.first.stroke f.second x) second k.turns),
+              subst (λ (x : Stroke). GoesOn e.tip x f.tip t) first (subst (λ (x : Stroke). GoesOn e.tip k.first.stroke f.tip x) second k.turns),
             )
 
 -- ---- the same, by what the calls say
-module _ {S : Type 0} (strokes : List Stroke) (corners : IndexMap StrokePlace Corner S) (all : AreCorners strokes (length strokes) corners) (place : ℕ) (second : Bool) (s : Stroke)
-    (listed : slice_get strokes place ≡ Some s) (may : MayJoin s) (q : StrokePlace) (is : q ≡ place_of second s) where
+module _ {S : Type 0} (strokes : List Stroke) (corners : IndexMap StrokePlace Corner S) (all : AreCorners strokes (length strokes) corners) (place : ℕ) (tip : Tip) (s : Stroke)
+    (listed : slice_get strokes place ≡ Some s) (may : MayJoin s) (q : StrokePlace) (is : q ≡ place_of tip s) where
   abbrev here : End
-  here = record { stroke = place; second = second }
+  here = record { stroke = place; tip = tip }
 
   told_here : Tells (Counts strokes here s listed) (get same_place corners q)
-  told_here = subst (λ (x : StrokePlace). Tells (Counts strokes here s listed) (get same_place corners x)) (sym is) (all s.view s.mark (point_of second s) may.no_hatch)
+  told_here = subst (λ (x : StrokePlace). Tells (Counts strokes here s listed) (get same_place corners x)) (sym is) (all s.view s.mark (point_of tip s) may.no_hatch)
 
   pub none_by_corner : (r : Option End) → r ≡ None → None ≡ other_end (get same_place corners q) place → IsJoint strokes here r
   none_by_corner r none found = subst (IsJoint strokes here) (sym none) (loose_without strokes here s listed (get same_place corners q) told_here (sym found))
@@ -186,8 +187,8 @@ module _ {S : Type 0} (strokes : List Stroke) (corners : IndexMap StrokePlace Co
   other_listed f found =
       (other_found (Counts strokes here s listed) (get same_place corners q) here f told_here (counts_self strokes here s listed may.no_dot) (sym found)).second.below
 
-  pub joined_by_corner : (f : End) (t : Stroke) → Some f ≡ other_end (get same_place corners q) place → slice_get strokes f.stroke ≡ Some t → FitsSheet s × FitsSheet t × GoesOn second s f.second t → AreJoined strokes here f
+  pub joined_by_corner : (f : End) (t : Stroke) → Some f ≡ other_end (get same_place corners q) place → slice_get strokes f.stroke ≡ Some t → FitsSheet s × FitsSheet t × GoesOn tip s f.tip t → AreJoined strokes here f
   joined_by_corner f t found at goes = joined_by strokes here s listed (get same_place corners q) told_here may f t at (sym found) goes
 
-  pub loose_by_corner : (f : End) (t : Stroke) → Some f ≡ other_end (get same_place corners q) place → slice_get strokes f.stroke ≡ Some t → (FitsSheet s × FitsSheet t × GoesOn second s f.second t → ⊥) → IsLoose strokes here
+  pub loose_by_corner : (f : End) (t : Stroke) → Some f ≡ other_end (get same_place corners q) place → slice_get strokes f.stroke ≡ Some t → (FitsSheet s × FitsSheet t × GoesOn tip s f.tip t → ⊥) → IsLoose strokes here
   loose_by_corner f t found at sharp = loose_by strokes here s listed (get same_place corners q) told_here may f t at (sym found) sharp

@@ -11,5 +11,6 @@ pub mod RouteLemmas
 pub mod RouteSteps
 pub mod StepLemmas
 pub mod TableLemmas
+pub mod Tips
 pub mod ViewsWithin
 pub mod WaySizes

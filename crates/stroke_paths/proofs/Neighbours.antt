@@ -1,17 +1,18 @@
 -- Two ends are joined exactly where a route continues from the one to the other.
 use Rattle.std.proofs.Common.{◌≡◌, ◌⊎◌, ◌↔◌, inl, inr, Bool, true, false, List, [], ◌∷◌, ◌++◌, refl, sym, subst, ap, ◌∙◌}
-use mathlib.Core.Bool.{not-not}
-use Rattle.std.specs.Prelude.{not}
 use Rattle.std.specs.List.{Any}
 use Rattle.sheet_plan.specs.declared.sheet.Stroke.{Stroke}
-use Rattle.stroke_paths.specs.Joints.{AreJoined}
+use Rattle.stroke_paths.specs.Joints.{other_tip, AreJoined}
 use Rattle.stroke_paths.specs.Neighbours.{StepStandsBefore, IsNext, Continues}
 use Rattle.stroke_paths.specs.Routes.{first_end, last_end, Follows, Route, steps_of, last_of, EachFollows, EndsAsItMust, IsRoute, AreRoutes}
 use Rattle.stroke_paths.specs.declared.path.End.{End}
 use Rattle.stroke_paths.specs.declared.path.Step.{Step}
+use Rattle.stroke_paths.specs.declared.path.Tip.{Tip}
+use Rattle.stroke_paths.specs.declared.path.Tip.TheVariants.{First, Second}
 use Rattle.stroke_paths.proofs.Joined.{joined_back, joined_kept}
 use Rattle.stroke_paths.proofs.Members.{Among, all_among, any_among, in_joined}
 use Rattle.stroke_paths.proofs.RouteSteps.{one_after, before_too}
+use Rattle.stroke_paths.proofs.Tips.{turned_from, from_end, to_end, from_that_end, to_that_end}
 
 module _ (strokes : List Stroke) where
   -- ---- what follows a step comes next
@@ -68,41 +69,30 @@ module _ (strokes : List Stroke) where
       subst (λ g. AreJoined strokes g f) to (subst (AreJoined strokes (last_end s)) from (next_follows r is s t next))
 
   -- ---- both
-  -- the steps to an end, and from an end
-  abbrev to_end : End → Step
-  to_end e = record { stroke = e.stroke; turned = not e.second }
-
-  abbrev from_end : End → Step
-  from_end f = record { stroke = f.stroke; turned = f.second }
-
-  to_that_end : (e : End) → last_end (to_end e) ≡ e
-  to_that_end e = λ i. record { stroke = e.stroke; second = not-not e.second i }
+  follows : (e f : End) → AreJoined strokes e f → Follows strokes (to_end e) (from_end f)
+  follows e f j = subst (λ g. AreJoined strokes g (first_end (from_end f))) (sym (to_that_end e)) (subst (AreJoined strokes e) (sym (from_that_end f)) j)
 
   module _ (e f : End) (j : AreJoined strokes e f) where
-    follows : Follows strokes (to_end e) (from_end f)
-    follows = subst (λ g. AreJoined strokes g f) (sym (to_that_end e)) j
-
     continues : (r : Route) → IsRoute strokes r → (s : Step) → Among (steps_of r) s → s.stroke ≡ e.stroke → Continues r e f ⊎ Continues r f e
-    continues r is s m same = by s.turned e.second refl refl
+    continues r is s m same = by s.turned e.tip refl refl
       where
-        on : s.turned ≡ not e.second → Continues r e f ⊎ Continues r f e
+        on : s.turned ≡ turned_from (other_tip e.tip) → Continues r e f ⊎ Continues r f e
         on way =
             let there = subst (Among (steps_of r)) (λ i. record { stroke = same i; turned = way i }) m in
-            inl (to_end e, from_end f, comes_next r is (to_end e) (from_end f) there follows, to_that_end e, refl)
+            inl (to_end e, from_end f, comes_next r is (to_end e) (from_end f) there (follows e f j), to_that_end e, from_that_end f)
 
-        back : s.turned ≡ e.second → Continues r e f ⊎ Continues r f e
+        back : s.turned ≡ turned_from e.tip → Continues r e f ⊎ Continues r f e
         back way =
             let there = subst (Among (steps_of r)) (λ i. record { stroke = same i; turned = way i }) m in
-            let follows_back = joined_back strokes e f j in
-            let h : Follows strokes (to_end f) (from_end e) = subst (λ g. AreJoined strokes g e) (sym (to_that_end f)) follows_back in
+            let h = follows f e (joined_back strokes e f j) in
             let before = before_too strokes r is (to_end f) (from_end e) h there in
-            inr (to_end f, from_end e, comes_next r is (to_end f) (from_end e) before h, to_that_end f, refl)
+            inr (to_end f, from_end e, comes_next r is (to_end f) (from_end e) before h, to_that_end f, from_that_end e)
 
-        by : (b c : Bool) → s.turned ≡ b → e.second ≡ c → Continues r e f ⊎ Continues r f e
-        by true true p q = back (p ∙ sym q)
-        by true false p q = on (p ∙ ap not (sym q))
-        by false true p q = on (p ∙ ap not (sym q))
-        by false false p q = back (p ∙ sym q)
+        by : (b : Bool) (t : Tip) → s.turned ≡ b → e.tip ≡ t → Continues r e f ⊎ Continues r f e
+        by true Second p q = back (p ∙ ap turned_from (sym q))
+        by true First p q = on (p ∙ ap (λ (x : Tip). turned_from (other_tip x)) (sym q))
+        by false Second p q = on (p ∙ ap (λ (x : Tip). turned_from (other_tip x)) (sym q))
+        by false First p q = back (p ∙ ap turned_from (sym q))
 
   joined_continues : (routes : List Route) → AreRoutes strokes routes → (e f : End) → AreJoined strokes e f → Any (λ r. Continues r e f ⊎ Continues r f e) routes
   joined_continues routes are e f j =

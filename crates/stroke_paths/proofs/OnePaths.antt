@@ -11,9 +11,10 @@ use Rattle.stroke_paths.specs.Paths.{IsOf, IsPathOf, ArePaths, path_seen}
 use Rattle.stroke_paths.specs.Routes.{first_end, last_end, Follows, Route, steps_of, last_of, EachFollows, EndsAsItMust, least_of, strokes_in, IsRoute, AreRoutes}
 use Rattle.stroke_paths.specs.declared.path.Path.{Path}
 use Rattle.stroke_paths.specs.declared.path.Step.{Step}
+use Rattle.stroke_paths.specs.inner.Walks.{turn}
 use Rattle.stroke_paths.proofs.Joined.{joined_back}
 use Rattle.stroke_paths.proofs.Members.{Among, all_among, pairs_first, pairs_after, all_in_front, in_joined, one_ordered, same_of_options}
-use Rattle.stroke_paths.proofs.RouteSteps.{turn, turn-turn, least_step, same_least, one_after, before_in, after_last, all_too, all_turned}
+use Rattle.stroke_paths.proofs.RouteSteps.{turn-turn, least_step, same_least, one_after, before_in, after_last, all_too, all_turned}
 
 module _ (strokes : List Stroke) where
   -- ---- routes of the same steps

@@ -1,5 +1,5 @@
 -- The route through a stroke: the steps back from it, turned, then the stroke, then the steps onward.
-use Rattle.std.proofs.Common.{◌≡◌, ◌⊎◌, inl, inr, ℕ, Bool, true, false, not, List, [], ◌∷◌, ◌++◌, All, Option, Some, None, map, reverse, set, slice_get, is_some, refl, sym, ap, subst, ◌∙◌}
+use Rattle.std.proofs.Common.{◌≡◌, ◌⊎◌, inl, inr, ℕ, Bool, true, false, List, [], ◌∷◌, ◌++◌, All, Option, Some, None, map, reverse, set, slice_get, is_some, refl, sym, ap, subst, ◌∙◌}
 use Rattle.std.proofs.lemmas.List.{append_assoc, map-append, reverse-append}
 use Rattle.std.proofs.lemmas.List.Elements.{All-nil, All-cons}
 use Rattle.stroke_paths.specs.declared.joint.Joint.{Joint}
@@ -12,6 +12,7 @@ use Rattle.stroke_paths.proofs.Chains.{last_among, WhereIs, where_is, comes_back
 use Rattle.stroke_paths.proofs.Chains.WhereIs.{at_first, at_last, inner}
 use Rattle.stroke_paths.proofs.Numbers.{not_both}
 use Rattle.stroke_paths.proofs.StepLemmas.{fresh_of, visits_first}
+use Rattle.stroke_paths.proofs.Tips.{first_turned, last_turned}
 
 -- steps back from a step, turned, before it: the first one, and the others
 abbrev pub onto_first : List Step → Step → Step
@@ -38,7 +39,7 @@ last_onto (u ∷ us) s rest = last_onto us (turn u) (s ∷ rest)
 
 first_onto : (us : List Step) (s : Step) → first_end (onto_first us s) ≡ end_after (first_end s) us
 first_onto [] s = refl
-first_onto (u ∷ us) s = first_onto us (turn u)
+first_onto (u ∷ us) s = first_onto us (turn u) ∙ ap (λ (e : End). end_after e us) (first_turned u)
 
 -- ---- the strokes of them
 among_onto_parts : (us : List Step) (s : Step) (rest : List Step) (i : ℕ) → IsAmong (strokes_of (onto us s rest)) i → IsAmong (strokes_of us) i ⊎ IsAmong (strokes_of (s ∷ rest)) i
@@ -74,10 +75,6 @@ all_away : (P : Step → Type 0) (steps : List Step) → ((t : Step) → IsAmong
 all_away P [] h = All-nil P
 all_away P (s ∷ rest) h = All-cons P s rest (h s (inl refl)) (all_away P rest (λ t a. h t (inr a)))
 
-not_not : (b : Bool) → not (not b) ≡ b
-not_not true = refl
-not_not false = refl
-
 module _ (joints : List Joint) (m : AreMatched joints) where
   -- ---- linked
   linked_of : (s : Step) (steps : List Step) → GoOn joints (last_end s) steps → AreLinked joints s steps
@@ -90,13 +87,10 @@ module _ (joints : List Joint) (m : AreMatched joints) where
 
   linked_onto : (us : List Step) (s : Step) (rest : List Step) → GoOn joints (first_end s) us → AreLinked joints s rest → AreLinked joints (onto_first us s) (onto_rest us s rest)
   linked_onto [] s rest h k = k
-  linked_onto (u ∷ us) s rest h k = linked_onto us (turn u) (s ∷ rest) h.1 (turned, k)
+  linked_onto (u ∷ us) s rest h k = linked_onto us (turn u) (s ∷ rest) (subst (λ (e : End). GoOn joints e us) (sym (first_turned u)) h.1) (turned, k)
     where
-      back : last_end (turn u) ≡ first_end u
-      back = λ i. record { stroke = u.stroke; second = not_not u.turned i }
-
       turned : partner joints (last_end (turn u)) ≡ Some (first_end s)
-      turned = ap (partner joints) back ∙ m.back (first_end s) (first_end u) h.0
+      turned = ap (partner joints) (last_turned u) ∙ m.back (first_end s) (first_end u) h.0
 
   -- ---- a route that ends as it must is whole
   whole_after : (before after : List Bool) (closed : Bool) (s : Step) (rest : List Step) → AreLinked joints s rest → EndByTable joints closed s (last_of s rest) → AreVisited before after (strokes_of (s ∷ rest))

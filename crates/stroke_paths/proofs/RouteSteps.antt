@@ -1,17 +1,15 @@
 -- The steps of whole routes: with one of them all of them, so that two routes over one stroke are one.
 use Rattle.std.proofs.Common.{◌≡◌, ◌⊎◌, inl, inr, ℕ, ◌≤◌, min, Bool, true, false, List, [], ◌∷◌, refl, sym, subst, ap, ◌∙◌, arith}
 use mathlib.Core.Bool.{not-not}
-use Rattle.std.specs.Prelude.{not}
 use Rattle.sheet_plan.specs.declared.sheet.Stroke.{Stroke}
-use Rattle.stroke_paths.specs.Joints.{AreJoined}
-use Rattle.stroke_paths.specs.Routes.{first_end, last_end, Follows, Route, steps_of, last_of, EachFollows, EndsAsItMust, least_from, least_of, IsRoute}
+use Rattle.stroke_paths.specs.Joints.{other_tip, AreJoined}
+use Rattle.stroke_paths.specs.Routes.{first_end, last_end, start_of, Follows, Route, steps_of, last_of, EachFollows, EndsAsItMust, least_from, least_of, IsRoute}
 use Rattle.stroke_paths.specs.declared.path.End.{End}
 use Rattle.stroke_paths.specs.declared.path.Step.{Step}
+use Rattle.stroke_paths.specs.inner.Walks.{turn}
 use Rattle.stroke_paths.proofs.Joined.{joined_back, joined_one}
 use Rattle.stroke_paths.proofs.Members.{Among}
-
-abbrev pub turn : Step → Step
-turn s = record { stroke = s.stroke; turned = not s.turned }
+use Rattle.stroke_paths.proofs.Tips.{other-other, first_turned, last_turned, turned_from, turned_of_start}
 
 pub turn-turn : (s : Step) → turn (turn s) ≡ s
 turn-turn s = λ i. record { stroke = s.stroke; turned = not-not s.turned i }
@@ -75,10 +73,10 @@ same_least p q f same each back =
 module _ (strokes : List Stroke) where
   -- a step by its first end, and by its last
   from_first : (s t : Step) → first_end s ≡ first_end t → s ≡ t
-  from_first s t e = λ i. record { stroke = (e i).stroke; turned = (e i).second }
+  from_first s t e = λ i. record { stroke = (e i).stroke; turned = (sym (turned_of_start s.turned) ∙ (ap (λ (f : End). turned_from f.tip) e ∙ turned_of_start t.turned)) i }
 
   from_last : (s t : Step) → last_end s ≡ last_end t → s ≡ t
-  from_last s t e = λ i. record { stroke = (e i).stroke; turned = (sym (not-not s.turned) ∙ (ap (λ (f : End). not f.second) e ∙ not-not t.turned)) i }
+  from_last s t e = from_first s t (λ i. record { stroke = (e i).stroke; tip = (sym (other-other (start_of s.turned)) ∙ (ap (λ (f : End). other_tip f.tip) e ∙ other-other (start_of t.turned))) i })
 
   pub one_after : (s t u : Step) → Follows strokes s t → Follows strokes s u → t ≡ u
   one_after s t u h k = from_first t u (joined_one strokes (last_end s) (first_end t) (first_end u) h k)
@@ -88,7 +86,7 @@ module _ (strokes : List Stroke) where
 
   pub follow_back : (s t : Step) → Follows strokes s t → Follows strokes (turn t) (turn s)
   follow_back s t h =
-      subst (λ (b : Bool). AreJoined strokes (record { stroke = t.stroke; second = b }) (record { stroke = s.stroke; second = not s.turned })) (sym (not-not t.turned)) (joined_back strokes (last_end s) (first_end t) h)
+      subst (λ e. AreJoined strokes e (first_end (turn s))) (sym (last_turned t)) (subst (AreJoined strokes (first_end t)) (sym (first_turned s)) (joined_back strokes (last_end s) (first_end t) h))
 
   -- ---- along a list of steps
   next_in : (x : Step) (rest : List Step) (s t : Step) → EachFollows strokes x rest → Among (x ∷ rest) s → Follows strokes s t → Among rest t ⊎ (last_of x rest ≡ s)

@@ -1,5 +1,5 @@
 -- The table of joints: one more stroke, and what all of it says.
-use Rattle.std.proofs.Common.{◌≡◌, ◌⊎◌, inl, inr, ℕ, ◌+◌, ◌<◌, Bool, true, false, List, [], ◌∷◌, ◌++◌, Option, Some, None, length, slice_get, refl, sym, ap, subst, ◌∙◌, arith}
+use Rattle.std.proofs.Common.{◌≡◌, ◌⊎◌, inl, inr, ℕ, ◌+◌, ◌<◌, List, [], ◌∷◌, ◌++◌, Option, Some, None, length, slice_get, refl, sym, ap, subst, ◌∙◌, arith}
 use Rattle.std.specs.Option.{option_and_then}
 use Rattle.std.proofs.lemmas.Bool.{cases_eq}
 use Rattle.std.proofs.lemmas.List.{length-append, get_or_push, get_or_append_left}
@@ -7,6 +7,8 @@ use Rattle.std.proofs.lemmas.Option.{slice_get_within, slice_get-get_or, MatchOp
 use Rattle.sheet_plan.specs.declared.sheet.Stroke.{Stroke}
 use Rattle.stroke_paths.specs.declared.joint.Joint.{Joint}
 use Rattle.stroke_paths.specs.declared.path.End.{End}
+use Rattle.stroke_paths.specs.declared.path.Tip.{Tip}
+use Rattle.stroke_paths.specs.declared.path.Tip.TheVariants.{First, Second}
 use Rattle.stroke_paths.specs.inner.Tables.{joined_at, partner, IsJoint, AreJointsBelow, AreJoints}
 use Rattle.stroke_paths.specs.inner.Walks.{AreMatched}
 use Rattle.stroke_paths.specs.Joints.{AreJoined}
@@ -17,7 +19,7 @@ pub no_joints : (strokes : List Stroke) (joints : List Joint) → joints ≡ [] 
 no_joints strokes joints e = record { all = ap length e; each = λ f h. absurd (omega (arith, h)) }
 
 module _ (strokes : List Stroke) (i : ℕ) (joints : List Joint) (j : Joint) (so_far : AreJointsBelow strokes i joints)
-    (first : IsJoint strokes (record { stroke = i; second = false }) j.first) (second : IsJoint strokes (record { stroke = i; second = true }) j.second) where
+    (first : IsJoint strokes (record { stroke = i; tip = First }) j.first) (second : IsJoint strokes (record { stroke = i; tip = Second }) j.second) where
   pub one_more_joint : AreJointsBelow strokes (i + 1) (joints ++ j ∷ [])
   one_more_joint = record { all = omega (arith, so_far.all, length-append joints (j ∷ [])); each = λ e h. by e h (cases_eq e.stroke i) }
     where
@@ -29,25 +31,25 @@ module _ (strokes : List Stroke) (i : ℕ) (joints : List Joint) (j : Joint) (so
           slice_get-get_or (joints ++ j ∷ []) n j (omega (arith, so_far.all, length-append joints (j ∷ []))) ∙ ap Some (get_or_append_left joints (j ∷ []) j n (omega (arith, so_far.all)))
           ∙ sym (slice_get-get_or joints n j (omega (arith, so_far.all)))
 
-      here : (e : End) → e.stroke ≡ i → (b : Bool) → e.second ≡ b → IsJoint strokes e (joined_at b j)
-      here e h true q = subst (λ (x : End). IsJoint strokes x j.second) (λ k. record { stroke = sym h k; second = sym q k }) second
-      here e h false q = subst (λ (x : End). IsJoint strokes x j.first) (λ k. record { stroke = sym h k; second = sym q k }) first
+      here : (e : End) → e.stroke ≡ i → (b : Tip) → e.tip ≡ b → IsJoint strokes e (joined_at b j)
+      here e h Second q = subst (λ (x : End). IsJoint strokes x j.second) (λ k. record { stroke = sym h k; tip = sym q k }) second
+      here e h First q = subst (λ (x : End). IsJoint strokes x j.first) (λ k. record { stroke = sym h k; tip = sym q k }) first
 
       by : (e : End) → e.stroke < i + 1 → (e.stroke ≡ i) ⊎ (e.stroke ≡ i → ⊥) → IsJoint strokes e (partner (joints ++ j ∷ []) e)
-      by e h (inl k) = subst (IsJoint strokes e) (sym (ap (option_and_then (joined_at e.second)) (new e.stroke k))) (here e k e.second refl)
+      by e h (inl k) = subst (IsJoint strokes e) (sym (ap (option_and_then (joined_at e.tip)) (new e.stroke k))) (here e k e.tip refl)
       by e h (inr k) =
           let less : e.stroke < i = omega (arith, h, k) in
-          subst (IsJoint strokes e) (sym (ap (option_and_then (joined_at e.second)) (old e.stroke less))) (so_far.each e less)
+          subst (IsJoint strokes e) (sym (ap (option_and_then (joined_at e.tip)) (old e.stroke less))) (so_far.each e less)
 
-pub one_more_joint_by : (strokes : List Stroke) (i : ℕ) (joints : List Joint) (j : Joint) → AreJointsBelow strokes i joints → IsJoint strokes (record { stroke = i; second = false }) j.first
-    → IsJoint strokes (record { stroke = i; second = true }) j.second → (more : List Joint) → more ≡ joints ++ j ∷ [] → AreJointsBelow strokes (i + 1) more
+pub one_more_joint_by : (strokes : List Stroke) (i : ℕ) (joints : List Joint) (j : Joint) → AreJointsBelow strokes i joints → IsJoint strokes (record { stroke = i; tip = First }) j.first
+    → IsJoint strokes (record { stroke = i; tip = Second }) j.second → (more : List Joint) → more ≡ joints ++ j ∷ [] → AreJointsBelow strokes (i + 1) more
 one_more_joint_by strokes i joints j so_far first second more e = subst (AreJointsBelow strokes (i + 1)) (sym e) (one_more_joint strokes i joints j so_far first second)
 
 -- ---- what all of it says
 partner_listed : (joints : List Joint) (e f : End) → partner joints e ≡ Some f → e.stroke < length joints
 partner_listed joints e f h = by (slice_get joints e.stroke) refl h
   where
-    by : (o : Option Joint) → slice_get joints e.stroke ≡ o → option_and_then (joined_at e.second) o ≡ Some f → e.stroke < length joints
+    by : (o : Option Joint) → slice_get joints e.stroke ≡ o → option_and_then (joined_at e.tip) o ≡ Some f → e.stroke < length joints
     by None q k = absurd cc
     by (Some j) q k = slice_get_within joints e.stroke j q
 

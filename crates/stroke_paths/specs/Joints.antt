@@ -1,19 +1,26 @@
 -- The ends of strokes, and at which of them a path goes on from one stroke to another.
-use Rattle.std.specs.Prelude.{◌≡◌, ◌≢◌, ◌⊎◌, ◌≤◌, ℕ, Bool, true, false, not, ℤ, pos, ◌+ℤ◌, ◌-ℤ◌, ◌*ℤ◌, ◌≤ℤ◌, unsigned_abs, List, Some, slice_get}
+use Rattle.std.specs.Prelude.{◌≡◌, ◌≢◌, ◌⊎◌, ◌≤◌, ℕ, ℤ, pos, ◌+ℤ◌, ◌-ℤ◌, ◌*ℤ◌, ◌≤ℤ◌, unsigned_abs, List, Some, slice_get}
 use Rattle.sheet_plan.specs.declared.sheet.Mark.{Mark}
 use Rattle.sheet_plan.specs.declared.sheet.Mark.TheVariants.{Hatch}
 use Rattle.sheet_plan.specs.declared.sheet.Stroke.{Stroke}
 use Rattle.stroke_paths.specs.declared.path.End.{End}
 use Rattle.stroke_paths.specs.declared.path.Point.{Point}
+use Rattle.stroke_paths.specs.declared.path.Tip.{Tip}
+use Rattle.stroke_paths.specs.declared.path.Tip.TheVariants.{First, Second}
+
+-- the other end of a stroke
+abbrev pub other_tip : Tip → Tip
+other_tip First = Second
+other_tip Second = First
 
 -- where the first or the second end of a stroke is
-abbrev pub point_of : Bool → Stroke → Point
-point_of false s = record { x = s.x1; y = s.y1 }
-point_of true s = record { x = s.x2; y = s.y2 }
+abbrev pub point_of : Tip → Stroke → Point
+point_of First s = record { x = s.x1; y = s.y1 }
+point_of Second s = record { x = s.x2; y = s.y2 }
 
 -- both ends are one point of the sheet
 abbrev pub IsDot : Stroke → Type 0
-IsDot s = point_of false s ≡ point_of true s
+IsDot s = point_of First s ≡ point_of Second s
 
 -- the stroke at this place is no dot; dots are left out
 pub record IsKept (strokes : List Stroke) (i : ℕ) : Type 0 where
@@ -28,16 +35,16 @@ pub record EndsAt (strokes : List Stroke) (view : ℕ) (mark : Mark) (p : Point)
   pub no_dot : IsDot stroke → ⊥
   pub view_is : stroke.view ≡ view
   pub mark_is : stroke.mark ≡ mark
-  pub at : point_of e.second stroke ≡ p
+  pub at : point_of e.tip stroke ≡ p
 
 -- how far a stroke goes to the right and down, as it comes to its first or to its second end
-abbrev pub across : Bool → Stroke → ℤ
-across false s = s.x1 -ℤ s.x2
-across true s = s.x2 -ℤ s.x1
+abbrev pub across : Tip → Stroke → ℤ
+across First s = s.x1 -ℤ s.x2
+across Second s = s.x2 -ℤ s.x1
 
-abbrev pub down : Bool → Stroke → ℤ
-down false s = s.y1 -ℤ s.y2
-down true s = s.y2 -ℤ s.y1
+abbrev pub down : Tip → Stroke → ℤ
+down First s = s.y1 -ℤ s.y2
+down Second s = s.y2 -ℤ s.y1
 
 -- it is no longer than the widest sheet, each way
 pub record FitsSheet (s : Stroke) : Type 0 where
@@ -49,8 +56,8 @@ abbrev pub TurnsLittle : ℤ → ℤ → ℤ → ℤ → Type 0
 TurnsLittle a b c d = pos (unsigned_abs ((a *ℤ d) -ℤ (b *ℤ c))) ≤ℤ ((a *ℤ c) +ℤ (b *ℤ d))
 
 -- one comes to the end e of a stroke s and goes on from the end f of a stroke t
-abbrev pub GoesOn : Bool → Stroke → Bool → Stroke → Type 0
-GoesOn e s f t = TurnsLittle (across e s) (down e s) (across (not f) t) (down (not f) t)
+abbrev pub GoesOn : Tip → Stroke → Tip → Stroke → Type 0
+GoesOn e s f t = TurnsLittle (across e s) (down e s) (across (other_tip f) t) (down (other_tip f) t)
 
 -- a path goes on from one end to the other: they are ends of two strokes of one view and mark, at one point, where no third such stroke
 -- ends, and it turns there by at most 45 degrees. Hatch lines and strokes that are longer than a sheet stay alone.
@@ -65,4 +72,4 @@ pub record AreJoined (strokes : List Stroke) (e f : End) : Type 0 where
   pub no_hatch : mark ≢ Hatch
   pub first_fits : FitsSheet first.stroke
   pub second_fits : FitsSheet second.stroke
-  pub turns : GoesOn e.second first.stroke f.second second.stroke
+  pub turns : GoesOn e.tip first.stroke f.tip second.stroke

@@ -17,7 +17,7 @@ ends_from false s [] = first_end s ∷ last_end s ∷ []
 ends_from closed s (t ∷ rest) = first_end s ∷ ends_from closed t rest
 
 abbrev pub point_at : List Stroke → End → Option Point
-point_at strokes e = option_map (point_of e.second) (slice_get strokes e.stroke)
+point_at strokes e = option_map (point_of e.tip) (slice_get strokes e.stroke)
 
 -- the stroke at this place is of this view and mark
 abbrev pub IsOf : List Stroke → ℕ → Mark → ℕ → Type 0

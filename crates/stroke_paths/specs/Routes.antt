@@ -1,17 +1,24 @@
 -- Strokes passed one after the other: routes, and all routes over the strokes of a sheet.
-use Rattle.std.specs.Prelude.{◌≡◌, ◌≢◌, ◌<◌, ℕ, Bool, true, false, not, min, List, [], ◌∷◌, map, All, AllPairs, Contains}
+use Rattle.std.specs.Prelude.{◌≡◌, ◌≢◌, ◌<◌, ℕ, Bool, true, false, min, List, [], ◌∷◌, map, All, AllPairs, Contains}
 use Rattle.std.specs.List.{flat_map}
 use Rattle.sheet_plan.specs.declared.sheet.Stroke.{Stroke}
-use Rattle.stroke_paths.specs.Joints.{IsKept, AreJoined}
+use Rattle.stroke_paths.specs.Joints.{other_tip, IsKept, AreJoined}
 use Rattle.stroke_paths.specs.declared.path.End.{End}
 use Rattle.stroke_paths.specs.declared.path.Step.{Step}
+use Rattle.stroke_paths.specs.declared.path.Tip.{Tip}
+use Rattle.stroke_paths.specs.declared.path.Tip.TheVariants.{First, Second}
+
+-- the end of a stroke at which a step begins, where the stroke isn't turned and where it is
+abbrev pub start_of : Bool → Tip
+start_of false = First
+start_of true = Second
 
 -- where a step begins, and where it ends
 abbrev pub first_end : Step → End
-first_end s = record { stroke = s.stroke; second = s.turned }
+first_end s = record { stroke = s.stroke; tip = start_of s.turned }
 
 abbrev pub last_end : Step → End
-last_end s = record { stroke = s.stroke; second = not s.turned }
+last_end s = record { stroke = s.stroke; tip = other_tip (start_of s.turned) }
 
 -- one step, and then the other
 abbrev pub Follows : List Stroke → Step → Step → Type 0

@@ -5,7 +5,7 @@ ghost use Rattle.stroke_paths.specs.Joints.{point_of, IsDot};
 ghost use Rattle.stroke_paths.specs.inner.Corners.{AreCorners, IsNoted, other_end, place_of, same_place, with_end};
 ghost use Rattle.stroke_paths.specs.inner.Tables.{MayJoin};
 
-use crate::path::{End, Point};
+use crate::path::{End, Point, Tip};
 use exact_frac::OutOfMemory;
 use indexmap::IndexMap;
 use sheet_plan::{Mark, Stroke};
@@ -57,14 +57,14 @@ fn note_stroke(
     }
     let first = End {
         stroke: i,
-        second: false,
+        tip: Tip::First,
     };
     let second = End {
         stroke: i,
-        second: true,
+        tip: Tip::Second,
     };
-    note(corners, place_of(&stroke, false), first)?;
-    note(corners, place_of(&stroke, true), second)
+    note(corners, place_of(&stroke, Tip::First), first)?;
+    note(corners, place_of(&stroke, Tip::Second), second)
 }
 
 /// One more end at a place.
@@ -112,30 +112,29 @@ pub(crate) fn other_end(
 }
 
 /// Where an end of a stroke is, and among which strokes.
-pub(crate) fn place_of(stroke: &Stroke, second: bool) -> StrokePlace
-    ensures { result ≡ place_of second stroke.now }
+pub(crate) fn place_of(stroke: &Stroke, tip: Tip) -> StrokePlace
+    ensures { result ≡ place_of tip stroke.now }
 {
     StrokePlace {
         view: stroke.view,
         mark: stroke.mark.pen(),
-        point: point_of(stroke, second),
+        point: point_of(stroke, tip),
     }
 }
 
 /// Where the first or the second end of a stroke is.
-pub(crate) fn point_of(stroke: &Stroke, second: bool) -> Point
-    ensures { result ≡ point_of second stroke.now }
+pub(crate) fn point_of(stroke: &Stroke, tip: Tip) -> Point
+    ensures { result ≡ point_of tip stroke.now }
 {
-    if second {
-        Point {
-            x: stroke.x2,
-            y: stroke.y2,
-        }
-    } else {
-        Point {
+    match tip {
+        Tip::First => Point {
             x: stroke.x1,
             y: stroke.y1,
-        }
+        },
+        Tip::Second => Point {
+            x: stroke.x2,
+            y: stroke.y2,
+        },
     }
 }
 
@@ -156,5 +155,5 @@ pub(crate) fn may_join(stroke: &Stroke) -> bool
 pub(crate) fn is_dot(stroke: &Stroke) -> bool
     ensures { IsTrue result ↔ IsDot stroke.now }
 {
-    point_of(stroke, false) == point_of(stroke, true)
+    point_of(stroke, Tip::First) == point_of(stroke, Tip::Second)
 }

@@ -91,5 +91,5 @@ fn point_at(strokes: &[Stroke], end: End) -> Point
     requires { end.stroke < length strokes.now }
     ensures { Some result ≡ point_at strokes.now end }
 {
-    point_of(&strokes[end.stroke], end.second)
+    point_of(&strokes[end.stroke], end.tip)
 }

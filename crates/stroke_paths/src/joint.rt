@@ -4,7 +4,7 @@ ghost use Rattle.stroke_paths.specs.inner.Corners.{AreCorners};
 ghost use Rattle.stroke_paths.specs.inner.Tables.{AreJoints, IsJoint};
 
 use crate::corners::{Corner, StrokePlace, corners, may_join, other_end, place_of};
-use crate::path::End;
+use crate::path::{End, Tip};
 use crate::turns::goes_on;
 use exact_frac::OutOfMemory;
 use indexmap::IndexMap;
@@ -27,11 +27,11 @@ pub(crate) fn joints(alloc: Global, strokes: &[Stroke]) -> Result<Vec<Joint>, Ou
     for i in 0..strokes.len() {
         let first = End {
             stroke: i,
-            second: false,
+            tip: Tip::First,
         };
         let second = End {
             stroke: i,
-            second: true,
+            tip: Tip::Second,
         };
         joints.push(Joint {
             first: find_partner(strokes, &corners, first),
@@ -55,8 +55,8 @@ fn find_partner(
     if !may_join(&stroke) {
         return None;
     }
-    let other = other_end(corners, place_of(&stroke, end.second), end.stroke)?;
-    if goes_on(&stroke, end.second, &strokes[other.stroke], other.second) {
+    let other = other_end(corners, place_of(&stroke, end.tip), end.stroke)?;
+    if goes_on(&stroke, end.tip, &strokes[other.stroke], other.tip) {
         Some(other)
     } else {
         None

@@ -12,4 +12,4 @@ mod turns;
 mod walking;
 
 pub use joining::paths;
-pub use path::{End, Path, Point, Step};
+pub use path::{End, Path, Point, Step, Tip};

@@ -1,4 +1,7 @@
 // Paths, and what they are made of.
+ghost use Rattle.std.specs.Prelude.{◌≡◌};
+ghost use Rattle.stroke_paths.specs.Joints.{other_tip};
+
 use sheet_plan::Mark;
 
 /// A point of a sheet, in hundredths of a millimetre, from the upper left corner to the right and down.
@@ -8,11 +11,30 @@ pub struct Point {
     pub y: i64,
 }
 
-/// An end of a stroke, which goes by its place among the strokes: its second one, or its first.
+/// Which of the two ends of a stroke.
+#[derive(Clone, Copy, PartialEq, Eq, Debug)]
+pub enum Tip {
+    First,
+    Second,
+}
+
+impl Tip {
+    /// The other end of the same stroke.
+    pub(crate) fn other(self) -> Tip
+        ensures { result ≡ other_tip self }
+    {
+        match self {
+            Tip::First => Tip::Second,
+            Tip::Second => Tip::First,
+        }
+    }
+}
+
+/// An end of a stroke, which goes by its place among the strokes.
 #[derive(Clone, Copy, PartialEq, Eq, Debug)]
 pub struct End {
     pub stroke: usize,
-    pub second: bool,
+    pub tip: Tip,
 }
 
 /// A stroke that is passed, by its place among the strokes: from its first end to its second, or turned, from its second to its

@@ -2,6 +2,7 @@
 ghost use Rattle.std.specs.Prelude.{◌≡◌, ◌↔◌, ◌≤◌, ◌^◌, ◌+ℤ◌, ◌-ℤ◌, ◌*ℤ◌, IsTrue, unsigned_abs};
 ghost use Rattle.stroke_paths.specs.Joints.{FitsSheet, GoesOn, TurnsLittle, across, down};
 
+use crate::path::Tip;
 use sheet_plan::Stroke;
 
 /// The width of the widest sheet, in hundredths of a millimetre.
@@ -18,8 +19,8 @@ struct Way {
 
 /// One goes on from an end of a stroke to an end of another, which is at the same point, and turns there by at most 45 degrees.
 /// Both are no longer than the widest sheet.
-pub(crate) fn goes_on(stroke: &Stroke, at_second: bool, next: &Stroke, to_second: bool) -> bool
-    ensures { IsTrue result ↔ (FitsSheet stroke.now × FitsSheet next.now × GoesOn at_second stroke.now to_second next.now) }
+pub(crate) fn goes_on(stroke: &Stroke, at: Tip, next: &Stroke, to: Tip) -> bool
+    ensures { IsTrue result ↔ (FitsSheet stroke.now × FitsSheet next.now × GoesOn at stroke.now to next.now) }
 {
     if !fits_sheet(stroke) {
         return false;
@@ -27,7 +28,7 @@ pub(crate) fn goes_on(stroke: &Stroke, at_second: bool, next: &Stroke, to_second
     if !fits_sheet(next) {
         return false;
     }
-    turns_little(way_to(stroke, at_second), way_to(next, !to_second))
+    turns_little(way_to(stroke, at), way_to(next, to.other()))
 }
 
 /// The stroke is no longer than the widest sheet, each way.
@@ -41,15 +42,14 @@ fn fits_sheet(stroke: &Stroke) -> bool
 }
 
 /// The way of a stroke as it comes to its first or to its second end.
-fn way_to(stroke: &Stroke, second: bool) -> Way
+fn way_to(stroke: &Stroke, tip: Tip) -> Way
     requires { FitsSheet stroke.now }
-    ensures across { result.across ≡ across second stroke.now }
-    ensures down { result.down ≡ down second stroke.now }
+    ensures across { result.across ≡ across tip stroke.now }
+    ensures down { result.down ≡ down tip stroke.now }
 {
-    if second {
-        way_between(stroke.x1, stroke.y1, stroke.x2, stroke.y2)
-    } else {
-        way_between(stroke.x2, stroke.y2, stroke.x1, stroke.y1)
+    match tip {
+        Tip::First => way_between(stroke.x2, stroke.y2, stroke.x1, stroke.y1),
+        Tip::Second => way_between(stroke.x1, stroke.y1, stroke.x2, stroke.y2),
     }
 }
 

@@ -1,11 +1,11 @@
 // Strokes passed one after the other, by the table of their joints.
 ghost use Rattle.std.specs.Prelude.{◌≡◌, ◌<◌, ◌++◌, ◌∷◌, false, Some, IfOk, MatchOption, length, map, not, reverse, slice_get};
-ghost use Rattle.stroke_paths.specs.Routes.{first_end, last_end};
+ghost use Rattle.stroke_paths.specs.Routes.{first_end, last_end, start_of};
 ghost use Rattle.stroke_paths.specs.inner.Tables.{partner};
 ghost use Rattle.stroke_paths.specs.inner.Walks.{AreMatched, AreStepsFrom, AreWhole, IsNext, IsRouteThrough, IsStopped, turn};
 
 use crate::joint::Joint;
-use crate::path::{End, Step};
+use crate::path::{End, Step, Tip};
 use exact_frac::OutOfMemory;
 use std::alloc::{AllocError, Global};
 
@@ -78,10 +78,23 @@ fn next_step(joints: &[Joint], visited: &mut [bool], end: End) -> Option<Step>
         return None;
     }
     visited[next.stroke] = true;
-    Some(Step {
-        stroke: next.stroke,
-        turned: next.second,
-    })
+    Some(step_at(next))
+}
+
+/// The step that begins at an end.
+fn step_at(end: End) -> Step
+    ensures { first_end result ≡ end }
+{
+    match end.tip {
+        Tip::First => Step {
+            stroke: end.stroke,
+            turned: false,
+        },
+        Tip::Second => Step {
+            stroke: end.stroke,
+            turned: true,
+        },
+    }
 }
 
 /// The end that is joined to this one.
@@ -90,10 +103,9 @@ fn partner(joints: &[Joint], end: End) -> Option<End>
     ensures { result ≡ partner joints.now end }
 {
     let joint = joints[end.stroke];
-    if end.second {
-        joint.second
-    } else {
-        joint.first
+    match end.tip {
+        Tip::First => joint.first,
+        Tip::Second => joint.second,
     }
 }
 
@@ -135,7 +147,7 @@ pub(crate) fn first_end(step: Step) -> End
 {
     End {
         stroke: step.stroke,
-        second: step.turned,
+        tip: start_of(step.turned),
     }
 }
 
@@ -145,6 +157,13 @@ pub(crate) fn last_end(step: Step) -> End
 {
     End {
         stroke: step.stroke,
-        second: !step.turned,
+        tip: start_of(step.turned).other(),
     }
+}
+
+/// At which of its ends a stroke begins, as it is drawn or turned.
+fn start_of(turned: bool) -> Tip
+    ensures { result ≡ start_of turned }
+{
+    if turned { Tip::Second } else { Tip::First }
 }

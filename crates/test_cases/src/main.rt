@@ -1,5 +1,5 @@
 //! Runs cases of `draw`, with its plotters at hand, of `sheet`, `pieces` and `mend` over files in memory, and prints each case that differs, and
-//! how many did: `run_cases FILE ..`. A case is told by lines that begin with `== `, each with a mark, and by the lines behind them,
+//! how many did: `test_cases FILE ..`. A case is told by lines that begin with `== `, each with a mark, and by the lines behind them,
 //! which are the mark's text. What stands before the first mark is a remark.
 //!
 //!     == case NAME               begins a case; the name may have blanks

@@ -7,3 +7,5 @@ mod files;
 mod folders;
 #[cfg(test)]
 mod names;
+#[cfg(test)]
+mod words;

@@ -1,26 +1,18 @@
 -- What a view shows of a solid.
-use Rattle.std.specs.Prelude.{◌≡◌, ℕ, List, []}
+use Rattle.std.specs.Prelude.{◌≡◌, ℕ, List}
 use Rattle.lattice.specs.Creases.{fraction_of}
 use Rattle.lattice.specs.Cuts.{Plane, plane_of}
 use Rattle.lattice.specs.Points.{of_dir}
 use Rattle.lattice.specs.declared.pieces.Crease.{Crease}
-use Rattle.lattice.specs.declared.pieces.HatchLine.{HatchLine}
 use Rattle.lattice.specs.declared.pieces.ViewSpec.{ViewSpec}
 use Rattle.lattice.specs.declared.pieces.ViewSpec.TheVariants.{Plain, Section}
-use Rattle.geometry.specs.Parts.{Part}
-use Rattle.hatch_fill.specs.Hatching.{IsHatching}
 use Rattle.solid_mesh.specs.declared.solid.Solid.{Solid}
 use Rattle.solid_mesh.specs.Solids.{solid_part}
 use Rattle.span_count.specs.declared.span.EdgeSpans.{EdgeSpans}
-use Rattle.drawn_strips.specs.Views.{IsRightView, IsOrderedView}
+use Rattle.drawing_laws.specs.Views.{IsRightView, IsOrderedView, IsHatchedView}
 use Rattle.view_lines.specs.Counts.{AreCountsAlong, AreCountsBeyond}
 use Rattle.view_lines.specs.Merged.{IsMergedView}
 use Rattle.view_lines.specs.declared.view.ViewDrawing.{ViewDrawing}
-
--- the hatch lines of what the view shows: those that fill the section of a cut, and none of the whole part
-abbrev pub IsHatchedView : ViewSpec → ℕ → Part → List HatchLine → Type 0
-IsHatchedView (Plain d) spacing s lines = lines ≡ []
-IsHatchedView (Section c) spacing s lines = IsHatching (plane_of c) s spacing lines
 
 -- the counts of what the view shows: those along the drawn edges of the whole part, or of what a cut leaves of it
 abbrev pub IsCountedView : ViewSpec → ℕ → Solid → List EdgeSpans → Type 0

@@ -5,7 +5,7 @@ use Rattle.std.proofs.lemmas.List.Elements.{Contains-get_or}
 use Rattle.lattice.specs.Cuts.{plane_of}
 use Rattle.solid_mesh.specs.Solids.{solid_part, edge_halves}
 use Rattle.cut_count.specs.CutSpans.{IsCutEntry}
-use Rattle.cut_count.proofs.CutEdges.{not_end_on, edge_within, few_along, listed_in_cut, entries_none, entries_more, one_more, all_within}
+use Rattle.cut_count.proofs.CutEdges.{not_end_on, edge_within, few_tests, listed_in_cut, entries_none, entries_more, one_more, stopped_within, all_within}
 use Rattle.cut_count.proofs.spans_cut.Goals as goal
 
 -- there is one more drawn edge
@@ -14,13 +14,6 @@ within xs ys i e h = subst (λ (zs : List ℕ). i < length zs) e h
 
 there : (xs ys : List ℕ) (i : ℕ) → xs ≡ ys → i < length xs → Contains ys (get_or xs i 0)
 there xs ys i e h = subst (λ (zs : List ℕ). Contains zs (get_or xs i 0)) e (Contains-get_or xs i 0 h)
-
--- a test of each triangle, of each outline that is listed and of each segment
-at_most : (triangles along outlines segments : ℕ) → along ≤ outlines → triangles + along + segments ≤ triangles + outlines + 2 * segments
-at_most triangles along outlines segments few = omega arith
-
-told : (tests now new one all bound : ℕ) → tests ≤ now → now ≤ new → new ≤ now + one → now + one ≤ tests + all → bound ≡ all → (tests ≤ new) × (new ≤ tests + bound)
-told tests now new one all bound least up most within is = (omega arith, omega arith)
 
 pub loop-edge-init : goal.loop-edge-init
 loop-edge-init g c = entries_none _ _ _ _ _ _ c.new-entries.result.items c.new-entries.ensures.items
@@ -45,79 +38,39 @@ edge_spans-requires-clause-listed g c =
 
 pub edge_spans-requires-clause-room : goal.edge_spans-requires-clause-room
 edge_spans-requires-clause-room g c =
-    let s = solid_part c.args.solid.now in
-    let picked = c.args.picked.now in
-    let drawn = picked.drawn.items in
-    let plane = plane_of c.args.section.now.cut in
-    let along = g.F.Finder.list_along c.args.finder.now in
-    let segments = length c.args.section.now.segments.items in
-    let cost = length s.triangles + length picked.outlines.items + 2 * segments in
+    let drawn = c.args.picked.now.drawn.items in
     let items = c.deref-edge-items.result.now in
     let i = c.loop-edge.edge-index in
-    let edge = get_or items i 0 in
-    let few = few_along c.args.solid.now plane c.args.meter.now.tests picked c.requires.picked along (g.F.Finder.list_over c.args.finder.now) _ c.requires.finder edge (there items drawn i c.deref-edge-items.ensures.value c.loop-edge-test.true) in
-    let one = length s.triangles + length (along edge) + segments in
-    let small = at_most (length s.triangles) (length (along edge)) (length picked.outlines.items) segments few in
-    let more = one_more plane s (edge_halves c.args.solid.now) drawn cost c.args.meter.now.tests i c.loop-edge.meter.tests c.loop-edge.entries.items c.loop-edge.invariant
-    (within items drawn i c.deref-edge-items.ensures.value c.loop-edge-test.true) one small in
-    lt_of_le_of_lt more (c.requires.room (length drawn * cost) refl)
+    let few = few_tests c.args.solid.now (plane_of c.args.section.now.cut) c.args.meter.now.tests c.args.picked.now c.requires.picked (g.F.Finder.list_along c.args.finder.now) (g.F.Finder.list_over c.args.finder.now) _ c.requires.finder _ (there items drawn i c.deref-edge-items.ensures.value c.loop-edge-test.true) (length c.args.section.now.segments.items) in
+    lt_of_le_of_lt (one_more _ _ _ _ _ _ _ _ _ c.loop-edge.invariant (within items drawn i c.deref-edge-items.ensures.value c.loop-edge-test.true) _ few) (c.requires.room _ refl)
 
 pub returns-in_err-spans-clause-tested : goal.returns-in_err-spans-clause-tested
 returns-in_err-spans-clause-tested g c bound is =
-    let s = solid_part c.args.solid.now in
-    let picked = c.args.picked.now in
-    let drawn = picked.drawn.items in
-    let plane = plane_of c.args.section.now.cut in
-    let along = g.F.Finder.list_along c.args.finder.now in
-    let segments = length c.args.section.now.segments.items in
-    let cost = length s.triangles + length picked.outlines.items + 2 * segments in
+    let drawn = c.args.picked.now.drawn.items in
     let items = c.deref-edge-items.result.now in
     let i = c.loop-edge.edge-index in
-    let edge = get_or items i 0 in
-    let few = few_along c.args.solid.now plane c.args.meter.now.tests picked c.requires.picked along (g.F.Finder.list_over c.args.finder.now) _ c.requires.finder edge (there items drawn i c.deref-edge-items.ensures.value c.loop-edge-test.true) in
-    let one = length s.triangles + length (along edge) + segments in
-    let small = at_most (length s.triangles) (length (along edge)) (length picked.outlines.items) segments few in
-    let more = one_more plane s (edge_halves c.args.solid.now) drawn cost c.args.meter.now.tests i c.loop-edge.meter.tests c.loop-edge.entries.items c.loop-edge.invariant
-    (within items drawn i c.deref-edge-items.ensures.value c.loop-edge-test.true) one small in
-    told c.args.meter.now.tests c.loop-edge.meter.tests c.edge_spans.new.meter.tests one (length drawn * cost) bound c.loop-edge.invariant.least c.edge_spans.ensures.tested.0 c.edge_spans.ensures.tested.1 more is
+    let few = few_tests c.args.solid.now (plane_of c.args.section.now.cut) c.args.meter.now.tests c.args.picked.now c.requires.picked (g.F.Finder.list_along c.args.finder.now) (g.F.Finder.list_over c.args.finder.now) _ c.requires.finder _ (there items drawn i c.deref-edge-items.ensures.value c.loop-edge-test.true) (length c.args.section.now.segments.items) in
+    stopped_within _ _ _ _ _ _ _ _ _ c.loop-edge.invariant (within items drawn i c.deref-edge-items.ensures.value c.loop-edge-test.true) _ c.edge_spans.new.meter.tests bound few
+    c.edge_spans.ensures.tested.0 c.edge_spans.ensures.tested.1 is
 
 pub returns-in_err-push-clause-tested : goal.returns-in_err-push-clause-tested
 returns-in_err-push-clause-tested g c bound is =
-    let s = solid_part c.args.solid.now in
-    let picked = c.args.picked.now in
-    let drawn = picked.drawn.items in
-    let plane = plane_of c.args.section.now.cut in
-    let along = g.F.Finder.list_along c.args.finder.now in
-    let segments = length c.args.section.now.segments.items in
-    let cost = length s.triangles + length picked.outlines.items + 2 * segments in
+    let drawn = c.args.picked.now.drawn.items in
     let items = c.deref-edge-items.result.now in
     let i = c.loop-edge.edge-index in
-    let edge = get_or items i 0 in
-    let few = few_along c.args.solid.now plane c.args.meter.now.tests picked c.requires.picked along (g.F.Finder.list_over c.args.finder.now) _ c.requires.finder edge (there items drawn i c.deref-edge-items.ensures.value c.loop-edge-test.true) in
-    let one = length s.triangles + length (along edge) + segments in
-    let small = at_most (length s.triangles) (length (along edge)) (length picked.outlines.items) segments few in
-    let more = one_more plane s (edge_halves c.args.solid.now) drawn cost c.args.meter.now.tests i c.loop-edge.meter.tests c.loop-edge.entries.items c.loop-edge.invariant
-    (within items drawn i c.deref-edge-items.ensures.value c.loop-edge-test.true) one small in
-    told c.args.meter.now.tests c.loop-edge.meter.tests c.edge_spans.new.meter.tests one (length drawn * cost) bound c.loop-edge.invariant.least c.edge_spans.ensures.tested.0 c.edge_spans.ensures.tested.1 more is
+    let few = few_tests c.args.solid.now (plane_of c.args.section.now.cut) c.args.meter.now.tests c.args.picked.now c.requires.picked (g.F.Finder.list_along c.args.finder.now) (g.F.Finder.list_over c.args.finder.now) _ c.requires.finder _ (there items drawn i c.deref-edge-items.ensures.value c.loop-edge-test.true) (length c.args.section.now.segments.items) in
+    stopped_within _ _ _ _ _ _ _ _ _ c.loop-edge.invariant (within items drawn i c.deref-edge-items.ensures.value c.loop-edge-test.true) _ c.edge_spans.new.meter.tests bound few
+    c.edge_spans.ensures.tested.0 c.edge_spans.ensures.tested.1 is
 
 pub loop-edge-preserved : goal.loop-edge-preserved
 loop-edge-preserved g c =
-    let s = solid_part c.args.solid.now in
-    let picked = c.args.picked.now in
-    let drawn = picked.drawn.items in
-    let plane = plane_of c.args.section.now.cut in
-    let along = g.F.Finder.list_along c.args.finder.now in
-    let segments = length c.args.section.now.segments.items in
-    let cost = length s.triangles + length picked.outlines.items + 2 * segments in
+    let drawn = c.args.picked.now.drawn.items in
     let items = c.deref-edge-items.result.now in
     let i = c.loop-edge.edge-index in
-    let edge = get_or items i 0 in
-    let few = few_along c.args.solid.now plane c.args.meter.now.tests picked c.requires.picked along (g.F.Finder.list_over c.args.finder.now) _ c.requires.finder edge (there items drawn i c.deref-edge-items.ensures.value c.loop-edge-test.true) in
-    let one = length s.triangles + length (along edge) + segments in
-    let small = at_most (length s.triangles) (length (along edge)) (length picked.outlines.items) segments few in
-    entries_more plane s (edge_halves c.args.solid.now) drawn cost c.args.meter.now.tests i c.loop-edge.meter.tests c.loop-edge.entries.items c.loop-edge.invariant
-    (within items drawn i c.deref-edge-items.ensures.value c.loop-edge-test.true) edge (ap (λ (xs : List ℕ). get_or xs i 0) c.deref-edge-items.ensures.value) (record { edge = edge; spans = c.in_ok-spans.spans }) refl
-    c.in_ok-spans.ensures.spans c.push.new.self.items c.in_ok-push.ensures.items c.edge_spans.new.meter.tests one small c.edge_spans.ensures.tested.0 c.edge_spans.ensures.tested.1
+    let few = few_tests c.args.solid.now (plane_of c.args.section.now.cut) c.args.meter.now.tests c.args.picked.now c.requires.picked (g.F.Finder.list_along c.args.finder.now) (g.F.Finder.list_over c.args.finder.now) _ c.requires.finder _ (there items drawn i c.deref-edge-items.ensures.value c.loop-edge-test.true) (length c.args.section.now.segments.items) in
+    entries_more _ _ _ _ _ _ _ _ _ c.loop-edge.invariant (within items drawn i c.deref-edge-items.ensures.value c.loop-edge-test.true) (get_or items i 0) (ap (λ (xs : List ℕ). get_or xs i 0) c.deref-edge-items.ensures.value)
+    (record { edge = get_or items i 0; spans = c.in_ok-spans.spans }) refl c.in_ok-spans.ensures.spans c.push.new.self.items c.in_ok-push.ensures.items c.edge_spans.new.meter.tests _ few
+    c.edge_spans.ensures.tested.0 c.edge_spans.ensures.tested.1
 
 pub returns-clause-entries : goal.returns-clause-entries
 returns-clause-entries g c =

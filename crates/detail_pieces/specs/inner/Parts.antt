@@ -1,36 +1,37 @@
 -- What of a strip is seen between two borders, and in a window.
-use Rattle.std.specs.Prelude.{◌≡◌, ◌⊎◌, ◌↔◌, Bool, ℤ, ◌*ℤ◌, ◌<ℤ◌, ◌≤ℤ◌}
+use Rattle.std.specs.Prelude.{◌≡◌, ◌⊎◌, ◌↔◌, ℤ, ◌*ℤ◌, ◌<ℤ◌, ◌≤ℤ◌}
 use Rattle.lattice.specs.declared.pieces.Strip.{Strip}
 use Rattle.lattice.specs.declared.points.Spot.{Spot}
 use Rattle.lattice.specs.Triple.{Triple}
 use Rattle.lattice.specs.Points.{Point, IsPoint, of_spot}
 use Rattle.lattice.specs.Lines.{AreStripEnds, IsSameLine}
 use Rattle.line_merge.specs.Merging.{LiesOnStrip}
+use Rattle.detail_pieces.specs.declared.sides.ViewAxis.{ViewAxis}
 use Rattle.detail_pieces.specs.declared.windows.Window.{Window}
 use Rattle.detail_pieces.specs.Windows.{IsInside, IsWithinWindow, IsOnSide}
 use Rattle.detail_pieces.specs.inner.Sides.{seen_of}
 
 -- U or V of the point is from the one number to the other
-abbrev pub IsBetween : Triple → Bool → ℤ → ℤ → Point → Type 0
-IsBetween d upward least most p = ((least *ℤ p.w) ≤ℤ seen_of d upward p) × (seen_of d upward p ≤ℤ (most *ℤ p.w))
+abbrev pub IsBetween : Triple → ViewAxis → ℤ → ℤ → Point → Type 0
+IsBetween d axis least most p = ((least *ℤ p.w) ≤ℤ seen_of d axis p) × (seen_of d axis p ≤ℤ (most *ℤ p.w))
 
 -- an end as it was, or on one of the two borders
-abbrev pub IsKeptOrOn : Triple → Bool → ℤ → ℤ → Spot → Spot → Type 0
-IsKeptOrOn d upward least most s t =
-    (of_spot t ≡ of_spot s) ⊎ (seen_of d upward (of_spot t) ≡ least *ℤ t.w) ⊎ (seen_of d upward (of_spot t) ≡ most *ℤ t.w)
+abbrev pub IsKeptOrOn : Triple → ViewAxis → ℤ → ℤ → Spot → Spot → Type 0
+IsKeptOrOn d axis least most s t =
+    (of_spot t ≡ of_spot s) ⊎ (seen_of d axis (of_spot t) ≡ least *ℤ t.w) ⊎ (seen_of d axis (of_spot t) ≡ most *ℤ t.w)
 
-pub record IsLeftBetween (d : Triple) (upward : Bool) (least most : ℤ) (s t : Strip) : Type 0 where
+pub record IsLeftBetween (d : Triple) (axis : ViewAxis) (least most : ℤ) (s t : Strip) : Type 0 where
   pub line : IsSameLine t.line s.line
   pub kind : t.kind ≡ s.kind
   pub proper : AreStripEnds d t.line t.a t.b
-  pub lies : (p : Point) → IsPoint p → LiesOnStrip d t p ↔ (LiesOnStrip d s p × IsBetween d upward least most p)
-  pub first : IsKeptOrOn d upward least most s.a t.a
-  pub second : IsKeptOrOn d upward least most s.b t.b
+  pub lies : (p : Point) → IsPoint p → LiesOnStrip d t p ↔ (LiesOnStrip d s p × IsBetween d axis least most p)
+  pub first : IsKeptOrOn d axis least most s.a t.a
+  pub second : IsKeptOrOn d axis least most s.b t.b
 
 -- no point of s is strictly between
-abbrev pub IsOutBetween : Triple → Bool → ℤ → ℤ → Strip → Type 0
-IsOutBetween d upward least most s =
-    (p : Point) → IsPoint p → LiesOnStrip d s p → (least *ℤ p.w) <ℤ seen_of d upward p → ¬ (seen_of d upward p <ℤ (most *ℤ p.w))
+abbrev pub IsOutBetween : Triple → ViewAxis → ℤ → ℤ → Strip → Type 0
+IsOutBetween d axis least most s =
+    (p : Point) → IsPoint p → LiesOnStrip d s p → (least *ℤ p.w) <ℤ seen_of d axis p → ¬ (seen_of d axis p <ℤ (most *ℤ p.w))
 
 -- t is what of s is seen in the window
 pub record IsPartIn (d : Triple) (o : Window) (s t : Strip) : Type 0 where

@@ -1,9 +1,11 @@
 -- Places of a view, and whether a spot can be seen there.
-use Rattle.std.specs.Prelude.{◌≡◌, Bool, true, false, ℤ, pos, ◌-ℤ◌, ◌+ℤ◌, ◌*ℤ◌, ◌≤ℤ◌, ◌^◌}
+use Rattle.std.specs.Prelude.{◌≡◌, ℤ, pos, ◌-ℤ◌, ◌+ℤ◌, ◌*ℤ◌, ◌≤ℤ◌, ◌^◌}
 use Rattle.lattice.specs.declared.lines.Line.{Line}
 use Rattle.lattice.specs.Triple.{Triple}
 use Rattle.lattice.specs.Points.{Point, IsPoint, across_of, upward_of}
 use Rattle.detail_pieces.specs.declared.places.ViewPlace.{ViewPlace}
+use Rattle.detail_pieces.specs.declared.sides.ViewAxis.{ViewAxis}
+use Rattle.detail_pieces.specs.declared.sides.ViewAxis.TheVariants.{Across, Upward}
 
 -- the point is seen at this place
 pub record IsSeenAt (d : Triple) (t : ViewPlace) (p : Point) : Type 0 where
@@ -28,17 +30,17 @@ pub record HasSpot (d : Triple) (t : ViewPlace) : Type 0 where
   pub in_box : IsInBox at
   pub seen : IsSeenAt d t at
 
--- what of the line isn't 0 where it crosses a border of this kind
-abbrev pub crossing_of : Bool → Line → ℤ
-crossing_of true l = l.a
-crossing_of false l = l.b
+-- what of the line isn't 0 where it crosses a border on which this axis has one number
+abbrev pub crossing_of : ViewAxis → Line → ℤ
+crossing_of Across l = l.b
+crossing_of Upward l = l.a
 
 -- U or V of a place
-abbrev pub number_of : Bool → ViewPlace → ℤ
-number_of true t = t.upward
-number_of false t = t.across
+abbrev pub number_of : ViewAxis → ViewPlace → ℤ
+number_of Across t = t.across
+number_of Upward t = t.upward
 
 -- the place on the line with this number as its U or its V
-pub record IsCrossing (l : Line) (upward : Bool) (at : ℤ) (t : ViewPlace) : Type 0 where
+pub record IsCrossing (l : Line) (axis : ViewAxis) (at : ℤ) (t : ViewPlace) : Type 0 where
   pub on_line : (l.a *ℤ t.across) +ℤ (l.b *ℤ t.upward) ≡ l.c *ℤ t.den
-  pub on_border : number_of upward t ≡ at *ℤ t.den
+  pub on_border : number_of axis t ≡ at *ℤ t.den

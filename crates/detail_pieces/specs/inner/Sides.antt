@@ -1,5 +1,5 @@
 -- On which side of the border of a half plane a point is seen, and what is left of a strip in it.
-use Rattle.std.specs.Prelude.{◌≡◌, ◌⊎◌, ◌↔◌, Bool, true, false, ℤ, pos, ◌-ℤ◌, ◌*ℤ◌, ◌≤ℤ◌, unsigned_abs}
+use Rattle.std.specs.Prelude.{◌≡◌, ◌⊎◌, ◌↔◌, ℤ, pos, ◌-ℤ◌, ◌*ℤ◌, ◌≤ℤ◌, unsigned_abs}
 use Rattle.lattice.specs.declared.pieces.Strip.{Strip}
 use Rattle.lattice.specs.declared.points.Spot.{Spot}
 use Rattle.lattice.specs.Triple.{Triple}
@@ -7,20 +7,24 @@ use Rattle.lattice.specs.Points.{Point, IsPoint, of_spot, across_of, upward_of}
 use Rattle.lattice.specs.Lines.{AreStripEnds, IsSameLine}
 use Rattle.geometry.specs.Pieces.{spot_sum}
 use Rattle.line_merge.specs.Merging.{LiesOnStrip}
+use Rattle.detail_pieces.specs.declared.sides.Bound.{Bound}
+use Rattle.detail_pieces.specs.declared.sides.Bound.TheVariants.{Least, Most}
 use Rattle.detail_pieces.specs.declared.sides.Side.{Side}
+use Rattle.detail_pieces.specs.declared.sides.ViewAxis.{ViewAxis}
+use Rattle.detail_pieces.specs.declared.sides.ViewAxis.TheVariants.{Across, Upward}
 
 -- U of a point or V, times w
-abbrev pub seen_of : Triple → Bool → Point → ℤ
-seen_of d true p = upward_of d p
-seen_of d false p = across_of d p
+abbrev pub seen_of : Triple → ViewAxis → Point → ℤ
+seen_of d Across p = across_of d p
+seen_of d Upward p = upward_of d p
 
 -- how far the point is over the border, times w: positive inside, 0 on it
-abbrev pub over_by : Bool → ℤ → ℤ → ℤ
-over_by true seen border = seen -ℤ border
-over_by false seen border = border -ℤ seen
+abbrev pub over_by : Bound → ℤ → ℤ → ℤ
+over_by Least seen border = seen -ℤ border
+over_by Most seen border = border -ℤ seen
 
 abbrev pub over_of : Triple → Side → Point → ℤ
-over_of d h p = over_by h.least (seen_of d h.upward p) (h.at *ℤ p.w)
+over_of d h p = over_by h.bound (seen_of d h.axis p) (h.at *ℤ p.w)
 
 -- where the way from one spot to another meets the border
 abbrev pub meeting_of : Triple → Side → Spot → Spot → Point

@@ -2,12 +2,9 @@
 use Rattle.std.specs.Prelude.{ℕ, List}
 use Rattle.desk.specs.Files.{Files}
 use Rattle.draw_words.specs.Names.{Named}
-use Rattle.job_file.specs.declared.job.Job.{Job}
-use Rattle.lattice.specs.declared.points.Corner.{Corner}
 use Rattle.part_input.specs.declared.fault.Fault.{Fault}
-use Rattle.part_input.specs.declared.fault.Fault.TheVariants.{ReadFault, NoPlotter, DoesNotFit, WriteFault, Memory}
+use Rattle.part_input.specs.declared.fault.Fault.TheVariants.{ReadFault, NoPlotter, WriteFault, Memory}
 use Rattle.draw_core.specs.Run.{ComesTo}
-use Rattle.draw_core.specs.Sheets.{HasNoRoomFor}
 
 -- the faults of a job that was read
 abbrev pub IsOfOutputs : Fault → Type 0
@@ -19,12 +16,6 @@ IsOfOutputs fault = ⊥
 abbrev pub ReadsInOrder : List (List ℕ) → Files → Named → Fault → Type 0
 ReadsInOrder suffixes files named (ReadFault input) = ComesTo suffixes files named input
 ReadsInOrder suffixes files named fault = Unit {0}
-
--- why there is no sheet: the views don't fit, or memory ran out
-abbrev pub IsNoSheetOf : Job → List Corner → Fault → Type 0
-IsNoSheetOf job corners (DoesNotFit need_w need_h have_w have_h) = HasNoRoomFor job corners need_w need_h have_w have_h
-IsNoSheetOf job corners Memory = Unit {0}
-IsNoSheetOf job corners fault = ⊥
 
 -- the faults that are left once the part was read
 abbrev pub IsWriteOutcome : Fault → Type 0

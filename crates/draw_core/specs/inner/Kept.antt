@@ -6,7 +6,7 @@ use Rattle.plot_rack.specs.Plotters.{Plot}
 use Rattle.draw_core.specs.Drawing.{AreFilesOf, Writes}
 use Rattle.draw_core.specs.inner.Made.{file_seen}
 use Rattle.draw_core.specs.Outputs.{place_of}
-use Rattle.draw_core.specs.declared.drawing.Drawing.{Drawing}
+use Rattle.drawing.specs.declared.drawn.Drawing.{Drawing}
 use Rattle.draw_core.specs.declared.outputs.Output.{Output}
 use Rattle.part_input.specs.declared.fault.Fault.{Fault}
 use Rattle.part_input.specs.declared.fault.Fault.TheVariants.{WriteFault, Memory}

@@ -5,9 +5,9 @@ use Rattle.std.specs.declared.dyn_box.DynBox.{DynBox}
 use Rattle.draw_words.specs.Names.{Named}
 use Rattle.plot_rack.specs.Choices.{AreChosen}
 use Rattle.plot_rack.specs.Racks.{boxes_of}
-use Rattle.draw_core.specs.Drawing.{drawn_in, IsDrawing}
-use Rattle.draw_core.specs.Numbers.{SumsViews}
-use Rattle.draw_core.specs.Run.{Drawn}
+use Rattle.drawing.specs.Drawing.{drawn_in, IsPlannedDrawing}
+use Rattle.drawing.specs.Numbers.{SumsViews}
+use Rattle.sheet_plan.specs.JobSheets.{Drawn}
 use Rattle.draw_core.specs.declared.take.Taken.{Taken}
 
 -- V and W are the types that are boxed in its rack, and their values
@@ -16,7 +16,7 @@ drawn_of taken = drawn_in taken.drawing
 
 -- its drawing is one, and its numbers are the sums of those of its views
 pub record IsDrawn {V : Type 0} {W : V → Type 0} (taken : Taken V W) : Type 0 where
-  pub shows : IsDrawing taken.drawing
+  pub shows : IsPlannedDrawing taken.drawing
   pub sums : SumsViews taken.drawing.solid taken.drawing.job.crease taken.drawing.job.views.items taken.numbers
 
 -- the words name where its drawing goes

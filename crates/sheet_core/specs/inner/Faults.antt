@@ -1,8 +1,11 @@
 -- Which faults single steps of a run may answer.
+use Rattle.std.specs.Prelude.{IsSome}
 use Rattle.part_input.specs.declared.fault.Fault.{Fault}
 use Rattle.part_input.specs.declared.fault.Fault.TheVariants.{ReadFault, WriteFault, Memory}
 use Rattle.part_input.specs.declared.fault.Target.TheVariants.{Out}
 use Rattle.sheet_core.specs.Writing.{IsOfTarget}
+use Rattle.sheet_core.specs.declared.fault.SheetFault.{SheetFault}
+use Rattle.sheet_core.specs.declared.fault.SheetFault.TheVariants.{Common, WriteList}
 use Rattle.sheet_words.specs.Names.{Named}
 
 -- those of reading
@@ -11,13 +14,14 @@ IsOfReading (ReadFault input) = Unit {0}
 IsOfReading fault = ⊥
 
 -- those of telling help or the version
-abbrev pub IsOfTelling : Fault → Type 0
-IsOfTelling (WriteFault Out) = Unit {0}
-IsOfTelling Memory = Unit {0}
+abbrev pub IsOfTelling : SheetFault → Type 0
+IsOfTelling (Common (WriteFault Out)) = Unit {0}
+IsOfTelling (Common Memory) = Unit {0}
 IsOfTelling fault = ⊥
 
 -- those of writing the texts of a drawing
-abbrev pub IsOfWriting : Named → Fault → Type 0
-IsOfWriting named (WriteFault target) = IsOfTarget named target
-IsOfWriting named Memory = Unit {0}
+abbrev pub IsOfWriting : Named → SheetFault → Type 0
+IsOfWriting named WriteList = IsSome named.list
+IsOfWriting named (Common (WriteFault target)) = IsOfTarget named target
+IsOfWriting named (Common Memory) = Unit {0}
 IsOfWriting named fault = ⊥

@@ -1,6 +1,6 @@
 -- What is written of a drawing, made before anything is.
 use Rattle.std.specs.Prelude.{◌≡◌, string_bytes}
-use Rattle.draw_core.specs.declared.drawing.Drawing.{Drawing}
+use Rattle.drawing.specs.declared.drawn.Drawing.{Drawing}
 use Rattle.sheet_core.specs.Pages.{IsPageWith, shown_strokes}
 use Rattle.sheet_core.specs.Summary.{summary_of}
 use Rattle.sheet_core.specs.Writing.{listed, page_text}

@@ -11,6 +11,7 @@ use Rattle.stroke_paths.specs.declared.corners.Corner.TheVariants.{One, Two, Mor
 use Rattle.stroke_paths.specs.declared.corners.StrokePlace.{StrokePlace}
 use Rattle.stroke_paths.specs.declared.path.End.{End}
 use Rattle.stroke_paths.specs.declared.path.Point.{Point}
+use Rattle.stroke_paths.specs.declared.path.Tip.{Tip}
 use Rattle.stroke_paths.specs.Joints.{EndsAt, point_of}
 
 -- a point, for the strokes of one view and mark, which goes by its pen
@@ -18,8 +19,8 @@ abbrev pub place_for : ℕ → Mark → Point → StrokePlace
 place_for view mark p = record { view = view; mark = pen_of mark; point = p }
 
 -- the place of an end of a stroke
-abbrev pub place_of : Bool → Stroke → StrokePlace
-place_of second s = place_for s.view s.mark (point_of second s)
+abbrev pub place_of : Tip → Stroke → StrokePlace
+place_of tip s = place_for s.view s.mark (point_of tip s)
 
 -- two places are one
 abbrev pub same_place : StrokePlace → StrokePlace → Bool

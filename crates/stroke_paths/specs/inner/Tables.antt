@@ -1,20 +1,22 @@
 -- The table of joints.
-use Rattle.std.specs.Prelude.{◌≡◌, ◌<◌, ℕ, Bool, true, false, List, Option, MatchOption, length, slice_get, option_and_then}
+use Rattle.std.specs.Prelude.{◌≡◌, ◌<◌, ℕ, List, Option, MatchOption, length, slice_get, option_and_then}
 use Rattle.sheet_plan.specs.declared.sheet.Mark.TheVariants.{Hatch}
 use Rattle.sheet_plan.specs.declared.sheet.Stroke.{Stroke}
 use Rattle.stroke_paths.specs.declared.joint.Joint.{Joint}
 use Rattle.stroke_paths.specs.declared.path.End.{End}
+use Rattle.stroke_paths.specs.declared.path.Tip.{Tip}
+use Rattle.stroke_paths.specs.declared.path.Tip.TheVariants.{First, Second}
 use Rattle.stroke_paths.specs.Joints.{AreJoined, IsDot}
 use Rattle.stroke_paths.specs.Routes.{IsLoose}
 
 -- the end that is joined to the first or to the second end of a stroke
-abbrev pub joined_at : Bool → Joint → Option End
-joined_at false j = j.first
-joined_at true j = j.second
+abbrev pub joined_at : Tip → Joint → Option End
+joined_at First j = j.first
+joined_at Second j = j.second
 
 -- the end that is joined to this one, by the table
 abbrev pub partner : List Joint → End → Option End
-partner joints e = option_and_then (joined_at e.second) (slice_get joints e.stroke)
+partner joints e = option_and_then (joined_at e.tip) (slice_get joints e.stroke)
 
 -- a stroke that is no dot and no line of a hatching
 pub record MayJoin (s : Stroke) : Type 0 where

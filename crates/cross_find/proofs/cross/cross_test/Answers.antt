@@ -1,11 +1,10 @@
 use Rattle.std.proofs.Common.{◌≡◌, ◌⊎◌, inl, inr, refl, sym, subst, ◌∙◌}
-use Rattle.std.specs.Prelude.{pos, ◌-ℤ◌, ◌*ℤ◌, ◌<ℤ◌, ◌≢◌, ◌↔◌, IsTrue}
+use Rattle.std.specs.Prelude.{pos, ◌-ℤ◌, ◌<ℤ◌, ◌≢◌, ◌↔◌, IsTrue}
 use Rattle.lattice.specs.Points.{of_dir}
-use Rattle.geometry.specs.Views.{face_sign}
 use Rattle.geometry.specs.Counts.{to_left, to_right}
-use Rattle.geometry.specs.Shares.{change_of, mark}
-use Rattle.cross_find.proofs.Passed.{passed, small, turn_passed, zero, some_left}
-use Rattle.cross_find.proofs.Changes.{changed, unchanged, passes_nearer, passes_by, crossed_at, denominator_between}
+use Rattle.geometry.specs.Shares.{change_of}
+use Rattle.cross_find.proofs.Passed.{passed, small, zero, some_left}
+use Rattle.cross_find.proofs.Changes.{changed_passed, unchanged, passes_nearer, passes_by, crossed_at, denominator_between}
 use Rattle.cross_find.proofs.Signs.{same_mark}
 use Rattle.cross_find.proofs.cross.cross_test.Goals as goal
 use Rattle.cross_find.proofs.cross.cross_test.Goals.{else-left-eq0-via-then-left-eq0+else-right-eq0, else-left-eq0-via-else-left-eq0}
@@ -40,18 +39,16 @@ returns-then-right-eq0-clause-answer c e o at_e at_o changes =
     let d = of_dir c.args.d.now in
     let (at_a, at_b) = c.ends.ensures e at_e in
     let (at_p, at_q) = c.ends-2.ensures o at_o in
-    let is = c.sides_of-sides.ensures in
     let s = c.sides_of-sides.result in
+    let is = c.sides_of-sides.ensures in
+    let turn = c.turn_of.ensures in
     let x = c.count_changes-left.result in
-    let turn = face_sign d o.left -ℤ face_sign d o.right in
-    let turned = turn_passed c.turn_of.result c.turn_of.ensures.size ∙ c.turn_of.ensures.value o at_o in
-    let from = passed s.from s.from_small in
-    let to = passed s.to s.to_small in
-    let is_left = c.count_changes-left.ensures.left ∙ (λ i. turned i *ℤ (mark to_left (from i) -ℤ mark to_left (to i))) in
-    let is_right = c.count_changes-left.ensures.right ∙ (λ i. turned i *ℤ (mark to_right (from i) -ℤ mark to_right (to i))) in
+    let change = c.count_changes-left.ensures in
     elim changes.some [
-      | inl left ↦ left (sym (changed d e o _ _ _ _ at_a at_b at_p at_q to_left turn s.from s.to x.left refl is.from is.to is_left) ∙ zero x.left x.left_small c.if-left-eq0.true)
-      | inr right ↦ right (sym (changed d e o _ _ _ _ at_a at_b at_p at_q to_right turn s.from s.to x.right refl is.from is.to is_right) ∙ zero x.right x.right_small c.if-right-eq0.true)
+      | inl left ↦
+          left (sym (changed_passed d e o _ _ _ _ at_a at_b at_p at_q to_left c.turn_of.result s.from s.to x.left turn.size s.from_small s.to_small (turn.value o at_o) is.from is.to change.left) ∙ zero x.left x.left_small c.if-left-eq0.true)
+      | inr right ↦
+          right (sym (changed_passed d e o _ _ _ _ at_a at_b at_p at_q to_right c.turn_of.result s.from s.to x.right turn.size s.from_small s.to_small (turn.value o at_o) is.from is.to change.right) ∙ zero x.right x.right_small c.if-right-eq0.true)
     ]
 
 pub returns-clause-answer : goal.returns-clause-answer
@@ -59,17 +56,13 @@ returns-clause-answer c e o at_e at_o =
     let d = of_dir c.args.d.now in
     let (at_a, at_b) = c.ends.ensures e at_e in
     let (at_p, at_q) = c.ends-2.ensures o at_o in
-    let is = c.sides_of-sides.ensures in
     let s = c.sides_of-sides.result in
+    let is = c.sides_of-sides.ensures in
+    let turn = c.turn_of.ensures in
     let x = c.count_changes-left.result in
-    let turn = face_sign d o.left -ℤ face_sign d o.right in
-    let turned = turn_passed c.turn_of.result c.turn_of.ensures.size ∙ c.turn_of.ensures.value o at_o in
-    let from = passed s.from s.from_small in
-    let to = passed s.to s.to_small in
-    let is_left = c.count_changes-left.ensures.left ∙ (λ i. turned i *ℤ (mark to_left (from i) -ℤ mark to_left (to i))) in
-    let is_right = c.count_changes-left.ensures.right ∙ (λ i. turned i *ℤ (mark to_right (from i) -ℤ mark to_right (to i))) in
-    let left = changed d e o _ _ _ _ at_a at_b at_p at_q to_left turn s.from s.to x.left refl is.from is.to is_left in
-    let right = changed d e o _ _ _ _ at_a at_b at_p at_q to_right turn s.from s.to x.right refl is.from is.to is_right in
+    let change = c.count_changes-left.ensures in
+    let left = changed_passed d e o _ _ _ _ at_a at_b at_p at_q to_left c.turn_of.result s.from s.to x.left turn.size s.from_small s.to_small (turn.value o at_o) is.from is.to change.left in
+    let right = changed_passed d e o _ _ _ _ at_a at_b at_p at_q to_right c.turn_of.result s.from s.to x.right turn.size s.from_small s.to_small (turn.value o at_o) is.from is.to change.right in
     let denominator = (λ i. is.to i -ℤ is.from i) ∙ denominator_between d c.ends.result.0 c.ends.result.1 c.ends-2.result.0 c.ends-2.result.1 in
     let (passes, at) = c.in-Some.ensures.answer in
     let some : (change_of to_left d e o ≢ pos 0) ⊎ (change_of to_right d e o ≢ pos 0) = elim c.else-left-eq0.branch [

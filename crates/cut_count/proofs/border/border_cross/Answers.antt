@@ -83,19 +83,31 @@ numbered_here : {s : Part} (halves : List ℕ) (i j : ℕ) (e : Edge s) → i �
 numbered_here halves i j e same h = subst (λ (n : ℕ). IsNumbered halves n e) (sym same) h
 
 -- ---- the changes, the way that the segment goes and the other way
-module _ (c : Plane) {s : Part} (e : Edge s) (f : Face s) (y : Segment) (border : IsBorderOf c f (of_spot y.a) (of_spot y.b)) (t : ℤ) (size : unsigned_abs t ≤ 1) (turned : IsTurnedBy c f (of_spot y.a) (of_spot y.b) t)
-    (from to : ℤ) (from_fits : mag from < 2 ^ 127) (to_fits : mag to < 2 ^ 127) (from_is : from ≡ side_of (toward_of c) e.a e.b (of_spot y.a)) (to_is : to ≡ side_of (toward_of c) e.a e.b (of_spot y.b)) where
-  along : HasSectionLeft c s (of_spot y.a) (of_spot y.b) → (left right : ℤ)
-      → left ≡ to_z w8 (of_z w8 (pos 1 -ℤ to_z w8 (of_z w8 t))) *ℤ (mark to_left (to_z w128 (of_z w128 from)) -ℤ mark to_left (to_z w128 (of_z w128 to)))
-      → right ≡ to_z w8 (of_z w8 (pos 1 -ℤ to_z w8 (of_z w8 t))) *ℤ (mark to_right (to_z w128 (of_z w128 from)) -ℤ mark to_right (to_z w128 (of_z w128 to)))
-      → IsTaken c e f left right
-  along section left right l r = taken_along c e f (of_spot y.a) (of_spot y.b) border t turned _ _ (whole from from_fits ∙ from_is) (whole to to_fits ∙ to_is) _ left right section (less t size) l r
+module _ (c : Plane) {s : Part} (y : Segment) (at : IsSegmentOf c s y) (e : Edge s) (f : Face s) (number : f.number ≡ y.tri) (t : ℤ) (size : unsigned_abs t ≤ 1) (turned : IsTurnedBy c f (of_spot y.a) (of_spot y.b) t)
+    (from to : ℤ) (from_fits : mag from < 2 ^ 127) (to_fits : mag to < 2 ^ 127) (sides : (from ≡ side_of (toward_of c) e.a e.b (of_spot y.a)) × (to ≡ side_of (toward_of c) e.a e.b (of_spot y.b)))
+    (changed found : CountChanges) (same : changed ≡ found) where
+  border : IsBorderOf c f (of_spot y.a) (of_spot y.b)
+  border = segment_ends c s y at f number e
 
-  back : HasSectionLeft c s (of_spot y.b) (of_spot y.a) → (left right : ℤ)
-      → left ≡ to_z w8 (of_z w8 (pos 1 +ℤ to_z w8 (of_z w8 t))) *ℤ (mark to_left (to_z w128 (of_z w128 to)) -ℤ mark to_left (to_z w128 (of_z w128 from)))
-      → right ≡ to_z w8 (of_z w8 (pos 1 +ℤ to_z w8 (of_z w8 t))) *ℤ (mark to_right (to_z w128 (of_z w128 to)) -ℤ mark to_right (to_z w128 (of_z w128 from)))
-      → IsTaken c e f left right
-  back section left right l r = taken_back c e f (of_spot y.a) (of_spot y.b) border t turned _ _ (whole from from_fits ∙ from_is) (whole to to_fits ∙ to_is) _ left right section (more t size) l r
+  from_is : to_z w128 (of_z w128 from) ≡ side_of (toward_of c) e.a e.b (of_spot y.a)
+  from_is = whole from from_fits ∙ sides.0
+
+  to_is : to_z w128 (of_z w128 to) ≡ side_of (toward_of c) e.a e.b (of_spot y.b)
+  to_is = whole to to_fits ∙ sides.1
+
+  along : HasSectionLeft c s (of_spot y.a) (of_spot y.b)
+      → found.left ≡ to_z w8 (of_z w8 (pos 1 -ℤ to_z w8 (of_z w8 t))) *ℤ (mark to_left (to_z w128 (of_z w128 from)) -ℤ mark to_left (to_z w128 (of_z w128 to)))
+      → found.right ≡ to_z w8 (of_z w8 (pos 1 -ℤ to_z w8 (of_z w8 t))) *ℤ (mark to_right (to_z w128 (of_z w128 from)) -ℤ mark to_right (to_z w128 (of_z w128 to)))
+      → IsTaken c e f changed.left changed.right
+  along section l r =
+      taken_along c e f (of_spot y.a) (of_spot y.b) border t turned _ _ from_is to_is _ changed.left changed.right section (less t size) (ap (λ (x : CountChanges). x.left) same ∙ l) (ap (λ (x : CountChanges). x.right) same ∙ r)
+
+  back : HasSectionLeft c s (of_spot y.b) (of_spot y.a)
+      → found.left ≡ to_z w8 (of_z w8 (pos 1 +ℤ to_z w8 (of_z w8 t))) *ℤ (mark to_left (to_z w128 (of_z w128 to)) -ℤ mark to_left (to_z w128 (of_z w128 from)))
+      → found.right ≡ to_z w8 (of_z w8 (pos 1 +ℤ to_z w8 (of_z w8 t))) *ℤ (mark to_right (to_z w128 (of_z w128 to)) -ℤ mark to_right (to_z w128 (of_z w128 from)))
+      → IsTaken c e f changed.left changed.right
+  back section l r =
+      taken_back c e f (of_spot y.a) (of_spot y.b) border t turned _ _ from_is to_is _ changed.left changed.right section (more t size) (ap (λ (x : CountChanges). x.left) same ∙ l) (ap (λ (x : CountChanges). x.right) same ∙ r)
 
 pub side-from-requires : goal.side-from-requires
 side-from-requires c =
@@ -212,18 +224,15 @@ returns-then-right-eq0-clause-answer c e f x numbered listed number =
     let ends = seen.ensures.ends e numbered in
     let from = side_here (plane_of seen.result.cut) plane seen.result.at.a seen.result.at.b e.a e.b (of_spot y.a) c.side-from.result c.side-from.ensures seen.ensures.plane ends.0 ends.1 in
     let to = side_here (plane_of seen.result.cut) plane seen.result.at.a seen.result.at.b e.a e.b (of_spot y.b) c.side-to.result c.side-to.ensures seen.ensures.plane ends.0 ends.1 in
-    let border = segment_ends plane s y at f face e in
-    let turned = c.turned_by-turned.ensures.turned f face in
-    let none_flat = (closed c.args.solid.now).none_flat in
     let changed = c.if-section_is_left.left in
     let taken : IsTaken plane e f changed.left changed.right =
     elim c.if-section_is_left.branch [
       | then-section_is_left w ↦
-          along plane e f y border c.turned_by-turned.result c.turned_by-turned.ensures.size turned c.side-from.result c.side-to.result c.side-from.type_inv c.side-to.type_inv from to
-          (w.if-section_is_left.ensures s none_flat c.requires.borders at) changed.left changed.right (ap (λ (r : CountChanges). r.left) w.left-is ∙ w.count_changes.ensures.left) (ap (λ (r : CountChanges). r.right) w.left-is ∙ w.count_changes.ensures.right)
+          along plane y at e f face c.turned_by-turned.result c.turned_by-turned.ensures.size (c.turned_by-turned.ensures.turned f face) c.side-from.result c.side-to.result c.side-from.type_inv c.side-to.type_inv (from, to)
+          changed w.count_changes.result w.left-is (w.if-section_is_left.ensures s (closed c.args.solid.now).none_flat c.requires.borders at) w.count_changes.ensures.left w.count_changes.ensures.right
       | else-section_is_left w ↦
-          back plane e f y border c.turned_by-turned.result c.turned_by-turned.ensures.size turned c.side-from.result c.side-to.result c.side-from.type_inv c.side-to.type_inv from to
-          (w.if-section_is_left.ensures s none_flat c.requires.borders at) changed.left changed.right (ap (λ (r : CountChanges). r.left) w.left-is ∙ w.count_changes-else-section_is_left.ensures.left) (ap (λ (r : CountChanges). r.right) w.left-is ∙ w.count_changes-else-section_is_left.ensures.right)
+          back plane y at e f face c.turned_by-turned.result c.turned_by-turned.ensures.size (c.turned_by-turned.ensures.turned f face) c.side-from.result c.side-to.result c.side-from.type_inv c.side-to.type_inv (from, to)
+          changed w.count_changes-else-section_is_left.result w.left-is (w.if-section_is_left.ensures s (closed c.args.solid.now).none_flat c.requires.borders at) w.count_changes-else-section_is_left.ensures.left w.count_changes-else-section_is_left.ensures.right
     ] in
     none_taken plane e f changed.left changed.right taken (none changed.left changed.left_small c.if-left-eq0.true) (none changed.right changed.right_small c.if-right-eq0.true)
 
@@ -254,18 +263,15 @@ returns-clause-answer c e f x numbered listed number =
     let numbered_too = numbered_here (edge_halves c.args.solid.now) seen.result.at.number c.args.edge e seen.ensures.number numbered in
     let from = side_here (plane_of seen.result.cut) plane seen.result.at.a seen.result.at.b e.a e.b (of_spot y.a) c.side-from.result c.side-from.ensures seen.ensures.plane ends.0 ends.1 in
     let to = side_here (plane_of seen.result.cut) plane seen.result.at.a seen.result.at.b e.a e.b (of_spot y.b) c.side-to.result c.side-to.ensures seen.ensures.plane ends.0 ends.1 in
-    let border = segment_ends plane s y at f face e in
-    let turned = c.turned_by-turned.ensures.turned f face in
-    let none_flat = (closed c.args.solid.now).none_flat in
     let changed = c.if-section_is_left.left in
     let taken : IsTaken plane e f changed.left changed.right =
     elim c.if-section_is_left.branch [
       | then-section_is_left w ↦
-          along plane e f y border c.turned_by-turned.result c.turned_by-turned.ensures.size turned c.side-from.result c.side-to.result c.side-from.type_inv c.side-to.type_inv from to
-          (w.if-section_is_left.ensures s none_flat c.requires.borders at) changed.left changed.right (ap (λ (r : CountChanges). r.left) w.left-is ∙ w.count_changes.ensures.left) (ap (λ (r : CountChanges). r.right) w.left-is ∙ w.count_changes.ensures.right)
+          along plane y at e f face c.turned_by-turned.result c.turned_by-turned.ensures.size (c.turned_by-turned.ensures.turned f face) c.side-from.result c.side-to.result c.side-from.type_inv c.side-to.type_inv (from, to)
+          changed w.count_changes.result w.left-is (w.if-section_is_left.ensures s (closed c.args.solid.now).none_flat c.requires.borders at) w.count_changes.ensures.left w.count_changes.ensures.right
       | else-section_is_left w ↦
-          back plane e f y border c.turned_by-turned.result c.turned_by-turned.ensures.size turned c.side-from.result c.side-to.result c.side-from.type_inv c.side-to.type_inv from to
-          (w.if-section_is_left.ensures s none_flat c.requires.borders at) changed.left changed.right (ap (λ (r : CountChanges). r.left) w.left-is ∙ w.count_changes-else-section_is_left.ensures.left) (ap (λ (r : CountChanges). r.right) w.left-is ∙ w.count_changes-else-section_is_left.ensures.right)
+          back plane y at e f face c.turned_by-turned.result c.turned_by-turned.ensures.size (c.turned_by-turned.ensures.turned f face) c.side-from.result c.side-to.result c.side-from.type_inv c.side-to.type_inv (from, to)
+          changed w.count_changes-else-section_is_left.result w.left-is (w.if-section_is_left.ensures s (closed c.args.solid.now).none_flat c.requires.borders at) w.count_changes-else-section_is_left.ensures.left w.count_changes-else-section_is_left.ensures.right
     ] in
     let crossing = c.in-Some.ensures e numbered_too ends.0 ends.1 at in
     let inner = inner_here (plane_of seen.result.cut) plane seen.result.at.a seen.result.at.b e.a e.b c.in-Some.at seen.ensures.plane ends.0 ends.1 (c.is_inner_beyond.ensures.0 c.if-not-is_inner_beyond.false) in

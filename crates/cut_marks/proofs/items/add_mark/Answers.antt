@@ -1,4 +1,4 @@
-use Rattle.std.proofs.Common.{[], ◌∷◌, ◌++◌, List, ◌∙◌, ap}
+use Rattle.std.proofs.Common.{[], ◌∷◌, ◌++◌, ◌∙◌, ap}
 use Rattle.sheet_page.specs.declared.page.Item.{Item}
 use Rattle.cut_marks.specs.Items.{end_items}
 use Rattle.cut_marks.proofs.Parts.{three_parts}

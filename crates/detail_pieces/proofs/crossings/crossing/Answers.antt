@@ -1,30 +1,15 @@
-use Rattle.std.proofs.Common.{rules, ◌≡◌, Bool, true, sym, subst, ap, ◌∙◌, FitsSigned}
-use Rattle.std.specs.Prelude.{ℤ, ◌+ℤ◌, ◌*ℤ◌}
-use Rattle.std.specs.Int.{w128}
+use Rattle.std.proofs.Common.{sym, subst}
 use Rattle.std.proofs.lemmas.Int.{to_z-of_z}
-use Rattle.integers.proofs.Comparisons.{sum_exchanged}
-use Rattle.detail_pieces.specs.declared.places.ViewPlace.{ViewPlace}
-use Rattle.detail_pieces.specs.inner.Places.{number_of}
+use Rattle.detail_pieces.specs.declared.sides.ViewAxis.{ViewAxis}
+use Rattle.detail_pieces.specs.inner.Places.{IsCrossing}
 use Rattle.detail_pieces.proofs.crossings.crossing.Goals as goal
 
-exchanged : (a b c num den v : ℤ) → v ≡ den → (b *ℤ den) +ℤ (a *ℤ num) ≡ c → (a *ℤ num) +ℤ (b *ℤ v) ≡ c
-exchanged a b c num den v e h = sum_exchanged (a *ℤ num) (b *ℤ v) ∙ ap (λ (k : ℤ). (b *ℤ k) +ℤ (a *ℤ num)) e ∙ h
-
-border : (u : Bool) → u ≡ true → (t : ViewPlace) (z : ℤ) → t.upward ≡ z → number_of u t ≡ z
-border u e t z h = subst (λ (v : Bool). number_of v t ≡ z) (sym e) h
-
-pub returns-then-is_upward : goal.returns-then-is_upward
-returns-then-is_upward c =
-    let l = c.args.line.now in
+pub returns-in-Across : goal.returns-in-Across
+returns-in-Across c =
     let at_fits = c.ranges.at in
-    let a_fits : FitsSigned w128 l.a = search rules in
-    let b_fits : FitsSigned w128 l.b = search rules in
-    let c_fits : FitsSigned w128 l.c = search rules in
-    let num_fits : FitsSigned w128 c.other-other.result.num = search rules in
-    let den_fits : FitsSigned w128 c.other-other.result.den = search rules in
-    let times_fits : FitsSigned w128 c.times.result = search rules in
-    let value = simp to_z-of_z at c.times.ensures.value in
-    record {
-      on_line = simp to_z-of_z (exchanged l.a l.b _ c.other-other.result.num _ c.times.result value (simp to_z-of_z at c.other-other.ensures.on_line));
-      on_border = border c.args.is_upward c.if-is_upward.true _ _ (simp to_z-of_z value);
-    }
+    subst (λ (u : ViewAxis). IsCrossing c.args.line.now u c.args.at c.crossing_across.result) (sym c.in-Across.is) (simp to_z-of_z at c.crossing_across.ensures)
+
+pub returns-in-Upward : goal.returns-in-Upward
+returns-in-Upward c =
+    let at_fits = c.ranges.at in
+    subst (λ (u : ViewAxis). IsCrossing c.args.line.now u c.args.at c.crossing_upward.result) (sym c.in-Upward.is) (simp to_z-of_z at c.crossing_upward.ensures)

@@ -1,4 +1,3 @@
-use Rattle.desk.specs.Files.{Files}
 use Rattle.detail_view.specs.Drawn.{IsDrawnOf, pieces_told}
 use Rattle.detail_view.specs.Seen.{detail_seen}
 use Rattle.detail_view.proofs.Drawing.{page_left, detail_there}

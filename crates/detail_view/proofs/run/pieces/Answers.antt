@@ -1,4 +1,4 @@
-use Rattle.std.proofs.Common.{Option, Some, refl, ap, sym, subst}
+use Rattle.std.proofs.Common.{Option, refl, ap, sym, subst}
 use Rattle.std.specs.Prelude.{IfSome, is_some}
 use Rattle.draw_words.specs.Seen.{texts}
 use Rattle.detail_view.specs.Drawn.{pieces_told, HasDetail, KeepsPage}

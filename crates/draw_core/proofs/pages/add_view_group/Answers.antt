@@ -4,7 +4,7 @@ use Rattle.std.proofs.lemmas.List.Concat.{flat_map-append}
 use Rattle.lattice.specs.declared.pieces.HatchLine.{HatchLine}
 use Rattle.lattice.specs.declared.pieces.Piece.{Piece}
 use Rattle.svg_page.specs.Svg.{stroke_line, group_begin, group_end}
-use Rattle.draw_core.specs.Strokes.{IsStrokeOn, IsHatchStrokeOn}
+use Rattle.drawing.specs.Strokes.{IsStrokeOn, IsHatchStrokeOn}
 use Rattle.draw_core.proofs.pages.add_view_group.Goals as goal
 
 grouped : (old begin first second end : List ℕ) → (((old ++ begin) ++ first) ++ second) ++ end ≡ old ++ ((begin ++ (first ++ second)) ++ end)

@@ -1,7 +1,7 @@
 use Rattle.std.proofs.Common.{◌≡◌, ℕ, ◌+◌, ◌++◌, List, take, get_or, length, sym, subst, ap, ◌∙◌, arith}
 use Rattle.std.proofs.lemmas.List.{take_all, take_more, length-take-le}
 use Rattle.svg_page.specs.Svg.{page_begin, page_end, groups_below, svg_of}
-use Rattle.draw_core.specs.Strokes.{AreStrokesOf, AreStrokes}
+use Rattle.drawing.specs.Strokes.{AreStrokesOf, AreStrokes}
 use Rattle.view_lines.specs.declared.view.ViewDrawing.{ViewDrawing}
 use Rattle.draw_core.proofs.StrokeLists.{AreWritten, none_written, one_more_written}
 use Rattle.draw_core.proofs.pages.page_text.Goals as goal

@@ -14,6 +14,7 @@ use Rattle.draw_core.proofs.Drawings.{made_of, writes_named, same_outputs}
 use Rattle.draw_core.proofs.HeldFiles.{holds_named}
 use Rattle.draw_core.proofs.NoFile.{no_desk, refused_or_memory}
 use Rattle.put_texts.specs.Desks.{HearsAll}
+use Rattle.put_texts.specs.Faults.{common}
 use Rattle.put_texts.proofs.Counting.{no_write}
 use Rattle.draw_core.proofs.run.draw.Goals as goal
 
@@ -119,7 +120,7 @@ returns-in-Ok-clause-held g c = λ steady there.
     let state = g.D.Desk.state in
     let still = ap (λ (s : DeskState). s.steady) c.in-Ok.ensures.changes ∙ steady in (
       ap (λ (s : DeskState). s.read_faults) c.write_drawing.ensures.changes ∙ c.in-Ok.ensures.reads,
-      no_write c.write_drawing.result.fault (state c.take.new.desk).write_faults (state c.write_drawing.new.desk).write_faults (c.write_drawing.ensures.steady still) c.write_drawing.ensures.writes
+      no_write common c.write_drawing.result.fault (state c.take.new.desk).write_faults (state c.write_drawing.new.desk).write_faults (c.write_drawing.ensures.steady still) c.write_drawing.ensures.writes
           ∙ ap (λ (s : DeskState). s.write_faults) c.in-Ok.ensures.changes,
     )
 

@@ -1,21 +1,21 @@
 use Rattle.std.proofs.Common.{◌≡◌, ◌≤◌, ◌∷◌, List, length, sym, subst, ◌∙◌, arith}
 use Rattle.std.proofs.lemmas.Option.{slice_get_within}
 use Rattle.plot_rack.specs.Racks.{boxes_of}
-use Rattle.draw_core.specs.Strokes.{AreStrokes}
+use Rattle.drawing.specs.Strokes.{AreStrokes}
 use Rattle.view_lines.specs.declared.view.ViewDrawing.{ViewDrawing}
-use Rattle.draw_core.proofs.DrawnViews.{few, as_many_placed}
+use Rattle.drawing.proofs.DrawnViews.{few, as_many_placed}
 use Rattle.draw_core.proofs.PlotFiles.{files_are, none_drawn}
 use Rattle.draw_core.proofs.run.files_of.Goals as goal
 
 pub page_text-requires-clause-placed : goal.page_text-requires-clause-placed
 page_text-requires-clause-placed g c =
     let d = c.args.drawing.now in
-    subst (λ (views : List ViewDrawing). length views ≡ length d.sheet.places.items) (sym c.deref.ensures.value) (as_many_placed d c.requires)
+    subst (λ (views : List ViewDrawing). length views ≡ length d.sheet.places.items) (sym c.deref.ensures.value) (as_many_placed d c.requires.shows)
 
 pub page_text-requires-clause-few : goal.page_text-requires-clause-few
 page_text-requires-clause-few g c =
     let d = c.args.drawing.now in
-    subst (λ (views : List ViewDrawing). length views ≤ 12) (sym c.deref.ensures.value) (few d c.requires)
+    subst (λ (views : List ViewDrawing). length views ≤ 12) (sym c.deref.ensures.value) (few d c.requires.shows)
 
 pub outputs_of-requires : goal.outputs_of-requires
 outputs_of-requires g c i b here =

@@ -4,21 +4,21 @@ use Rattle.std.proofs.lemmas.Int.{ints, to_z-of_z}
 use Rattle.plot_rack.specs.Racks.{boxes_of}
 use Rattle.plot_rack.proofs.Texts.{begun_after}
 use Rattle.svg_page.specs.Svg.{svg_of}
-use Rattle.draw_core.specs.Strokes.{AreStrokes}
+use Rattle.drawing.specs.Strokes.{AreStrokes}
 use Rattle.view_lines.specs.declared.view.ViewDrawing.{ViewDrawing}
-use Rattle.draw_core.proofs.DrawnViews.{few, placed}
+use Rattle.drawing.proofs.DrawnViews.{few, placed}
 use Rattle.draw_core.proofs.PlotFiles.{files_are}
 use Rattle.draw_core.proofs.run.plotted_files.Goals as goal
 
 pub strokes_of-requires-clause-placed : goal.strokes_of-requires-clause-placed
 strokes_of-requires-clause-placed g c =
     let d = c.args.drawing.now in
-    subst (λ (views : List ViewDrawing). length views ≤ length d.sheet.places.items) (sym c.deref.ensures.value) (placed d c.requires)
+    subst (λ (views : List ViewDrawing). length views ≤ length d.sheet.places.items) (sym c.deref.ensures.value) (placed d c.requires.shows)
 
 pub strokes_of-requires-clause-few : goal.strokes_of-requires-clause-few
 strokes_of-requires-clause-few g c =
     let d = c.args.drawing.now in
-    subst (λ (views : List ViewDrawing). length views ≤ 12) (sym c.deref.ensures.value) (few d c.requires)
+    subst (λ (views : List ViewDrawing). length views ≤ 12) (sym c.deref.ensures.value) (few d c.requires.shows)
 
 pub outputs_of-requires : goal.outputs_of-requires
 outputs_of-requires g c i b here =

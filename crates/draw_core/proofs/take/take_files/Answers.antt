@@ -7,7 +7,8 @@ use Rattle.std.specs.Prelude.{Ok, Err}
 use Rattle.part_input.specs.Jobs.{TakesReadJob}
 use Rattle.part_input.specs.Parts.{TakesSolid}
 use Rattle.part_input.specs.Steps.{◌and_then◌, Refuses, IsMissing}
-use Rattle.draw_core.specs.Run.{DrawsFiles, HasPlotters, TakesMetJob, PlansSheet}
+use Rattle.draw_core.specs.Run.{DrawsFiles, HasPlotters, TakesMetJob}
+use Rattle.part_input.specs.Sheets.{PlansSheet}
 use Rattle.draw_core.specs.inner.Taken.{drawn_of}
 use Rattle.part_input.proofs.Chains.{refuses_as, missing_as, gives_next}
 use Rattle.part_input.proofs.Missing.{solid_missing}

@@ -2,8 +2,10 @@ use Rattle.std.proofs.Common.{◌≡◌, ◌∙◌, Option, Some, ap, sym, subst
 use Rattle.std.specs.Prelude.{IfSome}
 use Rattle.draw_words.specs.Seen.{texts}
 use Rattle.mend_core.specs.Run.{HasFilesAsked, MendsAsked, RunsInOrder}
-use Rattle.mend_core.proofs.Answered.{answered, no_write, steadily}
+use Rattle.mend_core.proofs.Answered.{answered, steadily}
 use Rattle.mend_core.proofs.Asked.{all_sound, comes_to, misses, named_in_order, refuses, some_made}
+use Rattle.put_texts.specs.Faults.{common}
+use Rattle.put_texts.proofs.Counting.{no_write}
 use Rattle.mend_words.specs.Names.{Asks, mend, asked_by}
 use Rattle.mend_words.specs.Seen.{asked_seen, named_seen}
 use Rattle.mend_words.specs.declared.request.Asked.{Asked}
@@ -22,7 +24,7 @@ returns-in-Ok-Mend-clause-complete g c = λ told no_reads no_writes.
     let asks = mend (named_seen c.in-Ok-Mend.request) in
     let is : asked_by words ≡ Some asks = c.in-Ok-Mend.ensures.asked ∙ ap (λ (a : Asked). Some (asked_seen a)) c.in-Ok-Mend.field-0-is in
     let end = c.mend_part.result in
-    let some = comes_to words files asks is end.fault (some_made (MendsAsked files asks) end.fault end.mended c.mend_part.ensures.there (c.mend_part.ensures.part told)) in
+    let some = comes_to words files asks is end.fault (some_made (MendsAsked files asks) end.fault end.made c.mend_part.ensures.there (c.mend_part.ensures.part told)) in
     answered words files end.fault _ _ _ _ some (refuses words files asks is end.fault (c.mend_part.ensures.answer told))
     c.mend_part.ensures.reads c.mend_part.ensures.writes no_reads no_writes
 
@@ -34,7 +36,7 @@ returns-in-Ok-Mend-clause-exact g c = λ steady.
     let is : asked_by words ≡ Some asks = c.in-Ok-Mend.ensures.asked ∙ ap (λ (a : Asked). Some (asked_seen a)) c.in-Ok-Mend.field-0-is in
     let end = c.mend_part.result in
     let told = g.met.D.Desk.steady_tells c.args.desk.now steady in
-    let some = comes_to words files asks is end.fault (some_made (MendsAsked files asks) end.fault end.mended c.mend_part.ensures.there (c.mend_part.ensures.part told)) in
+    let some = comes_to words files asks is end.fault (some_made (MendsAsked files asks) end.fault end.made c.mend_part.ensures.there (c.mend_part.ensures.part told)) in
     steadily words files end.fault some (refuses words files asks is end.fault (c.mend_part.ensures.answer told))
     (misses words files asks is end.fault (c.mend_part.ensures.missing steady)) (c.mend_part.ensures.steady steady)
 
@@ -45,8 +47,8 @@ returns-in-Ok-Mend-clause-held g c = λ steady there.
     let is : asked_by (texts c.args.words.now) ≡ Some asks = c.in-Ok-Mend.ensures.asked ∙ ap (λ (a : Asked). Some (asked_seen a)) c.in-Ok-Mend.field-0-is in
     let held : HasFilesAsked files asks = subst (λ (asked : Option Asks). IfSome asked (HasFilesAsked files)) is there in (
       c.mend_part.ensures.held steady held,
-      no_write c.mend_part.result.fault _ _ (c.mend_part.ensures.steady steady) c.mend_part.ensures.writes,
+      no_write common c.mend_part.result.fault _ _ (c.mend_part.ensures.steady steady) c.mend_part.ensures.writes,
     )
 
 pub returns-in-Ok-Mend-clause-sound : goal.returns-in-Ok-Mend-clause-sound
-returns-in-Ok-Mend-clause-sound g c = all_sound c.mend_part.result.mended
+returns-in-Ok-Mend-clause-sound g c = all_sound c.mend_part.result.made

@@ -3,9 +3,9 @@ use Rattle.std.specs.Prelude.{IfSome}
 use Rattle.desk.specs.Files.{AppendsFront, DeskState}
 use Rattle.mend_core.specs.Lines.{Warns, WarnsWhole}
 use Rattle.mend_core.specs.declared.lines.TheConstants.{SAID_LINE}
-use Rattle.mend_core.proofs.Later.{heard_from}
 use Rattle.mend_words.specs.Names.{help}
 use Rattle.part_input.specs.declared.fault.Fault.{Fault}
+use Rattle.put_texts.proofs.Ends.{heard_from}
 use Rattle.mend_core.proofs.run.tell.Goals as goal
 
 pub returns-in-Err-Failed-clause-warned : goal.returns-in-Err-Failed-clause-warned

@@ -5,9 +5,9 @@ use Rattle.std.proofs.lemmas.Int.{ints, to_z-of_z}
 use Rattle.job_file.specs.ShownCuts.{cuts_in}
 use Rattle.cut_marks.specs.Marks.{AreMarked}
 use Rattle.cut_marks.specs.declared.views.ViewMarks.{ViewMarks}
-use Rattle.draw_core.specs.Strokes.{AreStrokes}
-use Rattle.draw_core.proofs.DrawnViews.{few, placed}
-use Rattle.draw_core.proofs.SheetFacts.{as_many_places}
+use Rattle.drawing.specs.Strokes.{AreStrokes}
+use Rattle.drawing.proofs.DrawnViews.{few, placed}
+use Rattle.sheet_plan.proofs.JobSheets.{as_many_places}
 use Rattle.job_file.specs.declared.view.JobView.{JobView}
 use Rattle.cut_marks.specs.Items.{items_of_marks}
 use Rattle.sheet_plan.specs.declared.sheet.Stroke.{Stroke}
@@ -30,12 +30,12 @@ pub strokes_of-requires-clause-placed : goal.strokes_of-requires-clause-placed
 strokes_of-requires-clause-placed c =
     let d = c.args.drawing.now in
     let views = ap (λ (views : List ViewDrawing). length views) c.deref.ensures.value in
-    omega (arith, placed d c.requires, same_places d.sheet (solid_part d.solid).corners c.in_ok-on.on c.in_ok-on.ensures.centred, views)
+    omega (arith, placed d c.requires.shows, same_places d.sheet (solid_part d.solid).corners c.in_ok-on.on c.in_ok-on.ensures.centred, views)
 
 pub strokes_of-requires-clause-few : goal.strokes_of-requires-clause-few
 strokes_of-requires-clause-few c =
     let views = ap (λ (views : List ViewDrawing). length views) c.deref.ensures.value in
-    omega (arith, few c.args.drawing.now c.requires, views)
+    omega (arith, few c.args.drawing.now c.requires.shows, views)
 
 pub marks-requires-clause-placed : goal.marks-requires-clause-placed
 marks-requires-clause-placed c =

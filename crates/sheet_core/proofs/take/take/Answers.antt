@@ -1,7 +1,7 @@
 use Rattle.std.proofs.Common.{Some, ap, subst, inl, inr, ◌∙◌}
 use Rattle.desk.specs.Files.{Files, DeskState}
-use Rattle.draw_core.specs.Drawing.{drawn_in}
-use Rattle.draw_core.specs.Run.{PlansSheet}
+use Rattle.drawing.specs.Drawing.{drawn_in}
+use Rattle.part_input.specs.Sheets.{PlansSheet}
 use Rattle.job_file.specs.Seen.{job_seen}
 use Rattle.part_input.specs.Jobs.{TakesReadJob}
 use Rattle.part_input.specs.Parts.{TakesSolid}

@@ -1,70 +1,50 @@
-use Rattle.std.proofs.Common.{◌≡◌, rules, arith, ◌-ℤ◌, ◌≤ℤ◌, ℤ, FitsSigned}
-use Rattle.std.specs.Int.{w64}
-use Rattle.std.proofs.lemmas.Int.{ints, to_z-of_z}
+use Rattle.std.proofs.Common.{◌^◌, ◌∙◌, ap, ◌-ℤ◌}
+use Rattle.integers.proofs.Worth.{size_of}
 use Rattle.lattice.specs.Points.{of_dir}
 use Rattle.lattice.specs.Triple.{right_axis, up_axis}
-use Rattle.sheet_plan.specs.Numbers.{Measure, measure_of, square_of}
+use Rattle.sheet_plan.specs.Layout.{across_at, upward_at}
+use Rattle.sheet_plan.specs.Numbers.{measure_of, square_of}
 use Rattle.sheet_plan.proofs.Ordered.{length_ordered}
+use Rattle.sheet_plan.proofs.Reaches.{passed, own, between, ordered}
 use Rattle.sheet_plan.proofs.Scales.{scale_bounds}
 use Rattle.sheet_plan.proofs.shapes.shape_of.Goals as goal
 
--- the code's differences fit, and are worth what they are
 pub returns-clause-value : goal.returns-clause-value
 returns-clause-value c =
     let e = c.args.extent.now in
-    let left_fits : FitsSigned w64 c.across_at-left.result = search rules in
-    let right_fits : FitsSigned w64 c.across_at-right.result = search rules in
-    let bottom_fits : FitsSigned w64 c.upward_at-bottom.result = search rules in
-    let top_fits : FitsSigned w64 c.upward_at-top.result = search rules in
-    let u_min : FitsSigned w64 e.u_min = search rules in
-    let u_max : FitsSigned w64 e.u_max = search rules in
-    let v_min : FitsSigned w64 e.v_min = search rules in
-    let v_max : FitsSigned w64 e.v_max = search rules in
-    let left_small = c.across_at-left.ensures.size in
-    let right_small = c.across_at-right.ensures.size in
-    let bottom_small = c.upward_at-bottom.ensures.size in
-    let top_small = c.upward_at-top.ensures.size in
-    let width_fits : FitsSigned w64 (c.across_at-right.result -ℤ c.across_at-left.result) = omega (arith, ints) in
-    let height_fits : FitsSigned w64 (c.upward_at-top.result -ℤ c.upward_at-bottom.result) = omega (arith, ints) in
-    let l = simp to_z-of_z at c.across_at-left.ensures.value in
-    let r = simp to_z-of_z at c.across_at-right.ensures.value in
-    let b = simp to_z-of_z at c.upward_at-bottom.ensures.value in
-    let t = simp to_z-of_z at c.upward_at-top.ensures.value in
-    simp to_z-of_z (λ i. record { cell = c.of.ensures.value i; left = l i; top = t i; width = r i -ℤ l i; height = t i -ℤ b i })
-
-between : (a b u v : ℤ) → a ≡ u → b ≡ v → u ≤ℤ v → a ≤ℤ b
-between a b u v p q h = omega (arith, ints)
+    let m = measure_of c.args.ruler.now.scale c.args.ruler.now.decimals in
+    let d = of_dir e.d in
+    let left = c.across_at-left.ensures.value ∙ ap (across_at m d) (passed e.u_min e.u_min_in_range) in
+    let right = c.across_at-right.ensures.value ∙ ap (across_at m d) (passed e.u_max e.u_max_in_range) in
+    let bottom = c.upward_at-bottom.ensures.value ∙ ap (upward_at m d) (passed e.v_min e.v_min_in_range) in
+    let top = c.upward_at-top.ensures.value ∙ ap (upward_at m d) (passed e.v_max e.v_max_in_range) in
+    let left_at = (own c.across_at-left.result c.across_at-left.ensures.size).is ∙ left in
+    let top_at = (own c.upward_at-top.result c.upward_at-top.ensures.size).is ∙ top in
+    let width = (between c.across_at-left.result c.across_at-right.result c.across_at-left.ensures.size c.across_at-right.ensures.size).is ∙ (λ i. right i -ℤ left i) in
+    let height = (between c.upward_at-bottom.result c.upward_at-top.result c.upward_at-bottom.ensures.size c.upward_at-top.ensures.size).is ∙ (λ i. top i -ℤ bottom i) in
+    λ i. record { cell = c.of.ensures.value i; left = left_at i; top = top_at i; width = width i; height = height i }
 
 pub returns-clause-small : goal.returns-clause-small
 returns-clause-small c =
     let e = c.args.extent.now in
     let ruler = c.args.ruler.now in
-    let m : Measure = measure_of ruler.scale ruler.decimals in
+    let m = measure_of ruler.scale ruler.decimals in
+    let d = of_dir e.d in
     let s = scale_bounds ruler.scale.num ruler.scale.den ruler.scale.listed in
-    let left_fits : FitsSigned w64 c.across_at-left.result = search rules in
-    let right_fits : FitsSigned w64 c.across_at-right.result = search rules in
-    let bottom_fits : FitsSigned w64 c.upward_at-bottom.result = search rules in
-    let top_fits : FitsSigned w64 c.upward_at-top.result = search rules in
-    let u_min : FitsSigned w64 e.u_min = search rules in
-    let u_max : FitsSigned w64 e.u_max = search rules in
-    let v_min : FitsSigned w64 e.v_min = search rules in
-    let v_max : FitsSigned w64 e.v_max = search rules in
-    let left_small = c.across_at-left.ensures.size in
-    let right_small = c.across_at-right.ensures.size in
-    let bottom_small = c.upward_at-bottom.ensures.size in
-    let top_small = c.upward_at-top.ensures.size in
-    let width_fits : FitsSigned w64 (c.across_at-right.result -ℤ c.across_at-left.result) = omega (arith, ints) in
-    let height_fits : FitsSigned w64 (c.upward_at-top.result -ℤ c.upward_at-bottom.result) = omega (arith, ints) in
-    let across = between _ _ _ _ (simp to_z-of_z at c.across_at-left.ensures.value) (simp to_z-of_z at c.across_at-right.ensures.value)
-    (length_ordered m (square_of (right_axis (of_dir e.d))) e.u_min e.u_max s.den_least s.den_greatest ruler.few_decimals e.across) in
-    let upward = between _ _ _ _ (simp to_z-of_z at c.upward_at-bottom.ensures.value) (simp to_z-of_z at c.upward_at-top.ensures.value)
-    (length_ordered m (square_of (up_axis (of_dir e.d))) e.v_min e.v_max s.den_least s.den_greatest ruler.few_decimals e.upward) in
-    simp to_z-of_z (record {
+    let left = c.across_at-left.ensures.value ∙ ap (across_at m d) (passed e.u_min e.u_min_in_range) in
+    let right = c.across_at-right.ensures.value ∙ ap (across_at m d) (passed e.u_max e.u_max_in_range) in
+    let bottom = c.upward_at-bottom.ensures.value ∙ ap (upward_at m d) (passed e.v_min e.v_min_in_range) in
+    let top = c.upward_at-top.ensures.value ∙ ap (upward_at m d) (passed e.v_max e.v_max_in_range) in
+    let across = length_ordered m (square_of (right_axis d)) e.u_min e.u_max s.den_least s.den_greatest ruler.few_decimals e.across in
+    let upward = length_ordered m (square_of (up_axis d)) e.v_min e.v_max s.den_least s.den_greatest ruler.few_decimals e.upward in
+    let width = ordered _ _ _ _ _ left right across (between c.across_at-left.result c.across_at-right.result c.across_at-left.ensures.size c.across_at-right.ensures.size) in
+    let height = ordered _ _ _ _ _ bottom top upward (between c.upward_at-bottom.result c.upward_at-top.result c.upward_at-bottom.ensures.size c.upward_at-top.ensures.size) in
+    record {
       cell = c.of.ensures.in_grid;
-      left = left_small;
-      top = top_small;
-      width_least = omega (arith, ints);
-      width_greatest = omega (arith, ints);
-      height_least = omega (arith, ints);
-      height_greatest = omega (arith, ints);
-    })
+      left = size_of (2 ^ 45) (own c.across_at-left.result c.across_at-left.ensures.size) tt;
+      top = size_of (2 ^ 45) (own c.upward_at-top.result c.upward_at-top.ensures.size) tt;
+      width_least = width.0;
+      width_greatest = width.1;
+      height_least = height.0;
+      height_greatest = height.1;
+    }

@@ -1,4 +1,4 @@
-use Rattle.std.proofs.Common.{ℕ, ◌+◌, ◌<◌, List, length, ap, arith}
+use Rattle.std.proofs.Common.{ℕ, List, length, ap, arith}
 use Rattle.test_parts.proofs.grids.is_put.Goals as goal
 
 pub cell-requires-clause-room : goal.cell-requires-clause-room

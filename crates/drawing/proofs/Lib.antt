@@ -1,0 +1,5 @@
+pub mod DrawnViews
+pub mod InBoxes
+pub mod Planned
+pub mod StrokeLists
+pub mod ViewSums

@@ -1,4 +1,0 @@
-pub mod WordLemmas
-pub mod RowLemmas
-pub mod TurnLemmas
-pub mod SentenceLemmas

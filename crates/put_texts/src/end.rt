@@ -1,0 +1,44 @@
+// The ends of runs.
+ghost use Rattle.std.specs.Prelude.{◌≡◌, ◌++◌, true, None, Some};
+ghost use Rattle.desk.specs.Files.{AppendsFront, OnlyWarns};
+ghost use Rattle.put_texts.specs.Desks.{HearsAll};
+
+use crate::fault::RunFault;
+use crate::warning::warn;
+use desk::Desk;
+
+/// How a run ended: its status, with a fault or none, and what it made, where that is there.
+#[derive(Drop)]
+pub struct RunEnd<F, T> {
+    pub status: u8,
+    pub fault: Option<F>,
+    pub made: Option<T>,
+}
+
+/// The end of a run, by its fault.
+pub fn ended<F: RunFault, T: Drop>(fault: Option<F>, made: Option<T>) -> RunEnd<F, T>
+    ensures status { result.status ≡ F.faults.status result.fault }
+    ensures fault { result.fault ≡ fault }
+    ensures made { result.made ≡ made }
+{
+    RunEnd {
+        status: F::end_status(&fault),
+        fault,
+        made,
+    }
+}
+
+/// Ends a run that made nothing with a fault, and warns by this line.
+pub fn end_by<F: RunFault, T: Drop, D: Desk>(line: &str, fault: F, desk: &mut D) -> RunEnd<F, T>
+    ensures status { result.status ≡ F.faults.status result.fault }
+    ensures fault { result.fault ≡ Some fault }
+    ensures none { result.made ≡ None }
+    ensures warned { (D.state desk.old).tells_warned ≡ true →
+        AppendsFront (D.state desk.old).warned (D.state desk.new).warned line.now }
+    ensures whole { HearsAll (D.state desk.old) (D.state desk.new) →
+        (D.state desk.new).warned ≡ (D.state desk.old).warned ++ line.now }
+    ensures changes { OnlyWarns (D.state desk.old) (D.state desk.new) }
+{
+    warn(line, desk);
+    ended(Some(fault), None)
+}

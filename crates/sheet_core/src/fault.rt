@@ -1,0 +1,57 @@
+// Why a run refuses, and the status that it ends with.
+ghost use Rattle.std.specs.Prelude.{◌≡◌, refl};
+
+use part_input::{Fault, Target};
+use put_texts::RunFault;
+
+/// Why a run refuses.
+#[derive(Debug, Drop)]
+pub enum SheetFault {
+    /// A fault that a run of `draw` has too; one of writing is of the sheet or of the summary.
+    Common(Fault),
+    /// The list of the strokes couldn't be written.
+    WriteList,
+}
+
+/// What a run writes.
+#[derive(Clone, Copy)]
+pub enum SheetTarget {
+    /// The sheet.
+    Page,
+    /// The list of its strokes.
+    Listing,
+    /// The line that is said of both.
+    Summary,
+}
+
+impl RunFault for SheetFault {
+    ghost use Rattle.sheet_core.specs.Faults.{sheet_faults, unwritten_of};
+
+    type Target = SheetTarget;
+
+    ghost faults = { sheet_faults };
+
+    ghost unwritten_of = { unwritten_of };
+
+    ghost memory_wanting = { refl };
+
+    fn memory() -> SheetFault {
+        SheetFault::Common(Fault::Memory)
+    }
+
+    fn unwritten(target: SheetTarget) -> SheetFault {
+        match target {
+            SheetTarget::Page => SheetFault::Common(Fault::WriteFault(Target::Out)),
+            SheetTarget::Listing => SheetFault::WriteList,
+            SheetTarget::Summary => SheetFault::Common(Fault::WriteFault(Target::Summary)),
+        }
+    }
+
+    fn end_status(fault: &Option<SheetFault>) -> u8 {
+        match fault {
+            None => 0,
+            Some(SheetFault::Common(fault)) => fault.status(),
+            Some(SheetFault::WriteList) => 8,
+        }
+    }
+}

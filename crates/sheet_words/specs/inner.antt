@@ -1,3 +1,0 @@
--- What only this crate's own functions cite.
-pub mod App
-pub mod Seen
