@@ -1,4 +1,5 @@
 pub mod Apart
+pub mod AroundPlaces
 pub mod Counted
 pub mod Crossed
 pub mod InBox

@@ -136,9 +136,45 @@ module _ (a b c p q h : Corner) (f g : Corner → ℤ) (u v : Range) (left : Are
     pub only_end : AreOnePoint (point_of h) (face_sum a b c k l m)
     only_end = record { x = coordinate (λ n. n.x); y = coordinate (λ n. n.y); z = coordinate (λ n. n.z) }
 
+-- ---- along each axis, with its two coordinates in either order
+-- a range for each of the two coordinates
+abbrev AreRanges : Bounds → (Corner → ℤ) → (Corner → ℤ) → Range → Range → Type 0
+AreRanges r f g u v = (n : Corner) → IsInBounds n r → IsInRange u (f n) × IsInRange v (g n)
+
+-- the edge's ends and the triangle's corners have one sum, with these weights
+abbrev HaveOneSum : (a b c p q : Corner) (i j k l m : ℕ) → (Corner → ℤ) → Type 0
+HaveOneSum a b c p q i j k l m f = (pos i *ℤ f p) +ℤ (pos j *ℤ f q) ≡ ((pos k *ℤ f a) +ℤ (pos l *ℤ f b)) +ℤ (pos m *ℤ f c)
+
+-- at a common point, what follows from being to the left along any axis follows from being so along one of them
+along_one : (a b c p q : Corner) (i j k l m : ℕ) → edge_sum p q i j ≡ face_sum a b c k l m → (r : Bounds) (AreLeftAlong : (Corner → ℤ) → (Corner → ℤ) → Range → Range → Type 0) (C : Type 0)
+    → ((f g : Corner → ℤ) (u v : Range) → AreRanges r f g u v → pos i +ℤ pos j ≡ (pos k +ℤ pos l) +ℤ pos m → HaveOneSum a b c p q i j k l m f → HaveOneSum a b c p q i j k l m g → AreLeftAlong f g u v → C)
+    → AreLeftAlong (λ n. n.x) (λ n. n.y) r.x r.y ⊎ AreLeftAlong (λ n. n.y) (λ n. n.x) r.y r.x ⊎ AreLeftAlong (λ n. n.y) (λ n. n.z) r.y r.z
+    ⊎ AreLeftAlong (λ n. n.z) (λ n. n.y) r.z r.y ⊎ AreLeftAlong (λ n. n.z) (λ n. n.x) r.z r.x ⊎ AreLeftAlong (λ n. n.x) (λ n. n.z) r.x r.z → C
+along_one a b c p q i j k l m same r AreLeftAlong C along passes =
+    let weights = ap (λ (n : Point). n.w) same in
+    let x = ap (λ (n : Point). n.x) same in
+    let y = ap (λ (n : Point). n.y) same in
+    let z = ap (λ (n : Point). n.z) same in
+    elim passes [
+      | inl left ↦ along (λ n. n.x) (λ n. n.y) r.x r.y (λ n g. (g.x, g.y)) weights x y left
+      | inr g ↦ elim g [
+        | inl left ↦ along (λ n. n.y) (λ n. n.x) r.y r.x (λ n g. (g.y, g.x)) weights y x left
+        | inr g ↦ elim g [
+          | inl left ↦ along (λ n. n.y) (λ n. n.z) r.y r.z (λ n g. (g.y, g.z)) weights y z left
+          | inr g ↦ elim g [
+            | inl left ↦ along (λ n. n.z) (λ n. n.y) r.z r.y (λ n g. (g.z, g.y)) weights z y left
+            | inr g ↦ elim g [
+              | inl left ↦ along (λ n. n.z) (λ n. n.x) r.z r.x (λ n g. (g.z, g.x)) weights z x left
+              | inr left ↦ along (λ n. n.x) (λ n. n.z) r.x r.z (λ n g. (g.x, g.z)) weights x z left
+            ]
+          ]
+        ]
+      ]
+    ]
+
 -- ---- a triangle whose corners but h are within bounds that the edge passes by
 module _ (a b c p q h : Corner) (rim : Bounds) (end : (h ≡ p) ⊎ (h ≡ q)) (at_a : (a ≡ h) ⊎ IsInBounds a rim) (at_b : (b ≡ h) ⊎ IsInBounds b rim) (at_c : (c ≡ h) ⊎ IsInBounds c rim) where
-  beside : (x : Corner) (f g : Corner → ℤ) (u v : Range) → ((k : Corner) → IsInBounds k rim → IsInRange u (f k) × IsInRange v (g k)) → (x ≡ h) ⊎ IsInBounds x rim → (x ≡ h) ⊎ (IsInRange u (f x) × IsInRange v (g x))
+  beside : (x : Corner) (f g : Corner → ℤ) (u v : Range) → AreRanges rim f g u v → (x ≡ h) ⊎ IsInBounds x rim → (x ≡ h) ⊎ (IsInRange u (f x) × IsInRange v (g x))
   beside x f g u v read (inl e) = inl e
   beside x f g u v read (inr e) = inr (read x e)
 
@@ -146,29 +182,13 @@ module _ (a b c p q h : Corner) (rim : Bounds) (end : (h ≡ p) ⊎ (h ≡ q)) (
   passed t passes =
       let (i, j, some, e) = t.on_edge in
       let (k, l, m, some_face, is) = t.on_face in
-      let same : edge_sum p q i j ≡ face_sum a b c k l m = sym e ∙ is in
-      subst (AreOnePoint (point_of h)) (sym is) (by i j k l m same passes)
+      subst (AreOnePoint (point_of h)) (sym is)
+      (along_one a b c p q i j k l m (sym e ∙ is) rim (λ f g u v. AreLeft (f p) (f q) (g p) (g q) u v) (AreOnePoint (point_of h) (face_sum a b c k l m)) (along i j k l m) passes)
     where
-      seen : (f g : Corner → ℤ) (u v : Range) → ((k : Corner) → IsInBounds k rim → IsInRange u (f k) × IsInRange v (g k)) → (i j k l m : ℕ) → pos i +ℤ pos j ≡ (pos k +ℤ pos l) +ℤ pos m
-          → (pos i *ℤ f p) +ℤ (pos j *ℤ f q) ≡ ((pos k *ℤ f a) +ℤ (pos l *ℤ f b)) +ℤ (pos m *ℤ f c)
-          → (pos i *ℤ g p) +ℤ (pos j *ℤ g q) ≡ ((pos k *ℤ g a) +ℤ (pos l *ℤ g b)) +ℤ (pos m *ℤ g c)
+      along : (i j k l m : ℕ) (f g : Corner → ℤ) (u v : Range) → AreRanges rim f g u v → pos i +ℤ pos j ≡ (pos k +ℤ pos l) +ℤ pos m → HaveOneSum a b c p q i j k l m f → HaveOneSum a b c p q i j k l m g
           → AreLeft (f p) (f q) (g p) (g q) u v → AreOnePoint (point_of h) (face_sum a b c k l m)
-      seen f g u v read i j k l m weights same_u same_v left =
+      along i j k l m f g u v read weights same_u same_v left =
           only_end a b c p q h f g u v left end i j k l m weights same_u same_v (beside a f g u v read at_a) (beside b f g u v read at_b) (beside c f g u v read at_c)
-
-      by : (i j k l m : ℕ) → edge_sum p q i j ≡ face_sum a b c k l m → PassesBy p q rim → AreOnePoint (point_of h) (face_sum a b c k l m)
-      by i j k l m same (inl left) =
-          seen (λ n. n.x) (λ n. n.y) rim.x rim.y (λ n e. (e.x, e.y)) i j k l m (ap (λ (n : Point). n.w) same) (ap (λ (n : Point). n.x) same) (ap (λ (n : Point). n.y) same) left
-      by i j k l m same (inr (inl left)) =
-          seen (λ n. n.y) (λ n. n.x) rim.y rim.x (λ n e. (e.y, e.x)) i j k l m (ap (λ (n : Point). n.w) same) (ap (λ (n : Point). n.y) same) (ap (λ (n : Point). n.x) same) left
-      by i j k l m same (inr (inr (inl left))) =
-          seen (λ n. n.y) (λ n. n.z) rim.y rim.z (λ n e. (e.y, e.z)) i j k l m (ap (λ (n : Point). n.w) same) (ap (λ (n : Point). n.y) same) (ap (λ (n : Point). n.z) same) left
-      by i j k l m same (inr (inr (inr (inl left)))) =
-          seen (λ n. n.z) (λ n. n.y) rim.z rim.y (λ n e. (e.z, e.y)) i j k l m (ap (λ (n : Point). n.w) same) (ap (λ (n : Point). n.z) same) (ap (λ (n : Point). n.y) same) left
-      by i j k l m same (inr (inr (inr (inr (inl left))))) =
-          seen (λ n. n.z) (λ n. n.x) rim.z rim.x (λ n e. (e.z, e.x)) i j k l m (ap (λ (n : Point). n.w) same) (ap (λ (n : Point). n.z) same) (ap (λ (n : Point). n.x) same) left
-      by i j k l m same (inr (inr (inr (inr (inr left))))) =
-          seen (λ n. n.x) (λ n. n.z) rim.x rim.z (λ n e. (e.x, e.z)) i j k l m (ap (λ (n : Point). n.w) same) (ap (λ (n : Point). n.x) same) (ap (λ (n : Point). n.z) same) left
 
 -- ---- sums with weights of what is positive
 some_of_two : (i j : ℕ) (x y : ℤ) → 0 < i + j → pos 0 <ℤ x → pos 0 <ℤ y → pos 0 <ℤ ((pos i *ℤ x) +ℤ (pos j *ℤ y))
@@ -195,33 +215,11 @@ pub passed_all : (a b c p q : Corner) (r : Bounds) → IsInBounds a r → IsInBo
 passed_all a b c p q r in_a in_b in_c passes t =
     let (i, j, some, e) = t.on_edge in
     let (k, l, m, some_face, is) = t.on_face in
-    let same : edge_sum p q i j ≡ face_sum a b c k l m = sym e ∙ is in
-    let weights = ap (λ (n : Point). n.w) same in
-    let x = ap (λ (n : Point). n.x) same in
-    let y = ap (λ (n : Point). n.y) same in
-    let z = ap (λ (n : Point). n.z) same in
-    elim passes [
-      | inl left ↦ seen i j k l m some_face (λ n. n.x) (λ n. n.y) r.x r.y (λ n g. (g.x, g.y)) weights x y left
-      | inr g ↦ elim g [
-        | inl left ↦ seen i j k l m some_face (λ n. n.y) (λ n. n.x) r.y r.x (λ n g. (g.y, g.x)) weights y x left
-        | inr g ↦ elim g [
-          | inl left ↦ seen i j k l m some_face (λ n. n.y) (λ n. n.z) r.y r.z (λ n g. (g.y, g.z)) weights y z left
-          | inr g ↦ elim g [
-            | inl left ↦ seen i j k l m some_face (λ n. n.z) (λ n. n.y) r.z r.y (λ n g. (g.z, g.y)) weights z y left
-            | inr g ↦ elim g [
-              | inl left ↦ seen i j k l m some_face (λ n. n.z) (λ n. n.x) r.z r.x (λ n g. (g.z, g.x)) weights z x left
-              | inr left ↦ seen i j k l m some_face (λ n. n.x) (λ n. n.z) r.x r.z (λ n g. (g.x, g.z)) weights x z left
-            ]
-          ]
-        ]
-      ]
-    ]
+    along_one a b c p q i j k l m (sym e ∙ is) r (λ f g u v. AreLeft (f p) (f q) (g p) (g q) u v) ⊥ (along i j k l m some_face) passes
   where
-    seen : (i j k l m : ℕ) → 0 < k + l + m → (f g : Corner → ℤ) (u v : Range) → ((n : Corner) → IsInBounds n r → IsInRange u (f n) × IsInRange v (g n)) → pos i +ℤ pos j ≡ (pos k +ℤ pos l) +ℤ pos m
-        → (pos i *ℤ f p) +ℤ (pos j *ℤ f q) ≡ ((pos k *ℤ f a) +ℤ (pos l *ℤ f b)) +ℤ (pos m *ℤ f c)
-        → (pos i *ℤ g p) +ℤ (pos j *ℤ g q) ≡ ((pos k *ℤ g a) +ℤ (pos l *ℤ g b)) +ℤ (pos m *ℤ g c)
+    along : (i j k l m : ℕ) → 0 < k + l + m → (f g : Corner → ℤ) (u v : Range) → AreRanges r f g u v → pos i +ℤ pos j ≡ (pos k +ℤ pos l) +ℤ pos m → HaveOneSum a b c p q i j k l m f → HaveOneSum a b c p q i j k l m g
         → AreLeft (f p) (f q) (g p) (g q) u v → ⊥
-    seen i j k l m some f g u v read weights same_u same_v left =
+    along i j k l m some f g u v read weights same_u same_v left =
         positive_not_zero _
         (some_of_three k l m _ _ _ some (left (f a) (g a) ((read a in_a).0) ((read a in_a).1)) (left (f b) (g b) ((read b in_b).0) ((read b in_b).1)) (left (f c) (g c) ((read c in_c).0) ((read c in_c).1)))
         (sum_on_line i j k l m (f p) (f q) (f a) (f b) (f c) (g p) (g q) (g a) (g b) (g c) weights same_u same_v)
@@ -284,33 +282,11 @@ past_fan : (h b c p q : Corner) (r : Bounds) → IsInBounds b r → IsInBounds c
 past_fan h b c p q r in_b in_c passes t =
     let (i, j, some, e) = t.on_edge in
     let (k, l, m, some_face, is) = t.on_face in
-    let same : edge_sum p q i j ≡ face_sum h b c k l m = sym e ∙ is in
-    let weights = ap (λ (n : Point). n.w) same in
-    let x = ap (λ (n : Point). n.x) same in
-    let y = ap (λ (n : Point). n.y) same in
-    let z = ap (λ (n : Point). n.z) same in
-    elim passes [
-      | inl left ↦ seen i j k l m some (λ n. n.x) (λ n. n.y) r.x r.y (λ n g. (g.x, g.y)) weights x y left
-      | inr g ↦ elim g [
-        | inl left ↦ seen i j k l m some (λ n. n.y) (λ n. n.x) r.y r.x (λ n g. (g.y, g.x)) weights y x left
-        | inr g ↦ elim g [
-          | inl left ↦ seen i j k l m some (λ n. n.y) (λ n. n.z) r.y r.z (λ n g. (g.y, g.z)) weights y z left
-          | inr g ↦ elim g [
-            | inl left ↦ seen i j k l m some (λ n. n.z) (λ n. n.y) r.z r.y (λ n g. (g.z, g.y)) weights z y left
-            | inr g ↦ elim g [
-              | inl left ↦ seen i j k l m some (λ n. n.z) (λ n. n.x) r.z r.x (λ n g. (g.z, g.x)) weights z x left
-              | inr left ↦ seen i j k l m some (λ n. n.x) (λ n. n.z) r.x r.z (λ n g. (g.x, g.z)) weights x z left
-            ]
-          ]
-        ]
-      ]
-    ]
+    along_one h b c p q i j k l m (sym e ∙ is) r (λ f g u v. AreLeftOfBoth (f h) (f p) (f q) (g h) (g p) (g q) u v) ⊥ (along i j k l m some) passes
   where
-    seen : (i j k l m : ℕ) → 0 < i + j → (f g : Corner → ℤ) (u v : Range) → ((n : Corner) → IsInBounds n r → IsInRange u (f n) × IsInRange v (g n)) → pos i +ℤ pos j ≡ (pos k +ℤ pos l) +ℤ pos m
-        → (pos i *ℤ f p) +ℤ (pos j *ℤ f q) ≡ ((pos k *ℤ f h) +ℤ (pos l *ℤ f b)) +ℤ (pos m *ℤ f c)
-        → (pos i *ℤ g p) +ℤ (pos j *ℤ g q) ≡ ((pos k *ℤ g h) +ℤ (pos l *ℤ g b)) +ℤ (pos m *ℤ g c)
+    along : (i j k l m : ℕ) → 0 < i + j → (f g : Corner → ℤ) (u v : Range) → AreRanges r f g u v → pos i +ℤ pos j ≡ (pos k +ℤ pos l) +ℤ pos m → HaveOneSum h b c p q i j k l m f → HaveOneSum h b c p q i j k l m g
         → AreLeftOfBoth (f h) (f p) (f q) (g h) (g p) (g q) u v → ⊥
-    seen i j k l m some f g u v read weights same_u same_v (of_p, of_q) =
+    along i j k l m some f g u v read weights same_u same_v (of_p, of_q) =
         let (b_u, b_v) = read b in_b in
         let (c_u, c_v) = read c in_c in
         none_between i j k l m (f h) (g h) (f p) (g p) (f q) (g q) (f b) (g b) (f c) (g c) weights same_u same_v some

@@ -1,16 +1,22 @@
-use Rattle.std.proofs.Common.{◌≡◌, ℕ, ◌+◌, ◌<◌, ◌≤◌, ◌^◌, length, Some, slice_get, FitsSigned, to_z, of_z, w8, w64, refl, sym, subst, ap, ◌∙◌, arith, rules}
-use Rattle.std.specs.Prelude.{ℤ, ◌+ℤ◌}
+use Rattle.std.proofs.Common.{◌≡◌, ℕ, ◌+◌, ◌<◌, ◌≤◌, ◌^◌, List, length, Some, slice_get, FitsSigned, to_z, of_z, w8, w64, refl, sym, subst, ap, ◌∙◌, arith, rules}
+use Rattle.std.specs.Prelude.{All, ℤ, ◌+ℤ◌}
 use Rattle.std.proofs.lemmas.List.Elements.{All-contains}
-use Rattle.std.proofs.lemmas.Option.{slice_get_within, get_or_from_slice_get}
+use Rattle.std.proofs.lemmas.Option.{slice_get_within}
 use Rattle.geometry.specs.Parts.{Edge, IsNumbered}
 use Rattle.geometry.specs.Turns.{number_at}
+use Rattle.cross_find.specs.Sights.{SightState}
 use Rattle.span_count.specs.inner.Steps.{IsOutlineAt}
 use Rattle.span_count.specs.Tests.{with_tests}
 use Rattle.span_count.proofs.Lists.{none_past}
+use Rattle.span_count.proofs.Listings.{there_at}
 use Rattle.span_count.proofs.CarriedCounts.{addend, sum_read}
 use Rattle.span_count.proofs.Walks.{still_edge, still_seen, still_outline, still_room}
 use Rattle.span_count.proofs.Own.{AreTurnsSoFar, turns_none, turns_more, turns_all, turn_fits, within_small}
 use Rattle.span_count.proofs.corner.turned.Goals as goal
+
+-- the outline in hand is one of the part
+outline_here : (x : SightState) (list : List ℕ) (i o : ℕ) → All (IsOutlineAt x) list → slice_get list i ≡ Some o → IsOutlineAt x o
+outline_here x list i o outlines at = All-contains (IsOutlineAt x) list o outlines (there_at list i o at)
 
 pub loop-outline-init : goal.loop-outline-init
 loop-outline-init g c = turns_none (g.S.Sight.sight c.args.sight.now) c.args.from c.args.to (g.F.Finder.list_over c.args.finder.now c.args.corner)
@@ -24,12 +30,8 @@ turn-turn-requires-clause-to_in_range g c = still_edge (g.S.Sight.sight c.args.s
 pub turn-turn-requires-clause-outline_in_range : goal.turn-turn-requires-clause-outline_in_range
 turn-turn-requires-clause-outline_in_range g c =
     let x = g.S.Sight.sight c.args.sight.now in
-    let list = g.F.Finder.list_over c.args.finder.now c.args.corner in
-    let i = c.loop-outline.i in
-    let o = c.in-Some.outline in
-    let at : slice_get list i ≡ Some o = sym c.over.ensures ∙ c.in-Some.is in
-    let there : IsOutlineAt x o = All-contains (IsOutlineAt x) list o c.requires.listed.outline (i, slice_get_within list i o at, get_or_from_slice_get list i o o at) in
-    still_edge x _ i c.loop-outline.invariant.tested o there.0
+    let here = outline_here x (g.F.Finder.list_over c.args.finder.now c.args.corner) c.loop-outline.i c.in-Some.outline c.requires.listed.outline (sym c.over.ensures ∙ c.in-Some.is) in
+    still_edge x _ c.loop-outline.i c.loop-outline.invariant.tested c.in-Some.outline here.0
 
 pub turn-turn-requires-clause-from_seen : goal.turn-turn-requires-clause-from_seen
 turn-turn-requires-clause-from_seen g c = still_seen (g.S.Sight.sight c.args.sight.now) _ c.loop-outline.i c.loop-outline.invariant.tested c.args.from.edge c.requires.from.seen
@@ -40,12 +42,8 @@ turn-turn-requires-clause-to_seen g c = still_seen (g.S.Sight.sight c.args.sight
 pub turn-turn-requires-clause-is_outline : goal.turn-turn-requires-clause-is_outline
 turn-turn-requires-clause-is_outline g c =
     let x = g.S.Sight.sight c.args.sight.now in
-    let list = g.F.Finder.list_over c.args.finder.now c.args.corner in
-    let i = c.loop-outline.i in
-    let o = c.in-Some.outline in
-    let at : slice_get list i ≡ Some o = sym c.over.ensures ∙ c.in-Some.is in
-    let there : IsOutlineAt x o = All-contains (IsOutlineAt x) list o c.requires.listed.outline (i, slice_get_within list i o at, get_or_from_slice_get list i o o at) in
-    still_outline x _ i c.loop-outline.invariant.tested o there.1
+    let here = outline_here x (g.F.Finder.list_over c.args.finder.now c.args.corner) c.loop-outline.i c.in-Some.outline c.requires.listed.outline (sym c.over.ensures ∙ c.in-Some.is) in
+    still_outline x _ c.loop-outline.i c.loop-outline.invariant.tested c.in-Some.outline here.1
 
 pub turn-turn-requires-clause-one_corner : goal.turn-turn-requires-clause-one_corner
 turn-turn-requires-clause-one_corner g c =

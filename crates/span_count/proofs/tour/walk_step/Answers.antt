@@ -1,13 +1,11 @@
-use Rattle.std.proofs.Common.{◌≡◌, ℕ, ◌+◌, ◌<◌, ◌^◌, Some, List, length, get_or, slice_get, refl, sym, subst, ◌∙◌, arith}
+use Rattle.std.proofs.Common.{◌≡◌, ℕ, ◌+◌, ◌<◌, ◌^◌, Some, List, length, get_or, slice_get, refl, subst, arith}
 use Rattle.std.specs.Prelude.{Option}
-use Rattle.std.proofs.lemmas.Option.{same_Some, slice_get_read, slice_get_within}
+use Rattle.std.proofs.lemmas.Option.{slice_get_read, slice_get_within}
 use Rattle.geometry.specs.Turns.{number_at}
-use Rattle.span_count.specs.Bounds.{IsEndCount}
-use Rattle.span_count.specs.Tests.{IsTested}
 use Rattle.span_count.specs.inner.Tours.{IsReady, cost_of}
 use Rattle.edge_pick.specs.declared.order.DrawnEnd.{DrawnEnd}
 use Rattle.span_count.proofs.Listings.{there_at, seen_edge, few_along, listed, few_over, listed_over}
-use Rattle.span_count.proofs.StepWalks.{first_fits, next_fits, first_most, next_most, tested_within, kept_rests, all_walked}
+use Rattle.span_count.proofs.StepWalks.{first_fits, next_fits, first_tested, next_tested, kept_rests, all_walked}
 use Rattle.span_count.proofs.tour.walk_step.Goals as goal
 
 -- the edge at a place
@@ -109,17 +107,9 @@ returns-in-None-clause-walked g c number here =
 pub returns-in-None-clause-tested : goal.returns-in-None-clause-tested
 returns-in-None-clause-tested g c number ends here count =
     let x = g.S.Sight.sight c.args.sight.now in
-    let p = c.args.picked.now in
-    let edge = c.index-edge.result.now in
-    let along = g.F.Finder.list_along c.args.finder.now in
-    let over = g.F.Finder.list_over c.args.finder.now in
-    let at = drawn_at p.drawn.items c.args.step.to.place edge c.requires.place c.index-edge.ensures in
-    let there = there_at p.drawn.items c.args.step.to.place edge at in
-    let few = few_along x c.requires.seen p c.requires.picked along over _ c.requires.finder edge there in
-    let counted : IsEndCount x.part x.halves edge ends = subst (λ (n : ℕ). IsEndCount x.part x.halves n ends) (same_Some number edge (sym here ∙ at)) count in
-    subst (λ (from : Option DrawnEnd). IsTested (cost_of (length x.part.triangles) (length p.outlines.items) ends from) x (g.S.Sight.sight c.first_edge.new.sight)) (sym c.in-None.is)
-    (tested_within x (g.S.Sight.sight c.first_edge.new.sight) (c.args.triangles + (length (along edge) + ends)) (length x.part.triangles + (length p.outlines.items + ends))
-    (first_most (length x.part.triangles) c.args.triangles (length (along edge)) (length p.outlines.items) ends c.requires.triangles few) (c.first_edge.ensures.tested ends counted))
+    let at = drawn_at c.args.picked.now.drawn.items c.args.step.to.place c.index-edge.result.now c.requires.place c.index-edge.ensures in
+    first_tested x c.requires.seen c.args.picked.now c.requires.picked (g.F.Finder.list_along c.args.finder.now) (g.F.Finder.list_over c.args.finder.now) _ c.requires.finder c.args.step.to.place number c.index-edge.result.now at here ends count
+    (g.S.Sight.sight c.first_edge.new.sight) c.args.step.from c.in-None.is c.args.triangles c.requires.triangles c.first_edge.ensures.tested
 
 pub returns-in-Some-clause-walked : goal.returns-in-Some-clause-walked
 returns-in-Some-clause-walked g c number here =
@@ -130,16 +120,6 @@ returns-in-Some-clause-walked g c number here =
 pub returns-in-Some-clause-tested : goal.returns-in-Some-clause-tested
 returns-in-Some-clause-tested g c number ends here count =
     let x = g.S.Sight.sight c.args.sight.now in
-    let p = c.args.picked.now in
-    let edge = c.index-edge.result.now in
-    let along = g.F.Finder.list_along c.args.finder.now in
-    let over = g.F.Finder.list_over c.args.finder.now in
-    let at = drawn_at p.drawn.items c.args.step.to.place edge c.requires.place c.index-edge.ensures in
-    let there = there_at p.drawn.items c.args.step.to.place edge at in
-    let few = few_along x c.requires.seen p c.requires.picked along over _ c.requires.finder edge there in
-    let counted : IsEndCount x.part x.halves edge ends = subst (λ (n : ℕ). IsEndCount x.part x.halves n ends) (same_Some number edge (sym here ∙ at)) count in
-    let v = over (number_at counted.edge c.args.step.to.at_b) in
-    subst (λ (from : Option DrawnEnd). IsTested (cost_of (length x.part.triangles) (length p.outlines.items) ends from) x (g.S.Sight.sight c.next_edge.new.sight)) (sym c.in-Some.is)
-    (tested_within x (g.S.Sight.sight c.next_edge.new.sight) (length v + (length (along edge) + ends)) (length p.outlines.items + (length p.outlines.items + ends))
-    (next_most (length v) (length (along edge)) (length p.outlines.items) ends
-    (few_over x c.requires.seen p c.requires.picked along over _ c.requires.finder edge there counted.edge c.args.step.to.at_b) few) (c.next_edge.ensures.tested counted.edge ends counted.numbered counted))
+    let at = drawn_at c.args.picked.now.drawn.items c.args.step.to.place c.index-edge.result.now c.requires.place c.index-edge.ensures in
+    next_tested x c.requires.seen c.args.picked.now c.requires.picked (g.F.Finder.list_along c.args.finder.now) (g.F.Finder.list_over c.args.finder.now) _ c.requires.finder c.args.step.to.place number c.index-edge.result.now at here ends count
+    (g.S.Sight.sight c.next_edge.new.sight) c.args.step.from c.in-Some.from c.in-Some.is c.args.step.to.at_b c.next_edge.ensures.tested

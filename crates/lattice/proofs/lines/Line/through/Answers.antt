@@ -36,8 +36,8 @@ lowest-requires-clause-somewhere c =
     let b_is = c.dot-b.ensures.value ∙ (λ i. dot (c.right-right.ensures.axis i) (c.between-2.ensures i)) in
     simp to_z-of_z (some_step d c.args.p.now c.args.q.now c.dot-a.result c.dot-b.result a_is b_is c.requires)
 
-pub returns-clause-first : goal.returns-clause-first
-returns-clause-first c =
+pub returns : goal.returns
+returns c =
     let d = of_dir c.args.d.now in
     let a_fits : FitsSigned w128 c.dot-a.result = search rules in
     let b_fits : FitsSigned w128 c.dot-b.result = search rules in
@@ -49,19 +49,8 @@ returns-clause-first c =
     let u_is = c.component.ensures.value ∙ (λ i. dot (c.right-right.ensures.axis i) (scaled (point_of c.args.p.now))) in
     let v_is = c.component-2.ensures.value ∙ (λ i. dot (c.up-up.ensures.axis i) (scaled (point_of c.args.p.now))) in
     let c_is = (simp to_z-of_z at c.constant-c.ensures.value) ∙ (λ i. (c.dot-a.result *ℤ u_is i) +ℤ (c.dot-b.result *ℤ v_is i)) in
-    first_on d c.args.p.now c.args.q.now c.dot-a.result c.dot-b.result a_is b_is c.lowest.result c.constant-c.result c_is (simp to_z-of_z at c.lowest.ensures)
-
-pub returns-clause-second : goal.returns-clause-second
-returns-clause-second c =
-    let d = of_dir c.args.d.now in
-    let a_fits : FitsSigned w128 c.dot-a.result = search rules in
-    let b_fits : FitsSigned w128 c.dot-b.result = search rules in
-    let c_fits : FitsSigned w128 c.constant-c.result = search rules in
-    let u_fits : FitsSigned w128 c.component.result = search rules in
-    let v_fits : FitsSigned w128 c.component-2.result = search rules in
-    let a_is = c.dot-a.ensures.value ∙ (λ i. dot (c.up-up.ensures.axis i) (c.between.ensures i)) in
-    let b_is = c.dot-b.ensures.value ∙ (λ i. dot (c.right-right.ensures.axis i) (c.between-2.ensures i)) in
-    let u_is = c.component.ensures.value ∙ (λ i. dot (c.right-right.ensures.axis i) (scaled (point_of c.args.p.now))) in
-    let v_is = c.component-2.ensures.value ∙ (λ i. dot (c.up-up.ensures.axis i) (scaled (point_of c.args.p.now))) in
-    let c_is = (simp to_z-of_z at c.constant-c.ensures.value) ∙ (λ i. (c.dot-a.result *ℤ u_is i) +ℤ (c.dot-b.result *ℤ v_is i)) in
-    second_on d c.args.p.now c.args.q.now c.dot-a.result c.dot-b.result a_is b_is c.lowest.result c.constant-c.result c_is (simp to_z-of_z at c.lowest.ensures)
+    let lowest_is = simp to_z-of_z at c.lowest.ensures in
+    record {
+      first = first_on d c.args.p.now c.args.q.now c.dot-a.result c.dot-b.result a_is b_is c.lowest.result c.constant-c.result c_is lowest_is;
+      second = second_on d c.args.p.now c.args.q.now c.dot-a.result c.dot-b.result a_is b_is c.lowest.result c.constant-c.result c_is lowest_is;
+    }
