@@ -1,6 +1,6 @@
 -- What a chain of steps answers, from the answer of a part of it.
-use Rattle.std.proofs.Common.{◌⊎◌, ℕ, List, Option, None, inl, inr, refl}
-use Rattle.std.specs.Prelude.{Result, Ok, Err, Some, IfErr, IfSome}
+use Rattle.std.proofs.Common.{◌⊎◌, ℕ, List, None, inl, inr}
+use Rattle.std.specs.Prelude.{Result, Ok, Err, Some, IfErr}
 use Rattle.desk.specs.Files.{Files}
 use Rattle.geometry.specs.Parts.{Part}
 use Rattle.job_file.specs.Documents.{JobValues}
@@ -9,39 +9,39 @@ use Rattle.part_input.specs.Faults.{CountsReads as CountsInput}
 use Rattle.part_input.specs.Jobs.{TakesReadJob, IsOfJobFile}
 use Rattle.part_input.specs.Parts.{sample_size, IsOfPart}
 use Rattle.part_input.proofs.Missing.{no_size, part_not_written}
-use Rattle.part_input.specs.Steps.{Refuses as RefusesInput, IsMissing as IsMissingInput}
+use Rattle.part_input.specs.Steps.{◌and_then◌, Refuses as RefusesInput, IsMissing as IsMissingInput}
+use Rattle.part_input.proofs.Chains.{missing_more, refuses_more}
 use Rattle.part_input.specs.declared.fault.Input.TheVariants.{Part as ThePart}
 use Rattle.part_input.specs.declared.fault.Fault.{Fault}
 use Rattle.part_input.specs.declared.fault.Fault.TheVariants as input
 use Rattle.part_input.proofs.Answered.{IsOfNoWriting}
-use Rattle.detail_view.specs.Faults.{CountsReads, fault_of}
+use Rattle.detail_view.specs.Faults.{CountsReads, fault_of, pieces_faults}
 use Rattle.detail_view.specs.Run.{Given, TakesPart, IsOfJob, IsOfPartNamed, IsOfList, IsOfCheck, ChecksInOrder}
 use Rattle.detail_view.specs.Words.{Check}
 use Rattle.detail_view.specs.inner.Judging.{Judges, ComesAfterJob}
-use Rattle.detail_view.specs.Steps.{◌and_then◌, Lifted, Refuses, IsMissing, Ends}
+use Rattle.detail_view.specs.Steps.{Lifted, Refuses, IsMissing}
 use Rattle.detail_view.specs.declared.fault.PiecesFault.{PiecesFault}
-use Rattle.detail_view.specs.declared.fault.PiecesFault.TheVariants.{Input, ReadList, WriteFault}
+use Rattle.detail_view.specs.declared.fault.PiecesFault.TheVariants.{Input, ReadList}
 
 -- what is refused by some steps is refused by others that refuse at least as much
 module _ {A B : Type 0} (steps : Result A PiecesFault → Type 0) (others : Result B PiecesFault → Type 0) (more : (e : PiecesFault) → steps (Err e) → others (Err e)) where
   pub refuses_as : (e : PiecesFault) → Refuses steps e → Refuses others e
-  refuses_as e (inl free) = inl free
-  refuses_as e (inr r) = inr (more e r)
+  refuses_as e r = refuses_more pieces_faults steps others more e r
 
   pub missing_as : (e : PiecesFault) → IsMissing steps e → IsMissing others e
-  missing_as e m reading = more e (m reading)
+  missing_as e r = missing_more pieces_faults steps others more e r
 
 -- ---- steps of reading a job or a part
 module _ {A : Type 0} (steps : Result A Fault → Type 0) where
   pub lift_refused : (e : Fault) → IsOfNoWriting e → RefusesInput steps e → Refuses (Lifted steps) (fault_of e)
-  lift_refused input.Memory w h = inl (inr (inr refl))
-  lift_refused (input.ReadFault which) w h = inl (inl tt)
+  lift_refused input.Memory w h = tt
+  lift_refused (input.ReadFault which) w h = tt
   lift_refused (input.WriteFault target) w h = absurd w
-  lift_refused e w h = inr h
+  lift_refused e w h = h
 
   pub lift_missing : (e : Fault) → IsMissingInput steps e → IsMissing (Lifted steps) (fault_of e)
-  lift_missing (input.ReadFault which) m reading = m
-  lift_missing e m reading = absurd reading
+  lift_missing (input.ReadFault which) m = m
+  lift_missing e m = tt
 
 pub lift_counts : (e : Fault) (old new : ℕ) → CountsInput (Some e) old new → CountsReads (Some (fault_of e)) old new
 lift_counts input.Memory old new h = h
@@ -70,15 +70,6 @@ module _ {A B : Type 0} (first : Result A PiecesFault → Type 0) (next : A → 
     pub missing_next : {X : Type 0} (r : Result X PiecesFault) → IfErr r (IsMissing (next x)) → IfErr r (IsMissing (first and_then next))
     missing_next (Ok y) h = tt
     missing_next (Err e) h = missing_as (next x) (first and_then next) (λ e h. inr (x, so_far, h)) e h
-
-    pub ends_next : (fault : Option PiecesFault) → Ends (next x) fault → Ends (first and_then next) fault
-    ends_next None (y, h) = (y, (x, so_far, h))
-    ends_next (Some WriteFault) (y, h) = (y, (x, so_far, h))
-    ends_next (Some e) h = refuses_as (next x) (first and_then next) (λ e h. inr (x, so_far, h)) e h
-
-    pub missing_after : (fault : Option PiecesFault) → IfSome fault (IsMissing (next x)) → IfSome fault (IsMissing (first and_then next))
-    missing_after None h = tt
-    missing_after (Some e) h = missing_as (next x) (first and_then next) (λ e h. inr (x, so_far, h)) e h
 
 -- the verdict on what the steps before gave
 pub judges_next : {A : Type 0} (first : Result A PiecesFault → Type 0) (next : A → Result Given PiecesFault → Type 0) (x : A) → first (Ok x)

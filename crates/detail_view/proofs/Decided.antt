@@ -7,18 +7,16 @@ use Rattle.sheet_plan.specs.declared.sheet.Stroke.{Stroke}
 use Rattle.part_input.specs.Jobs.{TakesReadJob}
 use Rattle.part_input.specs.Parts.{TakesSolid}
 use Rattle.part_input.specs.declared.fault.Fault.{Fault}
-use Rattle.part_input.proofs.Singles.{same_value, same_fault, not_both, none_some, same_some, named_job_single, solid_single}
+use Rattle.part_input.specs.Steps.{◌and_then◌}
+use Rattle.part_input.proofs.Singles.{IsSingle, same_value, same_fault, not_both, none_some, same_some, single_then, named_job_single, solid_single}
 use Rattle.piece_verify.specs.Lists.{IsList, IsFaultLine}
-use Rattle.detail_view.specs.Run.{AsksFor, TakesList, ReadsList, TakesReadList, HasView, listed, viewed, TakesPart, ChecksBy, Checks, TakesViewed, Details, Takes, RunsPieces}
-use Rattle.detail_view.specs.Steps.{◌and_then◌, Lifted, Yields}
-use Rattle.detail_view.specs.Words.{Check, Detail, Asked, checks, details, asked_by}
+use Rattle.detail_view.specs.Run.{Given, TakesList, ReadsList, TakesReadList, HasView, listed, viewed, TakesPart, ChecksBy, Checks, TakesViewed, Details, RunsPieces}
+use Rattle.detail_view.specs.Steps.{Lifted, Yields}
+use Rattle.detail_view.specs.Words.{Check, Detail, Asked, checks, details}
 use Rattle.detail_view.specs.declared.fault.PiecesFault.{PiecesFault}
-use Rattle.detail_view.specs.declared.fault.PiecesFault.TheVariants.{Input, List as Unlisted}
+use Rattle.detail_view.specs.declared.fault.PiecesFault.TheVariants.{Usage, Input, List as Unlisted}
 
 -- ---- answers
-abbrev pub IsSingle : {A : Type 0} → (Result A PiecesFault → Type 0) → Type 0
-IsSingle {A} step = (r s : Result A PiecesFault) → step r → step s → r ≡ s
-
 -- both give something, or both refuse the same
 abbrev pub AreAlike : {A : Type 0} → Result A PiecesFault → Result A PiecesFault → Type 0
 AreAlike (Ok x) (Ok y) = Unit {0}
@@ -45,22 +43,6 @@ module _ {A B : Type 0} (first : Result A PiecesFault → Type 0) (next : A → 
     decided_then (Err d) (Err e) (inl a) (inr (w, b, q)) = absurd (not_both w d (f (Ok w) (Err d) b a))
     decided_then (Err d) (Err e) (inr (v, a, p)) (inl b) = absurd (not_both v e (f (Ok v) (Err e) a b))
     decided_then (Err d) (Err e) (inr (v, a, p)) (inr (w, b, q)) = after v w (Err d) (Err e) a b p q
-
--- a next step that only looks, and gives what it was given
-module _ {A : Type 0} (first : Result A PiecesFault → Type 0) (next : A → Result A PiecesFault → Type 0) (f : IsSingle first) (n : (x : A) → IsSingle (next x)) where
-  onward : (x y : A) (r s : Result A PiecesFault) → first (Ok x) → first (Ok y) → next x r → next y s → r ≡ s
-  onward x y r s a b p q = n x r s p (subst (λ (z : A). next z s) (sym (same_value x y (f (Ok x) (Ok y) a b))) q)
-
-  pub single_then : IsSingle (first and_then next)
-  single_then (Ok y) (Ok z) (v, a, p) (w, b, q) = onward v w (Ok y) (Ok z) a b p q
-  single_then (Ok y) (Err e) (v, a, p) (inl b) = absurd (not_both v e (f (Ok v) (Err e) a b))
-  single_then (Ok y) (Err e) (v, a, p) (inr (w, b, q)) = onward v w (Ok y) (Err e) a b p q
-  single_then (Err d) (Ok z) (inl a) (w, b, q) = absurd (not_both w d (f (Ok w) (Err d) b a))
-  single_then (Err d) (Ok z) (inr (v, a, p)) (w, b, q) = onward v w (Err d) (Ok z) a b p q
-  single_then (Err d) (Err e) (inl a) (inl b) = f (Err d) (Err e) a b ∙ refl
-  single_then (Err d) (Err e) (inl a) (inr (w, b, q)) = absurd (not_both w d (f (Ok w) (Err d) b a))
-  single_then (Err d) (Err e) (inr (v, a, p)) (inl b) = absurd (not_both v e (f (Ok v) (Err e) a b))
-  single_then (Err d) (Err e) (inr (v, a, p)) (inr (w, b, q)) = onward v w (Err d) (Err e) a b p q
 
 yields_decided : {A B : Type 0} (f : A → B) (steps : Result A PiecesFault → Type 0) → IsDecided steps → IsDecided (Yields f steps)
 yields_decided f steps n (Ok y) (Ok z) p q = tt
@@ -95,13 +77,7 @@ job_single files name = lifted_single (TakesReadJob files (Some name)) (named_jo
 part_single : (files : Files) (name : List ℕ) (job : JobValues) → IsSingle (TakesPart files name job)
 part_single files name job = lifted_single (TakesSolid files name job.decimals job.unit) (solid_single files name job.decimals job.unit)
 
--- ---- words, views and lists
-asks_single : (words : List (List ℕ)) → IsSingle (AsksFor words)
-asks_single words (Ok x) (Ok y) e h = ap Ok (same_some (asked_by words) x y e h)
-asks_single words (Ok x) (Err d) e (_, h) = absurd (none_some (asked_by words) x h e)
-asks_single words (Err d) (Ok y) (_, e) h = absurd (none_some (asked_by words) y e h)
-asks_single words (Err d) (Err e) (p, _) (q, _) = ap Err (p ∙ sym q)
-
+-- ---- views and lists
 view_single : (view : ℕ) (job : JobValues) → IsSingle (HasView view job)
 view_single view job (Ok x) (Ok y) (e, _) (h, _) = ap Ok (e ∙ sym h)
 view_single view job (Ok x) (Err d) (_, less) (_, more) = absurd (omega (arith, less, more))
@@ -159,9 +135,10 @@ details_decided files d =
     (single_then (Lifted (TakesReadJob files (Some d.job))) (HasView d.view) (job_single files d.job) (view_single d.view))
     (λ job. yields_decided (viewed job) (TakesPart files d.part job) (single_decided (TakesPart files d.part job) (part_single files d.part job)))
 
-takes_decided : (files : Files) (asked : Asked) → IsDecided (Takes files asked)
-takes_decided files (checks c) = checks_decided files c
-takes_decided files (details d) = details_decided files d
-
-pub run_decided : (words : List (List ℕ)) (files : Files) → IsDecided (RunsPieces words files)
-run_decided words files = decided_then (AsksFor words) (Takes files) (asks_single words) (takes_decided files)
+pub run_decided : (asked : Option Asked) (files : Files) → IsDecided (RunsPieces asked files)
+run_decided None files (Ok x) (Ok y) p q = tt
+run_decided None files (Ok x) (Err e) p q = absurd (not_both x Usage p)
+run_decided None files (Err d) (Ok y) p q = absurd (not_both y Usage q)
+run_decided None files (Err d) (Err e) p q = same_fault {A = Given} d Usage p ∙ sym (same_fault {A = Given} e Usage q)
+run_decided (Some (checks c)) files r s p q = checks_decided files c r s p q
+run_decided (Some (details d)) files r s p q = details_decided files d r s p q

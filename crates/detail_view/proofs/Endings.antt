@@ -1,32 +1,40 @@
 -- How runs end: with a verdict that is said, and with faults.
-use Rattle.std.proofs.Common.{◌≡◌, true, ℕ, List, Option, Some, None, inl, inr, refl, sym, subst}
-use Rattle.std.specs.Prelude.{Result, Ok, Bool, IfSome}
-use Rattle.desk.specs.Files.{Files}
+use Rattle.std.proofs.Common.{◌≡◌, true, ℕ, List, Option, Some, None, sym, ap, subst, ◌∙◌}
+use Rattle.std.specs.Prelude.{Ok, Bool, IfSome, IsSome}
+use Rattle.desk.specs.Files.{Files, DeskState, OnlyReads}
 use Rattle.piece_verify.specs.declared.check.Verdict.{Verdict}
-use Rattle.detail_view.specs.Faults.{IsWriting}
-use Rattle.detail_view.specs.Run.{Checks, IsVerdictOf, verdict_line, Says, SaysAsked, IsOfCheck, IsOfDetail}
-use Rattle.detail_view.specs.Steps.{Refuses, Ends}
-use Rattle.detail_view.specs.Words.{Check, Detail, checks}
+use Rattle.put_texts.specs.Runs.{IsAnswer}
+use Rattle.put_texts.proofs.Runs.{whole_answer}
+use Rattle.detail_view.specs.Faults.{CountsReads, CountsWrites, HasNoWriteFault}
+use Rattle.detail_view.specs.Run.{AnswersPiecesWords, Checks, Given, IsVerdictOf, RunsInOrder, RunsPieces, verdict_line, Says, SaysAsked, pieces_task}
+use Rattle.detail_view.specs.Steps.{Ends, IsMissing}
+use Rattle.detail_view.specs.Words.{Asked, Check, checks}
+use Rattle.detail_view.proofs.Runs.{lawful, memory_in_order}
 use Rattle.detail_view.specs.inner.Judging.{IsOfSaying, Tells}
 use Rattle.detail_view.specs.declared.fault.PiecesFault.{PiecesFault}
 use Rattle.detail_view.specs.declared.fault.PiecesFault.TheVariants.{WriteFault, Memory}
 
--- the steps gave something, and then it was said or not
-pub ends_said : {A : Type 0} (steps : Result A PiecesFault → Type 0) (x : A) → steps (Ok x) → (fault : Option PiecesFault) → IfSome fault IsOfSaying → Ends steps fault
-ends_said steps x is None h = (x, is)
-ends_said steps x is (Some WriteFault) h = (x, is)
-ends_said steps x is (Some Memory) h = inl (inr (inr refl))
-ends_said steps x is (Some e) h = elim h [ ]
+-- what holds with no fault, with one of writing and with want of memory holds with each fault of saying
+pub all_saying : (Q : Option PiecesFault → Type 0) → Q None → Q (Some WriteFault) → Q (Some Memory) → (fault : Option PiecesFault) → IfSome fault IsOfSaying → Q fault
+all_saying Q none written want None h = none
+all_saying Q none written want (Some WriteFault) h = written
+all_saying Q none written want (Some Memory) h = want
+all_saying Q none written want (Some e) h = elim h [ ]
 
-pub ends_refused : {A : Type 0} (steps : Result A PiecesFault → Type 0) (e : PiecesFault) → (IsWriting e → ⊥) → Refuses steps e → Ends steps (Some e)
-ends_refused steps WriteFault none h = absurd (none tt)
-ends_refused steps e none h = h
-
-pub check_no_writing : (c : Check) (e : PiecesFault) → IsOfCheck c e → IsWriting e → ⊥
-check_no_writing c WriteFault (inl h) w = h
-check_no_writing c WriteFault (inr (inl h)) w = h
-check_no_writing c WriteFault (inr (inr h)) w = h
-check_no_writing c e h w = w
+-- the steps gave something, and then it was said or kept, or not
+pub said_answer : (asked : Option Asked) (old between new : DeskState) → OnlyReads old between → between.read_faults ≡ old.read_faults → new.read_faults ≡ between.read_faults
+    → (old.steady ≡ true → old.tells ≡ true) → (old.tells ≡ true → (x : Given) × RunsPieces asked old.files (Ok x)) → IsSome asked → RunsInOrder asked old.files WriteFault → (fault : Option PiecesFault) → IfSome fault IsOfSaying
+    → CountsWrites fault between.write_faults new.write_faults → (between.steady ≡ true → HasNoWriteFault fault) → IsAnswer (pieces_task asked) fault old new
+said_answer asked old between new read still same tells gives some order fault h writes steady =
+    let reads : new.read_faults ≡ old.read_faults = same ∙ still in
+    whole_answer (pieces_task asked) (lawful asked) old new fault tells
+    (λ told. all_saying (Ends (RunsPieces asked old.files)) (gives told) (gives told) tt fault h)
+    (all_saying (AnswersPiecesWords asked) some some tt fault h)
+    (λ told. all_saying (λ f. IfSome f (RunsInOrder asked old.files)) tt order (memory_in_order asked old.files) fault h)
+    (all_saying (λ f. CountsReads f old.read_faults new.read_faults) reads reads reads fault h)
+    (subst (λ (n : ℕ). CountsWrites fault n new.write_faults) (ap (λ (s : DeskState). s.write_faults) read) writes)
+    (λ is. all_saying (λ f. IfSome f (IsMissing (RunsPieces asked old.files))) tt tt tt fault h)
+    (λ is. steady (ap (λ (s : DeskState). s.steady) read ∙ is))
 
 -- the verdict that is told
 pub told_verdict : (P : Verdict → Type 0) (v : Verdict) → P v → (fault : Option PiecesFault) (told : Option Verdict) → Tells v fault told → IfSome told P
@@ -39,9 +47,3 @@ said_asked tells c files v None told old new h e is said = subst (λ (o : Option
 said_asked tells c files v (Some WriteFault) told old new h e is said = (v, is, said)
 said_asked tells c files v (Some Memory) told old new h e is said = said
 said_asked tells c files v (Some fault) told old new h e is said = elim h [ ]
-
-pub detail_no_writing : (d : Detail) (e : PiecesFault) → IsOfDetail d e → IsWriting e → ⊥
-detail_no_writing d WriteFault (inl h) w = h
-detail_no_writing d WriteFault (inr (inl h)) w = h
-detail_no_writing d WriteFault (inr (inr h)) w = h
-detail_no_writing d e h w = w

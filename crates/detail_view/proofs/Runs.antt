@@ -1,99 +1,167 @@
--- What a run answers, from what its words ask for.
-use Rattle.std.proofs.Common.{◌≡◌, ◌⊎◌, false, ℕ, List, Option, Some, None, inl, inr, refl, sym, ap, subst}
-use Rattle.std.specs.Prelude.{Result, Ok, Err, IfSome, is_some}
+-- What is asked of a run of `pieces`: its steps answer alike, and miss no file that is there. And which faults it may have.
+use Rattle.std.proofs.Common.{◌≡◌, true, false, true≢false, ℕ, List, Option, Some, None, inl, inr, refl, sym, ap, subst, ◌∙◌}
+use Rattle.std.specs.Prelude.{Result, Ok, Err, IsSome, is_some}
+use Rattle.desk.specs.Files.{Files}
+use Rattle.job_file.specs.Documents.{JobValues}
+use Rattle.part_input.specs.Causes.{unread, unwritten, wanting, elsewhere}
+use Rattle.part_input.specs.Jobs.{TakesJob, ReadsJob, TakesReadJob}
+use Rattle.part_input.specs.Steps.{AnswersOf, AnswersSteps}
+use Rattle.part_input.specs.declared.fault.Input.{Input as Which}
+use Rattle.part_input.specs.declared.fault.Fault.TheVariants.{ReadFault, Job as JobUnread}
+use Rattle.part_input.proofs.Causes.{unread_only, wanting_only}
+use Rattle.part_input.proofs.Singles.{same_fault}
+use Rattle.part_input.proofs.There.{never_then, not_read, job_there, part_there}
+use Rattle.put_texts.proofs.Runs.{IsLawful, IsOfSteps}
 use Rattle.piece_verify.specs.declared.check.Verdict.{Verdict}
-use Rattle.desk.specs.Files.{Files, Rose}
-use Rattle.part_input.specs.declared.fault.Fault.TheVariants.{ReadFault}
-use Rattle.detail_view.specs.Faults.{IsReading, IsWriting, CountsReads, CountsWrites, HasNoWriteFault}
-use Rattle.detail_view.specs.Run.{HasVerdict, IsOfAsked, AnswersPiecesWords, AskedInOrder, RunsInOrder}
-use Rattle.detail_view.specs.Steps.{Refuses, IsMissing, Answers, IsAnswerOf, Ends}
-use Rattle.detail_view.specs.Words.{Asked, checks, details, asked_by}
+use Rattle.detail_view.specs.Faults.{HasNoWriteFault, cause_of, pieces_faults}
+use Rattle.detail_view.specs.Run.{AnswersPiecesWords, ChecksBy, Checks, Details, Given, HasFiles, HasVerdict, HasView, IsOfCheck, IsOfDetail, RunsInOrder, RunsPieces, TakesPart, TakesReadList, TakesViewed, listed, viewed, pieces_task}
+use Rattle.detail_view.specs.Steps.{Lifted, Yields}
+use Rattle.detail_view.specs.Words.{Asked, Check, Detail, checks, details}
 use Rattle.detail_view.specs.declared.fault.PiecesFault.{PiecesFault}
-use Rattle.detail_view.specs.declared.fault.PiecesFault.TheVariants.{Usage, Input, ReadList, WriteFault, Memory}
-use Rattle.detail_view.proofs.Decided.{AreAlike, IsDecided}
+use Rattle.detail_view.specs.declared.fault.PiecesFault.TheVariants.{Usage, Input, NoView, ReadList, ListTooLong, List as Unlisted, WriteFault, Memory}
+use Rattle.detail_view.proofs.Decided.{AreAlike, run_decided}
 
 -- ---- the answer
-reads_rose : (e : PiecesFault) (old new : ℕ) → IsReading e → CountsReads (Some e) old new → Rose old new
-reads_rose ReadList old new h counts = counts
-reads_rose (Input (ReadFault which)) old new h counts = counts
-reads_rose e old new h counts = absurd h
+given_alike : (x : Given) (r : Result Given PiecesFault) → AreAlike (Ok x) r → AnswersOf pieces_faults r None
+given_alike x (Ok y) h = inl refl
+given_alike x (Err e) h = absurd h
 
-module _ {A : Type 0} (steps : Result A PiecesFault → Type 0) (one : IsDecided steps) where
-  given : (x : A) → steps (Ok x) → IsAnswerOf steps None
-  given x is r also = by r (one (Ok x) r is also)
+refused_alike : (e : PiecesFault) (r : Result Given PiecesFault) → AreAlike (Err e) r → AnswersOf pieces_faults r (Some e)
+refused_alike e (Ok y) h = absurd h
+refused_alike e (Err d) h = inl (ap Some h)
+
+short : (e : PiecesFault) → e ≡ Memory → (r : Result Given PiecesFault) → AnswersOf pieces_faults r (Some e)
+short e m (Ok y) = inr (ap Some m)
+short e m (Err d) = inr (ap Some m)
+
+settled : (asked : Option Asked) (files : Files) (fault : Option PiecesFault) → IsOfSteps (pieces_task asked) files fault → AnswersSteps pieces_faults (RunsPieces asked files) fault
+settled asked files None (x, is) r also = given_alike x r (run_decided asked files (Ok x) r is also)
+settled asked files (Some e) (inl is) r also = refused_alike e r (run_decided asked files (Err e) r is also)
+settled asked files (Some e) (inr m) r also = short e m r
+
+-- ---- faults of the desk
+short_alone : (f : PiecesFault) → cause_of f ≡ wanting → f ≡ Memory
+short_alone Memory is = refl
+short_alone ReadList is = absurd (wanting_only unread is)
+short_alone (Input (ReadFault which)) is = absurd (wanting_only unread is)
+short_alone WriteFault is = absurd (wanting_only unwritten is)
+short_alone f is = absurd (wanting_only elsewhere is)
+
+read_only : (P : PiecesFault → Type 0) → ((which : Which) → P (Input (ReadFault which))) → P ReadList → (f : PiecesFault) → cause_of f ≡ unread → P f
+read_only P r l ReadList is = l
+read_only P r l (Input (ReadFault which)) is = r which
+read_only P r l WriteFault is = absurd (unread_only unwritten is)
+read_only P r l Memory is = absurd (unread_only wanting is)
+read_only P r l f is = absurd (unread_only elsewhere is)
+
+-- ---- files that are there
+module _ (files : Files) where
+  job_never : (name : List ℕ) (which : Which) → IsSome (files name) → TakesReadJob files (Some name) (Err (ReadFault which)) → ⊥
+  job_never name which there =
+      never_then (TakesJob files (Some name)) ReadsJob (ReadFault which) (job_there files which (Some name) there) (λ bytes h. not_read which (JobUnread h.0) refl h.1)
+
+  -- a list that is there is none of these faults
+  abbrev IsOfListFile : PiecesFault → Type 0
+  IsOfListFile ListTooLong = Unit {0}
+  IsOfListFile (Unlisted fault) = Unit {0}
+  IsOfListFile fault = ⊥
+
+  list_fault : (name : List ℕ) → IsSome (files name) → (e : PiecesFault) → TakesReadList files name (Err e) → IsOfListFile e
+  list_fault name there e (inl (inl (_, none))) = let no : false ≡ true = ap is_some (sym none) ∙ there in absurd (true≢false (sym no))
+  list_fault name there e (inl (inr (same, _))) = subst IsOfListFile (sym same) tt
+  list_fault name there e (inr (bytes, _, (fault, same, _))) = subst IsOfListFile (sym same) tt
+
+  checks_never : (c : Check) → HasFiles files (Some (checks c)) → (f : PiecesFault) → cause_of f ≡ unread → Checks files c (Err f) → ⊥
+  checks_never c (job, part, list) f is h =
+      read_only (λ (f : PiecesFault). Checks files c (Err f) → ⊥)
+      (λ which. never_then (Lifted (TakesReadJob files (Some c.job))) (ChecksBy files c) (Input (ReadFault which)) (job_never c.job which job)
+      (λ values. never_then (TakesPart files c.part values) (λ p. Yields (listed values p) (TakesReadList files c.list)) (Input (ReadFault which))
+      (part_there files which c.part values.decimals values.unit part) (λ p. list_fault c.list list (Input (ReadFault which)))))
+      (never_then (Lifted (TakesReadJob files (Some c.job))) (ChecksBy files c) ReadList (λ h. h)
+      (λ values. never_then (TakesPart files c.part values) (λ p. Yields (listed values p) (TakesReadList files c.list)) ReadList (λ h. h) (λ p. list_fault c.list list ReadList)))
+      f is h
+
+  view_never : (view : ℕ) (values : JobValues) (which : Which) → HasView view values (Err (Input (ReadFault which))) → ⊥
+  view_never view values which (same, _) = cc
+
+  details_never : (d : Detail) → HasFiles files (Some (details d)) → (f : PiecesFault) → cause_of f ≡ unread → Details files d (Err f) → ⊥
+  details_never d (job, part) f is h =
+      read_only (λ (f : PiecesFault). Details files d (Err f) → ⊥)
+      (λ which. never_then (TakesViewed files d) (λ values. Yields (viewed values) (TakesPart files d.part values)) (Input (ReadFault which))
+      (never_then (Lifted (TakesReadJob files (Some d.job))) (HasView d.view) (Input (ReadFault which)) (job_never d.job which job) (λ values. view_never d.view values which))
+      (λ values. part_there files which d.part values.decimals values.unit part))
+      (never_then (TakesViewed files d) (λ values. Yields (viewed values) (TakesPart files d.part values)) ReadList
+      (never_then (Lifted (TakesReadJob files (Some d.job))) (HasView d.view) ReadList (λ h. h) (λ values h. list_no_view d.view h.0)) (λ values h. h))
+      f is h
     where
-      by : (r : Result A PiecesFault) → AreAlike (Ok x) r → Answers r None
-      by (Ok y) h = inl refl
-      by (Err e) h = absurd h
+      list_no_view : (view : ℕ) → ReadList ≡ NoView view → ⊥
+      list_no_view view same = cc
 
-  refused : (e : PiecesFault) → steps (Err e) → IsAnswerOf steps (Some e)
-  refused e is r also = by r (one (Err e) r is also)
-    where
-      by : (r : Result A PiecesFault) → AreAlike (Err e) r → Answers r (Some e)
-      by (Ok y) h = absurd h
-      by (Err d) h = inl (ap Some h)
-
-  short : (e : PiecesFault) → e ≡ Memory → IsAnswerOf steps (Some e)
-  short e m (Ok y) also = inr (ap Some m)
-  short e m (Err d) also = inr (ap Some m)
-
-  refusal : (e : PiecesFault) → (IsReading e → steps (Err e)) → (IsWriting e → ⊥) → Refuses steps e → IsAnswerOf steps (Some e)
-  refusal e reads none (inl (inl h)) = refused e (reads h)
-  refusal e reads none (inl (inr (inl h))) = absurd (none h)
-  refusal e reads none (inl (inr (inr m))) = short e m
-  refusal e reads none (inr h) = refused e h
-
-  pub ends_complete : (fault : Option PiecesFault) (old new before after : ℕ) → Ends steps fault → CountsReads fault old new → CountsWrites fault before after
-      → (Rose old new → ⊥) → (Rose before after → ⊥) → IsAnswerOf steps fault
-  ends_complete None old new before after (x, is) reads writes no_reads no_writes = given x is
-  ends_complete (Some WriteFault) old new before after h reads writes no_reads no_writes = absurd (no_writes writes)
-  ends_complete (Some e) old new before after h reads writes no_reads no_writes =
-      refusal e (λ reading. absurd (no_reads (reads_rose e old new reading reads))) (λ w. w) h
-
-  pub ends_exact : (fault : Option PiecesFault) → Ends steps fault → IfSome fault (IsMissing steps) → HasNoWriteFault fault → IsAnswerOf steps fault
-  ends_exact None (x, is) missing none = given x is
-  ends_exact (Some WriteFault) h missing none = absurd (none tt)
-  ends_exact (Some e) h missing none = refusal e missing none h
-
--- without a fault of writing none was counted
-pub no_write : (fault : Option PiecesFault) (old new : ℕ) → HasNoWriteFault fault → CountsWrites fault old new → new ≡ old
-no_write None old new none counts = counts
-no_write (Some WriteFault) old new none counts = absurd (none tt)
-no_write (Some e) old new none counts = counts
-
--- ---- the words
-asked_no_usage : (a : Asked) → IsOfAsked a Usage → ⊥
-asked_no_usage (checks c) (inl h) = h
-asked_no_usage (checks c) (inr (inl h)) = h
-asked_no_usage (checks c) (inr (inr h)) = h
-asked_no_usage (details d) (inl h) = h
-asked_no_usage (details d) (inr (inl h)) = h
-asked_no_usage (details d) (inr (inr h)) = h
-
-pub words_answered : (asked : Option Asked) (a : Asked) → asked ≡ Some a → (fault : Option PiecesFault) → IfSome fault (λ e. IsWriting e ⊎ IsOfAsked a e) → AnswersPiecesWords asked fault
-words_answered asked a is fault h = subst (λ (o : Option Asked). AnswersPiecesWords o fault) (sym is) (by fault h)
-  where
-    by : (fault : Option PiecesFault) → IfSome fault (λ e. IsWriting e ⊎ IsOfAsked a e) → AnswersPiecesWords (Some a) fault
-    by None h = refl
-    by (Some Usage) (inl h) = absurd h
-    by (Some Usage) (inr h) = absurd (asked_no_usage a h)
-    by (Some Memory) h = tt
-    by (Some WriteFault) h = refl
-    by (Some e) (inl h) = absurd h
-    by (Some e) (inr h) = h
-
-pub words_in_order : (words : List (List ℕ)) (files : Files) (a : Asked) → asked_by words ≡ Some a → (fault : Option PiecesFault) → IfSome fault (AskedInOrder files a) → IfSome fault (RunsInOrder words files)
-words_in_order words files a is None h = tt
-words_in_order words files a is (Some e) h = subst (λ (o : Option Asked). IfSome o (λ asked. AskedInOrder files asked e)) (sym is) h
+never : (asked : Option Asked) (files : Files) → HasFiles files asked → (f : PiecesFault) → cause_of f ≡ unread → RunsPieces asked files (Err f) → ⊥
+never None files there f is h = read_only (λ (f : PiecesFault). f ≡ Usage → ⊥) (λ which same. cc) (λ same. cc) f is (same_fault {A = Given} f Usage h)
+never (Some (checks c)) files there f is h = checks_never files c there f is h
+never (Some (details d)) files there f is h = details_never files d there f is h
 
 -- want of memory comes anywhere
-pub memory_in_order : (words : List (List ℕ)) (files : Files) (fault : Option PiecesFault) → fault ≡ Some Memory → IfSome fault (RunsInOrder words files)
-memory_in_order words files fault is = subst (λ (o : Option PiecesFault). IfSome o (RunsInOrder words files)) (sym is) (by (asked_by words))
-  where
-    by : (o : Option Asked) → IfSome o (λ asked. AskedInOrder files asked Memory)
-    by None = tt
-    by (Some (checks c)) = tt
-    by (Some (details d)) = tt
+pub memory_in_order : (asked : Option Asked) (files : Files) → RunsInOrder asked files Memory
+memory_in_order None files = tt
+memory_in_order (Some (checks c)) files = tt
+memory_in_order (Some (details d)) files = tt
+
+pub lawful : (asked : Option Asked) → IsLawful (pieces_task asked)
+lawful asked = record {
+  is_wanting = refl;
+  alone = short_alone;
+  may_want = tt;
+  want_in_order = memory_in_order asked;
+  settled = settled asked;
+  there = never asked;
+}
+
+-- ---- the words
+module _ (c : Check) where
+  check_no_usage : IsOfCheck c Usage → ⊥
+  check_no_usage (inl h) = h
+  check_no_usage (inr (inl h)) = h
+  check_no_usage (inr (inr h)) = h
+
+  check_no_write : IsOfCheck c WriteFault → ⊥
+  check_no_write (inl h) = h
+  check_no_write (inr (inl h)) = h
+  check_no_write (inr (inr h)) = h
+
+  pub check_may : (e : PiecesFault) → IsOfCheck c e → AnswersPiecesWords (Some (checks c)) (Some e)
+  check_may Usage h = absurd (check_no_usage h)
+  check_may Memory h = tt
+  check_may WriteFault h = refl
+  check_may e h = h
+
+  pub check_unwritten : (e : PiecesFault) → IsOfCheck c e → HasNoWriteFault (Some e)
+  check_unwritten WriteFault h = absurd (check_no_write h)
+  check_unwritten (Input (ReadFault which)) h = tt
+  check_unwritten e h = tt
+
+module _ (d : Detail) where
+  detail_no_usage : IsOfDetail d Usage → ⊥
+  detail_no_usage (inl h) = h
+  detail_no_usage (inr (inl h)) = h
+  detail_no_usage (inr (inr h)) = h
+
+  detail_no_write : IsOfDetail d WriteFault → ⊥
+  detail_no_write (inl h) = h
+  detail_no_write (inr (inl h)) = h
+  detail_no_write (inr (inr h)) = h
+
+  pub detail_may : (e : PiecesFault) → IsOfDetail d e → AnswersPiecesWords (Some (details d)) (Some e)
+  detail_may Usage h = absurd (detail_no_usage h)
+  detail_may Memory h = tt
+  detail_may WriteFault h = refl
+  detail_may e h = h
+
+  pub detail_unwritten : (e : PiecesFault) → IsOfDetail d e → HasNoWriteFault (Some e)
+  detail_unwritten WriteFault h = absurd (detail_no_write h)
+  detail_unwritten (Input (ReadFault which)) h = tt
+  detail_unwritten e h = tt
 
 -- with a fault no verdict is told
 pub no_verdict : (asked : Option Asked) (fault : Option PiecesFault) (e : PiecesFault) (told : Option Verdict) → fault ≡ Some e → told ≡ None → HasVerdict asked fault (is_some told)

@@ -8,7 +8,8 @@ use Rattle.part_input.proofs.Missing.{no_size}
 use Rattle.part_input.specs.declared.fault.Input.TheVariants.{Part as ThePart}
 use Rattle.part_input.specs.declared.fault.Fault.TheVariants.{ReadFault}
 use Rattle.detail_view.specs.Run.{IsOfJob, IsOfView, IsOfPartNamed, IsOfDetail, TakesViewed, DetailsInOrder}
-use Rattle.detail_view.specs.Steps.{◌and_then◌, GivesPieces, IsMissing}
+use Rattle.part_input.specs.Steps.{◌and_then◌}
+use Rattle.detail_view.specs.Steps.{GivesPieces, IsMissing}
 use Rattle.detail_view.specs.Words.{Detail}
 use Rattle.detail_view.specs.declared.fault.PiecesFault.{PiecesFault}
 use Rattle.detail_view.specs.declared.fault.PiecesFault.TheVariants.{Input, ReadList}
@@ -39,4 +40,4 @@ pub view_no_reading : {A X : Type 0} (steps : Result A PiecesFault → Type 0) (
 view_no_reading steps view (Ok x) h = tt
 view_no_reading steps view (Err (Input e)) h = absurd h
 view_no_reading steps view (Err ReadList) h = absurd h
-view_no_reading steps view (Err e) h = λ reading. absurd reading
+view_no_reading steps view (Err e) h = tt

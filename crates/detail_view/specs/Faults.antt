@@ -1,11 +1,12 @@
--- The status of a run, and which of its faults are the desk's.
-use Rattle.std.specs.Prelude.{◌≡◌, ℕ, Option, Some, None}
-use Rattle.desk.specs.Files.{Rose}
-use Rattle.part_input.specs.Faults.{CountsReads as CountsInput, status_of as input_status}
+-- The status of a run, and what its faults are to the desk.
+use Rattle.std.specs.Prelude.{ℕ, Option, Some, None}
+use Rattle.part_input.specs.Causes.{Cause, Faults, unread, unwritten, wanting, elsewhere, CountsReadsOf}
+use Rattle.part_input.specs.Faults.{status_of as input_status}
 use Rattle.part_input.specs.declared.fault.Fault.{Fault}
 use Rattle.part_input.specs.declared.fault.Fault.TheVariants.{ReadFault, Memory as NoMemory}
 use Rattle.piece_verify.specs.declared.check.Verdict.{Verdict}
 use Rattle.piece_verify.specs.declared.check.Verdict.TheVariants.{Right, Stranger, Differs}
+use Rattle.put_texts.specs.Faults.{CountsWritesOf, HasNoWriteFaultOf}
 use Rattle.detail_view.specs.declared.fault.PiecesFault.{PiecesFault}
 use Rattle.detail_view.specs.declared.fault.PiecesFault.TheVariants.{Usage, Input, NoView, ReadList, ListTooLong, List as Unlisted, WriteFault, Memory}
 
@@ -31,30 +32,26 @@ status_of None verdict = verdict_status verdict
 status_of (Some fault) verdict = fault_status fault
 
 -- ---- faults of the desk
-abbrev pub IsReading : PiecesFault → Type 0
-IsReading ReadList = Unit {0}
-IsReading (Input (ReadFault input)) = Unit {0}
-IsReading fault = ⊥
+abbrev pub cause_of : PiecesFault → Cause
+cause_of ReadList = unread
+cause_of (Input (ReadFault input)) = unread
+cause_of WriteFault = unwritten
+cause_of Memory = wanting
+cause_of fault = elsewhere
 
-abbrev pub IsWriting : PiecesFault → Type 0
-IsWriting WriteFault = Unit {0}
-IsWriting fault = ⊥
+abbrev pub pieces_faults : Faults PiecesFault
+pieces_faults = record { cause = cause_of; memory = Memory }
 
--- the count of the faults of reading rose where one is answered, and else it stands
+-- the counts of the faults of reading and of writing, with these faults
 abbrev pub CountsReads : Option PiecesFault → ℕ → ℕ → Type 0
-CountsReads (Some ReadList) old new = Rose old new
-CountsReads (Some (Input fault)) old new = CountsInput (Some fault) old new
-CountsReads fault old new = new ≡ old
+CountsReads fault old new = CountsReadsOf pieces_faults fault old new
 
--- so does that of the faults of writing
 abbrev pub CountsWrites : Option PiecesFault → ℕ → ℕ → Type 0
-CountsWrites (Some WriteFault) old new = Rose old new
-CountsWrites fault old new = new ≡ old
+CountsWrites fault old new = CountsWritesOf pieces_faults fault old new
 
 -- no fault of writing is answered
 abbrev pub HasNoWriteFault : Option PiecesFault → Type 0
-HasNoWriteFault None = Unit {0}
-HasNoWriteFault (Some fault) = IsWriting fault → ⊥
+HasNoWriteFault fault = HasNoWriteFaultOf pieces_faults fault
 
 -- want of memory is one fault, wherever it was found
 abbrev pub fault_of : Fault → PiecesFault

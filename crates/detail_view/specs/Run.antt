@@ -1,5 +1,5 @@
 -- What a run of `pieces` answers, from its words and the files at entry: steps in order, each with what it gives and what it refuses.
-use Rattle.std.specs.Prelude.{◌≡◌, ◌⊎◌, ◌<◌, ◌≤◌, ℕ, List, length, Option, Some, None, IfSome, IsSome, IsSomeAnd, Result, Ok, Err, Bool, false, true, codes, ◌++◌}
+use Rattle.std.specs.Prelude.{◌≡◌, ◌⊎◌, ◌<◌, ◌≤◌, ℕ, List, length, Option, Some, None, IsSome, IsSomeAnd, Result, Ok, Err, Bool, false, true, codes, ◌++◌}
 use Rattle.std.specs.Fmt.{decimal}
 use Rattle.std.specs.List.{AllZip}
 use Rattle.desk.specs.Files.{Files, DeskState, AppendsFront}
@@ -22,18 +22,15 @@ use Rattle.piece_verify.specs.declared.check.Verdict.{Verdict}
 use Rattle.piece_verify.specs.declared.check.Verdict.TheVariants.{Right, Stranger, Differs}
 use Rattle.piece_verify.specs.declared.list.ListFault.{ListFault}
 use Rattle.svg_page.specs.Texts.{◌⊕◌}
-use Rattle.detail_view.specs.Faults.{IsNoMemory}
-use Rattle.detail_view.specs.Steps.{◌and_then◌, Lifted, Yields}
-use Rattle.detail_view.specs.Words.{Check, Detail, Asked, checks, details, asked_by}
+use Rattle.part_input.specs.Steps.{◌and_then◌, AnswersSteps}
+use Rattle.put_texts.specs.Runs.{Task}
+use Rattle.detail_view.specs.Faults.{IsNoMemory, pieces_faults}
+use Rattle.detail_view.specs.Steps.{Lifted, Yields}
+use Rattle.detail_view.specs.Words.{Check, Detail, Asked, checks, details}
 use Rattle.detail_view.specs.declared.fault.PiecesFault.{PiecesFault}
 use Rattle.detail_view.specs.declared.fault.PiecesFault.TheVariants.{Usage, Input, NoView, ReadList, ListTooLong, List as Unlisted, WriteFault, Memory}
 
 -- ---- the steps of a run
--- the words ask for something
-abbrev pub AsksFor : List (List ℕ) → Result Asked PiecesFault → Type 0
-AsksFor words (Ok asked) = asked_by words ≡ Some asked
-AsksFor words (Err e) = (e ≡ Usage) × (asked_by words ≡ None)
-
 -- the list is there, with at most 16,777,216 bytes
 abbrev pub TakesList : Files → List ℕ → Result (List ℕ) PiecesFault → Type 0
 TakesList files name (Ok bytes) = (files name ≡ Some bytes) × (length bytes ≤ 16777216)
@@ -76,13 +73,11 @@ TakesViewed files d = Lifted (TakesReadJob files (Some d.job)) and_then HasView 
 abbrev pub Details : Files → Detail → Result Given PiecesFault → Type 0
 Details files d = TakesViewed files d and_then λ job. Yields (viewed job) (TakesPart files d.part job)
 
-abbrev pub Takes : Files → Asked → Result Given PiecesFault → Type 0
-Takes files (checks c) = Checks files c
-Takes files (details d) = Details files d
-
--- a run: what its words ask for, and what the files at entry give for that
-abbrev pub RunsPieces : List (List ℕ) → Files → Result Given PiecesFault → Type 0
-RunsPieces words files = AsksFor words and_then Takes files
+-- A run: what the files at entry give for what the words ask for, or the refusal. Words that ask for nothing are refused.
+abbrev pub RunsPieces : Option Asked → Files → Result Given PiecesFault → Type 0
+RunsPieces None files r = r ≡ Err Usage
+RunsPieces (Some (checks c)) files r = Checks files c r
+RunsPieces (Some (details d)) files r = Details files d r
 
 -- ---- verdicts
 -- the verdict is that on the entries of a list, for a solid by a job, as the steps give them
@@ -189,18 +184,29 @@ abbrev pub DetailsInOrder : Files → Detail → PiecesFault → Type 0
 DetailsInOrder files d (Input (ReadFault ThePart)) = (sample_size d.part ≡ None) × (job : JobValues) × TakesViewed files d (Ok job)
 DetailsInOrder files d fault = Unit {0}
 
-abbrev pub AskedInOrder : Files → Asked → PiecesFault → Type 0
-AskedInOrder files (checks c) fault = ChecksInOrder files c fault
-AskedInOrder files (details d) fault = DetailsInOrder files d fault
-
-abbrev pub RunsInOrder : List (List ℕ) → Files → PiecesFault → Type 0
-RunsInOrder words files fault = IfSome (asked_by words) (λ asked. AskedInOrder files asked fault)
+abbrev pub RunsInOrder : Option Asked → Files → PiecesFault → Type 0
+RunsInOrder None files fault = Unit {0}
+RunsInOrder (Some (checks c)) files fault = ChecksInOrder files c fault
+RunsInOrder (Some (details d)) files fault = DetailsInOrder files d fault
 
 -- ---- files
 -- the files that were named to be read are there
-abbrev pub HasFiles : Files → Asked → Type 0
-HasFiles files (checks c) = IsSome (files c.job) × HasSampleOr (sample_size c.part) files c.part × IsSome (files c.list)
-HasFiles files (details d) = IsSome (files d.job) × HasSampleOr (sample_size d.part) files d.part
+abbrev pub HasFiles : Files → Option Asked → Type 0
+HasFiles files None = Unit {0}
+HasFiles files (Some (checks c)) = IsSome (files c.job) × HasSampleOr (sample_size c.part) files c.part × IsSome (files c.list)
+HasFiles files (Some (details d)) = IsSome (files d.job) × HasSampleOr (sample_size d.part) files d.part
+
+-- ---- a run
+-- what the words come to
+abbrev pub pieces_task : Option Asked → Task PiecesFault Given
+pieces_task asked = record {
+  faults = pieces_faults;
+  steps = RunsPieces asked;
+  may = AnswersPiecesWords asked;
+  comes_to = RunsInOrder asked;
+  has_files = λ files. HasFiles files asked;
+  settles = λ files. AnswersSteps pieces_faults (RunsPieces asked files);
+}
 
 -- ---- the desk
 -- nothing but what was said, and the faults of reading and writing changed

@@ -1,15 +1,15 @@
 // Judges a list by the words of a check, and says the verdict.
-ghost use Rattle.std.specs.Prelude.{◌≡◌, ◌⊎◌, ◌++◌, true, Some, None, IfOk, IfErr, IfSome, IsSome, is_some, string_bytes};
+ghost use Rattle.std.specs.Prelude.{◌≡◌, ◌⊎◌, true, Some, None, IfOk, IfErr, IfSome, is_some, string_bytes};
 ghost use Rattle.std.specs.Result.{result_err};
 ghost use Rattle.desk.specs.Files.{OnlyReads, OnlySays};
 ghost use Rattle.job_file.specs.Seen.{job_seen};
 ghost use Rattle.solid_mesh.specs.Solids.{solid_part};
-ghost use Rattle.part_input.specs.Parts.{sample_size, HasSampleOr};
-ghost use Rattle.detail_view.specs.Faults.{status_of, verdict_status, CountsReads, CountsWrites, HasNoWriteFault, IsWriting};
-ghost use Rattle.detail_view.specs.Run.{listed, TakesReadList, ChecksBy, Checks, IsVerdictOf, HasVerdict, verdict_line, Says, SaysAsked, IsOfPartNamed, IsOfList, IsOfCheck, IsRefusal, ChecksInOrder, HasFiles, OnlyListens};
+ghost use Rattle.detail_view.specs.Faults.{status_of, verdict_status, CountsReads, CountsWrites, HasNoWriteFault};
+ghost use Rattle.detail_view.specs.Run.{listed, TakesReadList, ChecksBy, Checks, IsVerdictOf, HasVerdict, verdict_line, Says, SaysAsked, IsOfPartNamed, IsOfList, IsOfCheck, IsRefusal, ChecksInOrder, OnlyListens, pieces_task};
 ghost use Rattle.detail_view.specs.Seen.{check_seen};
-ghost use Rattle.detail_view.specs.Steps.{Yields, IsMissing, Ends};
+ghost use Rattle.detail_view.specs.Steps.{Yields, IsMissing};
 ghost use Rattle.detail_view.specs.Words.{checks};
+ghost use Rattle.put_texts.specs.Runs.{IsAnswer};
 ghost use Rattle.detail_view.specs.inner.Judging.{Judges, ComesAfterJob, IsOfSaying, Tells};
 
 use crate::fault::{PiecesFault, PiecesOutcome};
@@ -35,8 +35,6 @@ fn judge_list<D: Desk>(
     ensures reads { CountsReads (result_err result) (D.state desk.old).read_faults (D.state desk.new).read_faults }
     ensures missing { (D.state desk.old).steady ≡ true →
         IfErr result (IsMissing (Yields (listed (job_seen job.now) (solid_part solid.now)) (TakesReadList (D.state desk.old).files words.now.list))) }
-    ensures held { (D.state desk.old).steady ≡ true → IsSome ((D.state desk.old).files words.now.list) →
-        (D.state desk.new).read_faults ≡ (D.state desk.old).read_faults }
     ensures changes { OnlyReads (D.state desk.old) (D.state desk.new) }
 {
     let list = match take_list(alloc, &words.list, desk) {
@@ -64,8 +62,6 @@ fn judge_part<D: Desk>(
     ensures reads { CountsReads (result_err result) (D.state desk.old).read_faults (D.state desk.new).read_faults }
     ensures missing { (D.state desk.old).steady ≡ true →
         IfErr result (IsMissing (ChecksBy (D.state desk.old).files (check_seen words.now) (job_seen job.now))) }
-    ensures held { (D.state desk.old).steady ≡ true → HasSampleOr (sample_size words.now.part) (D.state desk.old).files words.now.part →
-        IsSome ((D.state desk.old).files words.now.list) → (D.state desk.new).read_faults ≡ (D.state desk.old).read_faults }
     ensures changes { OnlyReads (D.state desk.old) (D.state desk.new) }
 {
     match take_solid(alloc, &words.part, job, desk) {
@@ -82,8 +78,6 @@ fn judge<D: Desk>(alloc: Global, words: &CheckWords, desk: &mut D) -> Result<Ver
     ensures reads { CountsReads (result_err result) (D.state desk.old).read_faults (D.state desk.new).read_faults }
     ensures missing { (D.state desk.old).steady ≡ true →
         IfErr result (IsMissing (Checks (D.state desk.old).files (check_seen words.now))) }
-    ensures held { (D.state desk.old).steady ≡ true → HasFiles (D.state desk.old).files (checks (check_seen words.now)) →
-        (D.state desk.new).read_faults ≡ (D.state desk.old).read_faults }
     ensures changes { OnlyReads (D.state desk.old) (D.state desk.new) }
 {
     match take_job(alloc, &words.job, desk) {
@@ -167,18 +161,9 @@ fn say_verdict<D: Desk>(alloc: Global, verdict: Verdict, desk: &mut D) -> Pieces
 
 /// Judges the list that the words name, by their part and job, and says the verdict.
 pub(crate) fn check<D: Desk>(alloc: Global, words: &CheckWords, desk: &mut D) -> PiecesOutcome
+    ensures run { IsAnswer (pieces_task (Some (checks (check_seen words.now)))) result.fault (D.state desk.old) (D.state desk.new) }
     ensures status { result.status ≡ status_of result.fault result.verdict }
     ensures none { result.detail ≡ None }
-    ensures answer { (D.state desk.old).tells ≡ true → Ends (Checks (D.state desk.old).files (check_seen words.now)) result.fault }
-    ensures of_check { IfSome result.fault (λ e. IsWriting e ⊎ IsOfCheck (check_seen words.now) e) }
-    ensures order { (D.state desk.old).tells ≡ true → IfSome result.fault (ChecksInOrder (D.state desk.old).files (check_seen words.now)) }
-    ensures reads { CountsReads result.fault (D.state desk.old).read_faults (D.state desk.new).read_faults }
-    ensures writes { CountsWrites result.fault (D.state desk.old).write_faults (D.state desk.new).write_faults }
-    ensures missing { (D.state desk.old).steady ≡ true →
-        IfSome result.fault (IsMissing (Checks (D.state desk.old).files (check_seen words.now))) }
-    ensures steady { (D.state desk.old).steady ≡ true → HasNoWriteFault result.fault }
-    ensures held { (D.state desk.old).steady ≡ true → HasFiles (D.state desk.old).files (checks (check_seen words.now)) →
-        (D.state desk.new).read_faults ≡ (D.state desk.old).read_faults }
     ensures shown { HasVerdict (Some (checks (check_seen words.now))) result.fault (is_some result.verdict) }
     ensures verdict { (D.state desk.old).tells ≡ true → IfSome result.verdict (IsVerdictOf (Checks (D.state desk.old).files (check_seen words.now))) }
     ensures said { (D.state desk.old).tells_said ≡ true →

@@ -1,14 +1,15 @@
 // Draws what of a view stands in a window, by the words of a detail.
-ghost use Rattle.std.specs.Prelude.{◌≡◌, ◌⊎◌, ◌<◌, true, length, Some, None, IfOk, IfErr, IfSome, IsSome, is_some};
+ghost use Rattle.std.specs.Prelude.{◌≡◌, ◌⊎◌, ◌<◌, true, length, Some, None, IfOk, IfErr, IfSome, is_some};
 ghost use Rattle.std.specs.Result.{result_err};
 ghost use Rattle.desk.specs.Files.{OnlyReads, OnlyKeeps};
 ghost use Rattle.job_file.specs.Seen.{job_seen};
 ghost use Rattle.detail_view.specs.Drawn.{IsDrawnOf, LeavesDrawn, pieces_told, HasDetail, KeepsPage};
-ghost use Rattle.detail_view.specs.Faults.{status_of, CountsReads, CountsWrites, HasNoWriteFault, IsWriting};
-ghost use Rattle.detail_view.specs.Run.{HasView, TakesViewed, Details, IsOfJob, IsOfView, IsOfDetail, IsRefusal, DetailsInOrder, HasFiles, OnlyDraws};
+ghost use Rattle.detail_view.specs.Faults.{status_of, CountsReads, CountsWrites, HasNoWriteFault};
+ghost use Rattle.detail_view.specs.Run.{HasView, TakesViewed, Details, IsOfJob, IsOfView, IsOfDetail, IsRefusal, DetailsInOrder, OnlyDraws, pieces_task};
 ghost use Rattle.detail_view.specs.Seen.{detail_seen};
-ghost use Rattle.detail_view.specs.Steps.{GivesPieces, IsMissing, Ends};
+ghost use Rattle.detail_view.specs.Steps.{GivesPieces, IsMissing};
 ghost use Rattle.detail_view.specs.Words.{details};
+ghost use Rattle.put_texts.specs.Runs.{IsAnswer};
 ghost use Rattle.detail_view.specs.inner.Drawing.{LeavesPage, TellsPieces};
 ghost use Rattle.detail_view.specs.inner.Judging.{IsOfSaying};
 ghost use Rattle.detail_view.specs.inner.Showing.{given_of};
@@ -52,8 +53,6 @@ fn take_viewed<D: Desk>(
     ensures reads { CountsReads (result_err result) (D.state desk.old).read_faults (D.state desk.new).read_faults }
     ensures missing { (D.state desk.old).steady ≡ true →
         IfErr result (IsMissing (TakesViewed (D.state desk.old).files (detail_seen words.now))) }
-    ensures held { (D.state desk.old).steady ≡ true → IsSome ((D.state desk.old).files words.now.job) →
-        (D.state desk.new).read_faults ≡ (D.state desk.old).read_faults }
     ensures changes { OnlyReads (D.state desk.old) (D.state desk.new) }
 {
     match take_job(alloc, &words.job, desk) {
@@ -83,8 +82,6 @@ fn take_shown<D: Desk>(
     ensures reads { CountsReads (result_err result) (D.state desk.old).read_faults (D.state desk.new).read_faults }
     ensures missing { (D.state desk.old).steady ≡ true →
         IfErr result (IsMissing (Details (D.state desk.old).files (detail_seen words.now))) }
-    ensures held { (D.state desk.old).steady ≡ true → HasFiles (D.state desk.old).files (details (detail_seen words.now)) →
-        (D.state desk.new).read_faults ≡ (D.state desk.old).read_faults }
     ensures changes { OnlyReads (D.state desk.old) (D.state desk.new) }
 {
     let job = match take_viewed(alloc, words, desk) {
@@ -170,18 +167,9 @@ fn finish<D: Desk>(alloc: Global, words: &DetailWords, shown: &Shown, desk: &mut
 
 /// Keeps the page of what of the view stands in the window.
 pub(crate) fn detail<D: Desk>(alloc: Global, words: &DetailWords, desk: &mut D) -> PiecesOutcome
+    ensures run { IsAnswer (pieces_task (Some (details (detail_seen words.now)))) result.fault (D.state desk.old) (D.state desk.new) }
     ensures status { result.status ≡ status_of result.fault result.verdict }
     ensures none { result.verdict ≡ None }
-    ensures answer { (D.state desk.old).tells ≡ true → Ends (Details (D.state desk.old).files (detail_seen words.now)) result.fault }
-    ensures of_detail { IfSome result.fault (λ e. IsWriting e ⊎ IsOfDetail (detail_seen words.now) e) }
-    ensures order { (D.state desk.old).tells ≡ true → IfSome result.fault (DetailsInOrder (D.state desk.old).files (detail_seen words.now)) }
-    ensures reads { CountsReads result.fault (D.state desk.old).read_faults (D.state desk.new).read_faults }
-    ensures writes { CountsWrites result.fault (D.state desk.old).write_faults (D.state desk.new).write_faults }
-    ensures missing { (D.state desk.old).steady ≡ true →
-        IfSome result.fault (IsMissing (Details (D.state desk.old).files (detail_seen words.now))) }
-    ensures steady { (D.state desk.old).steady ≡ true → HasNoWriteFault result.fault }
-    ensures held { (D.state desk.old).steady ≡ true → HasFiles (D.state desk.old).files (details (detail_seen words.now)) →
-        (D.state desk.new).read_faults ≡ (D.state desk.old).read_faults }
     ensures drawn { HasDetail (Some (details (detail_seen words.now))) result.fault (is_some result.detail) }
     ensures files { (D.state desk.old).tells ≡ true →
         KeepsPage (Some (details (detail_seen words.now))) result.fault (pieces_told result.detail) (D.state desk.old).files (D.state desk.new).files }

@@ -1,12 +1,12 @@
 // Takes a job, a part and a list from a desk.
-ghost use Rattle.std.specs.Prelude.{◌≡◌, ◌≤◌, true, length, Some, IfErr, IsSome};
+ghost use Rattle.std.specs.Prelude.{◌≡◌, ◌≤◌, true, length, Some, IfErr};
 ghost use Rattle.std.specs.Result.{result_err};
 ghost use Rattle.desk.specs.Files.{OnlyReads};
 ghost use Rattle.job_file.specs.Seen.{job_seen};
 ghost use Rattle.solid_mesh.specs.Solids.{solid_part};
 ghost use Rattle.part_input.specs.Jobs.{TakesReadJob};
-ghost use Rattle.part_input.specs.Parts.{sample_size, HasSampleOr};
-ghost use Rattle.detail_view.specs.Faults.{fault_of, CountsReads, IsReading};
+ghost use Rattle.part_input.specs.Causes.{unread};
+ghost use Rattle.detail_view.specs.Faults.{cause_of, fault_of, CountsReads};
 ghost use Rattle.detail_view.specs.Steps.{Lifted, GivesPieces, IsMissing};
 ghost use Rattle.detail_view.specs.Run.{ReadsList, TakesPart, TakesReadList, IsOfJob, IsOfPartNamed, IsOfList};
 ghost use Rattle.detail_view.specs.inner.Judging.{GivesEntries};
@@ -42,8 +42,6 @@ pub(crate) fn take_job<D: Desk>(
     ensures reads { CountsReads (result_err result) (D.state desk.old).read_faults (D.state desk.new).read_faults }
     ensures missing { (D.state desk.old).steady ≡ true →
         IfErr result (IsMissing (Lifted (TakesReadJob (D.state desk.old).files (Some name.now)))) }
-    ensures held { (D.state desk.old).steady ≡ true → IsSome ((D.state desk.old).files name.now) →
-        (D.state desk.new).read_faults ≡ (D.state desk.old).read_faults }
     ensures changes { OnlyReads (D.state desk.old) (D.state desk.new) }
 {
     match fetch_job(alloc, name, desk) {
@@ -65,8 +63,6 @@ pub(crate) fn take_solid<D: Desk>(
     ensures reads { CountsReads (result_err result) (D.state desk.old).read_faults (D.state desk.new).read_faults }
     ensures missing { (D.state desk.old).steady ≡ true →
         IfErr result (IsMissing (TakesPart (D.state desk.old).files name.now (job_seen job.now))) }
-    ensures held { (D.state desk.old).steady ≡ true → HasSampleOr (sample_size name.now) (D.state desk.old).files name.now →
-        (D.state desk.new).read_faults ≡ (D.state desk.old).read_faults }
     ensures changes { OnlyReads (D.state desk.old) (D.state desk.new) }
 {
     match fetch_solid(alloc, name, job, desk) {
@@ -80,7 +76,7 @@ fn list_of(alloc: Global, bytes: &[u8]) -> Result<PieceList, PiecesFault>
     requires { length bytes.now ≤ 16777216 }
     ensures answer { GivesEntries (ReadsList bytes.now) result }
     ensures of_list { IfErr result IsOfList }
-    ensures no_read { IfErr result (λ e. IsReading e → ⊥) }
+    ensures no_read { IfErr result (λ e. cause_of e ≡ unread → ⊥) }
 {
     match read_list(alloc, bytes) {
         Ok(list) => Ok(list),
@@ -99,8 +95,6 @@ pub(crate) fn take_list<D: Desk>(
     ensures of_list { IfErr result IsOfList }
     ensures reads { CountsReads (result_err result) (D.state desk.old).read_faults (D.state desk.new).read_faults }
     ensures missing { (D.state desk.old).steady ≡ true → IfErr result (IsMissing (TakesReadList (D.state desk.old).files name.now)) }
-    ensures held { (D.state desk.old).steady ≡ true → IsSome ((D.state desk.old).files name.now) →
-        (D.state desk.new).read_faults ≡ (D.state desk.old).read_faults }
     ensures changes { OnlyReads (D.state desk.old) (D.state desk.new) }
 {
     match fetch_list(alloc, name, desk) {

@@ -1,24 +1,27 @@
--- The fault of a run is that of its steps, unless memory ran out.
-use Rattle.std.proofs.Common.{◌≡◌, ◌⊎◌, inl, inr, ℕ, List, Option, Some, None, IfSome, Result, Ok, Err, refl, subst}
+-- What is asked of a run of `draw`: its steps have one answer, and they miss no file that is there. And what it answers once its drawing is made.
+use Rattle.std.proofs.Common.{◌≡◌, ◌⊎◌, inl, inr, ℕ, List, Option, Some, None, IfSome, is_some, true≢false, Result, Ok, Err, refl, sym, subst}
+use Rattle.std.specs.Prelude.{IfNone, IsSome, IsSomeAnd}
 use Rattle.desk.specs.Files.{Files, Rose}
 use Rattle.draw_words.specs.Names.{Named, named_by}
 use Rattle.part_input.specs.Faults.{CountsReads}
 use Rattle.part_input.specs.Jobs.{TakesJob, ReadsJob, TakesReadJob, HasJobFile}
 use Rattle.part_input.specs.Parts.{TakesSolid}
-use Rattle.part_input.specs.Steps.{◌and_then◌, Refuses, IsAnswerOf, IsMissing}
+use Rattle.part_input.specs.Steps.{◌and_then◌, EndsOf, Refuses, IsAnswerOf, IsMissing}
+use Rattle.part_input.specs.Causes.{common}
 use Rattle.part_input.specs.declared.fault.Input.{Input}
 use Rattle.part_input.specs.declared.fault.Fault.{Fault}
 use Rattle.part_input.specs.declared.fault.Fault.TheVariants.{Usage, ReadFault, Job as JobUnread, NoPlotter, WriteFault, Memory}
-use Rattle.part_input.proofs.Answered.{IsOfNoDesk, of_steps, of_steady, uncounted, given, refused}
+use Rattle.part_input.proofs.Answered.{IsOfNoDesk, of_steps, given, refused}
+use Rattle.part_input.proofs.Causes.{memory_alone, read_only}
 use Rattle.part_input.proofs.Singles.{IsSingle}
 use Rattle.part_input.proofs.There.{never_then, not_read, job_there, part_there}
-use Rattle.draw_core.specs.Run.{HasPlotters, TakesMetJob, DrawsFiles, RunsDraw, HasFiles}
+use Rattle.draw_core.specs.Run.{AnswersDrawWords, HasPlotters, TakesMetJob, DrawsFiles, RunsDraw, RunsInOrder, HasFiles, draw_task}
 use Rattle.sheet_plan.specs.JobSheets.{Drawn}
 use Rattle.part_input.specs.Sheets.{PlansSheet}
 use Rattle.draw_core.specs.inner.Faults.{IsWriteOutcome}
 use Rattle.draw_core.proofs.OneAnswer.{one_answer}
-use Rattle.put_texts.specs.Faults.{CountsWrites, HasNoWriteFault}
-use Rattle.put_texts.proofs.Counting.{not_written}
+use Rattle.put_texts.specs.Faults.{CountsWrites, IsThereOf}
+use Rattle.put_texts.proofs.Runs.{IsLawful, settled_steps}
 
 -- ---- files that are there
 module _ (suffixes : List (List ℕ)) (files : Files) (input : Input) where
@@ -37,6 +40,20 @@ module _ (suffixes : List (List ℕ)) (files : Files) (input : Input) where
   never_missing words there (inl (e, none)) = not_read input Usage refl e
   never_missing words there (inr (named, is, h)) = files_there named (subst (λ (o : Option Named). IfSome o (HasFiles files)) is there) h
 
+pub lawful : (suffixes words : List (List ℕ)) → IsLawful (draw_task suffixes words)
+lawful suffixes words = record {
+  is_wanting = refl;
+  alone = memory_alone;
+  may_want = tt;
+  want_in_order = λ files. tt;
+  settled = λ files fault is. settled_steps (draw_task suffixes words) files (one_answer suffixes words files) fault is;
+  there = λ files there f unread h. read_only (λ (f : Fault). RunsDraw suffixes words files (Err f) → ⊥) (λ input. never_missing suffixes files input words there) f unread h;
+}
+
+pub some_named : (named : Option Named) (P : Named → Type 0) → IsSomeAnd named P → IsSome named
+some_named None P h = absurd (h)
+some_named (Some names) P h = refl
+
 module _ (suffixes words : List (List ℕ)) (files : Files) where
   abbrev Steps : Result Drawn Fault → Type 0
   Steps = RunsDraw suffixes words files
@@ -46,6 +63,12 @@ module _ (suffixes words : List (List ℕ)) (files : Files) where
 
   -- ---- where the steps come to a drawing
   module _ (drawn : Drawn) (is : Steps (Ok drawn)) where
+    pub drawn_ends : (fault : Option Fault) → IfSome fault IsWriteOutcome → EndsOf common Steps fault
+    drawn_ends None h = (drawn, is)
+    drawn_ends (Some (WriteFault target)) h = (drawn, is)
+    drawn_ends (Some Memory) h = tt
+    drawn_ends (Some e) h = elim h [ ]
+
     -- a drawing that was kept
     pub drawn_counted : (fault : Option Fault) (old new : ℕ) → IfSome fault IsWriteOutcome → CountsWrites fault old new → (Rose old new → ⊥) → IsAnswerOf Steps fault
     drawn_counted None old new h counts none = given Steps one drawn None is (inl refl)
@@ -53,25 +76,43 @@ module _ (suffixes words : List (List ℕ)) (files : Files) where
     drawn_counted (Some (WriteFault target)) old new h counts none = absurd (none counts)
     drawn_counted (Some e) old new h counts none = elim h [ ]
 
-    pub drawn_steady : (fault : Option Fault) → IfSome fault IsWriteOutcome → HasNoWriteFault fault → IsAnswerOf Steps fault
-    drawn_steady None h w = given Steps one drawn None is (inl refl)
-    drawn_steady (Some Memory) h w = given Steps one drawn (Some Memory) is (inr refl)
-    drawn_steady (Some (WriteFault target)) h w = absurd w
-    drawn_steady (Some e) h w = elim h [ ]
-
   -- ---- where they were refused, and the warning may have found no memory
-  module _ (e : Fault) (fault : Option Fault) (said : (fault ≡ Some e) ⊎ (fault ≡ Some Memory)) where
-    pub refused_counted : (old new : ℕ) → Refuses Steps e → HasNoWriteFault (Some e) → CountsReads (Some e) old new → (Rose old new → ⊥) → IsAnswerOf Steps fault
-    refused_counted old new h w counts none = refused Steps one e fault said (of_steps Steps e (uncounted e old new (not_written e w) counts none) h)
+  pub refused_unread : (e : Fault) (fault : Option Fault) → (fault ≡ Some e) ⊎ (fault ≡ Some Memory) → Refuses Steps e → IsOfNoDesk e → IsAnswerOf Steps fault
+  refused_unread e fault said h none = refused Steps one e fault said (of_steps Steps e none h)
 
-    pub refused_unread : Refuses Steps e → IsOfNoDesk e → IsAnswerOf Steps fault
-    refused_unread h none = refused Steps one e fault said (of_steps Steps e none h)
+-- what is left once the drawing is made
+pub drawn_may : (named : Option Named) → IsSome named → (fault : Option Fault) → IfSome fault IsWriteOutcome → AnswersDrawWords named fault
+drawn_may named some None h = some
+drawn_may named some (Some (WriteFault target)) h = some
+drawn_may named some (Some Memory) h = tt
+drawn_may named some (Some e) h = elim h [ ]
 
-    pub refused_steady : Refuses Steps e → HasNoWriteFault (Some e) → IsMissing Steps e → IsAnswerOf Steps fault
-    refused_steady h w m = refused Steps one e fault said (of_steady Steps e (not_written e w) m h)
+pub drawn_in_order : (suffixes words : List (List ℕ)) (files : Files) (fault : Option Fault) → IfSome fault IsWriteOutcome → IfSome fault (RunsInOrder suffixes words files)
+drawn_in_order suffixes words files None h = tt
+drawn_in_order suffixes words files (Some (WriteFault target)) h = tt
+drawn_in_order suffixes words files (Some Memory) h = tt
+drawn_in_order suffixes words files (Some e) h = elim h [ ]
 
-  -- ---- where the files that are named are there
-  module _ (there : IfSome (named_by words) (HasFiles files)) where
-    pub no_read : (e : Fault) (old new : ℕ) → IsMissing Steps e → CountsReads (Some e) old new → new ≡ old
-    no_read (ReadFault input) old new m counts = absurd (never_missing suffixes files input words there m)
-    no_read e old new m counts = counts
+pub drawn_reads : (fault : Option Fault) (old new : ℕ) → IfSome fault IsWriteOutcome → new ≡ old → CountsReads fault old new
+drawn_reads None old new h same = same
+drawn_reads (Some (WriteFault target)) old new h same = same
+drawn_reads (Some Memory) old new h same = same
+drawn_reads (Some e) old new h same = elim h [ ]
+
+pub drawn_misses_none : {A : Type 0} (steps : Result A Fault → Type 0) (fault : Option Fault) → IfSome fault IsWriteOutcome → IfSome fault (IsMissing steps)
+drawn_misses_none steps None h = tt
+drawn_misses_none steps (Some (WriteFault target)) h = tt
+drawn_misses_none steps (Some Memory) h = tt
+drawn_misses_none steps (Some e) h = elim h [ ]
+
+pub drawn_refuses : {A : Type 0} (steps : Result A Fault → Type 0) (fault : Option Fault) → IfSome fault IsWriteOutcome → IfSome fault (Refuses steps)
+drawn_refuses steps None h = tt
+drawn_refuses steps (Some (WriteFault target)) h = tt
+drawn_refuses steps (Some Memory) h = tt
+drawn_refuses steps (Some e) h = elim h [ ]
+
+-- a run without a fault has a drawing
+pub none_undrawn : {T : Type 0} (fault : Option Fault) (made : Option T) (Q : Type 0) → IsThereOf common fault (is_some made) → IfNone fault (IfNone made Q)
+none_undrawn None None Q there = absurd (true≢false (sym there))
+none_undrawn None (Some d) Q there = tt
+none_undrawn (Some f) made Q there = tt

@@ -9,7 +9,7 @@ use Rattle.part_input.specs.declared.fault.Fault.{Fault}
 use Rattle.draw_core.specs.inner.Kept.{WritesRack}
 use Rattle.drawing.specs.declared.drawn.Drawing.{Drawing}
 use Rattle.drawing.specs.Drawing.{drawn_in}
-use Rattle.draw_core.specs.Drawing.{Writes, WritesNamed}
+use Rattle.draw_core.specs.Drawing.{Writes}
 use Rattle.sheet_plan.specs.JobSheets.{Drawn}
 
 pub made_of : (made : Option Drawing) (P : Drawn → Type 0) (x : Drawn) → IfSome made (λ d. drawn_in d ≡ x) → P x → IfSome made (λ d. P (drawn_in d))
@@ -19,7 +19,7 @@ made_of (Some d) P x e p = subst P (sym e) p
 -- the files of the rack's plotters are those of the plotters that were handed in, under the name that the words give
 pub writes_named : {B : Type 0} (plot_of : B → Plot) (all rack : List B) (named : Option Named) (out : List ℕ) (outputs : List (List ℕ)) (fault : Option Fault) (old new : Files) (made : Option Drawing)
     → IsSomeAnd named (λ names. out ≡ names.out) → IfSome made (λ d. d.job.outputs.items ≡ outputs) → AreChosen (λ b. (plot_of b).suffix) all outputs rack
-    → IfSome made (WritesRack plot_of rack fault old new out) → IfSome made (WritesNamed (map plot_of all) named fault old new)
+    → IfSome made (WritesRack plot_of rack fault old new out) → IfSome made (λ d. IsSomeAnd named (λ names. Writes (map plot_of all) fault old new names.out d))
 writes_named plot_of all rack named out outputs fault old new None there same chosen writes = tt
 writes_named plot_of all rack None out outputs fault old new (Some d) there same chosen writes = absurd (there)
 writes_named plot_of all rack (Some names) out outputs fault old new (Some d) there same chosen writes =

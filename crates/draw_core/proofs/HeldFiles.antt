@@ -1,6 +1,6 @@
 -- The names of a drawing's files differ, so that at the end each of them holds its bytes.
 use Rattle.std.proofs.Common.{◌≡◌, ◌≢◌, ◌<◌, ◌-◌, ℕ, suc, List, [], ◌∷◌, ◌++◌, All, AllPairs, length, take, drop, map, codes, Option, Some, None, Bool, true, false, true≢false, refl, sym, ap, ◌∙◌, subst, length-append, arith}
-use Rattle.std.specs.Prelude.{◌&&◌, not, nat_le, IsTrue, IfSome, if◌then◌else◌}
+use Rattle.std.specs.Prelude.{◌&&◌, not, nat_le, IsTrue, IfSome, IsSomeAnd, if◌then◌else◌}
 use Rattle.std.specs.List.{list_all}
 use Rattle.std.specs.Str.{bytes_eq}
 use Rattle.std.proofs.lemmas.List.{take-append-drop, append_cancel_left}
@@ -14,7 +14,7 @@ use Rattle.line_merge.proofs.Lists.{pairs_map}
 use Rattle.part_input.specs.declared.fault.Fault.{Fault}
 use Rattle.plot_rack.specs.Plotters.{Plot}
 use Rattle.sheet_plan.specs.declared.sheet.Stroke.{Stroke}
-use Rattle.draw_core.specs.Drawing.{plot_file, files_of, Writes, WritesNamed, Holds, HoldsNamed}
+use Rattle.draw_core.specs.Drawing.{plot_file, files_of, Writes, WritesNamed, Holds}
 use Rattle.draw_core.specs.Outputs.{File, KeepsAll, HoldsAll, stem_of, plot_name}
 use Rattle.drawing.specs.declared.drawn.Drawing.{Drawing}
 use Rattle.draw_core.proofs.Unmet.{and_left, and_right, not_true, outputs_differ}
@@ -91,9 +91,9 @@ holds plots old new out d writes =
     let (strokes, _, are) = writes.are_files in
     (writes.files, writes.are_files, held writes.files old new (subst (λ (files : List File). AllPairs (λ (a b : File). a.0 ≢ b.0) files) (sym are) (names_differ plots d strokes out)) writes.leaves)
 
-pub holds_named : (plots : List Plot) (named : Option Named) (fault : Option Fault) (old new : Files) (made : Option Drawing) → fault ≡ None
-    → IfSome made (WritesNamed plots named fault old new) → IfSome made (HoldsNamed plots named new)
-holds_named plots named fault old new None none writes = tt
-holds_named plots None fault old new (Some d) none writes = absurd (writes)
-holds_named plots (Some names) fault old new (Some d) none writes =
-    holds plots old new names.out d (subst (λ (f : Option Fault). Writes plots f old new names.out d) none writes)
+-- the files that a run leaves, and the bytes that each holds where there is no fault
+pub with_held : (plots : List Plot) (named : Option Named) (fault : Option Fault) (old new : Files) (made : Option Drawing)
+    → IfSome made (λ d. IsSomeAnd named (λ names. Writes plots fault old new names.out d)) → IfSome made (WritesNamed plots named fault old new)
+with_held plots named fault old new None writes = tt
+with_held plots None fault old new (Some d) writes = absurd (writes)
+with_held plots (Some names) fault old new (Some d) writes = (writes, λ none. holds plots old new names.out d (subst (λ (f : Option Fault). Writes plots f old new names.out d) none writes))

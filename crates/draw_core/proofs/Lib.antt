@@ -11,3 +11,4 @@ pub mod PlotFiles
 pub mod Saying
 pub mod StrokeLists
 pub mod Unmet
+pub mod Warned

@@ -36,13 +36,10 @@ pub record Writes (plots : List Plot) (fault : Option Fault) (old new : Files) (
   pub are_files : AreFilesOf plots d out files
   pub leaves : LeavesAll fault old new files
 
--- and the words name it
-abbrev pub WritesNamed : List Plot → Option Named → Option Fault → Files → Files → Drawing → Type 0
-WritesNamed plots named fault old new d = IsSomeAnd named (λ names. Writes plots fault old new names.out d)
-
 -- each of the drawing's files, of which the first has this name, is there with its bytes
 abbrev pub Holds : List Plot → Files → List ℕ → Drawing → Type 0
 Holds plots held out d = (files : List File) × AreFilesOf plots d out files × HoldsAll held files
 
-abbrev pub HoldsNamed : List Plot → Option Named → Files → Drawing → Type 0
-HoldsNamed plots named held d = IsSomeAnd named (λ names. Holds plots held names.out d)
+-- the words name it; and with no fault each of its files holds its bytes
+abbrev pub WritesNamed : List Plot → Option Named → Option Fault → Files → Files → Drawing → Type 0
+WritesNamed plots named fault old new d = IsSomeAnd named (λ names. Writes plots fault old new names.out d × (fault ≡ None → Holds plots new names.out d))

@@ -1,6 +1,6 @@
 -- The line that a fault is told by, and what a run warns of it.
-use Rattle.std.specs.Prelude.{◌≡◌, ◌++◌, ℕ, List, Option, Some, None, codes}
-use Rattle.desk.specs.Files.{AppendsFront}
+use Rattle.std.specs.Prelude.{◌≡◌, ◌++◌, ℕ, true, List, Option, Some, None, codes}
+use Rattle.desk.specs.Files.{DeskState, AppendsFront}
 use Rattle.fault_lines.specs.Lines.{fault_line as line_in}
 use Rattle.part_input.specs.declared.fault.Fault.{Fault}
 use Rattle.part_input.specs.declared.fault.Fault.TheVariants.{WriteFault}
@@ -22,3 +22,8 @@ Warns (Some fault) old new = AppendsFront old new (fault_line fault)
 abbrev pub WarnsWhole : Option Fault → List ℕ → List ℕ → Type 0
 WarnsWhole None old new = new ≡ old
 WarnsWhole (Some fault) old new = new ≡ old ++ fault_line fault
+
+-- nothing was warned, on a desk that tells that, and no warning failed
+pub record IsSilent (old new : DeskState) : Type 0 where
+  pub warned : old.tells_warned ≡ true → new.warned ≡ old.warned
+  pub faults : new.warn_faults ≡ old.warn_faults

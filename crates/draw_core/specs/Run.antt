@@ -1,18 +1,25 @@
 -- What a run answers, from its words and the files at entry: steps in order, each with what it gives and what it refuses.
-use Rattle.std.specs.Prelude.{◌≡◌, ◌⊎◌, ℕ, List, [], Option, Some, None, IsSome, IsSomeAnd, Result, Ok, Err, Bool, false, IsTrue}
-use Rattle.desk.specs.Files.{Files}
+use Rattle.std.specs.Prelude.{◌≡◌, ◌⊎◌, ℕ, List, [], Option, Some, None, IfSome, IsSome, IsSomeAnd, Result, Ok, Err}
+use Rattle.desk.specs.Files.{Files, DeskState, Rose}
 use Rattle.draw_words.specs.Names.{Named, named_by}
 use Rattle.geometry.specs.Parts.{Part}
 use Rattle.job_file.specs.Documents.{JobValues}
 use Rattle.part_input.specs.Jobs.{ReadsJob, TakesReadJob, IsOfUsualJob, HasJobFile}
 use Rattle.part_input.specs.Parts.{sample_size, MakesSample, TakesSolid, IsOfPart, HasSampleOr}
 use Rattle.part_input.specs.Sheets.{PlansSheet, IsOfSheet}
-use Rattle.part_input.specs.Steps.{◌and_then◌}
+use Rattle.part_input.specs.Causes.{common}
+use Rattle.part_input.specs.Faults.{status_of}
+use Rattle.part_input.specs.Steps.{◌and_then◌, Refuses, IsAnswerOf}
 use Rattle.sheet_plan.specs.JobSheets.{Drawn}
 use Rattle.part_input.specs.declared.fault.Input.{Input}
 use Rattle.part_input.specs.declared.fault.Input.TheVariants.{Job as TheJob, Part as ThePart}
 use Rattle.part_input.specs.declared.fault.Fault.{Fault}
 use Rattle.part_input.specs.declared.fault.Fault.TheVariants.{Usage, ReadFault, JobTooLong, Job as JobUnread, NoPlotter, WriteFault, Memory}
+use Rattle.drawing.specs.Drawing.{drawn_in}
+use Rattle.drawing.specs.declared.drawn.Drawing.{Drawing}
+use Rattle.put_texts.specs.Faults.{IsThereOf}
+use Rattle.put_texts.specs.Runs.{Run, Task}
+use Rattle.draw_core.specs.Lines.{fault_line}
 use Rattle.draw_core.specs.Outputs.{first_unmet}
 
 -- ---- the steps of a run
@@ -99,9 +106,31 @@ RunsInOrder suffixes words files fault = Unit {0}
 abbrev pub HasFiles : Files → Named → Type 0
 HasFiles files named = HasJobFile files named.job × HasSampleOr (sample_size named.part) files named.part
 
--- a drawing is there with status 0 and 8, may be there with status 9, and else is not
-abbrev pub HasDrawing : Option Fault → Bool → Type 0
-HasDrawing None there = IsTrue there
-HasDrawing (Some (WriteFault target)) there = IsTrue there
-HasDrawing (Some Memory) there = Unit {0}
-HasDrawing fault there = there ≡ false
+-- What the words alone say: as much of the drawing as they say without a file; and where they name no file to be read, the answer is
+-- that of the steps, whatever files there are, or want of memory, wherever no fault of writing was counted.
+pub record IsOfWordsAlone (suffixes words : List (List ℕ)) (fault : Option Fault) (made : Option Drawing) (old new : DeskState) : Type 0 where
+  pub words_drawn : IfSome made (λ d. IsSomeAnd (named_by words) (λ named. IsOfWords named (drawn_in d)))
+  pub words_answer : IfSome (named_by words) NamesNoFile → (files : Files) → IfSome fault (Refuses (RunsDraw suffixes words files))
+  pub words_complete : IfSome (named_by words) NamesNoFile → (files : Files) → (Rose old.write_faults new.write_faults → ⊥) → IsAnswerOf (RunsDraw suffixes words files) fault
+
+-- ---- a run
+-- what the words come to, with plotters of these suffixes
+abbrev pub draw_task : List (List ℕ) → List (List ℕ) → Task Fault Drawn
+draw_task suffixes words = record {
+  faults = common;
+  steps = RunsDraw suffixes words;
+  may = AnswersDrawWords (named_by words);
+  comes_to = RunsInOrder suffixes words;
+  has_files = λ files. IfSome (named_by words) (HasFiles files);
+  settles = λ files. IsAnswerOf (RunsDraw suffixes words files);
+}
+
+-- and what is made of that
+abbrev pub draw_run : List (List ℕ) → List (List ℕ) → Run Fault Drawing Drawn
+draw_run suffixes words = record {
+  task = draw_task suffixes words;
+  status = status_of;
+  makes = IsThereOf common;
+  given = drawn_in;
+  tells = λ old fault line. line ≡ fault_line fault;
+}

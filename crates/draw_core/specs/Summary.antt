@@ -2,7 +2,7 @@
 use Rattle.std.specs.Prelude.{◌≡◌, ℕ, Bool, true, false, List, [], ◌++◌, length, codes, count_by, sum_by, Option, Some, None}
 use Rattle.std.proofs.Common.{zero, suc}
 use Rattle.std.specs.Fmt.{decimal}
-use Rattle.desk.specs.Files.{AppendsFront}
+use Rattle.desk.specs.Files.{AppendsFront, DeskState}
 use Rattle.lattice.specs.declared.pieces.Style.{Style}
 use Rattle.lattice.specs.declared.pieces.Style.TheVariants.{Solid, Dashed, Chain}
 use Rattle.solid_mesh.specs.Solids.{solid_part}
@@ -65,3 +65,8 @@ Says (Some fault) old new line = new ≡ old
 
 abbrev pub SaysSummary : Option Fault → List ℕ → List ℕ → Drawing → Type 0
 SaysSummary fault old new d = (line : List ℕ) × IsSummaryOf d line × Says fault old new line
+
+-- what a run adds to what was said: of a drawing its summary, on a desk that tells what was said, and without one nothing
+abbrev pub SaysMade : Option Drawing → Option Fault → DeskState → DeskState → Type 0
+SaysMade (Some d) fault old new = old.tells_said ≡ true → SaysSummary fault old.said new.said d
+SaysMade None fault old new = new.said ≡ old.said

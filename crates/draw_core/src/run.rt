@@ -1,22 +1,23 @@
 // The top call: from the words and a desk to a drawing.
-ghost use Rattle.std.specs.Prelude.{◌≡◌, ◌⊎◌, true, None, Some, Ok, Err, map, IfOk, IfSome, IfNone, IsSomeAnd, is_some, string_bytes, ◌<◌};
-ghost use Rattle.desk.specs.Files.{Files, OnlyWarns, Rose};
+ghost use Rattle.std.specs.Prelude.{◌≡◌, ◌⊎◌, true, None, Some, map, IfOk, IfSome, IfNone, is_some, string_bytes};
+ghost use Rattle.desk.specs.Files.{OnlyWarns};
 ghost use Rattle.draw_words.specs.Names.{named_by};
 ghost use Rattle.draw_words.specs.Seen.{texts};
 ghost use Rattle.draw_core.specs.inner.Taken.{drawn_of, IsDrawn};
 ghost use Rattle.plot_rack.specs.Racks.{boxes_of};
-ghost use Rattle.part_input.specs.Faults.{CountsReads, status_of};
-ghost use Rattle.part_input.specs.Steps.{Refuses, IsAnswerOf, IsMissing};
-ghost use Rattle.draw_core.specs.Run.{RunsDraw, AnswersDrawWords, NamesNoFile, IsOfWords, RunsInOrder, HasDrawing, HasFiles};
+ghost use Rattle.part_input.specs.Causes.{common};
+ghost use Rattle.part_input.specs.Faults.{status_of};
+ghost use Rattle.draw_core.specs.Run.{IsOfWordsAlone, draw_run};
 ghost use Rattle.draw_core.specs.inner.Faults.{IsWriteOutcome};
-ghost use Rattle.draw_core.specs.Lines.{Warns, WarnsWhole};
+ghost use Rattle.draw_core.specs.Lines.{IsSilent, Warns, WarnsWhole};
 ghost use Rattle.fault_lines.specs.Lines.{NamesNothing};
 ghost use Rattle.drawing.specs.Drawing.{drawn_in, IsPlannedDrawing};
-ghost use Rattle.draw_core.specs.Drawing.{WritesNamed, HoldsNamed};
+ghost use Rattle.draw_core.specs.Drawing.{WritesNamed};
 ghost use Rattle.draw_core.specs.inner.Kept.{AreRackFiles, WritesRack};
-ghost use Rattle.draw_core.specs.Summary.{IsSummaryOf, SaysSummary};
-ghost use Rattle.put_texts.specs.Desks.{HearsAll, OnlyRuns, OnlyWrites};
-ghost use Rattle.put_texts.specs.Faults.{CountsWrites, HasNoWriteFault};
+ghost use Rattle.draw_core.specs.Summary.{IsSummaryOf, SaysMade, SaysSummary};
+ghost use Rattle.put_texts.specs.Desks.{HearsAll, OnlyWrites};
+ghost use Rattle.put_texts.specs.Faults.{CountsWrites, HasNoWriteFault, IsThereOf};
+ghost use Rattle.put_texts.specs.Runs.{IsRun};
 
 use crate::keep::write_all;
 use crate::lines::{MEMORY_LINE, draw_line};
@@ -145,7 +146,7 @@ fn write_drawing<D: Desk>(alloc: Global, taken: Taken, desk: &mut D) -> Outcome
     requires { IsDrawn taken }
     ensures status { result.status ≡ status_of result.fault }
     ensures fault { IfSome result.fault IsWriteOutcome }
-    ensures drawn { HasDrawing result.fault (is_some result.drawing) }
+    ensures drawn { IsThereOf common result.fault (is_some result.drawing) }
     ensures made { IfSome result.drawing (λ d. drawn_in d ≡ drawn_of taken) }
     ensures shows { IfSome result.drawing IsPlannedDrawing }
     ensures files { (D.state desk.old).tells ≡ true →
@@ -196,74 +197,22 @@ pub fn draw<D: Desk>(
     desk: &mut D,
     extras: Vec<Box<dyn Plotter>>,
 ) -> Outcome
-    // The answer is that of the run's steps, in their order.
-    ensures status { result.status ≡ status_of result.fault }
-    ensures answer { (D.state desk.old).tells ≡ true →
-        IfSome result.fault (Refuses (RunsDraw (map (λ b. (plot b).suffix) extras.items) (texts words.now) (D.state desk.old).files)) }
-    ensures words { AnswersDrawWords (named_by (texts words.now)) result.fault }
-    ensures order { (D.state desk.old).tells ≡ true →
-        IfSome result.fault (RunsInOrder (map (λ b. (plot b).suffix) extras.items) (texts words.now) (D.state desk.old).files) }
+    // It is a run of the steps that the words ask for, from the files at entry, with the plotters that are handed in.
+    ensures run { IsRun (draw_run (map (λ b. (plot b).suffix) extras.items) (texts words.now)) result.status result.fault result.drawing (D.state desk.old) (D.state desk.new) }
 
-    // A fault of the desk is answered exactly where it counted one.
-    ensures reads { CountsReads result.fault (D.state desk.old).read_faults (D.state desk.new).read_faults }
-    ensures writes { CountsWrites result.fault (D.state desk.old).write_faults (D.state desk.new).write_faults }
+    // On every desk the words say as much as they say without a file.
+    ensures words { IsOfWordsAlone (map (λ b. (plot b).suffix) extras.items) (texts words.now) result.fault result.drawing (D.state desk.old) (D.state desk.new) }
 
-    // A steady desk fails only where a file is missing.
-    ensures missing { (D.state desk.old).steady ≡ true →
-        IfSome result.fault (IsMissing (RunsDraw (map (λ b. (plot b).suffix) extras.items) (texts words.now) (D.state desk.old).files)) }
-    ensures steady { (D.state desk.old).steady ≡ true → HasNoWriteFault result.fault }
-
-    // Where no fault of reading or writing was counted, the answer is that of the steps, or want of memory.
-    ensures complete { (D.state desk.old).tells ≡ true →
-        (Rose (D.state desk.old).read_faults (D.state desk.new).read_faults → ⊥) →
-        (Rose (D.state desk.old).write_faults (D.state desk.new).write_faults → ⊥) →
-        IsAnswerOf (RunsDraw (map (λ b. (plot b).suffix) extras.items) (texts words.now) (D.state desk.old).files) result.fault }
-
-    // On a steady desk it is so whatever was counted.
-    ensures exact { (D.state desk.old).steady ≡ true →
-        IsAnswerOf (RunsDraw (map (λ b. (plot b).suffix) extras.items) (texts words.now) (D.state desk.old).files) result.fault }
-
-    // On every desk the words say as much of the drawing as they say without a file: of the job where they name none, of the part
-    // where it is a sample; and where both is so, the answer is that of the steps, whatever files there are, or want of memory,
-    // wherever no fault of writing was counted.
-    ensures words_drawn { IfSome result.drawing (λ d. IsSomeAnd (named_by (texts words.now)) (λ named. IsOfWords named (drawn_in d))) }
-    ensures words_answer { IfSome (named_by (texts words.now)) NamesNoFile → (files : Files) →
-        IfSome result.fault (Refuses (RunsDraw (map (λ b. (plot b).suffix) extras.items) (texts words.now) files)) }
-    ensures words_complete { IfSome (named_by (texts words.now)) NamesNoFile → (files : Files) →
-        (Rose (D.state desk.old).write_faults (D.state desk.new).write_faults → ⊥) →
-        IsAnswerOf (RunsDraw (map (λ b. (plot b).suffix) extras.items) (texts words.now) files) result.fault }
-
-    // A steady desk that has the files that the words name to be read counts no fault.
-    ensures held { (D.state desk.old).steady ≡ true →
-        IfSome (named_by (texts words.now)) (HasFiles (D.state desk.old).files) →
-        ((D.state desk.new).read_faults ≡ (D.state desk.old).read_faults) × ((D.state desk.new).write_faults ≡ (D.state desk.old).write_faults) }
-
-    // The drawing shows the part by the job, from the texts at entry, and its text is what the file holds.
-    ensures drawn { HasDrawing result.fault (is_some result.drawing) }
-    ensures part { (D.state desk.old).tells ≡ true →
-        IfSome result.drawing (λ d. RunsDraw (map (λ b. (plot b).suffix) extras.items) (texts words.now) (D.state desk.old).files (Ok (drawn_in d))) }
+    // The drawing shows the part by the job; its text is what its file holds, and beside it stand those of the plotters.
     ensures shows { IfSome result.drawing IsPlannedDrawing }
     ensures files { (D.state desk.old).tells ≡ true →
         IfSome result.drawing (WritesNamed (map (λ b. plot b) extras.items) (named_by (texts words.now)) result.fault (D.state desk.old).files (D.state desk.new).files) }
-    ensures holds { (D.state desk.old).tells ≡ true → result.fault ≡ None →
-        IfSome result.drawing (HoldsNamed (map (λ b. plot b) extras.items) (named_by (texts words.now)) (D.state desk.new).files) }
-    ensures untouched { IfNone result.drawing ((D.state desk.new).files ≡ (D.state desk.old).files) }
-    ensures firm { (D.state desk.old).firm ≡ true → result.fault ≡ Some Fault.Memory → result.drawing ≡ None }
 
-    // Of a drawing it says the summary, after its files.
-    ensures said { (D.state desk.old).tells_said ≡ true →
-        IfSome result.drawing (SaysSummary result.fault (D.state desk.old).said (D.state desk.new).said) }
-    ensures unsaid { IfNone result.drawing ((D.state desk.new).said ≡ (D.state desk.old).said) }
+    // Of a drawing it says the summary, after its files, and else nothing.
+    ensures said { SaysMade result.drawing result.fault (D.state desk.old) (D.state desk.new) }
 
-    // Of a fault it warns once, by its line, and with none not at all.
-    ensures warned { (D.state desk.old).tells_warned ≡ true →
-        Warns result.fault (D.state desk.old).warned (D.state desk.new).warned }
-    ensures whole { HearsAll (D.state desk.old) (D.state desk.new) →
-        WarnsWhole result.fault (D.state desk.old).warned (D.state desk.new).warned }
-    ensures quiet { IfNone result.fault ((D.state desk.new).warn_faults ≡ (D.state desk.old).warn_faults) }
-
-    // Nothing else of the desk changes.
-    ensures changes { OnlyRuns (D.state desk.old) (D.state desk.new) }
+    // Without a fault it doesn't warn.
+    ensures quiet { IfNone result.fault (IsSilent (D.state desk.old) (D.state desk.new)) }
 {
     match take(alloc, words, desk, extras) {
         Ok(taken) => write_drawing(alloc, taken, desk),

@@ -14,7 +14,7 @@ use Rattle.part_input.specs.Parts.{ReadsText, TakesSoupOr, WeldsPart}
 use Rattle.part_input.specs.Reading.{ReadsPartText}
 use Rattle.part_input.specs.declared.fault.Fault.{Fault}
 use Rattle.part_input.proofs.Singles.{none_some, not_both, same_some, same_value, text_one}
-use Rattle.put_texts.specs.Faults.{common}
+use Rattle.part_input.specs.Causes.{common}
 use Rattle.put_texts.specs.Order.{KeepsTexts}
 use Rattle.weld.specs.Raw.{Raw}
 use Rattle.weld.specs.Welds.{proper_of}

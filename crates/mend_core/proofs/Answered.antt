@@ -1,81 +1,92 @@
--- The fault of a run is an answer to what it takes, unless memory ran out.
-use Rattle.std.proofs.Common.{◌≡◌, inl, inr, ℕ, List, Option, Some, None, IfSome, Result, Ok, Err, refl, sym, subst}
-use Rattle.desk.specs.Files.{Files, Rose}
+-- What is asked of a run of `mend`: an answer of its steps answers to what it takes, and they miss no file that is there.
+use Rattle.std.proofs.Common.{◌≡◌, inl, inr, ℕ, Option, Some, None, Result, Ok, Err, refl, sym, ap, subst}
+use Rattle.dec_text.specs.declared.number.Length.TheVariants.{Millimetre}
+use Rattle.desk.specs.Files.{Files}
 use Rattle.geometry.specs.Parts.{Part}
-use Rattle.mend_core.specs.Mending.{Made, IsPartRefused}
-use Rattle.mend_core.specs.Run.{AnswersTaken, IsAnswerTo, IsOfSurface, MendsAsked, RunsMend, Takes}
+use Rattle.mend_core.specs.Mending.{Made, Mends, IsPartRefused}
+use Rattle.mend_core.specs.Run.{AnswersTaken, HasFilesAsked, IsAnswerTo, IsOfSurface, MendsPart, RunsMend, Takes, TakesPart, mend_task}
 use Rattle.mend_core.proofs.OneAnswer.{one_taking}
-use Rattle.mend_words.specs.Names.{Asks, help, version, mend, asked_by}
-use Rattle.part_input.specs.Faults.{CountsReads}
-use Rattle.part_input.specs.Steps.{Refuses, IsMissing}
+use Rattle.mend_words.specs.Names.{Asks, Named, help, version, mend}
+use Rattle.part_input.specs.Parts.{sample_size}
 use Rattle.part_input.specs.declared.fault.Fault.{Fault}
-use Rattle.part_input.specs.declared.fault.Fault.TheVariants.{ReadFault, WriteFault, Memory}
-use Rattle.part_input.proofs.Answered.{IsOfSteps, of_steps, of_steady}
-use Rattle.part_input.proofs.Singles.{not_both}
-use Rattle.put_texts.specs.Faults.{CountsWrites, HasNoWriteFault}
-use Rattle.put_texts.proofs.Counting.{not_written}
-use Rattle.put_texts.proofs.Ends.{ComesToSome}
+use Rattle.part_input.specs.declared.fault.Fault.TheVariants.{Usage, ReadFault, Nothing, Mesh, Memory}
+use Rattle.part_input.specs.declared.fault.Input.{Input}
+use Rattle.part_input.proofs.Causes.{memory_alone, read_only}
+use Rattle.part_input.proofs.Singles.{not_both, same_fault}
+use Rattle.part_input.proofs.There.{never_then, not_read, soup_there}
+use Rattle.put_texts.proofs.Runs.{IsLawful, IsOfSteps}
 
+-- ---- answers
 -- a refusal of the surface is one for its surface
 surface : (limit : ℕ) (given : Part) (e : Fault) → IsPartRefused limit given e → IsOfSurface e
 surface limit given e (inl (same, _)) = subst IsOfSurface (sym same) tt
 surface limit given e (inr (fault, same, _)) = subst IsOfSurface (sym same) tt
 
-module _ (words : List (List ℕ)) (files : Files) where
-  -- what answers to one thing that was taken answers to each
-  by_taken : (r s : Result (Option Part) Fault) → Takes words files r → Takes words files s → (fault : Option Fault) → AnswersTaken r fault → AnswersTaken s fault
-  by_taken r s a b fault h = subst (λ (t : Result (Option Part) Fault). AnswersTaken t fault) (one_taking words files r s a b) h
+-- what answers to one thing that was taken answers to each
+by_taken : (asked : Option Asks) (files : Files) (r s : Result (Option Part) Fault) → Takes asked files r → Takes asked files s → (fault : Option Fault) → AnswersTaken r fault → AnswersTaken s fault
+by_taken asked files r s a b fault h = subst (λ (t : Result (Option Part) Fault). AnswersTaken t fault) (one_taking asked files r s a b) h
 
-  -- want of memory
-  short_of : (r : Result (Option Part) Fault) → AnswersTaken r (Some Memory)
-  short_of (Ok None) = inr refl
-  short_of (Ok (Some part)) = inr (inl refl)
-  short_of (Err e) = inr refl
+-- want of memory
+short_of : (r : Result (Option Part) Fault) → AnswersTaken r (Some Memory)
+short_of (Ok None) = inr refl
+short_of (Ok (Some part)) = inr (inl refl)
+short_of (Err e) = inr refl
 
-  -- something was made
-  some_of : (o : Option Part) → AnswersTaken (Ok o) None
-  some_of None = inl refl
-  some_of (Some part) = inl refl
+-- something was made
+some_of : (o : Option Part) → AnswersTaken (Ok o) None
+some_of None = inl refl
+some_of (Some part) = inl refl
 
-  taken : (asks : Asks) → asked_by words ≡ Some asks → (x : Option Made) → MendsAsked files asks (Ok x) → (o : Option Part) × Takes words files (Ok o)
-  taken help is x h = (None, (help, is, refl))
-  taken version is x h = (None, (version, is, refl))
-  taken (mend named) is x (made, (part, read, mended), same) = (Some part, (mend named, is, (part, read, refl)))
+taken : (asked : Option Asks) (files : Files) (x : Option Made) → RunsMend asked files (Ok x) → (o : Option Part) × Takes asked files (Ok o)
+taken None files x h = absurd (not_both x Usage h)
+taken (Some help) files x h = (None, refl)
+taken (Some version) files x h = (None, refl)
+taken (Some (mend named)) files x (made, (part, read, mended), same) = (Some part, (part, read, refl))
 
-  given : (x : Option Made) → RunsMend words files (Ok x) → IsAnswerTo (Takes words files) None
-  given x (asks, is, h) r also =
-      let (o, so) = taken asks is x h in
-      by_taken (Ok o) r so also None (some_of o)
+-- a refusal
+not_given : {A : Type 0} (x : A) (e : Fault) → Err e ≡ Ok x → ⊥
+not_given x e h = not_both x e (sym h)
 
-  -- a refusal
-  not_given : {A : Type 0} (x : A) (e : Fault) → Err e ≡ Ok x → ⊥
-  not_given x e h = not_both x e (sym h)
+refused : (asked : Option Asks) (files : Files) (e : Fault) → RunsMend asked files (Err e) → IsAnswerTo (Takes asked files) (Some e)
+refused None files e h r also =
+    let no : Option Made = None in
+    let is : e ≡ Usage = same_fault {A = Option Made} e Usage h in
+    by_taken None files (Err e) r (ap Err is) also (Some e) (inl refl)
+refused (Some help) files e h r also = absurd (not_given None e h)
+refused (Some version) files e h r also = absurd (not_given None e h)
+refused (Some (mend named)) files e (inl (inl h)) r also = by_taken (Some (mend named)) files (Err e) r (inl h) also (Some e) (inl refl)
+refused (Some (mend named)) files e (inl (inr (part, read, (unsound, why)))) r also =
+    by_taken (Some (mend named)) files (Ok (Some part)) r (part, read, refl) also (Some e) (inr (inr (unsound, surface named.limit part e why)))
+refused (Some (mend named)) files e (inr (made, _, h)) r also = absurd (not_given (Some made) e h)
 
-  refused_asked : (asks : Asks) → asked_by words ≡ Some asks → (e : Fault) → MendsAsked files asks (Err e) → IsAnswerTo (Takes words files) (Some e)
-  refused_asked help is e h r also = absurd (not_given None e h)
-  refused_asked version is e h r also = absurd (not_given None e h)
-  refused_asked (mend named) is e (inl (inl h)) r also = by_taken (Err e) r (inr (mend named, is, inl h)) also (Some e) (inl refl)
-  refused_asked (mend named) is e (inl (inr (part, read, (unsound, why)))) r also =
-      by_taken (Ok (Some part)) r (mend named, is, (part, read, refl)) also (Some e) (inr (inr (unsound, surface named.limit part e why)))
-  refused_asked (mend named) is e (inr (made, _, h)) r also = absurd (not_given (Some made) e h)
+answered : (asked : Option Asks) (files : Files) (fault : Option Fault) → IsOfSteps (mend_task asked) files fault → IsAnswerTo (Takes asked files) fault
+answered asked files None (x, is) r also = let (o, so) = taken asked files x is in by_taken asked files (Ok o) r so also None (some_of o)
+answered asked files (Some e) (inl h) r also = refused asked files e h r also
+answered asked files (Some e) (inr want) r also = subst (λ (f : Fault). AnswersTaken r (Some f)) (sym want) (short_of r)
 
-  refused : (e : Fault) → RunsMend words files (Err e) → IsAnswerTo (Takes words files) (Some e)
-  refused e (inl h) r also = by_taken (Err e) r (inl h) also (Some e) (inl refl)
-  refused e (inr (asks, is, h)) r also = refused_asked asks is e h r also
+-- ---- files that are there
+mends_no_reading : (limit : ℕ) (given : Part) (input : Input) → IsPartRefused limit given (ReadFault input) → ⊥
+mends_no_reading limit given input (inl (same, _)) = not_read input Nothing refl same
+mends_no_reading limit given input (inr (fault, same, _)) = not_read input (Mesh fault) refl same
 
-  by_steps : (e : Fault) → IsOfSteps (RunsMend words files) e → IsAnswerTo (Takes words files) (Some e)
-  by_steps e (inl h) r also = refused e h r also
-  by_steps e (inr want) r also = subst (λ (f : Fault). AnswersTaken r (Some f)) (sym want) (short_of r)
+never_missing_part : (files : Files) (named : Named) (input : Input) → HasFilesAsked files (Some (mend named)) → MendsPart files named (Err (ReadFault input)) → ⊥
+never_missing_part files named input there =
+    never_then (TakesPart files named) (Mends named.limit) (ReadFault input) (soup_there files input (sample_size named.part) named.part named.decimals Millimetre there)
+    (λ part h. mends_no_reading named.limit part input h.1)
 
-  -- no fault of reading or writing was counted
-  pub answered : (fault : Option Fault) (read read' write write' : ℕ) → ComesToSome (RunsMend words files) fault → IfSome fault (Refuses (RunsMend words files)) → CountsReads fault read read' → CountsWrites fault write write'
-      → (Rose read read' → ⊥) → (Rose write write' → ⊥) → IsAnswerTo (Takes words files) fault
-  answered None read read' write write' some h reads writes no_reads no_writes = given some.0 some.1
-  answered (Some (WriteFault target)) read read' write write' some h reads writes no_reads no_writes = absurd (no_writes writes)
-  answered (Some (ReadFault input)) read read' write write' some h reads writes no_reads no_writes = absurd (no_reads reads)
-  answered (Some e) read read' write write' some h reads writes no_reads no_writes = by_steps e (of_steps (RunsMend words files) e tt h)
+never_missing : (asked : Option Asks) (files : Files) (input : Input) → HasFilesAsked files asked → RunsMend asked files (Err (ReadFault input)) → ⊥
+never_missing None files input there h = not_read input Usage refl (same_fault {A = Option Made} (ReadFault input) Usage h)
+never_missing (Some help) files input there h = not_given None (ReadFault input) h
+never_missing (Some version) files input there h = not_given None (ReadFault input) h
+never_missing (Some (mend named)) files input there (inl h) = never_missing_part files named input there h
+never_missing (Some (mend named)) files input there (inr (made, _, h)) = not_given (Some made) (ReadFault input) h
 
-  -- on a steady desk
-  pub steadily : (fault : Option Fault) → ComesToSome (RunsMend words files) fault → IfSome fault (Refuses (RunsMend words files)) → IfSome fault (IsMissing (RunsMend words files)) → HasNoWriteFault fault → IsAnswerTo (Takes words files) fault
-  steadily None some h m w = given some.0 some.1
-  steadily (Some e) some h m w = by_steps e (of_steady (RunsMend words files) e (not_written e w) m h)
+pub lawful : (asked : Option Asks) → IsLawful (mend_task asked)
+lawful asked = record {
+  is_wanting = refl;
+  alone = memory_alone;
+  may_want = tt;
+  want_in_order = λ files. tt;
+  settled = answered asked;
+  there = λ files there f unread h. read_only (λ (f : Fault). RunsMend asked files (Err f) → ⊥) (λ input. never_missing asked files input there) f unread h;
+}

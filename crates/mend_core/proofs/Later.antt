@@ -2,17 +2,16 @@
 use Rattle.std.proofs.Common.{◌≡◌, ℕ, ◌++◌, List, Option, None, Some, ap, subst, ◌∙◌}
 use Rattle.std.specs.Prelude.{IfSome, IfNone}
 use Rattle.desk.specs.Files.{Files, DeskState, AppendsFront, OnlyReads}
-use Rattle.mend_core.specs.Lines.{mend_line, Warns, WarnsWhole}
 use Rattle.mend_core.specs.Mending.{Made}
-use Rattle.mend_core.specs.Seen.{made_seen}
+use Rattle.mend_core.specs.Run.{mend_run}
 use Rattle.mend_core.specs.Telling.{told_text}
 use Rattle.mend_core.specs.Writing.{Writes, summary_way}
-use Rattle.mend_core.specs.declared.made.Mended.{Mended}
 use Rattle.mend_words.specs.Names.{Asks, Named}
 use Rattle.part_input.specs.declared.fault.Fault.{Fault}
-use Rattle.put_texts.specs.Faults.{common}
+use Rattle.part_input.specs.Causes.{common}
 use Rattle.put_texts.specs.Noting.{Notes, NotesWhole}
 use Rattle.put_texts.specs.Order.{InOrder, KeepsText, KeepsTextPart, SaysText, SaysTextPart, SparesFile, SparesWord}
+use Rattle.put_texts.specs.Runs.{WarnsBy, WarnsWholeBy}
 use Rattle.put_texts.proofs.Ends.{heard_later}
 
 module _ (old between new : DeskState) (same : OnlyReads old between) where
@@ -20,17 +19,17 @@ module _ (old between new : DeskState) (same : OnlyReads old between) where
   warned_same = ap (λ (s : DeskState). s.warned) same
 
   -- ---- warnings
-  pub warns_from : (asked : Option Asks) (fault : Option Fault) → IfSome fault (Warns asked between new) → IfSome fault (Warns asked old new)
+  pub warns_from : (asked : Option Asks) (fault : Option Fault) → IfSome fault (WarnsBy (mend_run asked).tells between new) → IfSome fault (WarnsBy (mend_run asked).tells old new)
   warns_from asked None h = tt
-  warns_from asked (Some f) h = subst (λ (w : List ℕ). AppendsFront w new.warned (mend_line asked f)) warned_same h
+  warns_from asked (Some f) (line, is, front) = (line, is, subst (λ (w : List ℕ). AppendsFront w new.warned line) warned_same front)
 
-  pub warns_whole_from : (asked : Option Asks) (fault : Option Fault) → IfSome fault (WarnsWhole asked between new) → IfSome fault (WarnsWhole asked old new)
+  pub warns_whole_from : (asked : Option Asks) (fault : Option Fault) → IfSome fault (WarnsWholeBy (mend_run asked).tells between new) → IfSome fault (WarnsWholeBy (mend_run asked).tells old new)
   warns_whole_from asked None h = tt
-  warns_whole_from asked (Some f) h = subst (λ (w : List ℕ). new.warned ≡ w ++ mend_line asked f) warned_same h
+  warns_whole_from asked (Some f) (line, is, all) = (line, is, subst (λ (w : List ℕ). new.warned ≡ w ++ line) warned_same all)
 
   -- ---- what is written
   module _ (named : Named) (fault : Option Fault) where
-    writes_from : (made : Made) → Writes named fault between new made → Writes named fault old new made
+    pub writes_from : (made : Made) → Writes named fault between new made → Writes named fault old new made
     writes_from made w =
         let files = ap (λ (s : DeskState). s.files) same in
         let said = ap (λ (s : DeskState). s.said) same in
@@ -48,7 +47,3 @@ module _ (old between new : DeskState) (same : OnlyReads old between) where
           noted = λ told. subst (λ (t : List ℕ). IfNone fault (Notes (summary_way named.out) (told_text made.told) t new.warned)) warned_same (w.noted (ap (λ (s : DeskState). s.tells_warned) same ∙ told));
           noted_whole = λ hears. subst (λ (t : List ℕ). IfNone fault (NotesWhole (summary_way named.out) (told_text made.told) t new.warned)) warned_same (w.noted_whole (heard_later old between new same hears));
         }
-
-    pub all_from : (m : Option Mended) → IfSome m (λ m. Writes named fault between new (made_seen m)) → IfSome m (λ m. Writes named fault old new (made_seen m))
-    all_from None h = tt
-    all_from (Some m) h = writes_from (made_seen m) h

@@ -6,3 +6,4 @@ pub mod Putting
 pub mod ReadLists
 pub mod Repairing
 pub mod Accepted
+pub mod Told

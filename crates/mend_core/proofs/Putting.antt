@@ -7,10 +7,10 @@ use Rattle.mend_words.specs.Names.{Goal, Named, said, file}
 use Rattle.part_input.specs.declared.fault.Fault.{Fault}
 use Rattle.part_input.specs.declared.fault.Fault.TheVariants.{WriteFault}
 use Rattle.part_input.specs.declared.fault.Target.TheVariants.{Out, Summary}
-use Rattle.put_texts.specs.Faults.{common}
+use Rattle.part_input.specs.Causes.{common}
 use Rattle.put_texts.specs.Order.{IsFaultAt, IsOfWay, aloud}
 use Rattle.put_texts.specs.Puts.{IsOfTexts}
-use Rattle.put_texts.proofs.Counting.{memory_only}
+use Rattle.part_input.proofs.Causes.{memory_only}
 use Rattle.put_texts.proofs.Putting.{by_fault, of_way}
 
 module _ (named : Named) (f : Fault) where
@@ -18,7 +18,7 @@ module _ (named : Named) (f : Fault) where
   of_summary said is = absurd is
   of_summary (file name) is = (refl, is)
 
-  of_writing : (part summary : List ℕ) → IsOfTexts common (texts_for named.out part summary) f → IsOfWriting named f
+  pub of_writing : (part summary : List ℕ) → IsOfTexts common (texts_for named.out part summary) f → IsOfWriting named f
   of_writing part summary (inl h) = by_fault common (IsOfWriting named) (WriteFault Out) tt (memory_only (IsOfWriting named) tt) f (of_way common (way_of named.out) (WriteFault Out) f h)
   of_writing part summary (inr (inl h)) =
       let (is, at) = of_summary named.out h in

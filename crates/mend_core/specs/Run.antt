@@ -1,12 +1,17 @@
 -- What a run answers, from its words and the files at entry: steps in order, each with what it gives and what it refuses.
-use Rattle.std.specs.Prelude.{◌≡◌, ◌⊎◌, ℕ, List, Option, Some, None, IfSome, IsSome, Result, Ok, Err, Bool, false, IsTrue}
+use Rattle.std.specs.Prelude.{◌≡◌, ◌⊎◌, ℕ, List, Option, Some, None, IfSome, IsSome, Result, Ok, Err, Bool, false}
 use Rattle.dec_text.specs.declared.number.Length.TheVariants.{Millimetre}
 use Rattle.desk.specs.Files.{Files}
 use Rattle.geometry.specs.Parts.{Part}
 use Rattle.geometry.specs.Sound.{IsSound}
+use Rattle.mend_core.specs.Lines.{mend_line}
 use Rattle.mend_core.specs.Mending.{Made, Mends, IsOfMending}
+use Rattle.mend_core.specs.Seen.{made_seen}
 use Rattle.mend_core.specs.Writing.{AsksMendAnd, IsOfTarget}
-use Rattle.mend_words.specs.Names.{Asks, Named, help, version, mend, asked_by}
+use Rattle.mend_core.specs.declared.made.Mended.{Mended}
+use Rattle.mend_words.specs.Names.{Asks, Named, help, version, mend}
+use Rattle.part_input.specs.Causes.{common}
+use Rattle.part_input.specs.Faults.{status_of}
 use Rattle.part_input.specs.Parts.{sample_size, TakesSoup, HasSize, IsOfSoup, HasSampleOr}
 use Rattle.part_input.specs.Steps.{◌and_then◌}
 use Rattle.part_input.specs.declared.fault.Input.{Input}
@@ -15,13 +20,10 @@ use Rattle.part_input.specs.declared.fault.Fault.{Fault}
 use Rattle.part_input.specs.declared.fault.Fault.TheVariants.{Usage, ReadFault, Nothing, Mesh, WriteFault, Memory}
 use Rattle.part_input.specs.declared.fault.Target.{Target}
 use Rattle.part_input.specs.declared.fault.Target.TheVariants.{Out}
+use Rattle.put_texts.specs.Faults.{IsThereOf}
+use Rattle.put_texts.specs.Runs.{Run, Task}
 
 -- ---- the steps of a run
--- the words ask for something
-abbrev pub AsksFor : List (List ℕ) → Result Asks Fault → Type 0
-AsksFor words (Ok asks) = asked_by words ≡ Some asks
-AsksFor words (Err e) = (e ≡ Usage) × (asked_by words ≡ None)
-
 -- the part that was named is read, before its surface is looked at
 abbrev pub TakesPart : Files → Named → Result Part Fault → Type 0
 TakesPart files named = TakesSoup files named.part named.decimals Millimetre
@@ -30,24 +32,20 @@ TakesPart files named = TakesSoup files named.part named.decimals Millimetre
 abbrev pub MendsPart : Files → Named → Result Made Fault → Type 0
 MendsPart files named = TakesPart files named and_then Mends named.limit
 
--- what is taken, if anything is
-abbrev pub TakesAsked : Files → Asks → Result (Option Part) Fault → Type 0
-TakesAsked files help r = r ≡ Ok None
-TakesAsked files version r = r ≡ Ok None
-TakesAsked files (mend named) r = (TakesPart files named and_then λ part answer. answer ≡ Ok (Some part)) r
+-- A run up to its part, which the words and the files determine: what is taken, if anything is, or the refusal. Words that ask for
+-- nothing are refused.
+abbrev pub Takes : Option Asks → Files → Result (Option Part) Fault → Type 0
+Takes None files r = r ≡ Err Usage
+Takes (Some help) files r = r ≡ Ok None
+Takes (Some version) files r = r ≡ Ok None
+Takes (Some (mend named)) files r = (TakesPart files named and_then λ part answer. answer ≡ Ok (Some part)) r
 
--- what is made, if anything is
-abbrev pub MendsAsked : Files → Asks → Result (Option Made) Fault → Type 0
-MendsAsked files help r = r ≡ Ok None
-MendsAsked files version r = r ≡ Ok None
-MendsAsked files (mend named) r = (MendsPart files named and_then λ made answer. answer ≡ Ok (Some made)) r
-
--- a run up to its part, which the words and the files determine, and a run, whose order of flips is free: what is made, or the refusal
-abbrev pub Takes : List (List ℕ) → Files → Result (Option Part) Fault → Type 0
-Takes words files = AsksFor words and_then TakesAsked files
-
-abbrev pub RunsMend : List (List ℕ) → Files → Result (Option Made) Fault → Type 0
-RunsMend words files = AsksFor words and_then MendsAsked files
+-- A run, whose order of flips is free: what is made, if anything is, or the refusal.
+abbrev pub RunsMend : Option Asks → Files → Result (Option Made) Fault → Type 0
+RunsMend None files r = r ≡ Err Usage
+RunsMend (Some help) files r = r ≡ Ok None
+RunsMend (Some version) files r = r ≡ Ok None
+RunsMend (Some (mend named)) files r = (MendsPart files named and_then λ made answer. answer ≡ Ok (Some made)) r
 
 -- ---- answers
 -- a fault of the surface
@@ -70,14 +68,6 @@ IsAnswerTo steps fault = (r : Result (Option Part) Fault) → steps r → Answer
 -- the faults of a part with these names: of reading it, or of mending it, which a sample without a size never comes to
 abbrev pub IsOfNamed : Named → Fault → Type 0
 IsOfNamed named fault = IsOfSoup named.part fault ⊎ (HasSize named.part × IsOfMending fault)
-
--- with a request of these names
-abbrev pub AnswersNamed : Named → Option Fault → Type 0
-AnswersNamed named None = Unit {0}
-AnswersNamed named (Some Usage) = ⊥
-AnswersNamed named (Some Memory) = Unit {0}
-AnswersNamed named (Some (WriteFault target)) = IsOfTarget named.out target
-AnswersNamed named (Some fault) = IsOfNamed named fault
 
 -- help and the version may be what couldn't be said
 abbrev pub IsOfAsked : Option Asks → Target → Type 0
@@ -105,19 +95,33 @@ RunsInOrder asked (ReadFault input) = AsksMendAnd asked (λ named. ComesTo named
 RunsInOrder asked fault = Unit {0}
 
 -- the file that was named to be read is there
-abbrev pub HasFilesAsked : Files → Asks → Type 0
-HasFilesAsked files help = Unit {0}
-HasFilesAsked files version = Unit {0}
-HasFilesAsked files (mend named) = HasSampleOr (sample_size named.part) files named.part
+abbrev pub HasFilesAsked : Files → Option Asks → Type 0
+HasFilesAsked files (Some (mend named)) = HasSampleOr (sample_size named.part) files named.part
+HasFilesAsked files asked = Unit {0}
 
--- a part is there with status 0 and 8, may be there with status 9, and else is not
-abbrev pub IsWritten : Option Fault → Bool → Type 0
-IsWritten None there = IsTrue there
-IsWritten (Some (WriteFault target)) there = IsTrue there
-IsWritten (Some Memory) there = Unit {0}
-IsWritten (Some fault) there = there ≡ false
-
--- so it is where mending was asked for, and else there is none
+-- where mending was asked for, a part is there as the fault says, and else there is none
 abbrev pub HasMended : Option Asks → Option Fault → Bool → Type 0
-HasMended (Some (mend named)) fault there = IsWritten fault there
+HasMended (Some (mend named)) fault there = IsThereOf common fault there
 HasMended asked fault there = there ≡ false
+
+-- ---- a run
+-- what the words come to
+abbrev pub mend_task : Option Asks → Task Fault (Option Made)
+mend_task asked = record {
+  faults = common;
+  steps = RunsMend asked;
+  may = AnswersMendWords asked;
+  comes_to = λ files fault. RunsInOrder asked fault;
+  has_files = λ files. HasFilesAsked files asked;
+  settles = λ files fault. IsAnswerTo (Takes asked files) fault;
+}
+
+-- and what is made of that
+abbrev pub mend_run : Option Asks → Run Fault Mended (Option Made)
+mend_run asked = record {
+  task = mend_task asked;
+  status = status_of;
+  makes = HasMended asked;
+  given = λ m. Some (made_seen m);
+  tells = λ old fault line. line ≡ mend_line asked fault;
+}

@@ -16,7 +16,7 @@ use Rattle.part_input.specs.declared.fault.Fault.TheVariants.{WriteFault}
 use Rattle.part_input.specs.declared.fault.Target.{Target}
 use Rattle.part_input.specs.declared.fault.Target.TheVariants.{Out, Plot, Summary}
 use Rattle.put_texts.specs.Desks.{HearsAll}
-use Rattle.put_texts.specs.Faults.{common}
+use Rattle.part_input.specs.Causes.{common}
 use Rattle.put_texts.specs.Noting.{IsQuiet, Notes, NotesWhole, unless_said}
 use Rattle.put_texts.specs.Order.{Way, Text, aloud, under, SaysAlone, KeepsTexts, SaysTexts, SparesFiles, SparesSaid}
 

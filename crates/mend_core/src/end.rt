@@ -2,11 +2,12 @@
 ghost use Rattle.std.specs.Prelude.{◌≡◌, ◌⊎◌, true, None, Option, Some, IfSome};
 ghost use Rattle.desk.specs.Files.{OnlyWarns};
 ghost use Rattle.fault_lines.specs.Lines.{NamesNothing};
-ghost use Rattle.mend_core.specs.Lines.{Warns, WarnsWhole};
+ghost use Rattle.mend_core.specs.Run.{mend_run};
 ghost use Rattle.mend_words.specs.Names.{Asks};
 ghost use Rattle.part_input.specs.Faults.{status_of};
 ghost use Rattle.put_texts.specs.Desks.{HearsAll};
 ghost use Rattle.put_texts.specs.Faults.{HasNoWriteFault};
+ghost use Rattle.put_texts.specs.Runs.{WarnsBy, WarnsWholeBy};
 
 use crate::lines::{MEMORY_LINE, USAGE};
 use crate::made::Mended;
@@ -29,9 +30,9 @@ pub(crate) fn refuse<D: Desk>(alloc: Global, fault: Fault, desk: &mut D) -> Mend
     ensures fault { (result.fault ≡ Some fault) ⊎ (result.fault ≡ Some Fault.Memory) }
     ensures told { NamesNothing fault → result.fault ≡ Some fault }
     ensures warned { (D.state desk.old).tells_warned ≡ true →
-        (asked : Option Asks) → IfSome result.fault (Warns asked (D.state desk.old) (D.state desk.new)) }
+        (asked : Option Asks) → IfSome result.fault (WarnsBy (mend_run asked).tells (D.state desk.old) (D.state desk.new)) }
     ensures whole { HearsAll (D.state desk.old) (D.state desk.new) →
-        (asked : Option Asks) → IfSome result.fault (WarnsWhole asked (D.state desk.old) (D.state desk.new)) }
+        (asked : Option Asks) → IfSome result.fault (WarnsWholeBy (mend_run asked).tells (D.state desk.old) (D.state desk.new)) }
     ensures changes { OnlyWarns (D.state desk.old) (D.state desk.new) }
 {
     match line_of(alloc, "mend", USAGE, &fault) {

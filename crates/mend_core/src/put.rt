@@ -5,7 +5,7 @@ ghost use Rattle.mend_core.specs.Writing.{summary_way, texts_for, way_of};
 ghost use Rattle.mend_words.specs.Names.{mend};
 ghost use Rattle.mend_words.specs.Seen.{goal_seen, named_seen};
 ghost use Rattle.put_texts.specs.Desks.{HearsAll, IsUnwarned};
-ghost use Rattle.put_texts.specs.Faults.{common};
+ghost use Rattle.part_input.specs.Causes.{common};
 ghost use Rattle.put_texts.specs.Noting.{IsQuiet, Notes, NotesWhole};
 ghost use Rattle.put_texts.specs.Puts.{IsPut, one_text, way_seen};
 

@@ -8,7 +8,7 @@ ghost use Rattle.mend_core.specs.Run.{IsOfNamed, MendsPart, TakesPart};
 ghost use Rattle.mend_core.specs.Seen.{made_seen};
 ghost use Rattle.mend_words.specs.Seen.{named_seen};
 ghost use Rattle.part_input.specs.Faults.{CountsReads};
-ghost use Rattle.part_input.specs.Parts.{HasSampleOr, HasSize, IsOfSoup, sample_size};
+ghost use Rattle.part_input.specs.Parts.{HasSize, IsOfSoup};
 ghost use Rattle.part_input.specs.Steps.{GivesInput, IsMissing};
 
 use crate::made::Mended;
@@ -46,9 +46,6 @@ fn take_soup<D: Desk>(alloc: Global, request: &MendRequest, desk: &mut D) -> Res
     ensures reads { CountsReads (result_err result) (D.state desk.old).read_faults (D.state desk.new).read_faults }
     ensures missing { (D.state desk.old).steady ≡ true →
         IfErr result (IsMissing (TakesPart (D.state desk.old).files (named_seen request.now))) }
-    ensures held { (D.state desk.old).steady ≡ true →
-        HasSampleOr (sample_size (named_seen request.now).part) (D.state desk.old).files (named_seen request.now).part →
-        (D.state desk.new).read_faults ≡ (D.state desk.old).read_faults }
     ensures changes { OnlyReads (D.state desk.old) (D.state desk.new) }
 {
     match job_with(alloc, request.decimals) {
@@ -69,9 +66,6 @@ pub(crate) fn take<D: Desk>(
     ensures reads { CountsReads (result_err result) (D.state desk.old).read_faults (D.state desk.new).read_faults }
     ensures missing { (D.state desk.old).steady ≡ true →
         IfErr result (IsMissing (MendsPart (D.state desk.old).files (named_seen request.now))) }
-    ensures held { (D.state desk.old).steady ≡ true →
-        HasSampleOr (sample_size (named_seen request.now).part) (D.state desk.old).files (named_seen request.now).part →
-        (D.state desk.new).read_faults ≡ (D.state desk.old).read_faults }
     ensures changes { OnlyReads (D.state desk.old) (D.state desk.new) }
 {
     match take_soup(alloc, request, desk) {

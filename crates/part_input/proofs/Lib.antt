@@ -1,5 +1,6 @@
 pub mod Answered
 pub mod Blocks
+pub mod Causes
 pub mod Chains
 pub mod Jobs
 pub mod Missing

@@ -18,13 +18,12 @@ use Rattle.part_input.specs.Reading.{begins_solid, ReadsAs, ReadsPartText}
 use Rattle.part_input.specs.Steps.{◌and_then◌}
 use Rattle.part_input.specs.declared.fault.Input.{Input}
 use Rattle.part_input.specs.declared.fault.Input.TheVariants.{Job as TheJob, Part as ThePart}
-use Rattle.part_input.specs.declared.fault.Fault.{Fault}
 use Rattle.part_input.specs.declared.fault.Fault.TheVariants.{Job as JobUnread, Part as PartUnread, Mesh}
 
 -- ---- answers
 -- the step has one answer
-abbrev pub IsSingle : {A : Type 0} → (Result A Fault → Type 0) → Type 0
-IsSingle {A} step = (r s : Result A Fault) → step r → step s → r ≡ s
+abbrev pub IsSingle : {A F : Type 0} → (Result A F → Type 0) → Type 0
+IsSingle {A} {F} step = (r s : Result A F) → step r → step s → r ≡ s
 
 abbrev pub value_or : {A E : Type 0} → A → Result A E → A
 value_or other (Ok x) = x
@@ -47,8 +46,8 @@ pub not_both : {A E : Type 0} (x : A) (e : E) → AreOne (Ok x) (Err e) → ⊥
 not_both {A} {E} x e h = let no : AreOne {A = A} {E = E} (Ok x) (Err e) = h in cc
 
 -- steps in order
-module _ {A B : Type 0} (first : Result A Fault → Type 0) (next : A → Result B Fault → Type 0) (f : IsSingle first) (n : (x : A) → IsSingle (next x)) where
-  after : (x y : A) (r s : Result B Fault) → first (Ok x) → first (Ok y) → next x r → next y s → r ≡ s
+module _ {A B F : Type 0} (first : Result A F → Type 0) (next : A → Result B F → Type 0) (f : IsSingle first) (n : (x : A) → IsSingle (next x)) where
+  after : (x y : A) (r s : Result B F) → first (Ok x) → first (Ok y) → next x r → next y s → r ≡ s
   after x y r s a b p q = n x r s p (subst (λ (z : A). next z s) (sym (same_value x y (f (Ok x) (Ok y) a b))) q)
 
   pub single_then : IsSingle (first and_then next)

@@ -11,7 +11,7 @@ use Rattle.part_input.specs.declared.fault.Fault.{Fault}
 use Rattle.part_input.specs.declared.fault.Fault.TheVariants.{ReadFault, SampleRange, Part as PartUnread, Nothing, Mesh}
 
 -- steps in order don't come to this fault where none of them does
-pub never_then : {A B : Type 0} (first : Result A Fault → Type 0) (next : A → Result B Fault → Type 0) (e : Fault) → (first (Err e) → ⊥) → ((x : A) → next x (Err e) → ⊥) → (first and_then next) (Err e) → ⊥
+pub never_then : {A B F : Type 0} (first : Result A F → Type 0) (next : A → Result B F → Type 0) (e : F) → (first (Err e) → ⊥) → ((x : A) → next x (Err e) → ⊥) → (first and_then next) (Err e) → ⊥
 never_then first next e f n (inl h) = f h
 never_then first next e f n (inr (x, _, h)) = n x h
 
@@ -38,7 +38,7 @@ module _ (files : Files) (input : Input) where
       never_then (TakesFile ThePart files name) (ReadsPart decimals unit) (ReadFault input) (file_there ThePart name there)
       (λ bytes. never_then (ReadsText decimals unit bytes) WeldsPart (ReadFault input) (λ h. not_read input (PartUnread h.0) refl h.1) (λ raw h. not_read input Nothing refl h.0))
 
-  soup_there : (size : Option (List ℕ)) (name : List ℕ) (decimals : ℕ) (unit : Length) → HasSampleOr size files name → TakesSoupOr size files name decimals unit (Err (ReadFault input)) → ⊥
+  pub soup_there : (size : Option (List ℕ)) (name : List ℕ) (decimals : ℕ) (unit : Length) → HasSampleOr size files name → TakesSoupOr size files name decimals unit (Err (ReadFault input)) → ⊥
   soup_there (Some size) name decimals unit there h = not_read input SampleRange refl h.0
   soup_there None name decimals unit there h = part_file_there name decimals unit there h
 

@@ -1,6 +1,6 @@
 -- The status of a run with a fault, and the counts of the faults of reading.
-use Rattle.std.specs.Prelude.{◌≡◌, ℕ, Option, Some, None}
-use Rattle.desk.specs.Files.{Rose}
+use Rattle.std.specs.Prelude.{ℕ, Option, Some, None}
+use Rattle.part_input.specs.Causes.{common, CountsReadsOf}
 use Rattle.part_input.specs.declared.fault.Fault.{Fault}
 use Rattle.part_input.specs.declared.fault.Fault.TheVariants.{Usage, ReadFault, JobTooLong, Job as JobUnread, NoPlotter, SampleRange, PartTooLong, Part as PartUnread, Nothing, Mesh, DoesNotFit, WriteFault, Memory}
 
@@ -20,7 +20,6 @@ status_of (Some (ReadFault input)) = 7
 status_of (Some (WriteFault target)) = 8
 status_of (Some Memory) = 9
 
--- the count of the faults of reading rose where one is answered, and else it stands
+-- the counts of the faults of reading, with these faults
 abbrev pub CountsReads : Option Fault → ℕ → ℕ → Type 0
-CountsReads (Some (ReadFault input)) old new = Rose old new
-CountsReads fault old new = new ≡ old
+CountsReads fault old new = CountsReadsOf common fault old new

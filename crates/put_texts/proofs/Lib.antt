@@ -1,4 +1,6 @@
 pub mod Counting
 pub mod Ends
 pub mod Putting
+pub mod Runs
+pub mod Saying
 pub mod Warnings

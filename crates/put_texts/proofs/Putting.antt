@@ -3,7 +3,8 @@ use Rattle.std.proofs.Common.{◌≡◌, inl, inr, ℕ, ◌++◌, List, [], ◌�
 use Rattle.std.specs.Prelude.{IfSome}
 use Rattle.desk.specs.Files.{Files, DeskState, AppendsFront, OnlyWarns, Rose}
 use Rattle.put_texts.specs.Desks.{HearsAll, IsUnwarned, OnlyWrites, OnlyFilesAndWarned, OnlySaidAndWarned}
-use Rattle.put_texts.specs.Faults.{Cause, Faults, unwritten, wanting, elsewhere, CountsWritesOf, HasNoWriteFaultOf}
+use Rattle.part_input.specs.Causes.{Cause, Faults, unwritten, wanting}
+use Rattle.put_texts.specs.Faults.{CountsWritesOf, HasNoWriteFaultOf}
 use Rattle.put_texts.specs.Order.{Way, Text, nowhere, aloud, under, IsFaultAt, IsFaultBy, IsOfWay, KeepsText, KeepsTextPart, SaysText, SaysTextPart, InOrder, SparesFile, SparesWord}
 use Rattle.put_texts.specs.Puts.{IsOfTexts, IsPut, one_text, told_by, told_cause}
 use Rattle.put_texts.specs.inner.Parts.{KeepsBy, SaysBy}
@@ -17,7 +18,7 @@ module _ {F : Type 0} (faults : Faults F) where
   by_cause : (P : F → Type 0) (its : F) → P its → (c : Cause) (f : F) → (c ≡ wanting → P f) → IsFaultBy c its f → P f
   by_cause P its w unwritten f m is = subst P (sym is) w
   by_cause P its w wanting f m is = m refl
-  by_cause P its w elsewhere f m is = absurd is
+  by_cause P its w cause f m is = absurd is
 
   pub by_fault : (P : F → Type 0) (its : F) → P its → ((f : F) → faults.cause f ≡ wanting → P f) → (f : F) → IsFaultAt faults its f → P f
   by_fault P its w m f is = by_cause P its w (faults.cause f) f (m f) is
@@ -227,7 +228,7 @@ module _ {F : Type 0} (faults : Faults F) where
         put_alike (told_by faults memory text) line (one_text way its bytes) (λ f is. told_alike f (of_one way its bytes f is)) old new fault put
 
   -- ---- a warning behind texts that are put
-  whole_change : (old new : DeskState) → OnlyWarns old new → OnlyWrites old new
+  pub whole_change : (old new : DeskState) → OnlyWarns old new → OnlyWrites old new
   whole_change old new warns =
       let files = sym (ap (λ (s : DeskState). s.files) warns) in
       let said = sym (ap (λ (s : DeskState). s.said) warns) in

@@ -3,4 +3,5 @@ pub mod Faults
 pub mod Noting
 pub mod Order
 pub mod Puts
+pub mod Runs
 pub mod inner

@@ -1,7 +1,7 @@
 -- Texts that are put one after the other, each where it goes.
 use Rattle.std.specs.Prelude.{◌≡◌, ◌⊎◌, ◌++◌, ℕ, List, [], ◌∷◌, Option, None, Some}
 use Rattle.desk.specs.Files.{Files, Keeps, MayKeepFront, AppendsFront}
-use Rattle.put_texts.specs.Faults.{Cause, Faults, unwritten, wanting, elsewhere}
+use Rattle.part_input.specs.Causes.{Cause, Faults, unwritten, wanting}
 
 -- where a text goes: nowhere, to the standard output, or under a name
 pub data Way : Type 0 where
@@ -20,7 +20,7 @@ pub record Text (F : Type 0) : Type 0 where
 abbrev pub IsFaultBy : {F : Type 0} → Cause → F → F → Type 0
 IsFaultBy unwritten its fault = fault ≡ its
 IsFaultBy wanting its fault = Unit {0}
-IsFaultBy elsewhere its fault = ⊥
+IsFaultBy cause its fault = ⊥
 
 abbrev pub IsFaultAt : {F : Type 0} → Faults F → F → F → Type 0
 IsFaultAt faults its fault = IsFaultBy (faults.cause fault) its fault

@@ -2,7 +2,8 @@
 use Rattle.std.specs.Prelude.{◌≡◌, ◌⊎◌, ◌++◌, ℕ, true, List, [], ◌∷◌, Option, Some, IfSome}
 use Rattle.desk.specs.Files.{DeskState, AppendsFront}
 use Rattle.put_texts.specs.Desks.{HearsAll, OnlyWrites}
-use Rattle.put_texts.specs.Faults.{Cause, Faults, unwritten, wanting, elsewhere, CountsWritesOf, HasNoWriteFaultOf}
+use Rattle.part_input.specs.Causes.{Cause, Faults, unwritten, wanting}
+use Rattle.put_texts.specs.Faults.{CountsWritesOf, HasNoWriteFaultOf}
 use Rattle.put_texts.specs.Order as order
 use Rattle.put_texts.specs.Order.{Text, IsOfWay, KeepsTexts, SaysTexts, SparesSaid, SparesFiles}
 use Rattle.put_texts.specs.declared.put.Way.{Way}
@@ -21,7 +22,7 @@ one_text way its bytes = record { way = way; unwritten = its; bytes = bytes } �
 abbrev pub told_cause : List ℕ → List ℕ → Cause → List ℕ
 told_cause memory line unwritten = line
 told_cause memory line wanting = memory
-told_cause memory line elsewhere = []
+told_cause memory line cause = []
 
 abbrev pub told_by : {F : Type 0} → Faults F → List ℕ → List ℕ → F → List ℕ
 told_by faults memory line fault = told_cause memory line (faults.cause fault)

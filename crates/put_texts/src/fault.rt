@@ -1,6 +1,7 @@
 // The faults of a run that puts texts.
-ghost use Rattle.std.specs.Prelude.{◌≡◌, refl};
-ghost use Rattle.put_texts.specs.Faults.{Faults, common, unwritten, wanting};
+ghost use Rattle.std.specs.Prelude.{◌≡◌, ℕ, Option, refl};
+ghost use Rattle.part_input.specs.Causes.{Faults, common, unwritten, wanting};
+ghost use Rattle.part_input.proofs.Causes.{memory_alone};
 
 use part_input::{Fault, Target};
 
@@ -9,8 +10,11 @@ pub trait RunFault: Sized + Drop {
     /// What a run writes.
     type Target: Drop;
 
-    /// What each says of writing, which is want of memory, and the status that a run ends with.
+    /// What each is to the desk, and which is want of memory.
     ghost faults: { Faults Self };
+
+    /// The status that a run ends with.
+    ghost status_of: { Option Self → ℕ };
 
     /// The fault of writing what goes to a target.
     ghost unwritten_of: { Self.Target → Self };
@@ -26,22 +30,28 @@ pub trait RunFault: Sized + Drop {
 
     /// The program's status at the end of a run.
     fn end_status(fault: &Option<Self>) -> u8
-        ensures { result ≡ faults.status fault.now };
+        ensures { result ≡ status_of fault.now };
 
-    /// So it says of itself.
+    /// So it says of itself, and no other does.
     ghost memory_wanting: { faults.cause faults.memory ≡ wanting };
+    ghost memory_alone: { (fault : Self) → faults.cause fault ≡ wanting → fault ≡ faults.memory };
 }
 
 impl RunFault for Fault {
+    ghost use Rattle.part_input.specs.Faults.{status_of};
     ghost use Rattle.part_input.specs.declared.fault.Fault.TheVariants.{WriteFault};
 
     type Target = Target;
 
     ghost faults = { common };
 
+    ghost status_of = { status_of };
+
     ghost unwritten_of = { WriteFault };
 
     ghost memory_wanting = { refl };
+
+    ghost memory_alone = { memory_alone };
 
     fn memory() -> Fault {
         Fault::Memory

@@ -6,7 +6,7 @@ mod fault;
 mod put;
 mod warning;
 
-pub use end::{RunEnd, end_by, ended};
+pub use end::{RunEnd, end_by, ended, tell};
 pub use fault::RunFault;
 pub use put::{Way, note, put_text, unless_said};
 pub use warning::warn;

@@ -2,7 +2,8 @@
 ghost use Rattle.std.specs.Prelude.{◌≡◌, ◌++◌, true, Some, IfSome, IfNone};
 ghost use Rattle.desk.specs.Files.{AppendsFront, OnlyKeeps, OnlySays, OnlyWarns};
 ghost use Rattle.put_texts.specs.Desks.{HearsAll, IsUnwarned, OnlyFilesAndWarned, OnlySaidAndWarned};
-ghost use Rattle.put_texts.specs.Faults.{CountsWritesOf, HasNoWriteFaultOf, unwritten};
+ghost use Rattle.part_input.specs.Causes.{unwritten};
+ghost use Rattle.put_texts.specs.Faults.{CountsWritesOf, HasNoWriteFaultOf};
 ghost use Rattle.put_texts.specs.Noting.{IsQuiet, Notes, NotesWhole, unless_said};
 ghost use Rattle.put_texts.specs.Order.{IsFaultAt, aloud, under};
 ghost use Rattle.put_texts.specs.Puts.{IsPut, one_text, told_by, way_seen};

@@ -1,41 +1,31 @@
--- The fault of a run is that of its steps, unless memory ran out; and files that are there are no fault of reading.
-use Rattle.std.proofs.Common.{◌≡◌, inl, ℕ, List, Option, Some, None, IfSome, Result, Ok, Err, refl}
-use Rattle.desk.specs.Files.{Files, Rose}
+-- What is asked of a run of `sheet`: its steps have one answer, and they miss no file that is there.
+use Rattle.std.proofs.Common.{◌≡◌, inl, inr, ℕ, List, Option, Some, None, Ok, Err, refl, sym}
+use Rattle.desk.specs.Files.{Files}
+use Rattle.part_input.specs.Causes.{unread}
 use Rattle.part_input.specs.Sheets.{PlansSheet}
-use Rattle.part_input.proofs.There.{never_then, not_read, job_there, part_there}
 use Rattle.part_input.specs.Jobs.{TakesJob, ReadsJob, TakesReadJob}
 use Rattle.part_input.specs.Parts.{TakesSolid}
-use Rattle.part_input.specs.Steps.{◌and_then◌, Refuses, IsAnswerOf, IsMissing}
+use Rattle.part_input.specs.Steps.{◌and_then◌}
 use Rattle.part_input.specs.declared.fault.Input.{Input}
 use Rattle.part_input.specs.declared.fault.Fault.{Fault}
-use Rattle.part_input.specs.declared.fault.Fault.TheVariants.{ReadFault, Job as JobUnread, WriteFault}
-use Rattle.part_input.proofs.Answered.{of_steps, of_steady, given, refused}
-use Rattle.part_input.proofs.Singles.{IsSingle}
-use Rattle.put_texts.proofs.Counting.{not_written}
-use Rattle.put_texts.proofs.Ends.{ComesToSome}
-use Rattle.sheet_core.specs.Faults.{AsCommon, CountsReads, CountsWrites, HasNoWriteFault, IsCommonEnd}
+use Rattle.part_input.specs.declared.fault.Fault.TheVariants.{Usage, ReadFault, Job as JobUnread}
+use Rattle.part_input.proofs.Causes.{read_only}
+use Rattle.part_input.proofs.Singles.{not_both, same_fault}
+use Rattle.part_input.proofs.There.{never_then, not_read, job_there, part_there}
+use Rattle.put_texts.proofs.Runs.{IsLawful, settled_steps}
+use Rattle.sheet_core.specs.Faults.{cause_of}
 use Rattle.sheet_core.specs.declared.fault.SheetFault.{SheetFault}
 use Rattle.sheet_core.specs.declared.fault.SheetFault.TheVariants.{Common, WriteList}
-use Rattle.sheet_core.specs.Run.{DrawsPart, Draws, HasFiles, HasFilesAsked}
+use Rattle.sheet_core.specs.Run.{DrawsPart, HasFiles, HasFilesAsked, Lifted, RunsSheet, sheet_task}
+use Rattle.sheet_core.proofs.OneAnswer.{lifted_single, one_answer}
+use Rattle.sheet_core.specs.inner.Shortage.{short_alone}
+use Rattle.sheet_plan.specs.JobSheets.{Drawn}
 use Rattle.sheet_words.specs.Names.{Asks, help, version, sheet}
 
-module _ {A : Type 0} (steps : Result A Fault → Type 0) (one : IsSingle steps) where
-  -- no fault of reading or writing was counted
-  pub answered : (fault : Option SheetFault) (read read' write write' : ℕ) → ComesToSome steps fault → IfSome fault (AsCommon (Refuses steps)) → CountsReads fault read read' → CountsWrites fault write write'
-      → (Rose read read' → ⊥) → (Rose write write' → ⊥) → IsCommonEnd (IsAnswerOf steps) fault
-  answered None read read' write write' some h reads writes no_reads no_writes = given steps one some.0 None some.1 (inl refl)
-  answered (Some WriteList) read read' write write' some h reads writes no_reads no_writes = no_writes writes
-  answered (Some (Common (WriteFault target))) read read' write write' some h reads writes no_reads no_writes = absurd (no_writes writes)
-  answered (Some (Common (ReadFault input))) read read' write write' some h reads writes no_reads no_writes = absurd (no_reads reads)
-  answered (Some (Common e)) read read' write write' some h reads writes no_reads no_writes = refused steps one e (Some e) (inl refl) (of_steps steps e tt h)
-
-  -- on a steady desk
-  pub steadily : (fault : Option SheetFault) → ComesToSome steps fault → IfSome fault (AsCommon (Refuses steps)) → IfSome fault (AsCommon (IsMissing steps)) → HasNoWriteFault fault → IsCommonEnd (IsAnswerOf steps) fault
-  steadily None some h m w = given steps one some.0 None some.1 (inl refl)
-  steadily (Some WriteList) some h m w = w
-  steadily (Some (Common e)) some h m w = refused steps one e (Some e) (inl refl) (of_steady steps e (not_written e w) m h)
-
 -- ---- files that are there
+not_given : {A : Type 0} (x : A) (e : Fault) → Err e ≡ Ok x → ⊥
+not_given x e h = not_both x e (sym h)
+
 module _ (files : Files) (input : Input) where
   never_missing_part : (part : List ℕ) (job : Option (List ℕ)) → HasFiles files part job → DrawsPart files part job (Err (ReadFault input)) → ⊥
   never_missing_part part job (there, held) =
@@ -43,15 +33,23 @@ module _ (files : Files) (input : Input) where
       (never_then (TakesJob files job) ReadsJob (ReadFault input) (job_there files input job there) (λ bytes h. not_read input (JobUnread h.0) refl h.1))
       (λ values. never_then (TakesSolid files part values.decimals values.unit) (PlansSheet values) (ReadFault input) (part_there files input part values.decimals values.unit held) (λ solid h. h))
 
-  pub never_missing : (asks : Asks) → HasFilesAsked files asks → Draws files asks (Err (ReadFault input)) → ⊥
-  never_missing help there h = cc
-  never_missing version there h = cc
-  never_missing (sheet named) there h =
-      never_then (DrawsPart files named.part named.job) (λ drawn answer. answer ≡ Ok (Some drawn)) (ReadFault input) (never_missing_part named.part named.job there) (λ drawn h. cc) h
+  never_missing : (asked : Option Asks) → HasFilesAsked files asked → RunsSheet asked files (Err (ReadFault input)) → ⊥
+  never_missing None there h = not_read input Usage refl (same_fault {A = Option Drawn} (ReadFault input) Usage h)
+  never_missing (Some help) there h = not_given None (ReadFault input) h
+  never_missing (Some version) there h = not_given None (ReadFault input) h
+  never_missing (Some (sheet named)) there (inl h) = never_missing_part named.part named.job there h
+  never_missing (Some (sheet named)) there (inr (drawn, _, h)) = not_given (Some drawn) (ReadFault input) h
 
--- so none was counted
-pub no_read : (files : Files) (asks : Asks) → HasFilesAsked files asks → (fault : Option SheetFault) (old new : ℕ) → IfSome fault (AsCommon (IsMissing (Draws files asks))) → CountsReads fault old new → new ≡ old
-no_read files asks there None old new m counts = counts
-no_read files asks there (Some WriteList) old new m counts = counts
-no_read files asks there (Some (Common (ReadFault input))) old new m counts = absurd (never_missing files input asks there m)
-no_read files asks there (Some (Common e)) old new m counts = counts
+never_lifted : (asked : Option Asks) (files : Files) → HasFilesAsked files asked → (f : SheetFault) → cause_of f ≡ unread → Lifted (RunsSheet asked files) (Err f) → ⊥
+never_lifted asked files there (Common e) is h = read_only (λ (e : Fault). RunsSheet asked files (Err e) → ⊥) (λ input. never_missing files input asked there) e is h
+never_lifted asked files there WriteList is h = h
+
+pub lawful : (asked : Option Asks) → IsLawful (sheet_task asked)
+lawful asked = record {
+  is_wanting = refl;
+  alone = short_alone;
+  may_want = tt;
+  want_in_order = λ files. tt;
+  settled = λ files fault is. settled_steps (sheet_task asked) files (lifted_single (RunsSheet asked files) (one_answer asked files)) fault is;
+  there = never_lifted asked;
+}

@@ -6,5 +6,6 @@ pub mod Orders
 pub mod PageItems
 pub mod Putting
 pub mod Taking
+pub mod Told
 pub mod Warned
 pub mod Digits

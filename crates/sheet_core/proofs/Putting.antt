@@ -1,15 +1,13 @@
 -- The faults of putting the texts of a request are those of writing them.
 use Rattle.std.proofs.Common.{◌≡◌, inl, inr, ℕ, List, Option, None, Some, refl}
 use Rattle.std.specs.Prelude.{IfSome, IsSome}
-use Rattle.part_input.specs.declared.fault.Fault.{Fault}
 use Rattle.part_input.specs.declared.fault.Fault.TheVariants.{WriteFault, Memory}
 use Rattle.part_input.specs.declared.fault.Target.{Target}
 use Rattle.part_input.specs.declared.fault.Target.TheVariants.{Out, Summary}
-use Rattle.put_texts.specs.Faults.{unwritten, wanting}
+use Rattle.part_input.specs.Causes.{unwritten}
 use Rattle.put_texts.specs.Noting.{unless_said}
 use Rattle.put_texts.specs.Order.{aloud, IsFaultAt, IsOfWay}
 use Rattle.put_texts.specs.Puts.{IsOfTexts}
-use Rattle.put_texts.proofs.Counting.{memory_only, wanting_only}
 use Rattle.put_texts.proofs.Putting.{by_fault, of_way}
 use Rattle.sheet_core.specs.Faults.{cause_of, sheet_faults, unwritten_of}
 use Rattle.sheet_core.specs.declared.fault.SheetFault.{SheetFault}
@@ -18,6 +16,7 @@ use Rattle.sheet_core.specs.declared.fault.SheetTarget.{SheetTarget}
 use Rattle.sheet_core.specs.declared.fault.SheetTarget.TheVariants as sheet_target
 use Rattle.sheet_core.specs.Writing.{way_of, list_way, texts_for, IsOfTarget}
 use Rattle.sheet_core.specs.inner.Faults.{IsOfWriting}
+use Rattle.sheet_core.specs.inner.Shortage.{short_only}
 use Rattle.sheet_words.specs.Names.{Goal, ListGoal, Named, said, svg_file, pdf_file, list_said, list_file}
 
 -- what holds of a fault of writing each text of a request, and of want of memory, holds of each fault of writing them
@@ -26,11 +25,6 @@ by_writing named P w l m WriteList is = l is
 by_writing named P w l m (Common (WriteFault target)) is = w target is
 by_writing named P w l m (Common Memory) is = m
 by_writing named P w l m (Common e) is = absurd is
-
--- one fault is want of memory
-pub short_only : (P : SheetFault → Type 0) → P (Common Memory) → (f : SheetFault) → cause_of f ≡ wanting → P f
-short_only P m WriteList is = absurd (wanting_only unwritten is)
-short_only P m (Common f) is = memory_only (λ (e : Fault). P (Common e)) m f is
 
 -- the fault of a target is one of writing
 pub is_unwritten : (target : SheetTarget) → cause_of (unwritten_of target) ≡ unwritten

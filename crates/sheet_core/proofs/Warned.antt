@@ -7,11 +7,12 @@ use Rattle.part_input.specs.declared.fault.Fault.{Fault}
 use Rattle.part_input.specs.declared.fault.Fault.TheVariants.{Memory}
 use Rattle.put_texts.specs.Noting.{Notes, NotesWhole}
 use Rattle.put_texts.specs.Order.{InOrder, KeepsText, KeepsTextPart, SaysText, SaysTextPart, SparesFile, SparesWord}
+use Rattle.put_texts.specs.Runs.{WarnsBy, WarnsWholeBy}
 use Rattle.put_texts.proofs.Ends.{heard_later}
 use Rattle.sheet_core.specs.Faults.{sheet_faults}
 use Rattle.sheet_core.specs.declared.fault.SheetFault.{SheetFault}
 use Rattle.sheet_core.specs.declared.fault.SheetFault.TheVariants.{Common}
-use Rattle.sheet_core.specs.Lines.{IsPlaceFor, IsPlaceToTell, Warns, WarnsWhole}
+use Rattle.sheet_core.specs.Lines.{IsLineOf, IsPlaceFor, IsPlaceToTell}
 use Rattle.sheet_core.specs.Summary.{summary_of}
 use Rattle.sheet_core.specs.Writing.{Writes, summary_way}
 use Rattle.sheet_core.specs.inner.Faults.{IsOfWriting}
@@ -28,41 +29,34 @@ module _ (named : Named) (old between new : DeskState) (same : OnlyReads old bet
   no_place : (f : SheetFault) → IsOfWriting named f → IsPlaceToTell (Some named) old f None
   no_place f is = by_writing named (λ (f : SheetFault). IsPlaceToTell (Some named) old f None) (λ target at. refl) (λ some. refl) refl f is
 
-  pub warns_writing : (fault : Option SheetFault) → IfSome fault (IsOfWriting named) → IfSome fault (λ f. AppendsFront between.warned new.warned (fault_line (Some named) None f))
-      → IfSome fault (Warns (Some named) old new)
-  warns_writing None is h = tt
-  warns_writing (Some f) is h = (None, no_place f is, subst (λ (w : List ℕ). AppendsFront w new.warned (fault_line (Some named) None f)) warned_same h)
-
-  pub warns_writing_whole : (fault : Option SheetFault) → IfSome fault (IsOfWriting named) → IfSome fault (λ f. new.warned ≡ between.warned ++ fault_line (Some named) None f)
-      → IfSome fault (WarnsWhole (Some named) old new)
-  warns_writing_whole None is h = tt
-  warns_writing_whole (Some f) is h = (None, no_place f is, subst (λ (w : List ℕ). new.warned ≡ w ++ fault_line (Some named) None f) warned_same h)
+  pub writing_line : (f : SheetFault) → IsOfWriting named f → IsLineOf (Some named) old f (fault_line (Some named) None f)
+  writing_line f is = (None, no_place f is, refl)
 
   -- ---- a refusal has the place that came with it
   module _ (e : Fault) (place : Option FaultPlace) (there : IsPlaceFor (Some named) old e place) where
     pub warns_refused : (fault : Option SheetFault) → (fault ≡ Some (Common e)) ⊎ (fault ≡ Some (Common Memory)) → IfSome fault (λ f. AppendsFront between.warned new.warned (fault_line (Some named) place f))
-        → IfSome fault (Warns (Some named) old new)
+        → IfSome fault (WarnsBy (IsLineOf (Some named)) old new)
     warns_refused None is h = tt
     warns_refused (Some f) (inl is) h =
         let P : Option SheetFault → Type 0 = λ fault. IfSome fault (λ f. AppendsFront between.warned new.warned (fault_line (Some named) place f)) in
         let told : AppendsFront old.warned new.warned (fault_line (Some named) place (Common e)) = subst (λ (w : List ℕ). AppendsFront w new.warned (fault_line (Some named) place (Common e))) warned_same (subst P is h) in
-        subst (λ (fault : Option SheetFault). IfSome fault (Warns (Some named) old new)) (sym is) (place, there, told)
+        subst (λ (fault : Option SheetFault). IfSome fault (WarnsBy (IsLineOf (Some named)) old new)) (sym is) (fault_line (Some named) place (Common e), (place, there, refl), told)
     warns_refused (Some f) (inr is) h =
         let P : Option SheetFault → Type 0 = λ fault. IfSome fault (λ f. AppendsFront between.warned new.warned (fault_line (Some named) place f)) in
         let told : AppendsFront old.warned new.warned (fault_line (Some named) place (Common Memory)) = subst (λ (w : List ℕ). AppendsFront w new.warned (fault_line (Some named) place (Common Memory))) warned_same (subst P is h) in
-        subst (λ (fault : Option SheetFault). IfSome fault (Warns (Some named) old new)) (sym is) (None, refl, told)
+        subst (λ (fault : Option SheetFault). IfSome fault (WarnsBy (IsLineOf (Some named)) old new)) (sym is) (fault_line (Some named) None (Common Memory), (None, refl, refl), told)
 
     pub warns_refused_whole : (fault : Option SheetFault) → (fault ≡ Some (Common e)) ⊎ (fault ≡ Some (Common Memory)) → IfSome fault (λ f. new.warned ≡ between.warned ++ fault_line (Some named) place f)
-        → IfSome fault (WarnsWhole (Some named) old new)
+        → IfSome fault (WarnsWholeBy (IsLineOf (Some named)) old new)
     warns_refused_whole None is h = tt
     warns_refused_whole (Some f) (inl is) h =
         let P : Option SheetFault → Type 0 = λ fault. IfSome fault (λ f. new.warned ≡ between.warned ++ fault_line (Some named) place f) in
         let told : new.warned ≡ old.warned ++ fault_line (Some named) place (Common e) = subst (λ (w : List ℕ). new.warned ≡ w ++ fault_line (Some named) place (Common e)) warned_same (subst P is h) in
-        subst (λ (fault : Option SheetFault). IfSome fault (WarnsWhole (Some named) old new)) (sym is) (place, there, told)
+        subst (λ (fault : Option SheetFault). IfSome fault (WarnsWholeBy (IsLineOf (Some named)) old new)) (sym is) (fault_line (Some named) place (Common e), (place, there, refl), told)
     warns_refused_whole (Some f) (inr is) h =
         let P : Option SheetFault → Type 0 = λ fault. IfSome fault (λ f. new.warned ≡ between.warned ++ fault_line (Some named) place f) in
         let told : new.warned ≡ old.warned ++ fault_line (Some named) place (Common Memory) = subst (λ (w : List ℕ). new.warned ≡ w ++ fault_line (Some named) place (Common Memory)) warned_same (subst P is h) in
-        subst (λ (fault : Option SheetFault). IfSome fault (WarnsWhole (Some named) old new)) (sym is) (None, refl, told)
+        subst (λ (fault : Option SheetFault). IfSome fault (WarnsWholeBy (IsLineOf (Some named)) old new)) (sym is) (fault_line (Some named) None (Common Memory), (None, refl, refl), told)
 
   -- ---- what is written
   pub writes_from : (fault : Option SheetFault) (d : Drawing) → Writes named fault between new d → Writes named fault old new d
@@ -84,7 +78,3 @@ module _ (named : Named) (old between new : DeskState) (same : OnlyReads old bet
         noted = λ told. subst (λ (t : List ℕ). IfNone fault (Notes (summary_way named) (summary_of d w.page w.marks) t new.warned)) warned_same (w.noted (ap (λ (s : DeskState). s.tells_warned) same ∙ told));
         noted_whole = λ hears. subst (λ (t : List ℕ). IfNone fault (NotesWhole (summary_way named) (summary_of d w.page w.marks) t new.warned)) warned_same (w.noted_whole (heard_later old between new same hears));
       }
-
-  pub all_from : (fault : Option SheetFault) (made : Option Drawing) → IfSome made (Writes named fault between new) → IfSome made (Writes named fault old new)
-  all_from fault None h = tt
-  all_from fault (Some d) h = writes_from fault d h

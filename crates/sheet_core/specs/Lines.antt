@@ -1,6 +1,6 @@
--- What a run warns of a fault, by its line.
-use Rattle.std.specs.Prelude.{◌≡◌, ◌++◌, ℕ, true, Option, Some, None, Ok, IsSomeAnd}
-use Rattle.desk.specs.Files.{Files, DeskState, AppendsFront}
+-- The line that tells a fault.
+use Rattle.std.specs.Prelude.{◌≡◌, ℕ, List, true, Option, Some, None, Ok, IsSomeAnd}
+use Rattle.desk.specs.Files.{Files, DeskState}
 use Rattle.fault_place.specs.Places.{IsPlaceOf}
 use Rattle.geometry.specs.Parts.{Part}
 use Rattle.job_file.specs.Documents.{JobValues}
@@ -47,10 +47,6 @@ abbrev pub IsPlaceToTell : Option Named → DeskState → SheetFault → Option 
 IsPlaceToTell named old (Common fault) place = IsPlaceFor named old fault place
 IsPlaceToTell named old WriteList place = place ≡ None
 
--- what a run with a fault adds to what was warned: a prefix of the fault's line, with its place
-abbrev pub Warns : Option Named → DeskState → DeskState → SheetFault → Type 0
-Warns named old new fault = (place : Option FaultPlace) × IsPlaceToTell named old fault place × AppendsFront old.warned new.warned (fault_line named place fault)
-
--- and where no warning fails, the whole line
-abbrev pub WarnsWhole : Option Named → DeskState → DeskState → SheetFault → Type 0
-WarnsWhole named old new fault = (place : Option FaultPlace) × IsPlaceToTell named old fault place × (new.warned ≡ old.warned ++ fault_line named place fault)
+-- the line tells the fault, with its place
+abbrev pub IsLineOf : Option Named → DeskState → SheetFault → List ℕ → Type 0
+IsLineOf named old fault line = (place : Option FaultPlace) × IsPlaceToTell named old fault place × (line ≡ fault_line named place fault)

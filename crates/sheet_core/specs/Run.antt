@@ -1,43 +1,47 @@
 -- What a run answers, from its words and the files at entry: steps in order, each with what it gives and what it refuses.
-use Rattle.std.specs.Prelude.{◌≡◌, ◌⊎◌, ℕ, List, Option, Some, None, IsSome, Result, Ok, Err, Bool, false, IsTrue}
+use Rattle.std.specs.Prelude.{◌≡◌, ◌⊎◌, ℕ, List, Option, Some, None, IsSome, Result, Ok, Err, Bool, false}
 use Rattle.desk.specs.Files.{Files}
+use Rattle.drawing.specs.Drawing.{drawn_in}
+use Rattle.drawing.specs.declared.drawn.Drawing.{Drawing}
 use Rattle.sheet_plan.specs.JobSheets.{Drawn}
 use Rattle.part_input.specs.Sheets.{PlansSheet, IsOfSheet}
 use Rattle.part_input.specs.Jobs.{IsOfUsualJob, HasJobFile, TakesReadJob, IsOfJobFile}
 use Rattle.job_file.specs.Documents.{JobValues}
 use Rattle.part_input.specs.Parts.{sample_size, TakesSolid, IsOfPart, HasSampleOr}
-use Rattle.part_input.specs.Steps.{◌and_then◌}
+use Rattle.part_input.specs.Steps.{◌and_then◌, AnswersSteps}
 use Rattle.part_input.specs.declared.fault.Input.{Input}
 use Rattle.part_input.specs.declared.fault.Input.TheVariants.{Job as TheJob, Part as ThePart}
 use Rattle.part_input.specs.declared.fault.Fault.{Fault}
 use Rattle.part_input.specs.declared.fault.Fault.TheVariants.{Usage, ReadFault, WriteFault, Memory}
 use Rattle.part_input.specs.declared.fault.Target.{Target}
 use Rattle.part_input.specs.declared.fault.Target.TheVariants.{Out}
+use Rattle.put_texts.specs.Faults.{IsThereOf}
+use Rattle.put_texts.specs.Runs.{Run, Task}
+use Rattle.sheet_core.specs.Faults.{sheet_faults, status_of}
+use Rattle.sheet_core.specs.Lines.{IsLineOf, named_in}
 use Rattle.sheet_core.specs.Writing.{AsksSheetAnd, IsOfTarget}
 use Rattle.sheet_core.specs.declared.fault.SheetFault.{SheetFault}
 use Rattle.sheet_core.specs.declared.fault.SheetFault.TheVariants.{Common, WriteList}
-use Rattle.sheet_words.specs.Names.{Asks, Named, help, version, sheet, asked_by}
+use Rattle.sheet_words.specs.Names.{Asks, help, version, sheet}
 
 -- ---- the steps of a run
--- the words ask for something
-abbrev pub AsksFor : List (List ℕ) → Result Asks Fault → Type 0
-AsksFor words (Ok asks) = asked_by words ≡ Some asks
-AsksFor words (Err e) = (e ≡ Usage) × (asked_by words ≡ None)
-
 -- the job that was named or the usual one, the part, and the sheet
 abbrev pub DrawsPart : Files → List ℕ → Option (List ℕ) → Result Drawn Fault → Type 0
 DrawsPart files part job =
     TakesReadJob files job and_then λ values. (TakesSolid files part values.decimals values.unit and_then PlansSheet values)
 
--- what is drawn, if anything is
-abbrev pub Draws : Files → Asks → Result (Option Drawn) Fault → Type 0
-Draws files help r = r ≡ Ok None
-Draws files version r = r ≡ Ok None
-Draws files (sheet named) r = (DrawsPart files named.part named.job and_then λ drawn answer. answer ≡ Ok (Some drawn)) r
+-- A run: what is drawn, if anything is, or the refusal. Words that ask for nothing are refused.
+abbrev pub RunsSheet : Option Asks → Files → Result (Option Drawn) Fault → Type 0
+RunsSheet None files r = r ≡ Err Usage
+RunsSheet (Some help) files r = r ≡ Ok None
+RunsSheet (Some version) files r = r ≡ Ok None
+RunsSheet (Some (sheet named)) files r = (DrawsPart files named.part named.job and_then λ drawn answer. answer ≡ Ok (Some drawn)) r
 
--- a run: what is drawn, or the refusal
-abbrev pub RunsSheet : List (List ℕ) → Files → Result (Option Drawn) Fault → Type 0
-RunsSheet words files = AsksFor words and_then Draws files
+-- so it is with the faults of `sheet`
+abbrev pub Lifted : {A : Type 0} → (Result A Fault → Type 0) → Result A SheetFault → Type 0
+Lifted steps (Ok x) = steps (Ok x)
+Lifted steps (Err (Common e)) = steps (Err e)
+Lifted steps (Err WriteList) = ⊥
 
 -- ---- answers
 -- the faults of the usual job, and those of a named one
@@ -48,15 +52,6 @@ IsOfJob (Some name) fault = IsOfJobFile fault
 -- the faults of a job, of a part, or of a sheet
 abbrev pub IsOfFiles : List ℕ → Option (List ℕ) → Fault → Type 0
 IsOfFiles part job fault = IsOfJob job fault ⊎ IsOfPart part fault ⊎ IsOfSheet fault
-
--- with a request of these names
-abbrev pub AnswersNamed : Named → Option SheetFault → Type 0
-AnswersNamed named None = Unit {0}
-AnswersNamed named (Some WriteList) = IsSome named.list
-AnswersNamed named (Some (Common Usage)) = ⊥
-AnswersNamed named (Some (Common Memory)) = Unit {0}
-AnswersNamed named (Some (Common (WriteFault target))) = IsOfTarget named target
-AnswersNamed named (Some (Common fault)) = IsOfFiles named.part named.job fault
 
 -- help and the version may be what couldn't be said
 abbrev pub IsOfAsked : Option Asks → Target → Type 0
@@ -84,28 +79,41 @@ abbrev pub ReadsInOrder : Files → List ℕ → Option (List ℕ) → Fault →
 ReadsInOrder files part job (ReadFault input) = ComesTo files part job input
 ReadsInOrder files part job fault = Unit {0}
 
-abbrev pub RunsInOrder : Option Asks → Files → Fault → Type 0
-RunsInOrder asked files (ReadFault input) = AsksSheetAnd asked (λ named. ComesTo files named.part named.job input)
+abbrev pub RunsInOrder : Option Asks → Files → SheetFault → Type 0
+RunsInOrder asked files (Common (ReadFault input)) = AsksSheetAnd asked (λ named. ComesTo files named.part named.job input)
 RunsInOrder asked files fault = Unit {0}
 
 -- the files that were named to be read are there
 abbrev pub HasFiles : Files → List ℕ → Option (List ℕ) → Type 0
 HasFiles files part job = HasJobFile files job × HasSampleOr (sample_size part) files part
 
-abbrev pub HasFilesAsked : Files → Asks → Type 0
-HasFilesAsked files help = Unit {0}
-HasFilesAsked files version = Unit {0}
-HasFilesAsked files (sheet named) = HasFiles files named.part named.job
+abbrev pub HasFilesAsked : Files → Option Asks → Type 0
+HasFilesAsked files (Some (sheet named)) = HasFiles files named.part named.job
+HasFilesAsked files asked = Unit {0}
 
--- a drawing is there with status 0 and 8, may be there with status 9, and else is not
-abbrev pub IsWritten : Option SheetFault → Bool → Type 0
-IsWritten None there = IsTrue there
-IsWritten (Some WriteList) there = IsTrue there
-IsWritten (Some (Common (WriteFault target))) there = IsTrue there
-IsWritten (Some (Common Memory)) there = Unit {0}
-IsWritten (Some (Common fault)) there = there ≡ false
-
--- so it is where a sheet was asked for, and else there is none
+-- where a sheet was asked for, a drawing is there as the fault says, and else there is none
 abbrev pub HasDrawing : Option Asks → Option SheetFault → Bool → Type 0
-HasDrawing (Some (sheet named)) fault there = IsWritten fault there
+HasDrawing (Some (sheet named)) fault there = IsThereOf sheet_faults fault there
 HasDrawing asked fault there = there ≡ false
+
+-- ---- a run
+-- what the words come to
+abbrev pub sheet_task : Option Asks → Task SheetFault (Option Drawn)
+sheet_task asked = record {
+  faults = sheet_faults;
+  steps = λ files. Lifted (RunsSheet asked files);
+  may = AnswersSheetWords asked;
+  comes_to = RunsInOrder asked;
+  has_files = λ files. HasFilesAsked files asked;
+  settles = λ files. AnswersSteps sheet_faults (Lifted (RunsSheet asked files));
+}
+
+-- and what is made of that
+abbrev pub sheet_run : Option Asks → Run SheetFault Drawing (Option Drawn)
+sheet_run asked = record {
+  task = sheet_task asked;
+  status = status_of;
+  makes = HasDrawing asked;
+  given = λ d. Some (drawn_in d);
+  tells = IsLineOf (named_in asked);
+}

@@ -25,15 +25,20 @@ pub enum SheetTarget {
 }
 
 impl RunFault for SheetFault {
-    ghost use Rattle.sheet_core.specs.Faults.{sheet_faults, unwritten_of};
+    ghost use Rattle.sheet_core.specs.Faults.{sheet_faults, status_of, unwritten_of};
+    ghost use Rattle.sheet_core.specs.inner.Shortage.{short_alone};
 
     type Target = SheetTarget;
 
     ghost faults = { sheet_faults };
 
+    ghost status_of = { status_of };
+
     ghost unwritten_of = { unwritten_of };
 
     ghost memory_wanting = { refl };
+
+    ghost memory_alone = { short_alone };
 
     fn memory() -> SheetFault {
         SheetFault::Common(Fault::Memory)

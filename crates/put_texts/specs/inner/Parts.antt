@@ -1,7 +1,7 @@
 -- What one text leaves, by the fault of putting it: whole with none, and else in part.
 use Rattle.std.specs.Prelude.{ℕ, List, Option, None, Some}
 use Rattle.desk.specs.Files.{Files}
-use Rattle.put_texts.specs.Faults.{Faults}
+use Rattle.part_input.specs.Causes.{Faults}
 use Rattle.put_texts.specs.Order.{Way, KeepsText, KeepsTextPart, SaysText, SaysTextPart}
 
 abbrev pub KeepsBy : {F : Type 0} → Faults F → Way → List ℕ → Option F → Files → Files → Type 0

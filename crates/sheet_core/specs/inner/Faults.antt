@@ -2,7 +2,6 @@
 use Rattle.std.specs.Prelude.{IsSome}
 use Rattle.part_input.specs.declared.fault.Fault.{Fault}
 use Rattle.part_input.specs.declared.fault.Fault.TheVariants.{ReadFault, WriteFault, Memory}
-use Rattle.part_input.specs.declared.fault.Target.TheVariants.{Out}
 use Rattle.sheet_core.specs.Writing.{IsOfTarget}
 use Rattle.sheet_core.specs.declared.fault.SheetFault.{SheetFault}
 use Rattle.sheet_core.specs.declared.fault.SheetFault.TheVariants.{Common, WriteList}
@@ -12,12 +11,6 @@ use Rattle.sheet_words.specs.Names.{Named}
 abbrev pub IsOfReading : Fault → Type 0
 IsOfReading (ReadFault input) = Unit {0}
 IsOfReading fault = ⊥
-
--- those of telling help or the version
-abbrev pub IsOfTelling : SheetFault → Type 0
-IsOfTelling (Common (WriteFault Out)) = Unit {0}
-IsOfTelling (Common Memory) = Unit {0}
-IsOfTelling fault = ⊥
 
 -- those of writing the texts of a drawing
 abbrev pub IsOfWriting : Named → SheetFault → Type 0

@@ -1,16 +1,32 @@
-use Rattle.std.proofs.Common.{ℕ, List, sym, ap, subst}
+use Rattle.std.proofs.Common.{inl, ℕ, List, Some, refl, ap, subst, ◌∙◌}
 use Rattle.desk.specs.Files.{DeskState}
-use Rattle.detail_view.specs.Run.{Checks, IsVerdictOf, verdict_line, Says}
+use Rattle.detail_view.specs.Run.{Checks, IsVerdictOf, pieces_task, verdict_line, Says}
 use Rattle.detail_view.specs.Seen.{check_seen}
-use Rattle.detail_view.specs.Steps.{Ends}
-use Rattle.std.proofs.Common.{◌∙◌}
-use Rattle.detail_view.proofs.Endings.{ends_said, ends_refused, check_no_writing, told_verdict, said_asked}
+use Rattle.detail_view.specs.Words.{checks}
+use Rattle.put_texts.proofs.Runs.{refused_answer}
+use Rattle.detail_view.proofs.Endings.{said_answer, told_verdict, said_asked}
+use Rattle.detail_view.proofs.Runs.{check_may, check_unwritten, lawful}
 use Rattle.detail_view.proofs.check.check.Goals as goal
 
-pub returns-in-Ok-clause-answer : goal.returns-in-Ok-clause-answer
-returns-in-Ok-clause-answer g c = λ told.
-    let steps = Checks (g.D.Desk.state c.args.desk.now).files (check_seen c.args.words.now) in
-    ends_said steps _ (c.in-Ok.ensures.answer told).given c.say_verdict.result.fault c.say_verdict.ensures.fault
+pub returns-in-Ok-clause-run : goal.returns-in-Ok-clause-run
+returns-in-Ok-clause-run g c =
+    let state = g.D.Desk.state in
+    let asked = Some (checks (check_seen c.args.words.now)) in
+    let took = c.in-Ok.ensures in
+    let did = c.say_verdict.ensures in
+    said_answer asked (state c.args.desk.now) (state c.judge.new.desk) (state c.say_verdict.new.desk) took.changes took.reads (ap (λ (s : DeskState). s.read_faults) did.changes) (g.met.D.Desk.steady_tells c.args.desk.now)
+    (λ told. (_, (took.answer told).given)) refl tt c.say_verdict.result.fault did.fault did.writes did.steady
+
+pub returns-in-Err-clause-run : goal.returns-in-Err-clause-run
+returns-in-Err-clause-run g c =
+    let state = g.D.Desk.state in
+    let w = check_seen c.args.words.now in
+    let asked = Some (checks w) in
+    let took = c.in-Err.ensures in
+    let e = c.in-Err.fault in
+    refused_answer (pieces_task asked) (lawful asked) (state c.args.desk.now) (state c.judge.new.desk) (state c.judge.new.desk) e
+    (record { refuses = took.answer; may = check_may w e took.of_check; order = took.order; reads = took.reads; missing = took.missing; no_write = check_unwritten w e took.of_check; read = took.changes; }) refl
+    c.ended.result.fault (inl c.ended.ensures.fault) (λ unread. c.ended.ensures.fault) (g.met.D.Desk.steady_tells c.args.desk.now)
 
 pub returns-in-Ok-clause-verdict : goal.returns-in-Ok-clause-verdict
 returns-in-Ok-clause-verdict g c = λ told.
@@ -27,9 +43,3 @@ returns-in-Ok-clause-said g c = λ told.
     let P : List ℕ → Type 0 = λ said. Says end.fault said new (verdict_line c.in-Ok.verdict) in
     said_asked old.tells (check_seen c.args.words.now) old.files c.in-Ok.verdict end.fault end.verdict old.said new c.say_verdict.ensures.fault c.say_verdict.ensures.told c.in-Ok.ensures.answer
     (subst P (ap (λ (s : DeskState). s.said) c.in-Ok.ensures.changes) (c.say_verdict.ensures.said tells))
-
-pub returns-in-Err-clause-answer : goal.returns-in-Err-clause-answer
-returns-in-Err-clause-answer g c = λ told.
-    let w = check_seen c.args.words.now in
-    let steps = Checks (g.D.Desk.state c.args.desk.now).files w in
-    subst (Ends steps) (sym c.ended.ensures.fault) (ends_refused steps c.in-Err.fault (check_no_writing w c.in-Err.fault c.in-Err.ensures.of_check) (c.in-Err.ensures.answer told))

@@ -1,21 +1,35 @@
-use Rattle.std.proofs.Common.{Option, Some, ap, sym, subst, ◌∙◌}
-use Rattle.std.specs.Prelude.{IfSome}
+use Rattle.std.proofs.Common.{inl, Some, refl, ap, subst, ◌∙◌}
 use Rattle.desk.specs.Files.{Files, DeskState}
 use Rattle.detail_view.specs.Drawn.{IsDrawnOf, IsDrawnBy, pieces_told, LeavesDrawn}
-use Rattle.detail_view.specs.Run.{Details}
+use Rattle.detail_view.specs.Run.{Details, pieces_task}
 use Rattle.detail_view.specs.Seen.{detail_seen}
-use Rattle.detail_view.specs.Steps.{IsMissing, Ends}
 use Rattle.detail_view.specs.Words.{details}
-use Rattle.detail_view.specs.declared.fault.PiecesFault.{PiecesFault}
 use Rattle.detail_view.specs.inner.Showing.{given_of}
+use Rattle.put_texts.proofs.Runs.{refused_answer}
 use Rattle.detail_view.proofs.Drawing.{left_also, nothing_kept, drawn_by}
-use Rattle.detail_view.proofs.Endings.{ends_said, ends_refused, detail_no_writing}
+use Rattle.detail_view.proofs.Endings.{said_answer}
+use Rattle.detail_view.proofs.Runs.{detail_may, detail_unwritten, lawful}
 use Rattle.detail_view.proofs.detail.detail.Goals as goal
 
-pub returns-in-Ok-clause-answer : goal.returns-in-Ok-clause-answer
-returns-in-Ok-clause-answer g c = λ told.
-    let steps = Details (g.D.Desk.state c.args.desk.now).files (detail_seen c.args.words.now) in
-    ends_said steps (given_of c.in-Ok.shown) (c.in-Ok.ensures.answer told) c.finish.result.fault c.finish.ensures.fault
+pub returns-in-Ok-clause-run : goal.returns-in-Ok-clause-run
+returns-in-Ok-clause-run g c =
+    let state = g.D.Desk.state in
+    let asked = Some (details (detail_seen c.args.words.now)) in
+    let took = c.in-Ok.ensures in
+    let did = c.finish.ensures in
+    said_answer asked (state c.args.desk.now) (state c.take_shown.new.desk) (state c.finish.new.desk) took.changes took.reads (ap (λ (s : DeskState). s.read_faults) did.changes) (g.met.D.Desk.steady_tells c.args.desk.now)
+    (λ told. (given_of c.in-Ok.shown, took.answer told)) refl tt c.finish.result.fault did.fault did.writes did.steady
+
+pub returns-in-Err-clause-run : goal.returns-in-Err-clause-run
+returns-in-Err-clause-run g c =
+    let state = g.D.Desk.state in
+    let w = detail_seen c.args.words.now in
+    let asked = Some (details w) in
+    let took = c.in-Err.ensures in
+    let e = c.in-Err.fault in
+    refused_answer (pieces_task asked) (lawful asked) (state c.args.desk.now) (state c.take_shown.new.desk) (state c.take_shown.new.desk) e
+    (record { refuses = took.answer; may = detail_may w e took.of_detail; order = took.order; reads = took.reads; missing = took.missing; no_write = detail_unwritten w e took.of_detail; read = took.changes; }) refl
+    c.ended.result.fault (inl c.ended.ensures.fault) (λ unread. c.ended.ensures.fault) (g.met.D.Desk.steady_tells c.args.desk.now)
 
 pub returns-in-Ok-clause-files : goal.returns-in-Ok-clause-files
 returns-in-Ok-clause-files g c = λ told.
@@ -30,17 +44,6 @@ returns-in-Ok-clause-files g c = λ told.
     let P : Files → Type 0 = λ f. LeavesDrawn IsLike words.out end.fault (pieces_told end.detail) f new in
     let left : P files = subst P (ap (λ (s : DeskState). s.files) c.in-Ok.ensures.changes) (c.finish.ensures.files tells) in
     left_also IsLike words.out files new (IsDrawnBy steps (detail_seen words)) (drawn_by steps words shown (c.in-Ok.ensures.answer told)) end.fault (pieces_told end.detail) c.finish.ensures.fault left
-
-pub returns-in-Err-clause-answer : goal.returns-in-Err-clause-answer
-returns-in-Err-clause-answer g c = λ told.
-    let w = detail_seen c.args.words.now in
-    let steps = Details (g.D.Desk.state c.args.desk.now).files w in
-    subst (Ends steps) (sym c.ended.ensures.fault) (ends_refused steps c.in-Err.fault (detail_no_writing w c.in-Err.fault c.in-Err.ensures.of_detail) (c.in-Err.ensures.answer told))
-
-pub returns-in-Err-clause-missing : goal.returns-in-Err-clause-missing
-returns-in-Err-clause-missing g c = λ steady.
-    let steps = Details (g.D.Desk.state c.args.desk.now).files (detail_seen c.args.words.now) in
-    subst (λ (o : Option PiecesFault). IfSome o (IsMissing steps)) (sym c.ended.ensures.fault) (c.in-Err.ensures.missing steady)
 
 pub returns-in-Err-clause-files : goal.returns-in-Err-clause-files
 returns-in-Err-clause-files g c = λ told.

@@ -1,58 +1,37 @@
-use Rattle.std.proofs.Common.{Option, refl, ap, sym, subst}
+use Rattle.std.proofs.Common.{inl, Option, None, Err, refl, ap, sym, subst}
 use Rattle.std.specs.Prelude.{IfSome, is_some}
 use Rattle.draw_words.specs.Seen.{texts}
 use Rattle.detail_view.specs.Drawn.{pieces_told, HasDetail, KeepsPage}
-use Rattle.detail_view.specs.Run.{AsksFor, Takes, RunsPieces, HasVerdict, IsVerdictOn, SaysAsked, HasFiles, OnlyAsked}
-use Rattle.detail_view.specs.Seen.{asked_seen}
+use Rattle.detail_view.specs.Run.{HasVerdict, IsVerdictOn, SaysAsked, OnlyAsked, pieces_task}
 use Rattle.detail_view.specs.Words.{Asked, asked_by}
-use Rattle.detail_view.proofs.Chains.{ends_next, missing_after}
-use Rattle.detail_view.proofs.Decided.{run_decided}
+use Rattle.detail_view.specs.declared.fault.PiecesFault.TheVariants.{Usage, Memory}
+use Rattle.put_texts.specs.Runs.{IsAnswer}
+use Rattle.put_texts.proofs.Runs.{refused_answer, short_refusal}
 use Rattle.detail_view.proofs.Drawing.{nothing_kept, no_detail, nothing_asked}
-use Rattle.detail_view.proofs.Runs.{ends_complete, ends_exact, no_write, words_answered, words_in_order, memory_in_order, no_verdict}
+use Rattle.detail_view.proofs.Runs.{lawful, no_verdict}
 use Rattle.detail_view.proofs.run.pieces.Goals as goal
 
-pub returns-in-Ok-clause-answer : goal.returns-in-Ok-clause-answer
-returns-in-Ok-clause-answer g c = λ told.
-    let files = (g.D.Desk.state c.args.desk.now).files in
-    ends_next (AsksFor (texts c.args.words.now)) (Takes files) (asked_seen c.in-Ok.words) c.in-Ok.ensures.asked c.run.result.fault (c.run.ensures.answer told)
+pub returns-in-Ok-clause-run : goal.returns-in-Ok-clause-run
+returns-in-Ok-clause-run g c =
+    let state = g.D.Desk.state in
+    subst (λ (o : Option Asked). IsAnswer (pieces_task o) c.run.result.fault (state c.args.desk.now) (state c.run.new.desk)) (sym c.in-Ok.ensures.asked) c.run.ensures.run
 
-pub returns-in-Ok-clause-words : goal.returns-in-Ok-clause-words
-returns-in-Ok-clause-words g c =
-    words_answered (asked_by (texts c.args.words.now)) (asked_seen c.in-Ok.words) c.in-Ok.ensures.asked c.run.result.fault c.run.ensures.of_asked
-
-pub returns-in-Ok-clause-order : goal.returns-in-Ok-clause-order
-returns-in-Ok-clause-order g c = λ told.
-    words_in_order (texts c.args.words.now) (g.D.Desk.state c.args.desk.now).files (asked_seen c.in-Ok.words) c.in-Ok.ensures.asked c.run.result.fault (c.run.ensures.order told)
-
-pub returns-in-Ok-clause-missing : goal.returns-in-Ok-clause-missing
-returns-in-Ok-clause-missing g c = λ steady.
-    let files = (g.D.Desk.state c.args.desk.now).files in
-    missing_after (AsksFor (texts c.args.words.now)) (Takes files) (asked_seen c.in-Ok.words) c.in-Ok.ensures.asked c.run.result.fault (c.run.ensures.missing steady)
-
-pub returns-in-Ok-clause-complete : goal.returns-in-Ok-clause-complete
-returns-in-Ok-clause-complete g c = λ told no_reads no_writes.
+pub returns-in-Err-Usage-clause-run : goal.returns-in-Err-Usage-clause-run
+returns-in-Err-Usage-clause-run g c =
     let old = g.D.Desk.state c.args.desk.now in
-    let new = g.D.Desk.state c.run.new.desk in
-    let words = texts c.args.words.now in
-    ends_complete (RunsPieces words old.files) (run_decided words old.files) c.run.result.fault old.read_faults new.read_faults old.write_faults new.write_faults
-    (ends_next (AsksFor words) (Takes old.files) (asked_seen c.in-Ok.words) c.in-Ok.ensures.asked c.run.result.fault (c.run.ensures.answer told)) c.run.ensures.reads c.run.ensures.writes no_reads no_writes
+    let fault = c.ended.result.fault in
+    let asked : Option Asked = None in
+    subst (λ (o : Option Asked). IsAnswer (pieces_task o) fault old old) (sym (c.in-Err-Usage.ensures.usage (ap Err c.in-Err-Usage.field-0-is)))
+    (refused_answer (pieces_task asked) (lawful asked) old old old Usage (record { refuses = λ told. refl; may = refl; order = λ told. tt; reads = refl; missing = λ steady. tt; no_write = tt; read = refl; }) refl
+    fault (inl c.ended.ensures.fault) (λ unread. c.ended.ensures.fault) (g.met.D.Desk.steady_tells c.args.desk.now))
 
-pub returns-in-Ok-clause-exact : goal.returns-in-Ok-clause-exact
-returns-in-Ok-clause-exact g c = λ steady.
-    let files = (g.D.Desk.state c.args.desk.now).files in
-    let words = texts c.args.words.now in
-    let told = g.met.D.Desk.steady_tells c.args.desk.now steady in
-    ends_exact (RunsPieces words files) (run_decided words files) c.run.result.fault
-    (ends_next (AsksFor words) (Takes files) (asked_seen c.in-Ok.words) c.in-Ok.ensures.asked c.run.result.fault (c.run.ensures.answer told))
-    (missing_after (AsksFor words) (Takes files) (asked_seen c.in-Ok.words) c.in-Ok.ensures.asked c.run.result.fault (c.run.ensures.missing steady)) (c.run.ensures.steady steady)
-
-pub returns-in-Ok-clause-held : goal.returns-in-Ok-clause-held
-returns-in-Ok-clause-held g c = λ steady there.
+pub returns-in-Err-Memory-clause-run : goal.returns-in-Err-Memory-clause-run
+returns-in-Err-Memory-clause-run g c =
     let old = g.D.Desk.state c.args.desk.now in
-    let new = g.D.Desk.state c.run.new.desk in (
-      c.run.ensures.held steady (subst (λ (o : Option Asked). IfSome o (HasFiles old.files)) c.in-Ok.ensures.asked there),
-      no_write c.run.result.fault old.write_faults new.write_faults (c.run.ensures.steady steady) c.run.ensures.writes,
-    )
+    let end = c.ended-in-Err-Memory in
+    let asked = asked_by (texts c.args.words.now) in
+    refused_answer (pieces_task asked) (lawful asked) old old old Memory (short_refusal (pieces_task asked) (lawful asked) old old refl refl) refl
+    end.result.fault (inl end.ensures.fault) (λ unread. end.ensures.fault) (g.met.D.Desk.steady_tells c.args.desk.now)
 
 pub returns-in-Ok-clause-shown : goal.returns-in-Ok-clause-shown
 returns-in-Ok-clause-shown g c =
@@ -69,10 +48,6 @@ returns-in-Ok-clause-said g c = λ told.
     let new = g.D.Desk.state c.run.new.desk in
     let end = c.run.result in
     subst (λ (o : Option Asked). SaysAsked old.tells o old.files end.fault end.verdict old.said new.said) (sym c.in-Ok.ensures.asked) (c.run.ensures.said told)
-
-pub returns-in-Err-Memory-clause-order : goal.returns-in-Err-Memory-clause-order
-returns-in-Err-Memory-clause-order g c = λ told.
-    memory_in_order (texts c.args.words.now) (g.D.Desk.state c.args.desk.now).files c.ended-in-Err-Memory.result.fault c.ended-in-Err-Memory.ensures.fault
 
 pub returns-in-Err-Memory-clause-shown : goal.returns-in-Err-Memory-clause-shown
 returns-in-Err-Memory-clause-shown g c =

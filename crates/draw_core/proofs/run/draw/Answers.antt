@@ -1,27 +1,116 @@
-use Rattle.std.proofs.Common.{ℕ, List, Ok, map, sym, ap, subst, ◌∙◌}
-use Rattle.std.specs.Prelude.{IfSome, IsSomeAnd}
+use Rattle.std.proofs.Common.{◌≡◌, ℕ, Option, Ok, map, sym, ap, subst, ◌∙◌}
+use Rattle.std.specs.Prelude.{IfNone, IfSome, IsSomeAnd}
 use Rattle.desk.specs.Files.{Files, DeskState, Rose}
-use Rattle.draw_words.specs.Names.{named_by}
+use Rattle.draw_words.specs.Names.{Named, named_by}
 use Rattle.draw_words.specs.Seen.{texts}
+use Rattle.drawing.specs.Drawing.{drawn_in}
+use Rattle.drawing.specs.declared.drawn.Drawing.{Drawing}
 use Rattle.plot_rack.specs.Racks.{boxes_of}
 use Rattle.draw_core.specs.inner.Kept.{WritesRack}
-use Rattle.draw_core.specs.Lines.{WarnsWhole}
-use Rattle.draw_core.specs.Run.{RunsDraw, IsOfWords}
-use Rattle.draw_core.specs.Summary.{SaysSummary}
+use Rattle.draw_core.specs.Run.{RunsDraw, IsOfWords, draw_run, draw_task}
 use Rattle.draw_core.specs.inner.Taken.{drawn_of}
-use Rattle.draw_core.proofs.Answered.{drawn_counted, drawn_steady, refused_counted, refused_unread, refused_steady, no_read}
+use Rattle.draw_core.proofs.Answered.{drawn_counted, drawn_ends, drawn_in_order, drawn_may, drawn_misses_none, drawn_reads, drawn_refuses, lawful, none_undrawn, refused_unread, some_named}
 use Rattle.draw_core.proofs.Drawings.{made_of, writes_named, same_outputs}
-use Rattle.draw_core.proofs.HeldFiles.{holds_named}
+use Rattle.draw_core.proofs.HeldFiles.{with_held}
 use Rattle.draw_core.proofs.NoFile.{no_desk, refused_or_memory}
-use Rattle.put_texts.specs.Desks.{HearsAll}
-use Rattle.put_texts.specs.Faults.{common}
-use Rattle.put_texts.proofs.Counting.{no_write}
+use Rattle.draw_core.proofs.Saying.{says_made}
+use Rattle.draw_core.proofs.Warned.{names_nothing, silent_from, warns_from, warns_whole_from}
+use Rattle.part_input.specs.Causes.{cause_of}
+use Rattle.put_texts.specs.Faults.{CountsWrites}
+use Rattle.put_texts.proofs.Counting.{not_there}
+use Rattle.put_texts.proofs.Ends.{heard_later}
+use Rattle.put_texts.proofs.Runs.{only_runs, refused_run, whole_answer}
 use Rattle.draw_core.proofs.run.draw.Goals as goal
 
-pub returns-in-Ok-clause-part : goal.returns-in-Ok-clause-part
-returns-in-Ok-clause-part g c = λ told.
+-- ---- a refusal
+pub returns-in-Err-clause-run : goal.returns-in-Err-clause-run
+returns-in-Err-clause-run g c =
+    let state = g.D.Desk.state in
     let suffixes = map (λ b. ((goal.Plotter-dyn g (b.vtable, b.value)).plot b.value).suffix) c.args.extras.items in
-    made_of c.write_drawing.result.drawing (λ x. RunsDraw suffixes (texts c.args.words.now) (g.D.Desk.state c.args.desk.now).files (Ok x)) (drawn_of c.in-Ok.taken) c.write_drawing.ensures.made (c.in-Ok.ensures.answer told)
+    let words = texts c.args.words.now in
+    let old = state c.args.desk.now in
+    let between = state c.take.new.desk in
+    let new = state c.refuse.new.desk in
+    let e = c.in-Err.fault in
+    let took = c.in-Err.ensures in
+    let end = c.refuse.result in
+    let did = c.refuse.ensures in
+    refused_run (draw_run suffixes words) (lawful suffixes words) old between new e
+    (record { refuses = took.answer; may = took.words; order = took.order; reads = took.reads; missing = took.missing; no_write = took.no_write; read = took.changes; }) did.changes
+    end.fault did.fault (λ unread. did.told (names_nothing e unread)) end.status end.drawing (g.met.D.Desk.steady_tells c.args.desk.now) did.status did.none (not_there (cause_of e) took.no_write) tt
+    (λ told. warns_from suffixes words old between new took.changes end.fault (did.warned (ap (λ (s : DeskState). s.tells_warned) took.changes ∙ told)))
+    (λ hears. warns_whole_from suffixes words old between new took.changes end.fault (did.whole (heard_later old between new took.changes hears)))
+
+pub returns-in-Err-clause-words : goal.returns-in-Err-clause-words
+returns-in-Err-clause-words g c =
+    let state = g.D.Desk.state in
+    let suffixes = map (λ b. ((goal.Plotter-dyn g (b.vtable, b.value)).plot b.value).suffix) c.args.extras.items in
+    let words = texts c.args.words.now in
+    let e = c.in-Err.fault in
+    let took = c.in-Err.ensures in
+    let did = c.refuse.ensures in
+    let fault = c.refuse.result.fault in
+    record {
+      words_drawn = subst (λ (d : Option Drawing). IfSome d (λ d. IsSomeAnd (named_by words) (λ named. IsOfWords named (drawn_in d)))) (sym did.none) tt;
+      words_answer = λ alone files. refused_or_memory (RunsDraw suffixes words files) e fault did.fault (took.no_file alone files);
+      words_complete = λ alone files no_writes. refused_unread suffixes words files e fault did.fault (took.no_file alone files) (no_desk (named_by words) alone e took.words took.no_write);
+    }
+
+-- ---- a drawing
+pub returns-in-Ok-clause-run : goal.returns-in-Ok-clause-run
+returns-in-Ok-clause-run g c =
+    let state = g.D.Desk.state in
+    let suffixes = map (λ b. ((goal.Plotter-dyn g (b.vtable, b.value)).plot b.value).suffix) c.args.extras.items in
+    let words = texts c.args.words.now in
+    let old = state c.args.desk.now in
+    let between = state c.take.new.desk in
+    let new = state c.write_drawing.new.desk in
+    let drawn = drawn_of c.in-Ok.taken in
+    let took = c.in-Ok.ensures in
+    let read = took.changes in
+    let end = c.write_drawing.result in
+    let fault = end.fault in
+    let did = c.write_drawing.ensures in
+    let still : between.write_faults ≡ old.write_faults = ap (λ (s : DeskState). s.write_faults) read in
+    let files : between.files ≡ old.files = ap (λ (s : DeskState). s.files) read in
+    record {
+      status = did.status;
+      answers =
+          whole_answer (draw_task suffixes words) (lawful suffixes words) old new fault (g.met.D.Desk.steady_tells c.args.desk.now)
+          (λ told. drawn_ends suffixes words old.files drawn (took.answer told) fault did.fault)
+          (drawn_may (named_by words) (some_named (named_by words) (λ (names : Named). c.in-Ok.taken.out ≡ names.out) took.out) fault did.fault)
+          (λ told. drawn_in_order suffixes words old.files fault did.fault)
+          (drawn_reads fault old.read_faults new.read_faults did.fault (ap (λ (s : DeskState). s.read_faults) did.changes ∙ took.reads))
+          (subst (λ (n : ℕ). CountsWrites fault n new.write_faults) still did.writes)
+          (λ steady. drawn_misses_none (RunsDraw suffixes words old.files) fault did.fault)
+          (λ steady. did.steady (ap (λ (s : DeskState). s.steady) read ∙ steady));
+      made = did.drawn;
+      part = λ told. made_of end.drawing (λ x. RunsDraw suffixes words old.files (Ok x)) drawn did.made (took.answer told);
+      firm = λ firm short. did.firm (ap (λ (s : DeskState). s.firm) read ∙ firm) short;
+      untouched = subst (λ (f : Files). IfNone end.drawing (new.files ≡ f)) files did.untouched;
+      warned = λ told. warns_from suffixes words old between new read fault (did.warned (ap (λ (s : DeskState). s.tells_warned) read ∙ told));
+      whole = λ hears. warns_whole_from suffixes words old between new read fault (did.whole (heard_later old between new read hears));
+      unwarned = none_undrawn fault end.drawing (new.warned ≡ old.warned) did.drawn;
+      changes = only_runs old between new read did.changes;
+    }
+
+pub returns-in-Ok-clause-words : goal.returns-in-Ok-clause-words
+returns-in-Ok-clause-words g c =
+    let state = g.D.Desk.state in
+    let suffixes = map (λ b. ((goal.Plotter-dyn g (b.vtable, b.value)).plot b.value).suffix) c.args.extras.items in
+    let words = texts c.args.words.now in
+    let between = state c.take.new.desk in
+    let new = state c.write_drawing.new.desk in
+    let took = c.in-Ok.ensures in
+    let did = c.write_drawing.ensures in
+    let end = c.write_drawing.result in
+    let still = ap (λ (s : DeskState). s.write_faults) took.changes in
+    record {
+      words_drawn = made_of end.drawing (λ x. IsSomeAnd (named_by words) (λ named. IsOfWords named x)) (drawn_of c.in-Ok.taken) did.made took.by_words;
+      words_answer = λ alone files. drawn_refuses (RunsDraw suffixes words files) end.fault did.fault;
+      words_complete = λ alone files no_writes. drawn_counted suffixes words files (drawn_of c.in-Ok.taken) (took.no_file alone files) end.fault
+          between.write_faults new.write_faults did.fault did.writes (λ rose. no_writes (subst (λ (n : ℕ). Rose n new.write_faults) still rose));
+    }
 
 pub returns-in-Ok-clause-files : goal.returns-in-Ok-clause-files
 returns-in-Ok-clause-files g c = λ told.
@@ -29,120 +118,28 @@ returns-in-Ok-clause-files g c = λ told.
     let taken = c.in-Ok.taken in
     let rack = boxes_of taken.rack in
     let end = c.write_drawing.result in
+    let named = named_by (texts c.args.words.now) in
     let tells = ap (λ (s : DeskState). s.tells) c.in-Ok.ensures.changes ∙ told in
+    let before = (state c.args.desk.now).files in
     let after = (state c.write_drawing.new.desk).files in
     let P : Files → Type 0 = λ files. IfSome end.drawing (WritesRack (λ b. (goal.Plotter-dyn g (b.vtable, b.value)).plot b.value) rack end.fault files after taken.out) in
-    let left : P (state c.args.desk.now).files = subst P (ap (λ (s : DeskState). s.files) c.in-Ok.ensures.changes) (c.write_drawing.ensures.files tells) in
-    writes_named (λ b. (goal.Plotter-dyn g (b.vtable, b.value)).plot b.value) c.args.extras.items rack (named_by (texts c.args.words.now)) taken.out taken.drawing.job.outputs.items end.fault
-    (state c.args.desk.now).files after end.drawing c.in-Ok.ensures.out (same_outputs end.drawing (drawn_of taken) c.write_drawing.ensures.made) c.in-Ok.ensures.plotters left
-
--- so each file holds its bytes
-pub returns-in-Ok-clause-holds : goal.returns-in-Ok-clause-holds
-returns-in-Ok-clause-holds g c = λ told none.
-    let state = g.D.Desk.state in
-    holds_named (map (λ b. (goal.Plotter-dyn g (b.vtable, b.value)).plot b.value) c.args.extras.items) (named_by (texts c.args.words.now)) c.write_drawing.result.fault
-    (state c.args.desk.now).files (state c.write_drawing.new.desk).files c.write_drawing.result.drawing none (returns-in-Ok-clause-files g c told)
+    let left : P before = subst P (ap (λ (s : DeskState). s.files) c.in-Ok.ensures.changes) (c.write_drawing.ensures.files tells) in
+    with_held (map (λ b. (goal.Plotter-dyn g (b.vtable, b.value)).plot b.value) c.args.extras.items) named end.fault before after end.drawing
+    (writes_named (λ b. (goal.Plotter-dyn g (b.vtable, b.value)).plot b.value) c.args.extras.items rack named taken.out taken.drawing.job.outputs.items end.fault
+    before after end.drawing c.in-Ok.ensures.out (same_outputs end.drawing (drawn_of taken) c.write_drawing.ensures.made) c.in-Ok.ensures.plotters left)
 
 pub returns-in-Ok-clause-said : goal.returns-in-Ok-clause-said
-returns-in-Ok-clause-said g c = λ told.
-    let state = g.D.Desk.state in
-    let end = c.write_drawing.result in
-    let tells = ap (λ (s : DeskState). s.tells_said) c.in-Ok.ensures.changes ∙ told in
-    let P : List ℕ → Type 0 = λ said. IfSome end.drawing (SaysSummary end.fault said (state c.write_drawing.new.desk).said) in
-    subst P (ap (λ (s : DeskState). s.said) c.in-Ok.ensures.changes) (c.write_drawing.ensures.said tells)
-
--- ---- the answer, and counts that stand
-pub returns-in-Ok-clause-complete : goal.returns-in-Ok-clause-complete
-returns-in-Ok-clause-complete g c = λ told no_reads no_writes.
-    let state = g.D.Desk.state in
-    let suffixes = map (λ b. ((goal.Plotter-dyn g (b.vtable, b.value)).plot b.value).suffix) c.args.extras.items in
-    let between = (state c.take.new.desk).write_faults in
-    let after = (state c.write_drawing.new.desk).write_faults in
-    let same = ap (λ (s : DeskState). s.write_faults) c.in-Ok.ensures.changes in
-    drawn_counted suffixes (texts c.args.words.now) (state c.args.desk.now).files (drawn_of c.in-Ok.taken) (c.in-Ok.ensures.answer told) c.write_drawing.result.fault
-    between after c.write_drawing.ensures.fault c.write_drawing.ensures.writes (λ rose. no_writes (subst (λ (n : ℕ). Rose n after) same rose))
-
-pub returns-in-Err-clause-complete : goal.returns-in-Err-clause-complete
-returns-in-Err-clause-complete g c = λ told no_reads no_writes.
-    let state = g.D.Desk.state in
-    let suffixes = map (λ b. ((goal.Plotter-dyn g (b.vtable, b.value)).plot b.value).suffix) c.args.extras.items in
-    let before = (state c.args.desk.now).read_faults in
-    let same = ap (λ (s : DeskState). s.read_faults) c.refuse.ensures.changes in
-    refused_counted suffixes (texts c.args.words.now) (state c.args.desk.now).files c.in-Err.fault c.refuse.result.fault c.refuse.ensures.fault
-    before (state c.take.new.desk).read_faults (c.in-Err.ensures.answer told) c.in-Err.ensures.no_write c.in-Err.ensures.reads
-    (λ rose. no_reads (subst (λ (n : ℕ). Rose before n) (sym same) rose))
-
--- where the words name no file to be read, on every desk
-pub returns-in-Ok-clause-words_drawn : goal.returns-in-Ok-clause-words_drawn
-returns-in-Ok-clause-words_drawn g c =
-    made_of c.write_drawing.result.drawing (λ x. IsSomeAnd (named_by (texts c.args.words.now)) (λ named. IsOfWords named x)) (drawn_of c.in-Ok.taken) c.write_drawing.ensures.made c.in-Ok.ensures.by_words
-
-pub returns-in-Err-clause-words_answer : goal.returns-in-Err-clause-words_answer
-returns-in-Err-clause-words_answer g c = λ alone files.
-    let suffixes = map (λ b. ((goal.Plotter-dyn g (b.vtable, b.value)).plot b.value).suffix) c.args.extras.items in
-    refused_or_memory (RunsDraw suffixes (texts c.args.words.now) files) c.in-Err.fault c.refuse.result.fault c.refuse.ensures.fault (c.in-Err.ensures.no_file alone files)
-
-pub returns-in-Ok-clause-words_complete : goal.returns-in-Ok-clause-words_complete
-returns-in-Ok-clause-words_complete g c = λ alone files no_writes.
-    let state = g.D.Desk.state in
-    let suffixes = map (λ b. ((goal.Plotter-dyn g (b.vtable, b.value)).plot b.value).suffix) c.args.extras.items in
-    let between = (state c.take.new.desk).write_faults in
-    let after = (state c.write_drawing.new.desk).write_faults in
-    let same = ap (λ (s : DeskState). s.write_faults) c.in-Ok.ensures.changes in
-    drawn_counted suffixes (texts c.args.words.now) files (drawn_of c.in-Ok.taken) (c.in-Ok.ensures.no_file alone files) c.write_drawing.result.fault
-    between after c.write_drawing.ensures.fault c.write_drawing.ensures.writes (λ rose. no_writes (subst (λ (n : ℕ). Rose n after) same rose))
-
-pub returns-in-Err-clause-words_complete : goal.returns-in-Err-clause-words_complete
-returns-in-Err-clause-words_complete g c = λ alone files no_writes.
-    let suffixes = map (λ b. ((goal.Plotter-dyn g (b.vtable, b.value)).plot b.value).suffix) c.args.extras.items in
-    refused_unread suffixes (texts c.args.words.now) files c.in-Err.fault c.refuse.result.fault c.refuse.ensures.fault (c.in-Err.ensures.no_file alone files)
-    (no_desk (named_by (texts c.args.words.now)) alone c.in-Err.fault c.in-Err.ensures.words c.in-Err.ensures.no_write)
-
-pub returns-in-Ok-clause-exact : goal.returns-in-Ok-clause-exact
-returns-in-Ok-clause-exact g c = λ steady.
-    let state = g.D.Desk.state in
-    let suffixes = map (λ b. ((goal.Plotter-dyn g (b.vtable, b.value)).plot b.value).suffix) c.args.extras.items in
-    let told = g.met.D.Desk.steady_tells c.args.desk.now steady in
-    let still = ap (λ (s : DeskState). s.steady) c.in-Ok.ensures.changes ∙ steady in
-    drawn_steady suffixes (texts c.args.words.now) (state c.args.desk.now).files (drawn_of c.in-Ok.taken) (c.in-Ok.ensures.answer told) c.write_drawing.result.fault
-    c.write_drawing.ensures.fault (c.write_drawing.ensures.steady still)
-
-pub returns-in-Err-clause-exact : goal.returns-in-Err-clause-exact
-returns-in-Err-clause-exact g c = λ steady.
-    let state = g.D.Desk.state in
-    let suffixes = map (λ b. ((goal.Plotter-dyn g (b.vtable, b.value)).plot b.value).suffix) c.args.extras.items in
-    let told = g.met.D.Desk.steady_tells c.args.desk.now steady in
-    refused_steady suffixes (texts c.args.words.now) (state c.args.desk.now).files c.in-Err.fault c.refuse.result.fault c.refuse.ensures.fault
-    (c.in-Err.ensures.answer told) c.in-Err.ensures.no_write (c.in-Err.ensures.missing steady)
-
-pub returns-in-Ok-clause-held : goal.returns-in-Ok-clause-held
-returns-in-Ok-clause-held g c = λ steady there.
-    let state = g.D.Desk.state in
-    let still = ap (λ (s : DeskState). s.steady) c.in-Ok.ensures.changes ∙ steady in (
-      ap (λ (s : DeskState). s.read_faults) c.write_drawing.ensures.changes ∙ c.in-Ok.ensures.reads,
-      no_write common c.write_drawing.result.fault (state c.take.new.desk).write_faults (state c.write_drawing.new.desk).write_faults (c.write_drawing.ensures.steady still) c.write_drawing.ensures.writes
-          ∙ ap (λ (s : DeskState). s.write_faults) c.in-Ok.ensures.changes,
-    )
-
-pub returns-in-Err-clause-held : goal.returns-in-Err-clause-held
-returns-in-Err-clause-held g c = λ steady there.
-    let state = g.D.Desk.state in
-    let suffixes = map (λ b. ((goal.Plotter-dyn g (b.vtable, b.value)).plot b.value).suffix) c.args.extras.items in (
-      ap (λ (s : DeskState). s.read_faults) c.refuse.ensures.changes
-          ∙ no_read suffixes (texts c.args.words.now) (state c.args.desk.now).files there c.in-Err.fault (state c.args.desk.now).read_faults (state c.take.new.desk).read_faults (c.in-Err.ensures.missing steady) c.in-Err.ensures.reads,
-      ap (λ (s : DeskState). s.write_faults) c.refuse.ensures.changes ∙ ap (λ (s : DeskState). s.write_faults) c.in-Err.ensures.changes,
-    )
-
--- ---- what is heard
-pub returns-in-Ok-clause-whole : goal.returns-in-Ok-clause-whole
-returns-in-Ok-clause-whole g c = λ hears.
+returns-in-Ok-clause-said g c =
     let state = g.D.Desk.state in
     let between = state c.take.new.desk in
-    let after = state c.write_drawing.new.desk in
+    let end = c.write_drawing.result in
+    let did = c.write_drawing.ensures in
     let same = c.in-Ok.ensures.changes in
-    let heard : HearsAll between after = record {
-      tells = ap (λ (s : DeskState). s.tells_warned) same ∙ hears.tells;
-      firm = ap (λ (s : DeskState). s.firm) same ∙ hears.firm;
-      no_fault = λ rose. hears.no_fault (subst (λ (n : ℕ). Rose n after.warn_faults) (ap (λ (s : DeskState). s.warn_faults) same) rose);
-    } in
-    subst (λ (warned : List ℕ). WarnsWhole c.write_drawing.result.fault warned after.warned) (ap (λ (s : DeskState). s.warned) same) (c.write_drawing.ensures.whole heard)
+    says_made end.drawing end.fault (state c.args.desk.now) between (state c.write_drawing.new.desk) same did.said did.unsaid
+
+pub returns-in-Ok-clause-quiet : goal.returns-in-Ok-clause-quiet
+returns-in-Ok-clause-quiet g c =
+    let state = g.D.Desk.state in
+    let did = c.write_drawing.ensures in
+    silent_from (map (λ b. ((goal.Plotter-dyn g (b.vtable, b.value)).plot b.value).suffix) c.args.extras.items) (texts c.args.words.now) (state c.args.desk.now) (state c.take.new.desk) (state c.write_drawing.new.desk) c.in-Ok.ensures.changes
+    c.write_drawing.result.fault did.warned did.quiet

@@ -6,7 +6,7 @@ use Rattle.mend_words.specs.Seen.{named_seen}
 use Rattle.part_input.specs.declared.fault.Fault.{Fault}
 use Rattle.part_input.specs.declared.fault.Fault.TheVariants.{WriteFault}
 use Rattle.part_input.specs.declared.fault.Target.TheVariants.{Out, Summary}
-use Rattle.put_texts.specs.Faults.{common}
+use Rattle.part_input.specs.Causes.{common}
 use Rattle.put_texts.specs.Order.{Text, Way}
 use Rattle.put_texts.specs.Puts.{IsPut, one_text, way_seen}
 use Rattle.put_texts.proofs.Putting.{follows}

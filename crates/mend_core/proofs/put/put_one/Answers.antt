@@ -6,9 +6,9 @@ use Rattle.mend_words.specs.Names.{mend}
 use Rattle.mend_words.specs.Seen.{named_seen}
 use Rattle.part_input.specs.declared.fault.Fault.{Fault}
 use Rattle.part_input.specs.declared.fault.Fault.TheVariants.{WriteFault}
-use Rattle.put_texts.specs.Faults.{common}
+use Rattle.part_input.specs.Causes.{common}
 use Rattle.put_texts.specs.Puts.{way_seen}
-use Rattle.put_texts.proofs.Counting.{memory_only}
+use Rattle.part_input.proofs.Causes.{memory_only}
 use Rattle.put_texts.proofs.Putting.{put_by_lines}
 use Rattle.mend_core.proofs.put.put_one.Goals as goal
 

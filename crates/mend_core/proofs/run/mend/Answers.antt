@@ -1,54 +1,74 @@
-use Rattle.std.proofs.Common.{◌≡◌, ◌∙◌, Option, Some, ap, sym, subst}
-use Rattle.std.specs.Prelude.{IfSome}
+use Rattle.std.proofs.Common.{◌≡◌, ◌∙◌, refl, Option, None, Err, Some, ap, sym, subst}
 use Rattle.draw_words.specs.Seen.{texts}
-use Rattle.mend_core.specs.Run.{HasFilesAsked, MendsAsked, RunsInOrder}
-use Rattle.mend_core.proofs.Answered.{answered, steadily}
-use Rattle.mend_core.proofs.Asked.{all_sound, comes_to, misses, named_in_order, refuses, some_made}
-use Rattle.put_texts.specs.Faults.{common}
-use Rattle.put_texts.proofs.Counting.{no_write}
-use Rattle.mend_words.specs.Names.{Asks, mend, asked_by}
+use Rattle.mend_core.specs.Run.{mend_run, mend_task}
+use Rattle.mend_core.specs.declared.lines.TheConstants.{HELP, MEMORY_LINE, SAID_LINE, VERSION}
+use Rattle.mend_core.proofs.Answered.{lawful}
+use Rattle.mend_core.proofs.Asked.{all_sound, unmade_short}
+use Rattle.mend_core.proofs.Told.{telling}
+use Rattle.mend_words.specs.Names.{Asks, help, version, mend, asked_by}
 use Rattle.mend_words.specs.Seen.{asked_seen, named_seen}
 use Rattle.mend_words.specs.declared.request.Asked.{Asked}
+use Rattle.part_input.specs.Causes.{common}
+use Rattle.part_input.specs.declared.fault.Fault.TheVariants.{Usage, WriteFault, Memory}
+use Rattle.part_input.specs.declared.fault.Target.TheVariants.{Out}
+use Rattle.put_texts.specs.Order.{aloud}
+use Rattle.put_texts.specs.Puts.{one_text, told_by}
+use Rattle.put_texts.specs.Runs.{IsRun}
+use Rattle.put_texts.proofs.Runs.{ended_run, refused_run, short_refusal, told_run}
 use Rattle.mend_core.proofs.run.mend.Goals as goal
 
-pub returns-in-Ok-Mend-clause-order : goal.returns-in-Ok-Mend-clause-order
-returns-in-Ok-Mend-clause-order g c =
-    let named = named_seen c.in-Ok-Mend.request in
-    let is : asked_by (texts c.args.words.now) ≡ Some (mend named) = c.in-Ok-Mend.ensures.asked ∙ ap (λ (a : Asked). Some (asked_seen a)) c.in-Ok-Mend.field-0-is in
-    subst (λ (asked : Option Asks). IfSome c.mend_part.result.fault (RunsInOrder asked)) (sym is) (named_in_order named c.mend_part.result.fault c.mend_part.ensures.words)
+pub returns-in-Ok-Help-clause-run : goal.returns-in-Ok-Help-clause-run
+returns-in-Ok-Help-clause-run g c =
+    let old = g.D.Desk.state c.args.desk.now in
+    let new = g.D.Desk.state c.tell.new.desk in
+    let end = c.tell.result in
+    let did = c.tell.ensures in
+    let asked = Some help in
+    let is : asked_by (texts c.args.words.now) ≡ asked = c.in-Ok-Help.ensures.asked ∙ ap (λ (a : Asked). Some (asked_seen a)) c.in-Ok-Help.field-0-is in
+    subst (λ (o : Option Asks). IsRun (mend_run o) end.status end.fault end.made old new) (sym is)
+    (told_run (mend_run asked) (lawful asked) old new (one_text aloud (WriteFault Out) HELP.now) (told_by common MEMORY_LINE.now SAID_LINE.now) (telling HELP.now help tt old)
+    end.status end.fault end.made (g.met.D.Desk.steady_tells c.args.desk.now) did.status did.none did.put did.unwarned did.changes)
 
-pub returns-in-Ok-Mend-clause-complete : goal.returns-in-Ok-Mend-clause-complete
-returns-in-Ok-Mend-clause-complete g c = λ told no_reads no_writes.
-    let words = texts c.args.words.now in
-    let files = (g.D.Desk.state c.args.desk.now).files in
-    let asks = mend (named_seen c.in-Ok-Mend.request) in
-    let is : asked_by words ≡ Some asks = c.in-Ok-Mend.ensures.asked ∙ ap (λ (a : Asked). Some (asked_seen a)) c.in-Ok-Mend.field-0-is in
+pub returns-in-Ok-Version-clause-run : goal.returns-in-Ok-Version-clause-run
+returns-in-Ok-Version-clause-run g c =
+    let old = g.D.Desk.state c.args.desk.now in
+    let new = g.D.Desk.state c.tell-in-Ok-Version.new.desk in
+    let end = c.tell-in-Ok-Version.result in
+    let did = c.tell-in-Ok-Version.ensures in
+    let asked = Some version in
+    let is : asked_by (texts c.args.words.now) ≡ asked = c.in-Ok-Version.ensures.asked ∙ ap (λ (a : Asked). Some (asked_seen a)) c.in-Ok-Version.field-0-is in
+    subst (λ (o : Option Asks). IsRun (mend_run o) end.status end.fault end.made old new) (sym is)
+    (told_run (mend_run asked) (lawful asked) old new (one_text aloud (WriteFault Out) VERSION.now) (told_by common MEMORY_LINE.now SAID_LINE.now) (telling VERSION.now version tt old)
+    end.status end.fault end.made (g.met.D.Desk.steady_tells c.args.desk.now) did.status did.none did.put did.unwarned did.changes)
+
+pub returns-in-Ok-Mend-clause-run : goal.returns-in-Ok-Mend-clause-run
+returns-in-Ok-Mend-clause-run g c =
+    let old = g.D.Desk.state c.args.desk.now in
+    let new = g.D.Desk.state c.mend_part.new.desk in
     let end = c.mend_part.result in
-    let some = comes_to words files asks is end.fault (some_made (MendsAsked files asks) end.fault end.made c.mend_part.ensures.there (c.mend_part.ensures.part told)) in
-    answered words files end.fault _ _ _ _ some (refuses words files asks is end.fault (c.mend_part.ensures.answer told))
-    c.mend_part.ensures.reads c.mend_part.ensures.writes no_reads no_writes
+    let is : asked_by (texts c.args.words.now) ≡ Some (mend (named_seen c.in-Ok-Mend.request)) = c.in-Ok-Mend.ensures.asked ∙ ap (λ (a : Asked). Some (asked_seen a)) c.in-Ok-Mend.field-0-is in
+    subst (λ (o : Option Asks). IsRun (mend_run o) end.status end.fault end.made old new) (sym is) c.mend_part.ensures.run
 
-pub returns-in-Ok-Mend-clause-exact : goal.returns-in-Ok-Mend-clause-exact
-returns-in-Ok-Mend-clause-exact g c = λ steady.
-    let words = texts c.args.words.now in
-    let files = (g.D.Desk.state c.args.desk.now).files in
-    let asks = mend (named_seen c.in-Ok-Mend.request) in
-    let is : asked_by words ≡ Some asks = c.in-Ok-Mend.ensures.asked ∙ ap (λ (a : Asked). Some (asked_seen a)) c.in-Ok-Mend.field-0-is in
-    let end = c.mend_part.result in
-    let told = g.met.D.Desk.steady_tells c.args.desk.now steady in
-    let some = comes_to words files asks is end.fault (some_made (MendsAsked files asks) end.fault end.made c.mend_part.ensures.there (c.mend_part.ensures.part told)) in
-    steadily words files end.fault some (refuses words files asks is end.fault (c.mend_part.ensures.answer told))
-    (misses words files asks is end.fault (c.mend_part.ensures.missing steady)) (c.mend_part.ensures.steady steady)
+pub returns-in-Err-Usage-clause-run : goal.returns-in-Err-Usage-clause-run
+returns-in-Err-Usage-clause-run g c =
+    let old = g.D.Desk.state c.args.desk.now in
+    let new = g.D.Desk.state c.refuse.new.desk in
+    let end = c.refuse.result in
+    let did = c.refuse.ensures in
+    let asked : Option Asks = None in
+    subst (λ (o : Option Asks). IsRun (mend_run o) end.status end.fault end.made old new) (sym (c.in-Err-Usage.ensures.usage (ap Err c.in-Err-Usage.field-0-is)))
+    (refused_run (mend_run asked) (lawful asked) old old new Usage (record { refuses = λ told. refl; may = refl; order = λ told. tt; reads = refl; missing = λ steady. tt; no_write = tt; read = refl; }) did.changes
+    end.fault did.fault (λ unread. did.told tt) end.status end.made (g.met.D.Desk.steady_tells c.args.desk.now) did.status did.none refl refl (λ told. did.warned told asked) (λ hears. did.whole hears asked))
 
-pub returns-in-Ok-Mend-clause-held : goal.returns-in-Ok-Mend-clause-held
-returns-in-Ok-Mend-clause-held g c = λ steady there.
-    let files = (g.D.Desk.state c.args.desk.now).files in
-    let asks = mend (named_seen c.in-Ok-Mend.request) in
-    let is : asked_by (texts c.args.words.now) ≡ Some asks = c.in-Ok-Mend.ensures.asked ∙ ap (λ (a : Asked). Some (asked_seen a)) c.in-Ok-Mend.field-0-is in
-    let held : HasFilesAsked files asks = subst (λ (asked : Option Asks). IfSome asked (HasFilesAsked files)) is there in (
-      c.mend_part.ensures.held steady held,
-      no_write common c.mend_part.result.fault _ _ (c.mend_part.ensures.steady steady) c.mend_part.ensures.writes,
-    )
+pub returns-in-Err-Memory-clause-run : goal.returns-in-Err-Memory-clause-run
+returns-in-Err-Memory-clause-run g c =
+    let old = g.D.Desk.state c.args.desk.now in
+    let new = g.D.Desk.state c.end_by.new.desk in
+    let end = c.end_by.result in
+    let did = c.end_by.ensures in
+    let asked = asked_by (texts c.args.words.now) in
+    ended_run (mend_run asked) (lawful asked) old old new Memory (short_refusal (mend_task asked) (lawful asked) old old refl refl) did.changes
+    end.fault did.fault MEMORY_LINE.now refl end.status end.made (g.met.D.Desk.steady_tells c.args.desk.now) did.status did.none (unmade_short asked) (unmade_short asked) did.warned did.whole
 
 pub returns-in-Ok-Mend-clause-sound : goal.returns-in-Ok-Mend-clause-sound
 returns-in-Ok-Mend-clause-sound g c = all_sound c.mend_part.result.made

@@ -1,109 +1,124 @@
-use Rattle.std.proofs.Common.{◌≡◌, inl, false, is_some, Option, Some, Ok, refl, sym, ap, subst, ◌∙◌}
-use Rattle.std.specs.Prelude.{IfSome}
+use Rattle.std.proofs.Common.{inl, ℕ, List, Option, Some, Ok, refl, ap, subst, ◌∙◌, string_bytes}
+use Rattle.std.specs.Prelude.{IfNone, IfSome}
 use Rattle.desk.specs.Files.{DeskState}
-use Rattle.mend_core.specs.Run.{AnswersNamed, IsWritten, MendsAsked, MendsPart}
+use Rattle.mend_core.specs.Lines.{mend_line}
+use Rattle.mend_core.specs.Run.{MendsPart, RunsMend, mend_run, mend_task}
 use Rattle.mend_core.specs.Seen.{made_seen}
+use Rattle.mend_core.specs.Writing.{Writes, summary_way, texts_for}
+use Rattle.mend_core.specs.declared.lines.TheConstants.{MEMORY_LINE}
 use Rattle.mend_core.specs.declared.made.Mended.{Mended}
-use Rattle.mend_core.proofs.Asked.{answers_named, counts_none, unmade, unwritten}
-use Rattle.mend_core.proofs.Later.{all_from, warns_from, warns_whole_from}
+use Rattle.mend_core.proofs.Accepted.{accepted}
+use Rattle.mend_core.proofs.Answered.{lawful}
+use Rattle.mend_core.proofs.Asked.{answers_named, in_order, may_of, names_nothing, unmade, unwritten, writing_in_order, written_of}
+use Rattle.mend_core.proofs.Later.{warns_from, warns_whole_from, writes_from}
+use Rattle.mend_core.proofs.Putting.{all_of_writing, of_writing}
 use Rattle.mend_words.specs.Names.{mend}
 use Rattle.mend_words.specs.Seen.{named_seen}
-use Rattle.part_input.specs.Steps.{IsMissing, Refuses}
+use Rattle.part_input.specs.Faults.{status_of}
 use Rattle.part_input.specs.declared.fault.Fault.{Fault}
 use Rattle.part_input.specs.declared.fault.Fault.TheVariants.{Memory}
 use Rattle.part_input.proofs.Chains.{missing_as, refuses_as}
-use Rattle.put_texts.specs.Faults.{CountsWrites, HasNoWriteFault}
-use Rattle.put_texts.proofs.Ends.{either, heard_later, of_made}
+use Rattle.put_texts.specs.Noting.{Notes, NotesWhole}
+use Rattle.put_texts.specs.Runs.{IsRun}
+use Rattle.put_texts.proofs.Ends.{at_end, heard_later}
+use Rattle.put_texts.proofs.Runs.{ended_run, made_unwarned, put_run, refused_run, short_refusal}
+use Rattle.solid_mesh.specs.Solids.{solid_part}
+use Rattle.solid_mesh.proofs.Facts.{in_range, sound}
 use Rattle.mend_core.proofs.run.mend_part.Goals as goal
 
--- ---- the part is refused
+-- the part is refused
 pub refuse-requires : goal.refuse-requires
 refuse-requires g c = unwritten (named_seen c.args.request.now) c.in-Err.fault c.in-Err.ensures.of_named
 
-pub returns-in-Err-clause-answer : goal.returns-in-Err-clause-answer
-returns-in-Err-clause-answer g c = λ told.
-    let files = (g.D.Desk.state c.args.desk.now).files in
-    let named = named_seen c.args.request.now in
-    let steps = MendsAsked files (mend named) in
-    either (λ (fault : Option Fault). IfSome fault (Refuses steps)) c.in-Err.fault Memory c.refuse.result.fault c.refuse.ensures.fault
-    (refuses_as (MendsPart files named) steps (λ e h. inl h) c.in-Err.fault (c.in-Err.ensures.answer told)) tt
-
-pub returns-in-Err-clause-missing : goal.returns-in-Err-clause-missing
-returns-in-Err-clause-missing g c = λ steady.
-    let files = (g.D.Desk.state c.args.desk.now).files in
-    let named = named_seen c.args.request.now in
-    let steps = MendsAsked files (mend named) in
-    either (λ (fault : Option Fault). IfSome fault (IsMissing steps)) c.in-Err.fault Memory c.refuse.result.fault c.refuse.ensures.fault
-    (missing_as (MendsPart files named) steps (λ e h. inl h) c.in-Err.fault (c.in-Err.ensures.missing steady)) tt
-
-pub returns-in-Err-clause-words : goal.returns-in-Err-clause-words
-returns-in-Err-clause-words g c =
-    let named = named_seen c.args.request.now in
-    let e = c.in-Err.fault in
-    either (AnswersNamed named) e Memory c.refuse.result.fault c.refuse.ensures.fault (answers_named named e c.in-Err.ensures.of_named) tt
-
-pub returns-in-Err-clause-writes : goal.returns-in-Err-clause-writes
-returns-in-Err-clause-writes g c =
-    let named = named_seen c.args.request.now in
-    let e = c.in-Err.fault in
+pub returns-in-Err-clause-run : goal.returns-in-Err-clause-run
+returns-in-Err-clause-run g c =
     let state = g.D.Desk.state in
-    let old = (state c.args.desk.now).write_faults in
-    let new = (state c.refuse.new.desk).write_faults in
-    let same : new ≡ old = ap (λ (s : DeskState). s.write_faults) c.refuse.ensures.changes ∙ ap (λ (s : DeskState). s.write_faults) c.in-Err.ensures.changes in
-    either (λ (fault : Option Fault). CountsWrites fault old new) e Memory c.refuse.result.fault c.refuse.ensures.fault (counts_none named e c.in-Err.ensures.of_named old new same) same
-
-pub returns-in-Err-clause-steady : goal.returns-in-Err-clause-steady
-returns-in-Err-clause-steady g c = λ steady.
+    let old = state c.args.desk.now in
+    let between = state c.take.new.desk in
+    let new = state c.refuse.new.desk in
     let named = named_seen c.args.request.now in
+    let asked = Some (mend named) in
     let e = c.in-Err.fault in
-    either HasNoWriteFault e Memory c.refuse.result.fault c.refuse.ensures.fault (unwritten named e c.in-Err.ensures.of_named) tt
+    let end = c.refuse.result in
+    let did = c.refuse.ensures in
+    let read = c.in-Err.ensures.changes in
+    refused_run (mend_run asked) (lawful asked) old between new e (record {
+      refuses = λ told. refuses_as (MendsPart old.files named) (RunsMend asked old.files) (λ e h. inl h) e (c.in-Err.ensures.answer told);
+      may = answers_named named e c.in-Err.ensures.of_named;
+      order = λ told. in_order named e c.in-Err.ensures.of_named;
+      reads = c.in-Err.ensures.reads;
+      missing = λ steady. missing_as (MendsPart old.files named) (RunsMend asked old.files) (λ e h. inl h) e (c.in-Err.ensures.missing steady);
+      no_write = unwritten named e c.in-Err.ensures.of_named;
+      read = read;
+    }) did.changes end.fault did.fault (λ unread. did.told (names_nothing e unread)) end.status end.made (g.met.D.Desk.steady_tells c.args.desk.now) did.status did.none
+    (unmade named e c.in-Err.ensures.of_named) tt
+    (λ told. warns_from old between new read asked end.fault (did.warned (ap (λ (s : DeskState). s.tells_warned) read ∙ told) asked))
+    (λ hears. warns_whole_from old between new read asked end.fault (did.whole (heard_later old between new read hears) asked))
 
-pub returns-in-Err-clause-there : goal.returns-in-Err-clause-there
-returns-in-Err-clause-there g c =
-    let named = named_seen c.args.request.now in
-    let e = c.in-Err.fault in
-    let none = either (λ (fault : Option Fault). IsWritten fault false) e Memory c.refuse.result.fault c.refuse.ensures.fault (unmade named e c.in-Err.ensures.of_named) tt in
-    subst (λ (m : Option Mended). IsWritten c.refuse.result.fault (is_some m)) (sym c.refuse.ensures.none) none
-
-pub returns-in-Err-clause-warned : goal.returns-in-Err-clause-warned
-returns-in-Err-clause-warned g c = λ told.
-    let state = g.D.Desk.state in
-    let same = c.in-Err.ensures.changes in
+-- its texts find no memory
+pub returns-in-Err-texts_of-clause-run : goal.returns-in-Err-texts_of-clause-run
+returns-in-Err-texts_of-clause-run g c =
+    let old = g.D.Desk.state c.args.desk.now in
+    let between = g.D.Desk.state c.take.new.desk in
+    let new = g.D.Desk.state c.end_by.new.desk in
     let asked = Some (mend (named_seen c.args.request.now)) in
-    warns_from (state c.args.desk.now) (state c.take.new.desk) (state c.refuse.new.desk) same asked c.refuse.result.fault
-    (c.refuse.ensures.warned (ap (λ (s : DeskState). s.tells_warned) same ∙ told) asked)
+    let took = c.in-Ok.ensures in
+    let did = c.end_by.ensures in
+    ended_run (mend_run asked) (lawful asked) old between new Memory (short_refusal (mend_task asked) (lawful asked) old between took.changes took.reads) did.changes
+    c.end_by.result.fault did.fault MEMORY_LINE.now refl c.end_by.result.status c.end_by.result.made (g.met.D.Desk.steady_tells c.args.desk.now) did.status did.none tt tt did.warned did.whole
 
-pub returns-in-Err-clause-whole : goal.returns-in-Err-clause-whole
-returns-in-Err-clause-whole g c = λ hears.
+-- its texts are put
+pub returns-clause-run : goal.returns-clause-run
+returns-clause-run g c =
     let state = g.D.Desk.state in
-    let same = c.in-Err.ensures.changes in
-    let asked = Some (mend (named_seen c.args.request.now)) in
-    warns_whole_from (state c.args.desk.now) (state c.take.new.desk) (state c.refuse.new.desk) same asked c.refuse.result.fault
-    (c.refuse.ensures.whole (heard_later (state c.args.desk.now) (state c.take.new.desk) (state c.refuse.new.desk) same hears) asked)
+    let old = state c.args.desk.now in
+    let between = state c.take.new.desk in
+    let new = state c.put-fault.new.desk in
+    let named = named_seen c.args.request.now in
+    let asked = Some (mend named) in
+    let mended = c.in-Ok.mended in
+    let took = c.in-Ok.ensures in
+    let part = c.in-Ok-texts_of.texts.part.items in
+    let summary = string_bytes c.in-Ok-texts_of.texts.summary in
+    let fault = c.put-fault.result in
+    let end = c.ended.result in
+    at_end (λ (f : Option Fault) (made : Option Mended). IsRun (mend_run asked) end.status f made old new) end.fault fault end.made (Some mended) c.ended.ensures.fault c.ended.ensures.made
+    (put_run (mend_run asked) (lawful asked) old between new took.changes took.reads (texts_for named.out part summary) (mend_line asked) (Some mended) (record {
+      gives = λ told. (Some (made_seen mended), (made_seen mended, took.answer told, refl));
+      part = λ told. (made_seen mended, took.answer told, refl);
+      may = λ f is. may_of named f (all_of_writing named part summary f is);
+      order = λ f is. writing_in_order named f (of_writing named f part summary is);
+      made = λ f is. written_of named f (all_of_writing named part summary f is);
+      tells = λ f is. refl;
+    }) end.status fault (g.met.D.Desk.steady_tells c.args.desk.now)
+    (c.ended.ensures.status ∙ ap (λ (f : Option Fault). status_of f) c.ended.ensures.fault) c.put-fault.ensures.put tt (made_unwarned fault))
 
--- ---- the part is written
-pub returns-in-Ok-clause-part : goal.returns-in-Ok-clause-part
-returns-in-Ok-clause-part g c = λ told.
-    let files = (g.D.Desk.state c.args.desk.now).files in
-    of_made c.write_part.result.made c.in-Ok.mended (λ m. MendsAsked files (mend (named_seen c.args.request.now)) (Ok (Some (made_seen m)))) c.write_part.ensures.made
-    (made_seen c.in-Ok.mended, c.in-Ok.ensures.answer told, refl)
-
-pub returns-in-Ok-clause-written : goal.returns-in-Ok-clause-written
-returns-in-Ok-clause-written g c =
+pub returns-clause-written : goal.returns-clause-written
+returns-clause-written g c =
+    let named = named_seen c.args.request.now in
+    let texts = c.in-Ok-texts_of.texts in
+    let made = c.in-Ok-texts_of.ensures in
     let state = g.D.Desk.state in
-    all_from (state c.args.desk.now) (state c.take.new.desk) (state c.write_part.new.desk) c.in-Ok.ensures.changes (named_seen c.args.request.now)
-    c.write_part.result.fault c.write_part.result.made c.write_part.ensures.written
-
-pub returns-in-Ok-clause-warned : goal.returns-in-Ok-clause-warned
-returns-in-Ok-clause-warned g c = λ told.
-    let state = g.D.Desk.state in
-    let same = c.in-Ok.ensures.changes in
-    warns_from (state c.args.desk.now) (state c.take.new.desk) (state c.write_part.new.desk) same (Some (mend (named_seen c.args.request.now)))
-    c.write_part.result.fault (c.write_part.ensures.warned (ap (λ (s : DeskState). s.tells_warned) same ∙ told))
-
-pub returns-in-Ok-clause-whole : goal.returns-in-Ok-clause-whole
-returns-in-Ok-clause-whole g c = λ hears.
-    let state = g.D.Desk.state in
-    let same = c.in-Ok.ensures.changes in
-    warns_whole_from (state c.args.desk.now) (state c.take.new.desk) (state c.write_part.new.desk) same (Some (mend (named_seen c.args.request.now)))
-    c.write_part.result.fault (c.write_part.ensures.whole (heard_later (state c.args.desk.now) (state c.take.new.desk) (state c.write_part.new.desk) same hears))
+    let old = state c.args.desk.now in
+    let between = state c.take.new.desk in
+    let new = state c.put-fault.new.desk in
+    let put = c.put-fault.ensures.put in
+    let fault = c.put-fault.result in
+    let mended = c.in-Ok.mended in
+    let Q : Option Fault → Option Mended → Type 0 = λ fault made. IfSome made (λ m. Writes named fault old new (made_seen m)) in
+    at_end Q c.ended.result.fault fault c.ended.result.made (Some mended) c.ended.ensures.fault c.ended.ensures.made
+    (writes_from old between new c.in-Ok.ensures.changes named fault (made_seen mended) (record {
+      text = texts.part.items;
+      is_text = made.part;
+      reads_back = made.reads_back;
+      texts = texts_for named.out texts.part.items (string_bytes texts.summary);
+      are_texts = ap (λ (s : List ℕ). texts_for named.out texts.part.items s) made.summary;
+      files = put.files;
+      said = put.said;
+      accepted = λ told. accepted named.decimals (solid_part mended.solid) texts.part.items (in_range mended.solid) (sound mended.solid) made.short made.reads_back
+          named.out (string_bytes texts.summary) fault between.files new.files (put.files told);
+      spared = put.spared;
+      silent = put.silent;
+      noted = λ told. subst (λ (s : List ℕ). IfNone fault (Notes (summary_way named.out) s between.warned new.warned)) made.summary (c.put-fault.ensures.noted told);
+      noted_whole = λ hears. subst (λ (s : List ℕ). IfNone fault (NotesWhole (summary_way named.out) s between.warned new.warned)) made.summary (c.put-fault.ensures.noted_whole hears);
+    }))

@@ -4,7 +4,8 @@ use Rattle.put_texts.specs.Puts.{way_seen}
 use Rattle.put_texts.proofs.Putting.{put_by_lines}
 use Rattle.sheet_core.specs.Faults.{sheet_faults, unwritten_of}
 use Rattle.sheet_core.specs.declared.fault.SheetFault.{SheetFault}
-use Rattle.sheet_core.proofs.Putting.{is_unwritten, short_only}
+use Rattle.sheet_core.specs.inner.Shortage.{short_only}
+use Rattle.sheet_core.proofs.Putting.{is_unwritten}
 use Rattle.sheet_core.proofs.put.put_asked.Goals as goal
 use Rattle.sheet_core.specs.Refusals.{fault_line}
 use Rattle.sheet_core.specs.declared.refusals.TheConstants.{MEMORY_LINE}

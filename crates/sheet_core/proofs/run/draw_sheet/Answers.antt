@@ -1,112 +1,139 @@
-use Rattle.std.proofs.Common.{◌≡◌, inl, false, is_some, Option, None, Some, Ok, refl, sym, ap, subst, ◌∙◌}
-use Rattle.std.specs.Prelude.{IfSome}
+use Rattle.std.proofs.Common.{inl, ℕ, List, Option, None, Some, Ok, refl, ap, subst, ◌∙◌, string_bytes}
+use Rattle.std.specs.Prelude.{IfNone, IfSome}
 use Rattle.desk.specs.Files.{DeskState}
 use Rattle.drawing.specs.Drawing.{drawn_in}
 use Rattle.drawing.specs.declared.drawn.Drawing.{Drawing}
-use Rattle.part_input.specs.Steps.{IsMissing, Refuses}
-use Rattle.part_input.proofs.Chains.{missing_as, refuses_as}
 use Rattle.part_input.specs.declared.fault.Fault.TheVariants.{Memory}
-use Rattle.put_texts.proofs.Ends.{either, heard_later, of_made}
-use Rattle.sheet_core.specs.Faults.{AsCommon, CountsWrites, HasNoWriteFault}
+use Rattle.part_input.proofs.Chains.{missing_as, refuses_as}
+use Rattle.put_texts.specs.Noting.{Notes, NotesWhole}
+use Rattle.put_texts.specs.Runs.{IsRun}
+use Rattle.put_texts.proofs.Ends.{at_end, heard_later}
+use Rattle.put_texts.proofs.Runs.{ended_run, made_unwarned, put_run, refused_run, short_refusal}
+use Rattle.sheet_core.specs.Faults.{status_of}
+use Rattle.sheet_core.specs.Pages.{shown_strokes}
+use Rattle.sheet_core.specs.Run.{DrawsPart, RunsSheet, sheet_run, sheet_task}
+use Rattle.sheet_core.specs.Writing.{Writes, listed, page_text, summary_way, texts_for}
 use Rattle.sheet_core.specs.declared.fault.SheetFault.{SheetFault}
 use Rattle.sheet_core.specs.declared.fault.SheetFault.TheVariants.{Common}
-use Rattle.sheet_core.specs.Lines.{Warns}
-use Rattle.sheet_core.specs.Run.{AnswersNamed, DrawsPart, Draws, IsWritten}
-use Rattle.sheet_core.proofs.Asked.{answers_files, counts_files, undrawn_files, unwritten_files}
-use Rattle.sheet_core.proofs.Warned.{all_from, warns_refused, warns_refused_whole, warns_writing, warns_writing_whole}
+use Rattle.sheet_core.specs.declared.refusals.TheConstants.{MEMORY_LINE}
+use Rattle.sheet_core.specs.Refusals.{fault_line}
+use Rattle.sheet_core.proofs.Answered.{lawful}
+use Rattle.sheet_core.proofs.Asked.{answers_files, in_order, may_of, of_reading, undrawn_files, unwritten_files, writing_in_order, written_of}
+use Rattle.sheet_core.proofs.Putting.{all_of_writing, of_writing}
+use Rattle.sheet_core.proofs.Warned.{warns_refused, warns_refused_whole, writes_from, writing_line}
+use Rattle.sheet_list.specs.Lists.{list_text}
 use Rattle.sheet_words.specs.Names.{sheet}
 use Rattle.sheet_words.specs.Seen.{named_seen}
 use Rattle.sheet_core.proofs.run.draw_sheet.Goals as goal
 
-pub returns-in-Err-take-clause-answer : goal.returns-in-Err-take-clause-answer
-returns-in-Err-take-clause-answer g c = λ told.
-    let files = (g.D.Desk.state c.args.desk.now).files in
-    let named = named_seen c.args.request in
-    let steps = Draws files (sheet named) in
-    either (λ (fault : Option SheetFault). IfSome fault (AsCommon (Refuses steps))) (Common c.in-Err-take.refusal.fault) (Common Memory) c.refuse.result.fault c.refuse.ensures.fault
-    (refuses_as (DrawsPart files named.part named.job) steps (λ e h. inl h) c.in-Err-take.refusal.fault (c.in-Err-take.ensures.answer told)) tt
+-- the lines of files that can't be read found no memory
+pub returns-in-Err-clause-run : goal.returns-in-Err-clause-run
+returns-in-Err-clause-run g c =
+    let old = g.D.Desk.state c.args.desk.now in
+    let new = g.D.Desk.state c.end_by.new.desk in
+    let asked = Some (sheet (named_seen c.args.request)) in
+    let did = c.end_by.ensures in
+    ended_run (sheet_run asked) (lawful asked) old old new (Common Memory) (short_refusal (sheet_task asked) (lawful asked) old old refl refl) did.changes
+    c.end_by.result.fault did.fault MEMORY_LINE.now (None, refl, refl) c.end_by.result.status c.end_by.result.made (g.met.D.Desk.steady_tells c.args.desk.now) did.status did.none tt tt did.warned did.whole
 
-pub returns-in-Err-take-clause-missing : goal.returns-in-Err-take-clause-missing
-returns-in-Err-take-clause-missing g c = λ steady.
-    let files = (g.D.Desk.state c.args.desk.now).files in
-    let named = named_seen c.args.request in
-    let steps = Draws files (sheet named) in
-    either (λ (fault : Option SheetFault). IfSome fault (AsCommon (IsMissing steps))) (Common c.in-Err-take.refusal.fault) (Common Memory) c.refuse.result.fault c.refuse.ensures.fault
-    (missing_as (DrawsPart files named.part named.job) steps (λ e h. inl h) c.in-Err-take.refusal.fault (c.in-Err-take.ensures.missing steady)) tt
-
-pub returns-clause-part : goal.returns-clause-part
-returns-clause-part g c = λ told.
-    let files = (g.D.Desk.state c.args.desk.now).files in
-    of_made c.write_sheet.result.made c.in-Ok-take.drawing (λ d. Draws files (sheet (named_seen c.args.request)) (Ok (Some (drawn_in d)))) c.write_sheet.ensures.made
-    (drawn_in c.in-Ok-take.drawing, c.in-Ok-take.ensures.answer told, refl)
-
-pub returns-in-Err-take-clause-warned : goal.returns-in-Err-take-clause-warned
-returns-in-Err-take-clause-warned g c = λ told.
+-- the part is refused
+pub returns-in-Err-take-clause-run : goal.returns-in-Err-take-clause-run
+returns-in-Err-take-clause-run g c =
     let state = g.D.Desk.state in
-    let same = c.in-Err-take.ensures.changes in
-    let refusal = c.in-Err-take.refusal in
-    warns_refused (named_seen c.args.request) (state c.args.desk.now) (state c.take.new.desk) (state c.refuse.new.desk) same refusal.fault refusal.place c.in-Err-take.ensures.placed
-    c.refuse.result.fault c.refuse.ensures.fault (c.refuse.ensures.warned (ap (λ (s : DeskState). s.tells_warned) same ∙ told))
+    let old = state c.args.desk.now in
+    let between = state c.take.new.desk in
+    let new = state c.refuse.new.desk in
+    let named = named_seen c.args.request in
+    let asked = Some (sheet named) in
+    let e = c.in-Err-take.refusal.fault in
+    let place = c.in-Err-take.refusal.place in
+    let took = c.in-Err-take.ensures in
+    let end = c.refuse.result in
+    let did = c.refuse.ensures in
+    let steps = DrawsPart old.files named.part named.job in
+    refused_run (sheet_run asked) (lawful asked) old between new (Common e) (record {
+      refuses = λ told. refuses_as steps (RunsSheet asked old.files) (λ e h. inl h) e (took.answer told);
+      may = answers_files named e took.of_files;
+      order = λ told. in_order named old.files e (took.order told);
+      reads = took.reads;
+      missing = λ steady. missing_as steps (RunsSheet asked old.files) (λ e h. inl h) e (took.missing steady);
+      no_write = unwritten_files named.part named.job e took.of_files;
+      read = took.changes;
+    }) did.changes end.fault did.fault (λ unread. did.told (of_reading e unread)) end.status end.made (g.met.D.Desk.steady_tells c.args.desk.now) did.status did.none
+    (undrawn_files named.part named.job e took.of_files) tt
+    (λ told. warns_refused named old between new took.changes e place took.placed end.fault did.fault (did.warned (ap (λ (s : DeskState). s.tells_warned) took.changes ∙ told)))
+    (λ hears. warns_refused_whole named old between new took.changes e place took.placed end.fault did.fault (did.whole (heard_later old between new took.changes hears)))
 
-pub returns-in-Err-take-clause-whole : goal.returns-in-Err-take-clause-whole
-returns-in-Err-take-clause-whole g c = λ hears.
+-- its texts find no memory
+pub returns-in-Err-texts_of-clause-run : goal.returns-in-Err-texts_of-clause-run
+returns-in-Err-texts_of-clause-run g c =
+    let old = g.D.Desk.state c.args.desk.now in
+    let between = g.D.Desk.state c.take.new.desk in
+    let new = g.D.Desk.state c.end_by-in-Err-texts_of.new.desk in
+    let asked = Some (sheet (named_seen c.args.request)) in
+    let took = c.in-Ok-take.ensures in
+    let did = c.end_by-in-Err-texts_of.ensures in
+    ended_run (sheet_run asked) (lawful asked) old between new (Common Memory) (short_refusal (sheet_task asked) (lawful asked) old between took.changes took.reads) did.changes
+    c.end_by-in-Err-texts_of.result.fault did.fault MEMORY_LINE.now (None, refl, refl) c.end_by-in-Err-texts_of.result.status c.end_by-in-Err-texts_of.result.made (g.met.D.Desk.steady_tells c.args.desk.now) did.status did.none tt tt did.warned did.whole
+
+-- its texts are put
+pub returns-clause-run : goal.returns-clause-run
+returns-clause-run g c =
     let state = g.D.Desk.state in
-    let same = c.in-Err-take.ensures.changes in
-    let refusal = c.in-Err-take.refusal in
-    warns_refused_whole (named_seen c.args.request) (state c.args.desk.now) (state c.take.new.desk) (state c.refuse.new.desk) same refusal.fault refusal.place c.in-Err-take.ensures.placed
-    c.refuse.result.fault c.refuse.ensures.fault (c.refuse.ensures.whole (heard_later (state c.args.desk.now) (state c.take.new.desk) (state c.refuse.new.desk) same hears))
+    let old = state c.args.desk.now in
+    let between = state c.take.new.desk in
+    let new = state c.put-fault.new.desk in
+    let named = named_seen c.args.request in
+    let asked = Some (sheet named) in
+    let drawing = c.in-Ok-take.drawing in
+    let took = c.in-Ok-take.ensures in
+    let texts = c.in-Ok-texts_of.texts in
+    let page = texts.page.items in
+    let list = texts.list.items in
+    let summary = string_bytes texts.summary in
+    let fault = c.put-fault.result in
+    let end = c.ended.result in
+    at_end (λ (f : Option SheetFault) (made : Option Drawing). IsRun (sheet_run asked) end.status f made old new) end.fault fault end.made (Some drawing) c.ended.ensures.fault c.ended.ensures.made
+    (put_run (sheet_run asked) (lawful asked) old between new took.changes took.reads (texts_for named page list summary) (fault_line (Some named) None) (Some drawing) (record {
+      gives = λ told. (Some (drawn_in drawing), (drawn_in drawing, took.answer told, refl));
+      part = λ told. (drawn_in drawing, took.answer told, refl);
+      may = λ f is. may_of named f (all_of_writing named page list summary f is);
+      order = λ f is. writing_in_order named old.files f (of_writing named f page list summary is);
+      made = λ f is. written_of named f (all_of_writing named page list summary f is);
+      tells = λ f is. writing_line named old between new took.changes f (of_writing named f page list summary is);
+    }) end.status fault (g.met.D.Desk.steady_tells c.args.desk.now)
+    (c.ended.ensures.status ∙ ap (λ (f : Option SheetFault). status_of f) c.ended.ensures.fault) c.put-fault.ensures.put tt (made_unwarned fault))
 
 pub returns-clause-written : goal.returns-clause-written
 returns-clause-written g c =
-    let state = g.D.Desk.state in
-    all_from (named_seen c.args.request) (state c.args.desk.now) (state c.take.new.desk) (state c.write_sheet.new.desk) c.in-Ok-take.ensures.changes
-    c.write_sheet.result.fault c.write_sheet.result.made c.write_sheet.ensures.written
-
-pub returns-clause-warned : goal.returns-clause-warned
-returns-clause-warned g c = λ told.
-    let state = g.D.Desk.state in
-    let same = c.in-Ok-take.ensures.changes in
-    warns_writing (named_seen c.args.request) (state c.args.desk.now) (state c.take.new.desk) (state c.write_sheet.new.desk) same
-    c.write_sheet.result.fault c.write_sheet.ensures.fault (c.write_sheet.ensures.warned (ap (λ (s : DeskState). s.tells_warned) same ∙ told))
-
-pub returns-clause-whole : goal.returns-clause-whole
-returns-clause-whole g c = λ hears.
-    let state = g.D.Desk.state in
-    let same = c.in-Ok-take.ensures.changes in
-    warns_writing_whole (named_seen c.args.request) (state c.args.desk.now) (state c.take.new.desk) (state c.write_sheet.new.desk) same
-    c.write_sheet.result.fault c.write_sheet.ensures.fault (c.write_sheet.ensures.whole (heard_later (state c.args.desk.now) (state c.take.new.desk) (state c.write_sheet.new.desk) same hears))
-
-pub returns-in-Err-take-clause-words : goal.returns-in-Err-take-clause-words
-returns-in-Err-take-clause-words g c =
     let named = named_seen c.args.request in
-    let e = c.in-Err-take.refusal.fault in
-    either (AnswersNamed named) (Common e) (Common Memory) c.refuse.result.fault c.refuse.ensures.fault (answers_files named e c.in-Err-take.ensures.of_files) tt
-
-pub returns-in-Err-take-clause-writes : goal.returns-in-Err-take-clause-writes
-returns-in-Err-take-clause-writes g c =
-    let named = named_seen c.args.request in
-    let e = c.in-Err-take.refusal.fault in
+    let texts = c.in-Ok-texts_of.texts in
+    let made = c.in-Ok-texts_of.ensures in
+    let shown = made.shown in
     let state = g.D.Desk.state in
-    let old = (state c.args.desk.now).write_faults in
-    let new = (state c.refuse.new.desk).write_faults in
-    let same : new ≡ old = ap (λ (s : DeskState). s.write_faults) c.refuse.ensures.changes ∙ ap (λ (s : DeskState). s.write_faults) c.in-Err-take.ensures.changes in
-    either (λ (fault : Option SheetFault). CountsWrites fault old new) (Common e) (Common Memory) c.refuse.result.fault c.refuse.ensures.fault (counts_files named.part named.job e c.in-Err-take.ensures.of_files old new same) same
-
-pub returns-in-Err-take-clause-steady : goal.returns-in-Err-take-clause-steady
-returns-in-Err-take-clause-steady g c = λ steady.
-    let named = named_seen c.args.request in
-    let e = c.in-Err-take.refusal.fault in
-    either HasNoWriteFault (Common e) (Common Memory) c.refuse.result.fault c.refuse.ensures.fault (unwritten_files named.part named.job e c.in-Err-take.ensures.of_files) tt
-
-pub returns-in-Err-take-clause-drawn : goal.returns-in-Err-take-clause-drawn
-returns-in-Err-take-clause-drawn g c =
-    let named = named_seen c.args.request in
-    let e = c.in-Err-take.refusal.fault in
-    let undrawn = either (λ (fault : Option SheetFault). IsWritten fault false) (Common e) (Common Memory) c.refuse.result.fault c.refuse.ensures.fault (undrawn_files named.part named.job e c.in-Err-take.ensures.of_files) tt in
-    subst (λ (made : Option Drawing). IsWritten c.refuse.result.fault (is_some made)) (sym c.refuse.ensures.none) undrawn
-
--- the lines of files that can't be read found no memory
-pub returns-in-Err-clause-warned : goal.returns-in-Err-clause-warned
-returns-in-Err-clause-warned g c = λ told.
-    let state = g.D.Desk.state in
-    subst (λ (fault : Option SheetFault). IfSome fault (Warns (Some (named_seen c.args.request)) (state c.args.desk.now) (state c.end_by.new.desk))) (sym c.end_by.ensures.fault) (None, refl, c.end_by.ensures.warned told)
+    let old = state c.args.desk.now in
+    let between = state c.take.new.desk in
+    let new = state c.put-fault.new.desk in
+    let put = c.put-fault.ensures.put in
+    let fault = c.put-fault.result in
+    let drawing = c.in-Ok-take.drawing in
+    let list = texts.list.items in
+    let Q : Option SheetFault → Option Drawing → Type 0 = λ fault made. IfSome made (Writes named fault old new) in
+    at_end Q c.ended.result.fault fault c.ended.result.made (Some drawing) c.ended.ensures.fault c.ended.ensures.made
+    (writes_from named old between new c.in-Ok-take.ensures.changes fault drawing (record {
+      page = shown.page;
+      on = shown.on;
+      strokes = shown.strokes.items;
+      marks = shown.marks.items;
+      shows = made.shows;
+      texts = texts_for named texts.page.items list (string_bytes texts.summary);
+      are_texts = ap (λ (page : List ℕ). texts_for named page list (string_bytes texts.summary)) made.text
+          ∙ ap (λ (l : List ℕ). texts_for named (page_text named.out shown.page) l (string_bytes texts.summary)) made.list
+          ∙ ap (λ (s : List ℕ). texts_for named (page_text named.out shown.page) (listed named.list (list_text drawing.job shown.on (shown_strokes named.hidden drawing.job.views.items shown.strokes.items))) s) made.summary;
+      files = put.files;
+      said = put.said;
+      spared = put.spared;
+      silent = put.silent;
+      noted = λ told. subst (λ (s : List ℕ). IfNone fault (Notes (summary_way named) s between.warned new.warned)) made.summary (c.put-fault.ensures.noted told);
+      noted_whole = λ hears. subst (λ (s : List ℕ). IfNone fault (NotesWhole (summary_way named) s between.warned new.warned)) made.summary (c.put-fault.ensures.noted_whole hears);
+    }))

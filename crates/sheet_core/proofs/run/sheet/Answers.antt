@@ -1,46 +1,72 @@
-use Rattle.std.proofs.Common.{◌≡◌, ◌∙◌, Option, Some, ap, subst}
-use Rattle.std.specs.Prelude.{IfSome}
+use Rattle.std.proofs.Common.{◌≡◌, ◌∙◌, refl, Option, None, Err, Some, ap, sym, subst}
 use Rattle.draw_words.specs.Seen.{texts}
-use Rattle.put_texts.proofs.Counting.{no_write}
 use Rattle.sheet_core.specs.Faults.{sheet_faults}
-use Rattle.sheet_core.specs.Run.{Draws, RunsSheet, HasFilesAsked}
-use Rattle.sheet_core.proofs.Answered.{answered, steadily, no_read}
-use Rattle.sheet_core.proofs.Asked.{refuses, misses, comes_to, some_drawn}
-use Rattle.sheet_core.proofs.OneAnswer.{one_answer}
-use Rattle.sheet_words.specs.Names.{Asks, sheet, asked_by}
+use Rattle.sheet_core.specs.Run.{sheet_run, sheet_task}
+use Rattle.sheet_core.specs.declared.fault.SheetFault.TheVariants.{Common}
+use Rattle.sheet_core.specs.declared.lines.TheConstants.{HELP, VERSION}
+use Rattle.sheet_core.specs.declared.refusals.TheConstants.{MEMORY_LINE, SAID_LINE, USAGE_LINE}
+use Rattle.sheet_core.proofs.Answered.{lawful}
+use Rattle.sheet_core.proofs.Asked.{undrawn_short}
+use Rattle.sheet_core.proofs.Told.{telling, unsaid}
+use Rattle.sheet_words.specs.Names.{Asks, help, version, sheet, asked_by}
 use Rattle.sheet_words.specs.Seen.{asked_seen, named_seen}
 use Rattle.sheet_words.specs.declared.words.Asked.{Asked}
+use Rattle.part_input.specs.declared.fault.Fault.TheVariants.{Usage, Memory}
+use Rattle.put_texts.specs.Order.{aloud}
+use Rattle.put_texts.specs.Puts.{one_text, told_by}
+use Rattle.put_texts.specs.Runs.{IsRun}
+use Rattle.put_texts.proofs.Runs.{ended_run, short_refusal, told_run}
 use Rattle.sheet_core.proofs.run.sheet.Goals as goal
 
-pub returns-in-Ok-Sheet-clause-complete : goal.returns-in-Ok-Sheet-clause-complete
-returns-in-Ok-Sheet-clause-complete g c = λ told no_reads no_writes.
-    let words = texts c.args.words.now in
-    let files = (g.D.Desk.state c.args.desk.now).files in
-    let asks = sheet (named_seen c.in-Ok-Sheet.request) in
-    let is : asked_by words ≡ Some asks = c.in-Ok-Sheet.ensures.asked ∙ ap (λ (a : Asked). Some (asked_seen a)) c.in-Ok-Sheet.field-0-is in
-    let end = c.draw_sheet.result in
-    let some = comes_to words files asks is end.fault (some_drawn (Draws files asks) end.fault end.made c.draw_sheet.ensures.drawn (c.draw_sheet.ensures.part told)) in
-    answered (RunsSheet words files) (one_answer words files) end.fault _ _ _ _ some (refuses words files asks is end.fault (c.draw_sheet.ensures.answer told))
-    c.draw_sheet.ensures.reads c.draw_sheet.ensures.writes no_reads no_writes
+pub returns-in-Ok-Help-clause-run : goal.returns-in-Ok-Help-clause-run
+returns-in-Ok-Help-clause-run g c =
+    let old = g.D.Desk.state c.args.desk.now in
+    let new = g.D.Desk.state c.tell.new.desk in
+    let end = c.tell.result in
+    let did = c.tell.ensures in
+    let asked = Some help in
+    let is : asked_by (texts c.args.words.now) ≡ asked = c.in-Ok-Help.ensures.asked ∙ ap (λ (a : Asked). Some (asked_seen a)) c.in-Ok-Help.field-0-is in
+    subst (λ (o : Option Asks). IsRun (sheet_run o) end.status end.fault end.made old new) (sym is)
+    (told_run (sheet_run asked) (lawful asked) old new (one_text aloud unsaid HELP.now) (told_by sheet_faults MEMORY_LINE.now SAID_LINE.now) (telling HELP.now help tt old)
+    end.status end.fault end.made (g.met.D.Desk.steady_tells c.args.desk.now) did.status did.none did.put did.unwarned did.changes)
 
-pub returns-in-Ok-Sheet-clause-exact : goal.returns-in-Ok-Sheet-clause-exact
-returns-in-Ok-Sheet-clause-exact g c = λ steady.
-    let words = texts c.args.words.now in
-    let files = (g.D.Desk.state c.args.desk.now).files in
-    let asks = sheet (named_seen c.in-Ok-Sheet.request) in
-    let is : asked_by words ≡ Some asks = c.in-Ok-Sheet.ensures.asked ∙ ap (λ (a : Asked). Some (asked_seen a)) c.in-Ok-Sheet.field-0-is in
-    let end = c.draw_sheet.result in
-    let told = g.met.D.Desk.steady_tells c.args.desk.now steady in
-    let some = comes_to words files asks is end.fault (some_drawn (Draws files asks) end.fault end.made c.draw_sheet.ensures.drawn (c.draw_sheet.ensures.part told)) in
-    steadily (RunsSheet words files) (one_answer words files) end.fault some (refuses words files asks is end.fault (c.draw_sheet.ensures.answer told))
-    (misses words files asks is end.fault (c.draw_sheet.ensures.missing steady)) (c.draw_sheet.ensures.steady steady)
+pub returns-in-Ok-Version-clause-run : goal.returns-in-Ok-Version-clause-run
+returns-in-Ok-Version-clause-run g c =
+    let old = g.D.Desk.state c.args.desk.now in
+    let new = g.D.Desk.state c.tell-in-Ok-Version.new.desk in
+    let end = c.tell-in-Ok-Version.result in
+    let did = c.tell-in-Ok-Version.ensures in
+    let asked = Some version in
+    let is : asked_by (texts c.args.words.now) ≡ asked = c.in-Ok-Version.ensures.asked ∙ ap (λ (a : Asked). Some (asked_seen a)) c.in-Ok-Version.field-0-is in
+    subst (λ (o : Option Asks). IsRun (sheet_run o) end.status end.fault end.made old new) (sym is)
+    (told_run (sheet_run asked) (lawful asked) old new (one_text aloud unsaid VERSION.now) (told_by sheet_faults MEMORY_LINE.now SAID_LINE.now) (telling VERSION.now version tt old)
+    end.status end.fault end.made (g.met.D.Desk.steady_tells c.args.desk.now) did.status did.none did.put did.unwarned did.changes)
 
-pub returns-in-Ok-Sheet-clause-held : goal.returns-in-Ok-Sheet-clause-held
-returns-in-Ok-Sheet-clause-held g c = λ steady there.
-    let files = (g.D.Desk.state c.args.desk.now).files in
-    let asks = sheet (named_seen c.in-Ok-Sheet.request) in
-    let is : asked_by (texts c.args.words.now) ≡ Some asks = c.in-Ok-Sheet.ensures.asked ∙ ap (λ (a : Asked). Some (asked_seen a)) c.in-Ok-Sheet.field-0-is in
-    let held : HasFilesAsked files asks = subst (λ (asked : Option Asks). IfSome asked (HasFilesAsked files)) is there in (
-      no_read files asks held c.draw_sheet.result.fault _ _ (c.draw_sheet.ensures.missing steady) c.draw_sheet.ensures.reads,
-      no_write sheet_faults c.draw_sheet.result.fault _ _ (c.draw_sheet.ensures.steady steady) c.draw_sheet.ensures.writes,
-    )
+pub returns-in-Ok-Sheet-clause-run : goal.returns-in-Ok-Sheet-clause-run
+returns-in-Ok-Sheet-clause-run g c =
+    let old = g.D.Desk.state c.args.desk.now in
+    let new = g.D.Desk.state c.draw_sheet.new.desk in
+    let end = c.draw_sheet.result in
+    let is : asked_by (texts c.args.words.now) ≡ Some (sheet (named_seen c.in-Ok-Sheet.request)) = c.in-Ok-Sheet.ensures.asked ∙ ap (λ (a : Asked). Some (asked_seen a)) c.in-Ok-Sheet.field-0-is in
+    subst (λ (o : Option Asks). IsRun (sheet_run o) end.status end.fault end.made old new) (sym is) c.draw_sheet.ensures.run
+
+pub returns-in-Err-Usage-clause-run : goal.returns-in-Err-Usage-clause-run
+returns-in-Err-Usage-clause-run g c =
+    let old = g.D.Desk.state c.args.desk.now in
+    let new = g.D.Desk.state c.end_by.new.desk in
+    let end = c.end_by.result in
+    let did = c.end_by.ensures in
+    let asked : Option Asks = None in
+    subst (λ (o : Option Asks). IsRun (sheet_run o) end.status end.fault end.made old new) (sym (c.in-Err-Usage.ensures.usage (ap Err c.in-Err-Usage.field-0-is)))
+    (ended_run (sheet_run asked) (lawful asked) old old new (Common Usage) (record { refuses = λ told. refl; may = refl; order = λ told. tt; reads = refl; missing = λ steady. tt; no_write = tt; read = refl; }) did.changes
+    end.fault did.fault USAGE_LINE.now (None, refl, refl) end.status end.made (g.met.D.Desk.steady_tells c.args.desk.now) did.status did.none refl refl did.warned did.whole)
+
+pub returns-in-Err-Memory-clause-run : goal.returns-in-Err-Memory-clause-run
+returns-in-Err-Memory-clause-run g c =
+    let old = g.D.Desk.state c.args.desk.now in
+    let new = g.D.Desk.state c.end_by-in-Err-Memory.new.desk in
+    let end = c.end_by-in-Err-Memory.result in
+    let did = c.end_by-in-Err-Memory.ensures in
+    let asked = asked_by (texts c.args.words.now) in
+    ended_run (sheet_run asked) (lawful asked) old old new (Common Memory) (short_refusal (sheet_task asked) (lawful asked) old old refl refl) did.changes
+    end.fault did.fault MEMORY_LINE.now (None, refl, refl) end.status end.made (g.met.D.Desk.steady_tells c.args.desk.now) did.status did.none (undrawn_short asked) (undrawn_short asked) did.warned did.whole
