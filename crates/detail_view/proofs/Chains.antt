@@ -15,11 +15,13 @@ use Rattle.part_input.specs.declared.fault.Input.TheVariants.{Part as ThePart}
 use Rattle.part_input.specs.declared.fault.Fault.{Fault}
 use Rattle.part_input.specs.declared.fault.Fault.TheVariants as input
 use Rattle.part_input.proofs.Answered.{IsOfNoWriting}
-use Rattle.detail_view.specs.Faults.{CountsReads, fault_of, pieces_faults}
+use Rattle.detail_view.specs.Faults.{fault_of, pieces_faults}
+use Rattle.detail_view.specs.inner.Steps.{CountsReads}
 use Rattle.detail_view.specs.Run.{Given, TakesPart, IsOfJob, IsOfPartNamed, IsOfList, IsOfCheck, ChecksInOrder}
 use Rattle.detail_view.specs.Words.{Check}
 use Rattle.detail_view.specs.inner.Judging.{Judges, ComesAfterJob}
-use Rattle.detail_view.specs.Steps.{Lifted, Refuses, IsMissing}
+use Rattle.detail_view.specs.Steps.{Lifted}
+use Rattle.detail_view.specs.inner.Steps.{Refuses, IsMissing}
 use Rattle.detail_view.specs.declared.fault.PiecesFault.{PiecesFault}
 use Rattle.detail_view.specs.declared.fault.PiecesFault.TheVariants.{Input, ReadList}
 

@@ -5,9 +5,11 @@ use Rattle.desk.specs.Files.{Files, DeskState, OnlyReads}
 use Rattle.piece_verify.specs.declared.check.Verdict.{Verdict}
 use Rattle.put_texts.specs.Runs.{IsAnswer}
 use Rattle.put_texts.proofs.Runs.{whole_answer}
-use Rattle.detail_view.specs.Faults.{CountsReads, CountsWrites, HasNoWriteFault}
-use Rattle.detail_view.specs.Run.{AnswersPiecesWords, Checks, Given, IsVerdictOf, RunsInOrder, RunsPieces, verdict_line, Says, SaysAsked, pieces_task}
-use Rattle.detail_view.specs.Steps.{Ends, IsMissing}
+use Rattle.detail_view.specs.inner.Steps.{CountsReads, CountsWrites, HasNoWriteFault}
+use Rattle.detail_view.specs.Run.{AnswersPiecesWords, Checks, Given, IsVerdictOf, NamesNoFile, RunsInOrder, RunsPieces, verdict_line, Says, SaysAsked, pieces_task}
+use Rattle.part_input.specs.Steps.{EndsOf}
+use Rattle.detail_view.specs.Faults.{pieces_faults}
+use Rattle.detail_view.specs.inner.Steps.{IsMissing}
 use Rattle.detail_view.specs.Words.{Asked, Check, checks}
 use Rattle.detail_view.proofs.Runs.{lawful, memory_in_order}
 use Rattle.detail_view.specs.inner.Judging.{IsOfSaying, Tells}
@@ -21,6 +23,10 @@ all_saying Q none written want (Some WriteFault) h = written
 all_saying Q none written want (Some Memory) h = want
 all_saying Q none written want (Some e) h = elim h [ ]
 
+some_names : (asked : Option Asked) → IsSome asked → NamesNoFile asked → ⊥
+some_names None some none = absurd (cc)
+some_names (Some asked) some none = none
+
 -- the steps gave something, and then it was said or kept, or not
 pub said_answer : (asked : Option Asked) (old between new : DeskState) → OnlyReads old between → between.read_faults ≡ old.read_faults → new.read_faults ≡ between.read_faults
     → (old.steady ≡ true → old.tells ≡ true) → (old.tells ≡ true → (x : Given) × RunsPieces asked old.files (Ok x)) → IsSome asked → RunsInOrder asked old.files WriteFault → (fault : Option PiecesFault) → IfSome fault IsOfSaying
@@ -28,7 +34,7 @@ pub said_answer : (asked : Option Asked) (old between new : DeskState) → OnlyR
 said_answer asked old between new read still same tells gives some order fault h writes steady =
     let reads : new.read_faults ≡ old.read_faults = same ∙ still in
     whole_answer (pieces_task asked) (lawful asked) old new fault tells
-    (λ told. all_saying (Ends (RunsPieces asked old.files)) (gives told) (gives told) tt fault h)
+    (λ told. all_saying (EndsOf pieces_faults (RunsPieces asked old.files)) (gives told) (gives told) tt fault h) (λ none files. absurd (some_names asked some none))
     (all_saying (AnswersPiecesWords asked) some some tt fault h)
     (λ told. all_saying (λ f. IfSome f (RunsInOrder asked old.files)) tt order (memory_in_order asked old.files) fault h)
     (all_saying (λ f. CountsReads f old.read_faults new.read_faults) reads reads reads fault h)

@@ -13,8 +13,9 @@ use Rattle.part_input.proofs.Singles.{same_fault}
 use Rattle.part_input.proofs.There.{never_then, not_read, job_there, part_there}
 use Rattle.put_texts.proofs.Runs.{IsLawful, IsOfSteps}
 use Rattle.piece_verify.specs.declared.check.Verdict.{Verdict}
-use Rattle.detail_view.specs.Faults.{HasNoWriteFault, cause_of, pieces_faults}
-use Rattle.detail_view.specs.Run.{AnswersPiecesWords, ChecksBy, Checks, Details, Given, HasFiles, HasVerdict, HasView, IsOfCheck, IsOfDetail, RunsInOrder, RunsPieces, TakesPart, TakesReadList, TakesViewed, listed, viewed, pieces_task}
+use Rattle.detail_view.specs.Faults.{cause_of, pieces_faults}
+use Rattle.detail_view.specs.inner.Steps.{HasNoWriteFault}
+use Rattle.detail_view.specs.Run.{AnswersPiecesWords, ChecksBy, Checks, Details, Given, HasFiles, HasVerdict, HasView, NamesNoFile, IsOfCheck, IsOfDetail, RunsInOrder, RunsPieces, TakesPart, TakesReadList, TakesViewed, listed, viewed, pieces_task}
 use Rattle.detail_view.specs.Steps.{Lifted, Yields}
 use Rattle.detail_view.specs.Words.{Asked, Check, Detail, checks, details}
 use Rattle.detail_view.specs.declared.fault.PiecesFault.{PiecesFault}
@@ -102,6 +103,10 @@ never None files there f is h = read_only (λ (f : PiecesFault). f ≡ Usage →
 never (Some (checks c)) files there f is h = checks_never files c there f is h
 never (Some (details d)) files there f is h = details_never files d there f is h
 
+none_unread : (asked : Option Asked) → NamesNoFile asked → (f : PiecesFault) → cause_of f ≡ unread → AnswersPiecesWords asked (Some f) → ⊥
+none_unread None none f is words = read_only (λ (f : PiecesFault). AnswersPiecesWords None (Some f) → ⊥) (λ which h. h) (λ h. h) f is words
+none_unread (Some asked) none f is words = none
+
 -- want of memory comes anywhere
 pub memory_in_order : (asked : Option Asked) (files : Files) → RunsInOrder asked files Memory
 memory_in_order None files = tt
@@ -115,6 +120,7 @@ lawful asked = record {
   may_want = tt;
   want_in_order = memory_in_order asked;
   settled = settled asked;
+  no_reading = none_unread asked;
   there = never asked;
 }
 

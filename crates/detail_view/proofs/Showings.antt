@@ -9,7 +9,7 @@ use Rattle.part_input.specs.declared.fault.Input.TheVariants.{Part as ThePart}
 use Rattle.part_input.specs.declared.fault.Fault.TheVariants.{ReadFault}
 use Rattle.detail_view.specs.Run.{IsOfJob, IsOfView, IsOfPartNamed, IsOfDetail, TakesViewed, DetailsInOrder}
 use Rattle.part_input.specs.Steps.{◌and_then◌}
-use Rattle.detail_view.specs.Steps.{GivesPieces, IsMissing}
+use Rattle.detail_view.specs.inner.Steps.{GivesPieces, IsMissing}
 use Rattle.detail_view.specs.Words.{Detail}
 use Rattle.detail_view.specs.declared.fault.PiecesFault.{PiecesFault}
 use Rattle.detail_view.specs.declared.fault.PiecesFault.TheVariants.{Input, ReadList}

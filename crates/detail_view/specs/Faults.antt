@@ -1,12 +1,11 @@
 -- The status of a run, and what its faults are to the desk.
 use Rattle.std.specs.Prelude.{ℕ, Option, Some, None}
-use Rattle.part_input.specs.Causes.{Cause, Faults, unread, unwritten, wanting, elsewhere, CountsReadsOf}
+use Rattle.part_input.specs.Causes.{Cause, Faults, unread, unwritten, wanting, elsewhere}
 use Rattle.part_input.specs.Faults.{status_of as input_status}
 use Rattle.part_input.specs.declared.fault.Fault.{Fault}
 use Rattle.part_input.specs.declared.fault.Fault.TheVariants.{ReadFault, Memory as NoMemory}
 use Rattle.piece_verify.specs.declared.check.Verdict.{Verdict}
 use Rattle.piece_verify.specs.declared.check.Verdict.TheVariants.{Right, Stranger, Differs}
-use Rattle.put_texts.specs.Faults.{CountsWritesOf, HasNoWriteFaultOf}
 use Rattle.detail_view.specs.declared.fault.PiecesFault.{PiecesFault}
 use Rattle.detail_view.specs.declared.fault.PiecesFault.TheVariants.{Usage, Input, NoView, ReadList, ListTooLong, List as Unlisted, WriteFault, Memory}
 
@@ -41,17 +40,6 @@ cause_of fault = elsewhere
 
 abbrev pub pieces_faults : Faults PiecesFault
 pieces_faults = record { cause = cause_of; memory = Memory }
-
--- the counts of the faults of reading and of writing, with these faults
-abbrev pub CountsReads : Option PiecesFault → ℕ → ℕ → Type 0
-CountsReads fault old new = CountsReadsOf pieces_faults fault old new
-
-abbrev pub CountsWrites : Option PiecesFault → ℕ → ℕ → Type 0
-CountsWrites fault old new = CountsWritesOf pieces_faults fault old new
-
--- no fault of writing is answered
-abbrev pub HasNoWriteFault : Option PiecesFault → Type 0
-HasNoWriteFault fault = HasNoWriteFaultOf pieces_faults fault
 
 -- want of memory is one fault, wherever it was found
 abbrev pub fault_of : Fault → PiecesFault

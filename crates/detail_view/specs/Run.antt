@@ -196,6 +196,11 @@ HasFiles files None = Unit {0}
 HasFiles files (Some (checks c)) = IsSome (files c.job) × HasSampleOr (sample_size c.part) files c.part × IsSome (files c.list)
 HasFiles files (Some (details d)) = IsSome (files d.job) × HasSampleOr (sample_size d.part) files d.part
 
+-- words that ask for a check or a detail name files to be read
+abbrev pub NamesNoFile : Option Asked → Type 0
+NamesNoFile None = Unit {0}
+NamesNoFile (Some asked) = ⊥
+
 -- ---- a run
 -- what the words come to
 abbrev pub pieces_task : Option Asked → Task PiecesFault Given
@@ -205,6 +210,7 @@ pieces_task asked = record {
   may = AnswersPiecesWords asked;
   comes_to = RunsInOrder asked;
   has_files = λ files. HasFiles files asked;
+  no_file = NamesNoFile asked;
   settles = λ files. AnswersSteps pieces_faults (RunsPieces asked files);
 }
 

@@ -2,3 +2,4 @@
 pub mod Drawing
 pub mod Judging
 pub mod Showing
+pub mod Steps

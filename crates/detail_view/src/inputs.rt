@@ -6,8 +6,10 @@ ghost use Rattle.job_file.specs.Seen.{job_seen};
 ghost use Rattle.solid_mesh.specs.Solids.{solid_part};
 ghost use Rattle.part_input.specs.Jobs.{TakesReadJob};
 ghost use Rattle.part_input.specs.Causes.{unread};
-ghost use Rattle.detail_view.specs.Faults.{cause_of, fault_of, CountsReads};
-ghost use Rattle.detail_view.specs.Steps.{Lifted, GivesPieces, IsMissing};
+ghost use Rattle.detail_view.specs.Faults.{cause_of, fault_of};
+ghost use Rattle.detail_view.specs.inner.Steps.{CountsReads};
+ghost use Rattle.detail_view.specs.Steps.{Lifted};
+ghost use Rattle.detail_view.specs.inner.Steps.{GivesPieces, IsMissing};
 ghost use Rattle.detail_view.specs.Run.{ReadsList, TakesPart, TakesReadList, IsOfJob, IsOfPartNamed, IsOfList};
 ghost use Rattle.detail_view.specs.inner.Judging.{GivesEntries};
 

@@ -1,26 +1,25 @@
 -- What is asked of a run of `draw`: its steps have one answer, and they miss no file that is there. And what it answers once its drawing is made.
-use Rattle.std.proofs.Common.{◌≡◌, ◌⊎◌, inl, inr, ℕ, List, Option, Some, None, IfSome, is_some, true≢false, Result, Ok, Err, refl, sym, subst}
+use Rattle.std.proofs.Common.{◌≡◌, inl, inr, ℕ, List, Option, Some, None, IfSome, is_some, true≢false, Result, Ok, Err, refl, sym, subst}
 use Rattle.std.specs.Prelude.{IfNone, IsSome, IsSomeAnd}
-use Rattle.desk.specs.Files.{Files, Rose}
+use Rattle.desk.specs.Files.{Files}
 use Rattle.draw_words.specs.Names.{Named, named_by}
 use Rattle.part_input.specs.Faults.{CountsReads}
 use Rattle.part_input.specs.Jobs.{TakesJob, ReadsJob, TakesReadJob, HasJobFile}
 use Rattle.part_input.specs.Parts.{TakesSolid}
-use Rattle.part_input.specs.Steps.{◌and_then◌, EndsOf, Refuses, IsAnswerOf, IsMissing}
+use Rattle.part_input.specs.Steps.{◌and_then◌, EndsOf, IsMissing}
 use Rattle.part_input.specs.Causes.{common}
 use Rattle.part_input.specs.declared.fault.Input.{Input}
 use Rattle.part_input.specs.declared.fault.Fault.{Fault}
 use Rattle.part_input.specs.declared.fault.Fault.TheVariants.{Usage, ReadFault, Job as JobUnread, NoPlotter, WriteFault, Memory}
-use Rattle.part_input.proofs.Answered.{IsOfNoDesk, of_steps, given, refused}
 use Rattle.part_input.proofs.Causes.{memory_alone, read_only}
-use Rattle.part_input.proofs.Singles.{IsSingle}
 use Rattle.part_input.proofs.There.{never_then, not_read, job_there, part_there}
 use Rattle.draw_core.specs.Run.{AnswersDrawWords, HasPlotters, TakesMetJob, DrawsFiles, RunsDraw, RunsInOrder, HasFiles, draw_task}
 use Rattle.sheet_plan.specs.JobSheets.{Drawn}
 use Rattle.part_input.specs.Sheets.{PlansSheet}
 use Rattle.draw_core.specs.inner.Faults.{IsWriteOutcome}
+use Rattle.draw_core.proofs.NoFile.{no_reading}
 use Rattle.draw_core.proofs.OneAnswer.{one_answer}
-use Rattle.put_texts.specs.Faults.{CountsWrites, IsThereOf}
+use Rattle.put_texts.specs.Faults.{IsThereOf}
 use Rattle.put_texts.proofs.Runs.{IsLawful, settled_steps}
 
 -- ---- files that are there
@@ -47,6 +46,7 @@ lawful suffixes words = record {
   may_want = tt;
   want_in_order = λ files. tt;
   settled = λ files fault is. settled_steps (draw_task suffixes words) files (one_answer suffixes words files) fault is;
+  no_reading = no_reading (named_by words);
   there = λ files there f unread h. read_only (λ (f : Fault). RunsDraw suffixes words files (Err f) → ⊥) (λ input. never_missing suffixes files input words there) f unread h;
 }
 
@@ -54,33 +54,13 @@ pub some_named : (named : Option Named) (P : Named → Type 0) → IsSomeAnd nam
 some_named None P h = absurd (h)
 some_named (Some names) P h = refl
 
-module _ (suffixes words : List (List ℕ)) (files : Files) where
-  abbrev Steps : Result Drawn Fault → Type 0
-  Steps = RunsDraw suffixes words files
-
-  one : IsSingle Steps
-  one = one_answer suffixes words files
-
-  -- ---- where the steps come to a drawing
-  module _ (drawn : Drawn) (is : Steps (Ok drawn)) where
-    pub drawn_ends : (fault : Option Fault) → IfSome fault IsWriteOutcome → EndsOf common Steps fault
-    drawn_ends None h = (drawn, is)
-    drawn_ends (Some (WriteFault target)) h = (drawn, is)
-    drawn_ends (Some Memory) h = tt
-    drawn_ends (Some e) h = elim h [ ]
-
-    -- a drawing that was kept
-    pub drawn_counted : (fault : Option Fault) (old new : ℕ) → IfSome fault IsWriteOutcome → CountsWrites fault old new → (Rose old new → ⊥) → IsAnswerOf Steps fault
-    drawn_counted None old new h counts none = given Steps one drawn None is (inl refl)
-    drawn_counted (Some Memory) old new h counts none = given Steps one drawn (Some Memory) is (inr refl)
-    drawn_counted (Some (WriteFault target)) old new h counts none = absurd (none counts)
-    drawn_counted (Some e) old new h counts none = elim h [ ]
-
-  -- ---- where they were refused, and the warning may have found no memory
-  pub refused_unread : (e : Fault) (fault : Option Fault) → (fault ≡ Some e) ⊎ (fault ≡ Some Memory) → Refuses Steps e → IsOfNoDesk e → IsAnswerOf Steps fault
-  refused_unread e fault said h none = refused Steps one e fault said (of_steps Steps e none h)
-
 -- what is left once the drawing is made
+pub drawn_ends : (suffixes words : List (List ℕ)) (files : Files) (drawn : Drawn) → RunsDraw suffixes words files (Ok drawn) → (fault : Option Fault) → IfSome fault IsWriteOutcome → EndsOf common (RunsDraw suffixes words files) fault
+drawn_ends suffixes words files drawn is None h = (drawn, is)
+drawn_ends suffixes words files drawn is (Some (WriteFault target)) h = (drawn, is)
+drawn_ends suffixes words files drawn is (Some Memory) h = tt
+drawn_ends suffixes words files drawn is (Some e) h = elim h [ ]
+
 pub drawn_may : (named : Option Named) → IsSome named → (fault : Option Fault) → IfSome fault IsWriteOutcome → AnswersDrawWords named fault
 drawn_may named some None h = some
 drawn_may named some (Some (WriteFault target)) h = some
@@ -104,12 +84,6 @@ drawn_misses_none steps None h = tt
 drawn_misses_none steps (Some (WriteFault target)) h = tt
 drawn_misses_none steps (Some Memory) h = tt
 drawn_misses_none steps (Some e) h = elim h [ ]
-
-pub drawn_refuses : {A : Type 0} (steps : Result A Fault → Type 0) (fault : Option Fault) → IfSome fault IsWriteOutcome → IfSome fault (Refuses steps)
-drawn_refuses steps None h = tt
-drawn_refuses steps (Some (WriteFault target)) h = tt
-drawn_refuses steps (Some Memory) h = tt
-drawn_refuses steps (Some e) h = elim h [ ]
 
 -- a run without a fault has a drawing
 pub none_undrawn : {T : Type 0} (fault : Option Fault) (made : Option T) (Q : Type 0) → IsThereOf common fault (is_some made) → IfNone fault (IfNone made Q)

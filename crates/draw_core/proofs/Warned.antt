@@ -2,7 +2,8 @@
 use Rattle.std.proofs.Common.{◌≡◌, ◌++◌, ℕ, true, List, Option, None, Some, refl, ap, subst, ◌∙◌}
 use Rattle.std.specs.Prelude.{IfNone, IfSome}
 use Rattle.desk.specs.Files.{DeskState, AppendsFront, OnlyReads}
-use Rattle.draw_core.specs.Lines.{IsSilent, Warns, WarnsWhole, fault_line}
+use Rattle.draw_core.specs.Lines.{IsSilent, fault_line}
+use Rattle.draw_core.specs.inner.Warned.{Warns, WarnsWhole}
 use Rattle.draw_core.specs.Run.{draw_run}
 use Rattle.part_input.specs.Causes.{cause_of, unread}
 use Rattle.part_input.specs.declared.fault.Fault.{Fault}

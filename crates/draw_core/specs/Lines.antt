@@ -1,6 +1,6 @@
--- The line that a fault is told by, and what a run warns of it.
-use Rattle.std.specs.Prelude.{◌≡◌, ◌++◌, ℕ, true, List, Option, Some, None, codes}
-use Rattle.desk.specs.Files.{DeskState, AppendsFront}
+-- The line that a fault is told by, and a run that warns of nothing.
+use Rattle.std.specs.Prelude.{◌≡◌, ℕ, true, List, codes}
+use Rattle.desk.specs.Files.{DeskState}
 use Rattle.fault_lines.specs.Lines.{fault_line as line_in}
 use Rattle.part_input.specs.declared.fault.Fault.{Fault}
 use Rattle.part_input.specs.declared.fault.Fault.TheVariants.{WriteFault}
@@ -12,16 +12,6 @@ fault_line fault = line_in (codes "draw") (codes "draw PART [--job JOB] [--out O
 
 abbrev pub write_line : Target → List ℕ
 write_line target = fault_line (WriteFault target)
-
--- what a run adds to what was warned: nothing where it has no fault, and else a prefix of the fault's line
-abbrev pub Warns : Option Fault → List ℕ → List ℕ → Type 0
-Warns None old new = new ≡ old
-Warns (Some fault) old new = AppendsFront old new (fault_line fault)
-
--- and where no warning fails, the whole line
-abbrev pub WarnsWhole : Option Fault → List ℕ → List ℕ → Type 0
-WarnsWhole None old new = new ≡ old
-WarnsWhole (Some fault) old new = new ≡ old ++ fault_line fault
 
 -- nothing was warned, on a desk that tells that, and no warning failed
 pub record IsSilent (old new : DeskState) : Type 0 where

@@ -1,15 +1,14 @@
 -- What a run answers, from its words and the files at entry: steps in order, each with what it gives and what it refuses.
-use Rattle.std.specs.Prelude.{◌≡◌, ◌⊎◌, ℕ, List, [], Option, Some, None, IfSome, IsSome, IsSomeAnd, Result, Ok, Err}
-use Rattle.desk.specs.Files.{Files, DeskState, Rose}
+use Rattle.std.specs.Prelude.{◌≡◌, ◌⊎◌, ℕ, List, Option, Some, None, IfSome, IsSome, IsSomeAnd, Result, Ok, Err}
+use Rattle.desk.specs.Files.{Files}
 use Rattle.draw_words.specs.Names.{Named, named_by}
-use Rattle.geometry.specs.Parts.{Part}
 use Rattle.job_file.specs.Documents.{JobValues}
-use Rattle.part_input.specs.Jobs.{ReadsJob, TakesReadJob, IsOfUsualJob, HasJobFile}
-use Rattle.part_input.specs.Parts.{sample_size, MakesSample, TakesSolid, IsOfPart, HasSampleOr}
-use Rattle.part_input.specs.Sheets.{PlansSheet, IsOfSheet}
+use Rattle.part_input.specs.Jobs.{TakesReadJob, IsOfUsualJob, HasJobFile}
+use Rattle.part_input.specs.Parts.{sample_size, TakesSolid, IsOfPart, HasSampleOr}
+use Rattle.part_input.specs.Sheets.{PlansSheet, IsOfSheet, IsOfWords, NamesNoFile}
 use Rattle.part_input.specs.Causes.{common}
 use Rattle.part_input.specs.Faults.{status_of}
-use Rattle.part_input.specs.Steps.{◌and_then◌, Refuses, IsAnswerOf}
+use Rattle.part_input.specs.Steps.{◌and_then◌, IsAnswerOf}
 use Rattle.sheet_plan.specs.JobSheets.{Drawn}
 use Rattle.part_input.specs.declared.fault.Input.{Input}
 use Rattle.part_input.specs.declared.fault.Input.TheVariants.{Job as TheJob, Part as ThePart}
@@ -72,26 +71,6 @@ AnswersDrawWords named (Some (WriteFault target)) = IsSome named
 AnswersDrawWords named (Some fault) = IsSomeAnd named (λ names. IsOfFiles names fault)
 AnswersDrawWords named None = IsSome named
 
--- they name no file to be read: no job, and a sample as the part
-pub record NamesNoFile (named : Named) : Type 0 where
-  pub no_job : named.job ≡ None
-  pub sample : IsSome (sample_size named.part)
-
--- where no job is named, it is that of the empty text
-abbrev pub IsJobOf : Option (List ℕ) → JobValues → Type 0
-IsJobOf None job = ReadsJob [] (Ok job)
-IsJobOf (Some name) job = Unit {0}
-
--- where the part is a sample of this size, it is the one that is made
-abbrev pub IsPartOf : Option (List ℕ) → Part → Type 0
-IsPartOf None part = Unit {0}
-IsPartOf (Some size) part = MakesSample size (Ok part)
-
--- what the words alone say of what is drawn
-pub record IsOfWords (named : Named) (drawn : Drawn) : Type 0 where
-  pub job : IsJobOf named.job drawn.job
-  pub part : IsPartOf (sample_size named.part) drawn.part
-
 -- the run comes to reading the job where it is named, and to a part that isn't a sample once the job was taken
 abbrev pub ComesTo : List (List ℕ) → Files → Named → Input → Type 0
 ComesTo suffixes files named TheJob = IsSome named.job
@@ -106,13 +85,6 @@ RunsInOrder suffixes words files fault = Unit {0}
 abbrev pub HasFiles : Files → Named → Type 0
 HasFiles files named = HasJobFile files named.job × HasSampleOr (sample_size named.part) files named.part
 
--- What the words alone say: as much of the drawing as they say without a file; and where they name no file to be read, the answer is
--- that of the steps, whatever files there are, or want of memory, wherever no fault of writing was counted.
-pub record IsOfWordsAlone (suffixes words : List (List ℕ)) (fault : Option Fault) (made : Option Drawing) (old new : DeskState) : Type 0 where
-  pub words_drawn : IfSome made (λ d. IsSomeAnd (named_by words) (λ named. IsOfWords named (drawn_in d)))
-  pub words_answer : IfSome (named_by words) NamesNoFile → (files : Files) → IfSome fault (Refuses (RunsDraw suffixes words files))
-  pub words_complete : IfSome (named_by words) NamesNoFile → (files : Files) → (Rose old.write_faults new.write_faults → ⊥) → IsAnswerOf (RunsDraw suffixes words files) fault
-
 -- ---- a run
 -- what the words come to, with plotters of these suffixes
 abbrev pub draw_task : List (List ℕ) → List (List ℕ) → Task Fault Drawn
@@ -122,6 +94,7 @@ draw_task suffixes words = record {
   may = AnswersDrawWords (named_by words);
   comes_to = RunsInOrder suffixes words;
   has_files = λ files. IfSome (named_by words) (HasFiles files);
+  no_file = IfSome (named_by words) (λ named. NamesNoFile named.job named.part);
   settles = λ files. IsAnswerOf (RunsDraw suffixes words files);
 }
 
@@ -132,5 +105,6 @@ draw_run suffixes words = record {
   status = status_of;
   makes = IsThereOf common;
   given = drawn_in;
+  of_words = λ d. IsSomeAnd (named_by words) (λ named. IsOfWords named.job named.part (drawn_in d));
   tells = λ old fault line. line ≡ fault_line fault;
 }

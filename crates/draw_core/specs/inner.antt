@@ -3,3 +3,4 @@ pub mod Faults
 pub mod Kept
 pub mod Made
 pub mod Taken
+pub mod Warned

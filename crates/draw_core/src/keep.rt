@@ -1,6 +1,6 @@
 // Keeps the files of a drawing, says its summary, and warns of a fault.
 ghost use Rattle.std.specs.Prelude.{◌≡◌, true, map, None, Some, IfSome, IfNone, string_bytes};
-ghost use Rattle.draw_core.specs.Lines.{Warns, WarnsWhole};
+ghost use Rattle.draw_core.specs.inner.Warned.{Warns, WarnsWhole};
 ghost use Rattle.draw_core.specs.inner.Made.{file_seen};
 ghost use Rattle.draw_core.specs.Outputs.{LeavesAll};
 ghost use Rattle.draw_core.specs.inner.Faults.{IsWriteOutcome};

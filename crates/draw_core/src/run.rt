@@ -7,9 +7,10 @@ ghost use Rattle.draw_core.specs.inner.Taken.{drawn_of, IsDrawn};
 ghost use Rattle.plot_rack.specs.Racks.{boxes_of};
 ghost use Rattle.part_input.specs.Causes.{common};
 ghost use Rattle.part_input.specs.Faults.{status_of};
-ghost use Rattle.draw_core.specs.Run.{IsOfWordsAlone, draw_run};
+ghost use Rattle.draw_core.specs.Run.{draw_run};
 ghost use Rattle.draw_core.specs.inner.Faults.{IsWriteOutcome};
-ghost use Rattle.draw_core.specs.Lines.{IsSilent, Warns, WarnsWhole};
+ghost use Rattle.draw_core.specs.Lines.{IsSilent};
+ghost use Rattle.draw_core.specs.inner.Warned.{Warns, WarnsWhole};
 ghost use Rattle.fault_lines.specs.Lines.{NamesNothing};
 ghost use Rattle.drawing.specs.Drawing.{drawn_in, IsPlannedDrawing};
 ghost use Rattle.draw_core.specs.Drawing.{WritesNamed};
@@ -199,9 +200,6 @@ pub fn draw<D: Desk>(
 ) -> Outcome
     // It is a run of the steps that the words ask for, from the files at entry, with the plotters that are handed in.
     ensures run { IsRun (draw_run (map (λ b. (plot b).suffix) extras.items) (texts words.now)) result.status result.fault result.drawing (D.state desk.old) (D.state desk.new) }
-
-    // On every desk the words say as much as they say without a file.
-    ensures words { IsOfWordsAlone (map (λ b. (plot b).suffix) extras.items) (texts words.now) result.fault result.drawing (D.state desk.old) (D.state desk.new) }
 
     // The drawing shows the part by the job; its text is what its file holds, and beside it stand those of the plotters.
     ensures shows { IfSome result.drawing IsPlannedDrawing }

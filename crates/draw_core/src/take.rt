@@ -11,8 +11,8 @@ ghost use Rattle.part_input.specs.Steps.{GivesInput, IsMissing};
 ghost use Rattle.plot_rack.specs.Choices.{AreChosen};
 ghost use Rattle.plot_rack.specs.Racks.{boxes_of};
 ghost use Rattle.solid_mesh.specs.Solids.{solid_part};
-ghost use Rattle.draw_core.specs.Run.{HasPlotters, DrawsFiles, RunsDraw, AnswersDrawWords, IsOfJob, IsOfFiles, NamesNoFile, IsOfWords, RunsInOrder};
-ghost use Rattle.part_input.specs.Sheets.{PlansSheet, IsOfSheet};
+ghost use Rattle.draw_core.specs.Run.{HasPlotters, DrawsFiles, RunsDraw, AnswersDrawWords, IsOfJob, IsOfFiles, RunsInOrder};
+ghost use Rattle.part_input.specs.Sheets.{PlansSheet, IsOfSheet, IsOfWords, NamesNoFile};
 ghost use Rattle.draw_core.specs.inner.Faults.{IsOfOutputs, ReadsInOrder};
 ghost use Rattle.draw_core.specs.inner.Taken.{drawn_of, IsDrawn, HasItsPlotters, GoesWhereNamed};
 ghost use Rattle.put_texts.specs.Faults.{HasNoWriteFault};
@@ -108,9 +108,9 @@ fn take_files<D: Desk>(
 ) -> Result<Taken, Fault>
     ensures answer { (D.state desk.old).tells ≡ true →
         GivesInput drawn_of (DrawsFiles (map (λ b. (plot b).suffix) extras.items) (D.state desk.old).files (named_seen named)) result }
-    ensures no_file { NamesNoFile (named_seen named) → (files : Files) →
+    ensures no_file { NamesNoFile (named_seen named).job (named_seen named).part → (files : Files) →
         GivesInput drawn_of (DrawsFiles (map (λ b. (plot b).suffix) extras.items) files (named_seen named)) result }
-    ensures by_words { IfOk result (λ taken. IsOfWords (named_seen named) (drawn_of taken)) }
+    ensures by_words { IfOk result (λ taken. IsOfWords (named_seen named).job (named_seen named).part (drawn_of taken)) }
     ensures of_files { IfErr result (IsOfFiles (named_seen named)) }
     ensures drawn { IfOk result IsDrawn }
     ensures out { IfOk result (λ taken. taken.out ≡ (named_seen named).out) }
@@ -145,9 +145,9 @@ pub(crate) fn take<D: Desk>(
 ) -> Result<Taken, Fault>
     ensures answer { (D.state desk.old).tells ≡ true →
         GivesInput drawn_of (RunsDraw (map (λ b. (plot b).suffix) extras.items) (texts words.now) (D.state desk.old).files) result }
-    ensures no_file { IfSome (named_by (texts words.now)) NamesNoFile → (files : Files) →
+    ensures no_file { IfSome (named_by (texts words.now)) (λ named. NamesNoFile named.job named.part) → (files : Files) →
         GivesInput drawn_of (RunsDraw (map (λ b. (plot b).suffix) extras.items) (texts words.now) files) result }
-    ensures by_words { IfOk result (λ taken. IsSomeAnd (named_by (texts words.now)) (λ named. IsOfWords named (drawn_of taken))) }
+    ensures by_words { IfOk result (λ taken. IsSomeAnd (named_by (texts words.now)) (λ named. IsOfWords named.job named.part (drawn_of taken))) }
     ensures words { AnswersDrawWords (named_by (texts words.now)) (result_err result) }
     ensures drawn { IfOk result IsDrawn }
     ensures out { IfOk result (GoesWhereNamed (named_by (texts words.now))) }

@@ -1,13 +1,13 @@
 -- What is asked of a run of `mend`: an answer of its steps answers to what it takes, and they miss no file that is there.
-use Rattle.std.proofs.Common.{◌≡◌, inl, inr, ℕ, Option, Some, None, Result, Ok, Err, refl, sym, ap, subst}
+use Rattle.std.proofs.Common.{◌≡◌, inl, inr, ℕ, List, Option, Some, None, IsSome, Result, Ok, Err, refl, sym, ap, subst}
 use Rattle.dec_text.specs.declared.number.Length.TheVariants.{Millimetre}
 use Rattle.desk.specs.Files.{Files}
 use Rattle.geometry.specs.Parts.{Part}
 use Rattle.mend_core.specs.Mending.{Made, Mends, IsPartRefused}
-use Rattle.mend_core.specs.Run.{AnswersTaken, HasFilesAsked, IsAnswerTo, IsOfSurface, MendsPart, RunsMend, Takes, TakesPart, mend_task}
+use Rattle.mend_core.specs.Run.{AnswersMendWords, AnswersTaken, HasFilesAsked, IsAnswerTo, IsOfNamed, IsOfSurface, NamesNoFile, MendsPart, RunsMend, Takes, TakesPart, mend_task}
 use Rattle.mend_core.proofs.OneAnswer.{one_taking}
 use Rattle.mend_words.specs.Names.{Asks, Named, help, version, mend}
-use Rattle.part_input.specs.Parts.{sample_size}
+use Rattle.part_input.specs.Parts.{IsOfSoupOr, sample_size}
 use Rattle.part_input.specs.declared.fault.Fault.{Fault}
 use Rattle.part_input.specs.declared.fault.Fault.TheVariants.{Usage, ReadFault, Nothing, Mesh, Memory}
 use Rattle.part_input.specs.declared.fault.Input.{Input}
@@ -81,6 +81,21 @@ never_missing (Some version) files input there h = not_given None (ReadFault inp
 never_missing (Some (mend named)) files input there (inl h) = never_missing_part files named input there h
 never_missing (Some (mend named)) files input there (inr (made, _, h)) = not_given (Some made) (ReadFault input) h
 
+-- ---- words that name no file
+sample_unread : (size : Option (List ℕ)) → IsSome size → (input : Input) → IsOfSoupOr size (ReadFault input) → ⊥
+sample_unread None is input h = absurd (cc)
+sample_unread (Some size) is input h = h
+
+named_unread : (named : Named) → IsSome (sample_size named.part) → (input : Input) → IsOfNamed named (ReadFault input) → ⊥
+named_unread named is input (inl h) = sample_unread (sample_size named.part) is input h
+named_unread named is input (inr h) = h.1
+
+input_unread : (asked : Option Asks) → NamesNoFile asked → (input : Input) → AnswersMendWords asked (Some (ReadFault input)) → ⊥
+input_unread None none input h = h
+input_unread (Some help) none input h = h
+input_unread (Some version) none input h = h
+input_unread (Some (mend named)) none input h = named_unread named none input h
+
 pub lawful : (asked : Option Asks) → IsLawful (mend_task asked)
 lawful asked = record {
   is_wanting = refl;
@@ -88,5 +103,6 @@ lawful asked = record {
   may_want = tt;
   want_in_order = λ files. tt;
   settled = answered asked;
+  no_reading = λ none f unread may. read_only (λ (f : Fault). AnswersMendWords asked (Some f) → ⊥) (λ input. input_unread asked none input) f unread may;
   there = λ files there f unread h. read_only (λ (f : Fault). RunsMend asked files (Err f) → ⊥) (λ input. never_missing asked files input there) f unread h;
 }

@@ -1,7 +1,7 @@
 -- A run that is asked for help or the version: what it says.
 use Rattle.std.proofs.Common.{◌≡◌, ℕ, List, Option, None, Some, false, Ok, refl}
 use Rattle.std.specs.Prelude.{IfSome}
-use Rattle.desk.specs.Files.{DeskState}
+use Rattle.desk.specs.Files.{Files, DeskState}
 use Rattle.mend_core.specs.Lines.{mend_line}
 use Rattle.mend_core.specs.Run.{AnswersMendWords, HasMended, RunsInOrder, RunsMend, mend_run}
 use Rattle.mend_core.specs.declared.lines.TheConstants.{MEMORY_LINE, SAID_LINE}
@@ -22,10 +22,10 @@ AsksToTell help = Unit {0}
 AsksToTell version = Unit {0}
 AsksToTell (mend named) = ⊥
 
-gives : (asks : Asks) → AsksToTell asks → (old : DeskState) → RunsMend (Some asks) old.files (Ok None)
-gives help is old = refl
-gives version is old = refl
-gives (mend named) is old = absurd is
+gives : (asks : Asks) → AsksToTell asks → (files : Files) → RunsMend (Some asks) files (Ok None)
+gives help is files = refl
+gives version is files = refl
+gives (mend named) is files = absurd is
 
 -- what holds of the fault of saying it, and of want of memory, holds of each fault of the run
 module _ (bytes : List ℕ) (P : Fault → Type 0) (written : P (WriteFault Out)) (want : P Memory) where
@@ -51,7 +51,9 @@ module _ (bytes : List ℕ) where
 
   pub telling : (asks : Asks) → AsksToTell asks → (old : DeskState) → IsPutting (mend_run (Some asks)) (one_text aloud (WriteFault Out) bytes) (told_by common MEMORY_LINE.now SAID_LINE.now) None old
   telling asks is old = record {
-    gives = λ told. (None, gives asks is old);
+    gives = λ told. (None, gives asks is old.files);
+    alone = λ none files. (None, gives asks is files);
+    words = tt;
     part = λ told. tt;
     may = may asks is;
     order = λ f of_texts. each_fault bytes (RunsInOrder (Some asks)) tt tt f of_texts;

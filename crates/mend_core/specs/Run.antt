@@ -99,6 +99,15 @@ abbrev pub HasFilesAsked : Files → Option Asks → Type 0
 HasFilesAsked files (Some (mend named)) = HasSampleOr (sample_size named.part) files named.part
 HasFilesAsked files asked = Unit {0}
 
+-- no file is named to be read: the part is a sample
+abbrev pub NamesNoFile : Option Asks → Type 0
+NamesNoFile (Some (mend named)) = IsSome (sample_size named.part)
+NamesNoFile asked = Unit {0}
+
+-- what the words alone say of a part that was made: of a sample, whatever files there are
+abbrev pub IsOfWords : Option Asks → Made → Type 0
+IsOfWords asked made = AsksMendAnd asked (λ named. IsSome (sample_size named.part) → (files : Files) → MendsPart files named (Ok made))
+
 -- where mending was asked for, a part is there as the fault says, and else there is none
 abbrev pub HasMended : Option Asks → Option Fault → Bool → Type 0
 HasMended (Some (mend named)) fault there = IsThereOf common fault there
@@ -113,6 +122,7 @@ mend_task asked = record {
   may = AnswersMendWords asked;
   comes_to = λ files fault. RunsInOrder asked fault;
   has_files = λ files. HasFilesAsked files asked;
+  no_file = NamesNoFile asked;
   settles = λ files fault. IsAnswerTo (Takes asked files) fault;
 }
 
@@ -123,5 +133,6 @@ mend_run asked = record {
   status = status_of;
   makes = HasMended asked;
   given = λ m. Some (made_seen m);
+  of_words = λ m. IsOfWords asked (made_seen m);
   tells = λ old fault line. line ≡ mend_line asked fault;
 }

@@ -1,14 +1,14 @@
 // Takes the part that was named from a desk, and mends it.
-ghost use Rattle.std.specs.Prelude.{◌≡◌, ◌<◌, ◌≤◌, true, length, IfOk, IfErr};
+ghost use Rattle.std.specs.Prelude.{◌≡◌, ◌<◌, ◌≤◌, true, length, IfOk, IfErr, IsSome};
 ghost use Rattle.std.specs.Result.{result_err};
 ghost use Rattle.dec_text.specs.declared.number.Length.TheVariants.{Millimetre};
-ghost use Rattle.desk.specs.Files.{OnlyReads};
+ghost use Rattle.desk.specs.Files.{Files, OnlyReads};
 ghost use Rattle.geometry.specs.Parts.{part_of};
 ghost use Rattle.mend_core.specs.Run.{IsOfNamed, MendsPart, TakesPart};
 ghost use Rattle.mend_core.specs.Seen.{made_seen};
 ghost use Rattle.mend_words.specs.Seen.{named_seen};
 ghost use Rattle.part_input.specs.Faults.{CountsReads};
-ghost use Rattle.part_input.specs.Parts.{HasSize, IsOfSoup};
+ghost use Rattle.part_input.specs.Parts.{HasSize, IsOfSoup, sample_size};
 ghost use Rattle.part_input.specs.Steps.{GivesInput, IsMissing};
 
 use crate::made::Mended;
@@ -38,6 +38,8 @@ fn job_with(alloc: Global, decimals: u8) -> Result<Job, OutOfMemory>
 fn take_soup<D: Desk>(alloc: Global, request: &MendRequest, desk: &mut D) -> Result<Soup, Fault>
     ensures answer { (D.state desk.old).tells ≡ true →
         GivesInput part_of (TakesPart (D.state desk.old).files (named_seen request.now)) result }
+    ensures sample { IsSome (sample_size (named_seen request.now).part) → (files : Files) →
+        GivesInput part_of (TakesPart files (named_seen request.now)) result }
     ensures of_soup { IfErr result (IsOfSoup (named_seen request.now).part) }
     ensures sized { IfOk result (λ _. HasSize (named_seen request.now).part) }
     ensures some_triangle { IfOk result (λ soup. 0 < length (part_of soup).triangles) }
@@ -62,6 +64,8 @@ pub(crate) fn take<D: Desk>(
 ) -> Result<Mended, Fault>
     ensures answer { (D.state desk.old).tells ≡ true →
         GivesInput made_seen (MendsPart (D.state desk.old).files (named_seen request.now)) result }
+    ensures sample { IsSome (sample_size (named_seen request.now).part) → (files : Files) →
+        GivesInput made_seen (MendsPart files (named_seen request.now)) result }
     ensures of_named { IfErr result (IsOfNamed (named_seen request.now)) }
     ensures reads { CountsReads (result_err result) (D.state desk.old).read_faults (D.state desk.new).read_faults }
     ensures missing { (D.state desk.old).steady ≡ true →

@@ -4,6 +4,7 @@ pub mod Causes
 pub mod Chains
 pub mod Jobs
 pub mod Missing
+pub mod NoFile
 pub mod OneSheet
 pub mod Samples
 pub mod Singles

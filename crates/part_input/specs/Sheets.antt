@@ -1,10 +1,12 @@
 -- The sheet that a job's views of a part are planned on, and why there may be none.
-use Rattle.std.specs.Prelude.{◌≡◌, List, Result, Ok, Err}
+use Rattle.std.specs.Prelude.{◌≡◌, ℕ, List, [], Option, Some, None, IsSome, Result, Ok, Err}
 use Rattle.geometry.specs.Parts.{Part}
 use Rattle.job_file.specs.Documents.{JobValues}
 use Rattle.job_file.specs.declared.job.Job.{Job}
 use Rattle.lattice.specs.declared.points.Corner.{Corner}
 use Rattle.sheet_plan.specs.JobSheets.{Drawn, HasNoRoomFor, HasSheet, HasNoSheet}
+use Rattle.part_input.specs.Jobs.{ReadsJob}
+use Rattle.part_input.specs.Parts.{MakesSample, sample_size}
 use Rattle.part_input.specs.declared.fault.Fault.{Fault}
 use Rattle.part_input.specs.declared.fault.Fault.TheVariants.{DoesNotFit, Memory}
 
@@ -25,3 +27,24 @@ abbrev pub IsNoSheetOf : Job → List Corner → Fault → Type 0
 IsNoSheetOf job corners (DoesNotFit need_w need_h have_w have_h) = HasNoRoomFor job corners need_w need_h have_w have_h
 IsNoSheetOf job corners Memory = Unit {0}
 IsNoSheetOf job corners fault = ⊥
+
+-- ---- words that name no file
+-- no job is named, and the part is a sample
+pub record NamesNoFile (job : Option (List ℕ)) (part : List ℕ) : Type 0 where
+  pub no_job : job ≡ None
+  pub sample : IsSome (sample_size part)
+
+-- where no job is named, it is that of the empty text
+abbrev pub IsJobOf : Option (List ℕ) → JobValues → Type 0
+IsJobOf None job = ReadsJob [] (Ok job)
+IsJobOf (Some name) job = Unit {0}
+
+-- where the part is a sample of this size, it is the one that is made
+abbrev pub IsPartOf : Option (List ℕ) → Part → Type 0
+IsPartOf None part = Unit {0}
+IsPartOf (Some size) part = MakesSample size (Ok part)
+
+-- what these names of a job and a part alone say of what is drawn
+pub record IsOfWords (job_name : Option (List ℕ)) (part_name : List ℕ) (drawn : Drawn) : Type 0 where
+  pub job : IsJobOf job_name drawn.job
+  pub part : IsPartOf (sample_size part_name) drawn.part

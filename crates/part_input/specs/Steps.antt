@@ -26,7 +26,8 @@ IsMissingBy cause refused = Unit {0}
 abbrev pub IsMissingOf : {A F : Type 0} → Faults F → (Result A F → Type 0) → F → Type 0
 IsMissingOf faults steps fault = IsMissingBy (faults.cause fault) (steps (Err fault))
 
--- how steps end: without a fault, and where writing failed, they gave something, and else they refused it
+-- how steps end: without a fault, and where writing failed, they gave something, and else they refused it; of want of memory and of a
+-- fault of reading this says nothing
 abbrev pub EndsBy : Cause → Type 0 → Type 0 → Type 0
 EndsBy unwritten given refused = given
 EndsBy elsewhere given refused = refused

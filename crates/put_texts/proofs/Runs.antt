@@ -29,6 +29,8 @@ pub record IsLawful {F A : Type 0} (task : Task F A) : Type 0 where
   -- an answer of the steps is settled, and they miss no file that is there
   pub settled : (files : Files) (fault : Option F) → IsOfSteps task files fault → task.settles files fault
   pub there : (files : Files) → task.has_files files → (f : F) → task.faults.cause f ≡ unread → task.steps files (Err f) → ⊥
+  -- words that name no file allow no fault of reading
+  pub no_reading : task.no_file → (f : F) → task.faults.cause f ≡ unread → task.may (Some f) → ⊥
 
 -- what the steps answer, where they have one answer
 module _ {F A : Type 0} (task : Task F A) (files : Files) (single : IsSingle (task.steps files)) where
@@ -56,6 +58,18 @@ module _ {F : Type 0} (faults : Faults F) (alone : (f : F) → faults.cause f �
   steady_by wanting is e m w = inr (alone f is)
   steady_by elsewhere is e m w = inl e
 
+  named_by : (c : Cause) (write write' : ℕ) → faults.cause f ≡ c → EndsBy c given refused → (faults.cause f ≡ unread → ⊥) → CountsWrite c write write' → (Rose write write' → ⊥) → refused ⊎ (f ≡ faults.memory)
+  named_by unread write write' is e no_reading writes no_writes = absurd (no_reading is)
+  named_by unwritten write write' is e no_reading writes no_writes = absurd (no_writes writes)
+  named_by wanting write write' is e no_reading writes no_writes = inr (alone f is)
+  named_by elsewhere write write' is e no_reading writes no_writes = inl e
+
+  refuses_by : (c : Cause) → EndsBy c given refused → RefusesBy c refused
+  refuses_by unread e = tt
+  refuses_by unwritten e = tt
+  refuses_by wanting e = tt
+  refuses_by elsewhere e = e
+
   there_by : (c : Cause) (read read' : ℕ) → faults.cause f ≡ c → (faults.cause f ≡ unread → refused → ⊥) → IsMissingBy c refused → CountsRead c read read' → read' ≡ read
   there_by unread read read' is never m counts = absurd (never is m)
   there_by unwritten read read' is never m counts = counts
@@ -74,17 +88,28 @@ module _ {F A : Type 0} (task : Task F A) (lawful : IsLawful task) (old new : De
   by_files None e m w = e
   by_files (Some f) e m w = steady_by task.faults lawful.alone ((x : A) × task.steps old.files (Ok x)) (task.steps old.files (Err f)) f (task.faults.cause f) refl e m w
 
+  by_names : (files : Files) (fault : Option F) → EndsOf task.faults (task.steps files) fault → task.no_file → task.may fault → CountsWritesOf task.faults fault old.write_faults new.write_faults
+      → (Rose old.write_faults new.write_faults → ⊥) → IsOfSteps task files fault
+  by_names files None e none may writes no_writes = e
+  by_names files (Some f) e none may writes no_writes =
+      named_by task.faults lawful.alone ((x : A) × task.steps files (Ok x)) (task.steps files (Err f)) f (task.faults.cause f)
+      old.write_faults new.write_faults refl e (λ is. lawful.no_reading none f is may) writes no_writes
+
+  refuses_at : (files : Files) (fault : Option F) → EndsOf task.faults (task.steps files) fault → IfSome fault (RefusesOf task.faults (task.steps files))
+  refuses_at files None e = tt
+  refuses_at files (Some f) e = refuses_by task.faults lawful.alone ((x : A) × task.steps files (Ok x)) (task.steps files (Err f)) f (task.faults.cause f) e
+
   no_read : (fault : Option F) → task.has_files old.files → IfSome fault (IsMissingOf task.faults (task.steps old.files)) → CountsReadsOf task.faults fault old.read_faults new.read_faults → new.read_faults ≡ old.read_faults
   no_read None there m counts = counts
   no_read (Some f) there m counts =
       there_by task.faults lawful.alone ((x : A) × task.steps old.files (Ok x)) (task.steps old.files (Err f)) f (task.faults.cause f) old.read_faults new.read_faults refl (lawful.there old.files there f) m counts
 
   -- the answer, once it is told how it ends and what was counted
-  pub whole_answer : (fault : Option F) → (old.steady ≡ true → old.tells ≡ true) → (old.tells ≡ true → EndsOf task.faults (task.steps old.files) fault) → task.may fault
+  pub whole_answer : (fault : Option F) → (old.steady ≡ true → old.tells ≡ true) → (old.tells ≡ true → EndsOf task.faults (task.steps old.files) fault) → (task.no_file → (files : Files) → EndsOf task.faults (task.steps files) fault) → task.may fault
       → (old.tells ≡ true → IfSome fault (task.comes_to old.files))
       → CountsReadsOf task.faults fault old.read_faults new.read_faults → CountsWritesOf task.faults fault old.write_faults new.write_faults
       → (old.steady ≡ true → IfSome fault (IsMissingOf task.faults (task.steps old.files))) → (old.steady ≡ true → HasNoWriteFaultOf task.faults fault) → IsAnswer task fault old new
-  whole_answer fault tells answer words order reads writes missing steady = record {
+  whole_answer fault tells answer alone words order reads writes missing steady = record {
     answer = answer;
     words = words;
     order = order;
@@ -94,6 +119,8 @@ module _ {F A : Type 0} (task : Task F A) (lawful : IsLawful task) (old new : De
     steady = steady;
     complete = λ told no_reads no_writes. lawful.settled old.files fault (by_counts fault (answer told) reads writes no_reads no_writes);
     exact = λ still. lawful.settled old.files fault (by_files fault (answer (tells still)) (missing still) (steady still));
+    words_answer = λ none files. refuses_at files fault (alone none files);
+    words_complete = λ none files no_writes. lawful.settled files fault (by_names files fault (alone none files) none words writes no_writes);
     held = λ still there. (no_read fault there (missing still) reads, no_write task.faults fault old.write_faults new.write_faults (steady still) writes);
   }
 
@@ -109,6 +136,7 @@ only_runs old between new read wrote =
 -- the steps refuse with this fault, once files were read
 pub record IsRefusal {F A : Type 0} (task : Task F A) (e : F) (old between : DeskState) : Type 0 where
   pub refuses : old.tells ≡ true → RefusesOf task.faults (task.steps old.files) e
+  pub alone : task.no_file → (files : Files) → RefusesOf task.faults (task.steps files) e
   pub may : task.may (Some e)
   pub order : old.tells ≡ true → task.comes_to old.files e
   pub reads : CountsReadsOf task.faults (Some e) old.read_faults between.read_faults
@@ -143,10 +171,15 @@ module _ {F A : Type 0} (task : Task F A) (lawful : IsLawful task) (old between 
   reads_by wanting cause counts at_e = by_either (λ f. CountsReadsOf task.faults f old.read_faults new.read_faults) at_e (memory_is (λ c. CountsRead c old.read_faults new.read_faults) counts)
   reads_by elsewhere cause counts at_e = by_either (λ f. CountsReadsOf task.faults f old.read_faults new.read_faults) at_e (memory_is (λ c. CountsRead c old.read_faults new.read_faults) counts)
 
+  refused_ends : (files : Files) → RefusesOf task.faults (task.steps files) e → EndsOf task.faults (task.steps files) fault
+  refused_ends files refuses =
+      by_either (EndsOf task.faults (task.steps files)) (ends_refused (task.faults.cause e) ((x : A) × task.steps files (Ok x)) (task.steps files (Err e)) refusal.no_write refuses)
+      (memory_is (λ c. EndsBy c ((x : A) × task.steps files (Ok x)) (task.steps files (Err task.faults.memory))) tt)
+
   refused_reads : CountsReadsOf task.faults fault old.read_faults new.read_faults
   refused_reads =
       let at_e : CountsReadsOf task.faults (Some e) old.read_faults new.read_faults =
-          subst (λ (n : ℕ). CountsReadsOf task.faults (Some e) old.read_faults n) (sym (ap (λ (s : DeskState). s.read_faults) warns)) refusal.reads in
+      subst (λ (n : ℕ). CountsReadsOf task.faults (Some e) old.read_faults n) (sym (ap (λ (s : DeskState). s.read_faults) warns)) refusal.reads in
       reads_by (task.faults.cause e) refl at_e at_e
 
   refused_writes : CountsWritesOf task.faults fault old.write_faults new.write_faults
@@ -158,9 +191,7 @@ module _ {F A : Type 0} (task : Task F A) (lawful : IsLawful task) (old between 
   pub refused_answer : (old.steady ≡ true → old.tells ≡ true) → IsAnswer task fault old new
   refused_answer tells =
       whole_answer task lawful old new fault tells
-      (λ t. by_either (EndsOf task.faults (task.steps old.files))
-      (ends_refused (task.faults.cause e) ((x : A) × task.steps old.files (Ok x)) (task.steps old.files (Err e)) refusal.no_write (refusal.refuses t))
-      (memory_is (λ c. EndsBy c ((x : A) × task.steps old.files (Ok x)) (task.steps old.files (Err task.faults.memory))) tt))
+      (λ t. refused_ends old.files (refusal.refuses t)) (λ none files. refused_ends files (refusal.alone none files))
       (by_either task.may refusal.may lawful.may_want)
       (λ t. by_either (λ f. IfSome f (task.comes_to old.files)) (refusal.order t) (lawful.want_in_order old.files))
       refused_reads refused_writes
@@ -177,6 +208,7 @@ refused_run {F} {M} {A} run lawful old between new e refusal warns fault is told
   answers = refused_answer run.task lawful old between new e refusal warns fault is told tells;
   made = subst (λ (o : Option M). run.makes fault (is_some o)) (sym none) (either (λ f. run.makes f false) e run.task.faults.memory fault is no_e no_memory);
   part = λ t. subst (λ (o : Option M). IfSome o (λ m. run.task.steps old.files (Ok (run.given m)))) (sym none) tt;
+  words_made = subst (λ (o : Option M). IfSome o run.of_words) (sym none) tt;
   firm = λ firm short. none;
   untouched = subst (λ (o : Option M). IfNone o (new.files ≡ old.files)) (sym none) (ap (λ (s : DeskState). s.files) warns ∙ ap (λ (s : DeskState). s.files) refusal.read);
   warned = warned;
@@ -202,6 +234,7 @@ ended_run {F} {M} {A} run lawful old between new e refusal warns fault is line t
 pub short_refusal : {F A : Type 0} (task : Task F A) → IsLawful task → (old between : DeskState) → OnlyReads old between → between.read_faults ≡ old.read_faults → IsRefusal task task.faults.memory old between
 short_refusal task lawful old between read still = record {
   refuses = λ told. subst (λ (c : Cause). RefusesBy c (task.steps old.files (Err task.faults.memory))) (sym lawful.is_wanting) tt;
+  alone = λ none files. subst (λ (c : Cause). RefusesBy c (task.steps files (Err task.faults.memory))) (sym lawful.is_wanting) tt;
   may = lawful.may_want;
   order = λ told. lawful.want_in_order old.files;
   reads = subst (λ (c : Cause). CountsRead c old.read_faults between.read_faults) (sym lawful.is_wanting) still;
@@ -214,6 +247,8 @@ short_refusal task lawful old between read still = record {
 -- what holds of these texts, which a run puts with what it made or with nothing made
 pub record IsPutting {F M A : Type 0} (run : Run F M A) (texts : List (Text F)) (line : F → List ℕ) (it : Option M) (old : DeskState) : Type 0 where
   pub gives : old.tells ≡ true → (x : A) × run.task.steps old.files (Ok x)
+  pub alone : run.task.no_file → (files : Files) → (x : A) × run.task.steps files (Ok x)
+  pub words : IfSome it run.of_words
   pub part : old.tells ≡ true → IfSome it (λ m. run.task.steps old.files (Ok (run.given m)))
   pub may : (fault : Option F) → IfSome fault (IsOfTexts run.task.faults texts) → run.task.may fault
   pub order : (f : F) → IsOfTexts run.task.faults texts f → run.task.comes_to old.files f
@@ -258,10 +293,10 @@ missing_putting elsewhere refused is = tt
 
 module _ {F M A : Type 0} (run : Run F M A) (lawful : IsLawful run.task) (old between new : DeskState) (read : OnlyReads old between) (still : between.read_faults ≡ old.read_faults)
     (texts : List (Text F)) (line : F → List ℕ) (it : Option M) (facts : IsPutting run texts line it old) where
-  put_ends : (fault : Option F) → IfSome fault (IsOfTexts run.task.faults texts) → old.tells ≡ true → EndsOf run.task.faults (run.task.steps old.files) fault
-  put_ends None of_texts told = facts.gives told
-  put_ends (Some f) of_texts told =
-      ends_putting (run.task.faults.cause f) ((x : A) × run.task.steps old.files (Ok x)) (run.task.steps old.files (Err f)) (putting run.task.faults f texts of_texts) (facts.gives told)
+  put_ends : (files : Files) (fault : Option F) → IfSome fault (IsOfTexts run.task.faults texts) → (x : A) × run.task.steps files (Ok x) → EndsOf run.task.faults (run.task.steps files) fault
+  put_ends files None of_texts gives = gives
+  put_ends files (Some f) of_texts gives =
+      ends_putting (run.task.faults.cause f) ((x : A) × run.task.steps files (Ok x)) (run.task.steps files (Err f)) (putting run.task.faults f texts of_texts) gives
 
   put_reads : (fault : Option F) → IfSome fault (IsOfTexts run.task.faults texts) → new.read_faults ≡ old.read_faults → CountsReadsOf run.task.faults fault old.read_faults new.read_faults
   put_reads None of_texts same = same
@@ -291,12 +326,13 @@ module _ {F M A : Type 0} (run : Run F M A) (lawful : IsLawful run.task) (old be
   put_run code fault tells status put untouched unwarned = record {
     status = status;
     answers =
-        whole_answer run.task lawful old new fault tells (put_ends fault put.of_texts) (facts.may fault put.of_texts) (λ told. put_order fault put.of_texts)
+        whole_answer run.task lawful old new fault tells (λ told. put_ends old.files fault put.of_texts (facts.gives told)) (λ none files. put_ends files fault put.of_texts (facts.alone none files)) (facts.may fault put.of_texts) (λ told. put_order fault put.of_texts)
         (put_reads fault put.of_texts (ap (λ (s : DeskState). s.read_faults) put.changes ∙ still))
         (subst (λ (n : ℕ). CountsWritesOf run.task.faults fault n new.write_faults) (ap (λ (s : DeskState). s.write_faults) read) put.writes)
         (λ steady. put_missing fault put.of_texts) (λ steady. put.steady (ap (λ (s : DeskState). s.steady) read ∙ steady));
     made = facts.made fault put.of_texts;
     part = facts.part;
+    words_made = facts.words;
     firm = λ firm short. absurd (put.firm (ap (λ (s : DeskState). s.firm) read ∙ firm) short);
     untouched = untouched;
     warned = λ told. put_warned fault put.of_texts (put.warned (ap (λ (s : DeskState). s.tells_warned) read ∙ told));

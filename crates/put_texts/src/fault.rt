@@ -34,6 +34,7 @@ pub trait RunFault: Sized + Drop {
 
     /// So it says of itself, and no other does.
     ghost memory_wanting: { faults.cause faults.memory ≡ wanting };
+
     ghost memory_alone: { (fault : Self) → faults.cause fault ≡ wanting → fault ≡ faults.memory };
 }
 

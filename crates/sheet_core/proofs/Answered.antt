@@ -1,22 +1,23 @@
 -- What is asked of a run of `sheet`: its steps have one answer, and they miss no file that is there.
-use Rattle.std.proofs.Common.{◌≡◌, inl, inr, ℕ, List, Option, Some, None, Ok, Err, refl, sym}
+use Rattle.std.proofs.Common.{◌≡◌, inl, inr, ℕ, List, Option, Some, None, Ok, Err, refl, sym, subst}
 use Rattle.desk.specs.Files.{Files}
-use Rattle.part_input.specs.Causes.{unread}
-use Rattle.part_input.specs.Sheets.{PlansSheet}
+use Rattle.part_input.specs.Causes.{unread, unwritten}
+use Rattle.part_input.specs.Sheets.{NamesNoFile, PlansSheet}
 use Rattle.part_input.specs.Jobs.{TakesJob, ReadsJob, TakesReadJob}
-use Rattle.part_input.specs.Parts.{TakesSolid}
+use Rattle.part_input.specs.Parts.{TakesSolid, sample_size}
 use Rattle.part_input.specs.Steps.{◌and_then◌}
 use Rattle.part_input.specs.declared.fault.Input.{Input}
 use Rattle.part_input.specs.declared.fault.Fault.{Fault}
 use Rattle.part_input.specs.declared.fault.Fault.TheVariants.{Usage, ReadFault, Job as JobUnread}
-use Rattle.part_input.proofs.Causes.{read_only}
+use Rattle.part_input.proofs.Causes.{read_only, unread_only}
+use Rattle.part_input.proofs.NoFile.{sample_not_read}
 use Rattle.part_input.proofs.Singles.{not_both, same_fault}
 use Rattle.part_input.proofs.There.{never_then, not_read, job_there, part_there}
 use Rattle.put_texts.proofs.Runs.{IsLawful, settled_steps}
 use Rattle.sheet_core.specs.Faults.{cause_of}
 use Rattle.sheet_core.specs.declared.fault.SheetFault.{SheetFault}
 use Rattle.sheet_core.specs.declared.fault.SheetFault.TheVariants.{Common, WriteList}
-use Rattle.sheet_core.specs.Run.{DrawsPart, HasFiles, HasFilesAsked, Lifted, RunsSheet, sheet_task}
+use Rattle.sheet_core.specs.Run.{AnswersSheetWords, DrawsPart, HasFiles, HasFilesAsked, IsOfFiles, IsOfJob, Lifted, NamesNoFileAsked, RunsSheet, sheet_task}
 use Rattle.sheet_core.proofs.OneAnswer.{lifted_single, one_answer}
 use Rattle.sheet_core.specs.inner.Shortage.{short_alone}
 use Rattle.sheet_plan.specs.JobSheets.{Drawn}
@@ -44,6 +45,23 @@ never_lifted : (asked : Option Asks) (files : Files) → HasFilesAsked files ask
 never_lifted asked files there (Common e) is h = read_only (λ (e : Fault). RunsSheet asked files (Err e) → ⊥) (λ input. never_missing files input asked there) e is h
 never_lifted asked files there WriteList is h = h
 
+-- ---- words that name no file
+module _ (part : List ℕ) (job : Option (List ℕ)) (alone : NamesNoFile job part) (input : Input) where
+  files_unread : IsOfFiles part job (ReadFault input) → ⊥
+  files_unread (inl of_job) = subst (λ (name : Option (List ℕ)). IsOfJob name (ReadFault input)) alone.no_job of_job
+  files_unread (inr (inl of_part)) = sample_not_read (sample_size part) alone.sample input of_part
+  files_unread (inr (inr of_sheet)) = of_sheet
+
+input_unread : (asked : Option Asks) → NamesNoFileAsked asked → (input : Input) → AnswersSheetWords asked (Some (Common (ReadFault input))) → ⊥
+input_unread None none input h = h
+input_unread (Some help) none input h = h
+input_unread (Some version) none input h = h
+input_unread (Some (sheet named)) none input h = files_unread named.part named.job none input h
+
+none_unread : (asked : Option Asks) → NamesNoFileAsked asked → (f : SheetFault) → cause_of f ≡ unread → AnswersSheetWords asked (Some f) → ⊥
+none_unread asked none (Common e) is may = read_only (λ (e : Fault). AnswersSheetWords asked (Some (Common e)) → ⊥) (λ input. input_unread asked none input) e is may
+none_unread asked none WriteList is may = absurd (unread_only unwritten is)
+
 pub lawful : (asked : Option Asks) → IsLawful (sheet_task asked)
 lawful asked = record {
   is_wanting = refl;
@@ -51,5 +69,6 @@ lawful asked = record {
   may_want = tt;
   want_in_order = λ files. tt;
   settled = λ files fault is. settled_steps (sheet_task asked) files (lifted_single (RunsSheet asked files) (one_answer asked files)) fault is;
+  no_reading = none_unread asked;
   there = never_lifted asked;
 }

@@ -1,10 +1,12 @@
 -- Where a surface is at fault, and that no other fault of taking a part has a place.
 use Rattle.std.proofs.Common.{◌≡◌, ℕ, List, Option, None, Some, true, Result, Ok, Err, refl, ap, subst, ◌∙◌}
-use Rattle.std.specs.Prelude.{◌↔◌, IfErr, IsErrOf}
+use Rattle.std.specs.Prelude.{◌↔◌, IfErr, IfOk, IsErrOf}
 use Rattle.std.specs.Result.{result_err}
 use Rattle.dec_text.specs.declared.number.Length.{Length}
 use Rattle.desk.specs.Files.{Files, DeskState, OnlyReads}
-use Rattle.part_input.specs.Sheets.{IsOfSheet}
+use Rattle.drawing.specs.Drawing.{drawn_in}
+use Rattle.drawing.specs.declared.drawn.Drawing.{Drawing}
+use Rattle.part_input.specs.Sheets.{IsOfSheet, IsOfWords}
 use Rattle.geometry.specs.Parts.{Part}
 use Rattle.job_file.specs.Documents.{JobValues}
 use Rattle.part_input.specs.Faults.{CountsReads}
@@ -91,3 +93,8 @@ pub mesh_not_missing : {S T : Type 0} (X : Type 0) (x : S) (r : Result T Fault) 
 mesh_not_missing X x (Ok y) h none = (λ is. cc, λ missing. absurd (given_no_fault x (ReadFault ThePart) (none missing)))
 mesh_not_missing X x (Err (ReadFault input)) h none = absurd h
 mesh_not_missing X x (Err e) h none = (λ is. cc, λ missing. absurd (given_no_fault x (ReadFault ThePart) (none missing)))
+
+-- ---- words that name no file
+pub by_words_in : (job : Option (List ℕ)) (part : List ℕ) (r : Result Drawing Refusal) → IfOk (fault_in r) (λ d. IsOfWords job part (drawn_in d)) → IfOk r (λ d. IsOfWords job part (drawn_in d))
+by_words_in job part (Ok d) h = h
+by_words_in job part (Err e) h = tt

@@ -1,7 +1,7 @@
 -- A run that is asked for help or the version: what it says.
 use Rattle.std.proofs.Common.{ℕ, List, Option, None, Some, false, Ok, refl}
 use Rattle.std.specs.Prelude.{IfSome}
-use Rattle.desk.specs.Files.{DeskState}
+use Rattle.desk.specs.Files.{Files, DeskState}
 use Rattle.part_input.specs.declared.fault.Fault.TheVariants.{WriteFault, Memory}
 use Rattle.part_input.specs.declared.fault.Target.TheVariants.{Out}
 use Rattle.put_texts.specs.Order.{aloud}
@@ -23,10 +23,10 @@ AsksToTell help = Unit {0}
 AsksToTell version = Unit {0}
 AsksToTell (sheet named) = ⊥
 
-gives : (asks : Asks) → AsksToTell asks → (old : DeskState) → RunsSheet (Some asks) old.files (Ok None)
-gives help is old = refl
-gives version is old = refl
-gives (sheet named) is old = absurd is
+gives : (asks : Asks) → AsksToTell asks → (files : Files) → RunsSheet (Some asks) files (Ok None)
+gives help is files = refl
+gives version is files = refl
+gives (sheet named) is files = absurd is
 
 abbrev pub unsaid : SheetFault
 unsaid = Common (WriteFault Out)
@@ -55,7 +55,9 @@ module _ (bytes : List ℕ) where
 
   pub telling : (asks : Asks) → AsksToTell asks → (old : DeskState) → IsPutting (sheet_run (Some asks)) (one_text aloud unsaid bytes) (told_by sheet_faults MEMORY_LINE.now SAID_LINE.now) None old
   telling asks is old = record {
-    gives = λ told. (None, gives asks is old);
+    gives = λ told. (None, gives asks is old.files);
+    alone = λ none files. (None, gives asks is files);
+    words = tt;
     part = λ told. tt;
     may = may asks is;
     order = λ f of_texts. each_fault bytes (RunsInOrder (Some asks) old.files) tt tt f of_texts;

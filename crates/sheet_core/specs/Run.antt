@@ -4,7 +4,7 @@ use Rattle.desk.specs.Files.{Files}
 use Rattle.drawing.specs.Drawing.{drawn_in}
 use Rattle.drawing.specs.declared.drawn.Drawing.{Drawing}
 use Rattle.sheet_plan.specs.JobSheets.{Drawn}
-use Rattle.part_input.specs.Sheets.{PlansSheet, IsOfSheet}
+use Rattle.part_input.specs.Sheets.{PlansSheet, IsOfSheet, IsOfWords, NamesNoFile}
 use Rattle.part_input.specs.Jobs.{IsOfUsualJob, HasJobFile, TakesReadJob, IsOfJobFile}
 use Rattle.job_file.specs.Documents.{JobValues}
 use Rattle.part_input.specs.Parts.{sample_size, TakesSolid, IsOfPart, HasSampleOr}
@@ -91,6 +91,11 @@ abbrev pub HasFilesAsked : Files → Option Asks → Type 0
 HasFilesAsked files (Some (sheet named)) = HasFiles files named.part named.job
 HasFilesAsked files asked = Unit {0}
 
+-- no file is named to be read
+abbrev pub NamesNoFileAsked : Option Asks → Type 0
+NamesNoFileAsked (Some (sheet named)) = NamesNoFile named.job named.part
+NamesNoFileAsked asked = Unit {0}
+
 -- where a sheet was asked for, a drawing is there as the fault says, and else there is none
 abbrev pub HasDrawing : Option Asks → Option SheetFault → Bool → Type 0
 HasDrawing (Some (sheet named)) fault there = IsThereOf sheet_faults fault there
@@ -105,6 +110,7 @@ sheet_task asked = record {
   may = AnswersSheetWords asked;
   comes_to = RunsInOrder asked;
   has_files = λ files. HasFilesAsked files asked;
+  no_file = NamesNoFileAsked asked;
   settles = λ files. AnswersSteps sheet_faults (Lifted (RunsSheet asked files));
 }
 
@@ -115,5 +121,6 @@ sheet_run asked = record {
   status = status_of;
   makes = HasDrawing asked;
   given = λ d. Some (drawn_in d);
+  of_words = λ d. AsksSheetAnd asked (λ named. IsOfWords named.job named.part (drawn_in d));
   tells = IsLineOf (named_in asked);
 }

@@ -1,5 +1,5 @@
 // Takes the job and the part that were named from a desk, and draws the part.
-ghost use Rattle.std.specs.Prelude.{◌≡◌, ◌<◌, ◌≤◌, ◌↔◌, ◌⊎◌, true, length, Some, None, IfOk, IfErr, IsErrOf};
+ghost use Rattle.std.specs.Prelude.{◌≡◌, ◌<◌, ◌≤◌, ◌↔◌, ◌⊎◌, true, length, Some, None, IfOk, IfErr, IsErrOf, IsSome};
 ghost use Rattle.std.specs.Result.{result_err};
 ghost use Rattle.desk.specs.Files.{Files, OnlyReads};
 ghost use Rattle.geometry.specs.Parts.{part_of};
@@ -10,7 +10,7 @@ ghost use Rattle.part_input.specs.Parts.{ChecksPart, IsOfPart, TakesSolid, sampl
 ghost use Rattle.part_input.specs.Steps.{GivesInput, IsMissing};
 ghost use Rattle.part_input.specs.inner.Texts.{IsOfMesh};
 ghost use Rattle.drawing.specs.Drawing.{drawn_in, IsPlannedDrawing};
-ghost use Rattle.part_input.specs.Sheets.{IsOfSheet, PlansSheet};
+ghost use Rattle.part_input.specs.Sheets.{IsOfSheet, IsOfWords, NamesNoFile, PlansSheet};
 ghost use Rattle.solid_mesh.specs.Faults.{HasFault};
 ghost use Rattle.solid_mesh.specs.Solids.{solid_part};
 ghost use Rattle.sheet_core.specs.Lines.{IsPlaceFor};
@@ -41,6 +41,7 @@ pub(crate) struct Refusal {
 fn take_job<D: Desk>(alloc: Global, name: &Option<Name>, desk: &mut D) -> Result<Job, Fault>
     ensures answer { (D.state desk.old).tells ≡ true →
         GivesInput job_seen (TakesReadJob (D.state desk.old).files name.now) result }
+    ensures usual { name.now ≡ None → (files : Files) → GivesInput job_seen (TakesReadJob files name.now) result }
     ensures of_job { IfErr result (IsOfJob name.now) }
     ensures reads { CountsReads (result_err result) (D.state desk.old).read_faults (D.state desk.new).read_faults }
     ensures missing { (D.state desk.old).steady ≡ true →
@@ -108,6 +109,8 @@ fn take_solid<D: Desk>(
 ) -> Result<Solid, Refusal>
     ensures answer { (D.state desk.old).tells ≡ true →
         GivesInput solid_part (TakesSolid (D.state desk.old).files name.now job.now.decimals job.now.unit) (fault_in result) }
+    ensures sample { IsSome (sample_size name.now) → (files : Files) →
+        GivesInput solid_part (TakesSolid files name.now job.now.decimals job.now.unit) (fault_in result) }
     ensures of_part { IfErr (fault_in result) (IsOfPart name.now) }
     ensures placed { IfErr result (λ r. IsPlaceIn name.now job.now.decimals job.now.unit (D.state desk.old) r.fault r.place) }
     ensures reads { CountsReads (result_err (fault_in result)) (D.state desk.old).read_faults (D.state desk.new).read_faults }
@@ -149,6 +152,9 @@ pub(crate) fn take<D: Desk>(
 ) -> Result<Drawing, Refusal>
     ensures answer { (D.state desk.old).tells ≡ true →
         GivesInput drawn_in (DrawsPart (D.state desk.old).files (named_seen request.now).part (named_seen request.now).job) (fault_in result) }
+    ensures no_file { NamesNoFile (named_seen request.now).job (named_seen request.now).part → (files : Files) →
+        GivesInput drawn_in (DrawsPart files (named_seen request.now).part (named_seen request.now).job) (fault_in result) }
+    ensures by_words { IfOk result (λ d. IsOfWords (named_seen request.now).job (named_seen request.now).part (drawn_in d)) }
     ensures of_files { IfErr (fault_in result) (IsOfFiles (named_seen request.now).part (named_seen request.now).job) }
     ensures placed { IfErr result (λ r. IsPlaceFor (Some (named_seen request.now)) (D.state desk.old) r.fault r.place) }
     ensures shows { IfOk result IsPlannedDrawing }

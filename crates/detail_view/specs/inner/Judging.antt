@@ -11,7 +11,7 @@ use Rattle.piece_verify.specs.declared.list.PieceList.{PieceList}
 use Rattle.part_input.specs.Parts.{sample_size}
 use Rattle.part_input.specs.declared.fault.Fault.TheVariants.{ReadFault}
 use Rattle.detail_view.specs.Run.{Given, TakesPart, IsVerdictOf}
-use Rattle.detail_view.specs.Steps.{Refuses}
+use Rattle.detail_view.specs.inner.Steps.{Refuses}
 use Rattle.detail_view.specs.Words.{Check}
 use Rattle.detail_view.specs.declared.fault.PiecesFault.{PiecesFault}
 use Rattle.detail_view.specs.declared.fault.PiecesFault.TheVariants.{Input, ReadList, WriteFault, Memory}

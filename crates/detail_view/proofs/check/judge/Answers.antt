@@ -5,7 +5,8 @@ use Rattle.job_file.specs.Seen.{job_seen}
 use Rattle.part_input.specs.Jobs.{TakesReadJob}
 use Rattle.detail_view.specs.Run.{ChecksBy}
 use Rattle.detail_view.specs.Seen.{check_seen}
-use Rattle.detail_view.specs.Steps.{Lifted, IsMissing}
+use Rattle.detail_view.specs.Steps.{Lifted}
+use Rattle.detail_view.specs.inner.Steps.{IsMissing}
 use Rattle.detail_view.specs.inner.Judging.{Judges, ComesAfterJob}
 use Rattle.detail_view.proofs.Chains.{judges_next, missing_next, after_job}
 use Rattle.detail_view.proofs.check.judge.Goals as goal

@@ -28,7 +28,7 @@ returns-in-Err-clause-run g c =
     let took = c.in-Err.ensures in
     let e = c.in-Err.fault in
     refused_answer (pieces_task asked) (lawful asked) (state c.args.desk.now) (state c.take_shown.new.desk) (state c.take_shown.new.desk) e
-    (record { refuses = took.answer; may = detail_may w e took.of_detail; order = took.order; reads = took.reads; missing = took.missing; no_write = detail_unwritten w e took.of_detail; read = took.changes; }) refl
+    (record { refuses = took.answer; alone = λ none files. absurd none; may = detail_may w e took.of_detail; order = took.order; reads = took.reads; missing = took.missing; no_write = detail_unwritten w e took.of_detail; read = took.changes }) refl
     c.ended.result.fault (inl c.ended.ensures.fault) (λ unread. c.ended.ensures.fault) (g.met.D.Desk.steady_tells c.args.desk.now)
 
 pub returns-in-Ok-clause-files : goal.returns-in-Ok-clause-files

@@ -5,7 +5,7 @@ use Rattle.solid_mesh.specs.Solids.{solid_part}
 use Rattle.std.specs.Prelude.{Ok}
 use Rattle.detail_view.specs.Run.{TakesPart, Details}
 use Rattle.detail_view.specs.Seen.{detail_seen}
-use Rattle.detail_view.specs.Steps.{Refuses, IsMissing}
+use Rattle.detail_view.specs.inner.Steps.{Refuses, IsMissing}
 use Rattle.detail_view.proofs.Chains.{refuses_as, missing_as}
 use Rattle.detail_view.proofs.Showings.{viewed_in_order, part_in_order}
 use Rattle.detail_view.proofs.detail.take_shown.Goals as goal

@@ -1,7 +1,8 @@
 use Rattle.std.proofs.Common.{sym, subst}
 use Rattle.job_file.specs.Seen.{job_seen}
 use Rattle.part_input.specs.Parts.{TakesSolid}
-use Rattle.detail_view.specs.Steps.{Lifted, Refuses}
+use Rattle.detail_view.specs.Steps.{Lifted}
+use Rattle.detail_view.specs.inner.Steps.{Refuses}
 use Rattle.detail_view.proofs.Chains.{lift_refused, part_no_writing}
 use Rattle.detail_view.proofs.inputs.take_solid.Goals as goal
 

@@ -22,7 +22,7 @@ returns-in-Err-Usage-clause-run g c =
     let fault = c.ended.result.fault in
     let asked : Option Asked = None in
     subst (λ (o : Option Asked). IsAnswer (pieces_task o) fault old old) (sym (c.in-Err-Usage.ensures.usage (ap Err c.in-Err-Usage.field-0-is)))
-    (refused_answer (pieces_task asked) (lawful asked) old old old Usage (record { refuses = λ told. refl; may = refl; order = λ told. tt; reads = refl; missing = λ steady. tt; no_write = tt; read = refl; }) refl
+    (refused_answer (pieces_task asked) (lawful asked) old old old Usage (record { refuses = λ told. refl; alone = λ none files. refl; may = refl; order = λ told. tt; reads = refl; missing = λ steady. tt; no_write = tt; read = refl }) refl
     fault (inl c.ended.ensures.fault) (λ unread. c.ended.ensures.fault) (g.met.D.Desk.steady_tells c.args.desk.now))
 
 pub returns-in-Err-Memory-clause-run : goal.returns-in-Err-Memory-clause-run

@@ -1,18 +1,16 @@
-use Rattle.std.proofs.Common.{◌≡◌, ℕ, Option, Ok, map, sym, ap, subst, ◌∙◌}
+use Rattle.std.proofs.Common.{◌≡◌, ℕ, Ok, map, ap, subst, ◌∙◌}
 use Rattle.std.specs.Prelude.{IfNone, IfSome, IsSomeAnd}
-use Rattle.desk.specs.Files.{Files, DeskState, Rose}
+use Rattle.desk.specs.Files.{Files, DeskState}
 use Rattle.draw_words.specs.Names.{Named, named_by}
 use Rattle.draw_words.specs.Seen.{texts}
-use Rattle.drawing.specs.Drawing.{drawn_in}
-use Rattle.drawing.specs.declared.drawn.Drawing.{Drawing}
 use Rattle.plot_rack.specs.Racks.{boxes_of}
 use Rattle.draw_core.specs.inner.Kept.{WritesRack}
-use Rattle.draw_core.specs.Run.{RunsDraw, IsOfWords, draw_run, draw_task}
+use Rattle.part_input.specs.Sheets.{IsOfWords}
+use Rattle.draw_core.specs.Run.{RunsDraw, draw_run, draw_task}
 use Rattle.draw_core.specs.inner.Taken.{drawn_of}
-use Rattle.draw_core.proofs.Answered.{drawn_counted, drawn_ends, drawn_in_order, drawn_may, drawn_misses_none, drawn_reads, drawn_refuses, lawful, none_undrawn, refused_unread, some_named}
+use Rattle.draw_core.proofs.Answered.{drawn_ends, drawn_in_order, drawn_may, drawn_misses_none, drawn_reads, lawful, none_undrawn, some_named}
 use Rattle.draw_core.proofs.Drawings.{made_of, writes_named, same_outputs}
 use Rattle.draw_core.proofs.HeldFiles.{with_held}
-use Rattle.draw_core.proofs.NoFile.{no_desk, refused_or_memory}
 use Rattle.draw_core.proofs.Saying.{says_made}
 use Rattle.draw_core.proofs.Warned.{names_nothing, silent_from, warns_from, warns_whole_from}
 use Rattle.part_input.specs.Causes.{cause_of}
@@ -36,25 +34,10 @@ returns-in-Err-clause-run g c =
     let end = c.refuse.result in
     let did = c.refuse.ensures in
     refused_run (draw_run suffixes words) (lawful suffixes words) old between new e
-    (record { refuses = took.answer; may = took.words; order = took.order; reads = took.reads; missing = took.missing; no_write = took.no_write; read = took.changes; }) did.changes
+    (record { refuses = took.answer; alone = took.no_file; may = took.words; order = took.order; reads = took.reads; missing = took.missing; no_write = took.no_write; read = took.changes }) did.changes
     end.fault did.fault (λ unread. did.told (names_nothing e unread)) end.status end.drawing (g.met.D.Desk.steady_tells c.args.desk.now) did.status did.none (not_there (cause_of e) took.no_write) tt
     (λ told. warns_from suffixes words old between new took.changes end.fault (did.warned (ap (λ (s : DeskState). s.tells_warned) took.changes ∙ told)))
     (λ hears. warns_whole_from suffixes words old between new took.changes end.fault (did.whole (heard_later old between new took.changes hears)))
-
-pub returns-in-Err-clause-words : goal.returns-in-Err-clause-words
-returns-in-Err-clause-words g c =
-    let state = g.D.Desk.state in
-    let suffixes = map (λ b. ((goal.Plotter-dyn g (b.vtable, b.value)).plot b.value).suffix) c.args.extras.items in
-    let words = texts c.args.words.now in
-    let e = c.in-Err.fault in
-    let took = c.in-Err.ensures in
-    let did = c.refuse.ensures in
-    let fault = c.refuse.result.fault in
-    record {
-      words_drawn = subst (λ (d : Option Drawing). IfSome d (λ d. IsSomeAnd (named_by words) (λ named. IsOfWords named (drawn_in d)))) (sym did.none) tt;
-      words_answer = λ alone files. refused_or_memory (RunsDraw suffixes words files) e fault did.fault (took.no_file alone files);
-      words_complete = λ alone files no_writes. refused_unread suffixes words files e fault did.fault (took.no_file alone files) (no_desk (named_by words) alone e took.words took.no_write);
-    }
 
 -- ---- a drawing
 pub returns-in-Ok-clause-run : goal.returns-in-Ok-clause-run
@@ -77,7 +60,7 @@ returns-in-Ok-clause-run g c =
       status = did.status;
       answers =
           whole_answer (draw_task suffixes words) (lawful suffixes words) old new fault (g.met.D.Desk.steady_tells c.args.desk.now)
-          (λ told. drawn_ends suffixes words old.files drawn (took.answer told) fault did.fault)
+          (λ told. drawn_ends suffixes words old.files drawn (took.answer told) fault did.fault) (λ none files. drawn_ends suffixes words files drawn (took.no_file none files) fault did.fault)
           (drawn_may (named_by words) (some_named (named_by words) (λ (names : Named). c.in-Ok.taken.out ≡ names.out) took.out) fault did.fault)
           (λ told. drawn_in_order suffixes words old.files fault did.fault)
           (drawn_reads fault old.read_faults new.read_faults did.fault (ap (λ (s : DeskState). s.read_faults) did.changes ∙ took.reads))
@@ -86,30 +69,13 @@ returns-in-Ok-clause-run g c =
           (λ steady. did.steady (ap (λ (s : DeskState). s.steady) read ∙ steady));
       made = did.drawn;
       part = λ told. made_of end.drawing (λ x. RunsDraw suffixes words old.files (Ok x)) drawn did.made (took.answer told);
+      words_made = made_of end.drawing (λ x. IsSomeAnd (named_by words) (λ named. IsOfWords named.job named.part x)) drawn did.made took.by_words;
       firm = λ firm short. did.firm (ap (λ (s : DeskState). s.firm) read ∙ firm) short;
       untouched = subst (λ (f : Files). IfNone end.drawing (new.files ≡ f)) files did.untouched;
       warned = λ told. warns_from suffixes words old between new read fault (did.warned (ap (λ (s : DeskState). s.tells_warned) read ∙ told));
       whole = λ hears. warns_whole_from suffixes words old between new read fault (did.whole (heard_later old between new read hears));
       unwarned = none_undrawn fault end.drawing (new.warned ≡ old.warned) did.drawn;
       changes = only_runs old between new read did.changes;
-    }
-
-pub returns-in-Ok-clause-words : goal.returns-in-Ok-clause-words
-returns-in-Ok-clause-words g c =
-    let state = g.D.Desk.state in
-    let suffixes = map (λ b. ((goal.Plotter-dyn g (b.vtable, b.value)).plot b.value).suffix) c.args.extras.items in
-    let words = texts c.args.words.now in
-    let between = state c.take.new.desk in
-    let new = state c.write_drawing.new.desk in
-    let took = c.in-Ok.ensures in
-    let did = c.write_drawing.ensures in
-    let end = c.write_drawing.result in
-    let still = ap (λ (s : DeskState). s.write_faults) took.changes in
-    record {
-      words_drawn = made_of end.drawing (λ x. IsSomeAnd (named_by words) (λ named. IsOfWords named x)) (drawn_of c.in-Ok.taken) did.made took.by_words;
-      words_answer = λ alone files. drawn_refuses (RunsDraw suffixes words files) end.fault did.fault;
-      words_complete = λ alone files no_writes. drawn_counted suffixes words files (drawn_of c.in-Ok.taken) (took.no_file alone files) end.fault
-          between.write_faults new.write_faults did.fault did.writes (λ rose. no_writes (subst (λ (n : ℕ). Rose n new.write_faults) still rose));
     }
 
 pub returns-in-Ok-clause-files : goal.returns-in-Ok-clause-files

@@ -12,7 +12,7 @@ use Rattle.part_input.specs.Sheets.{PlansSheet}
 use Rattle.draw_core.specs.inner.Taken.{drawn_of}
 use Rattle.part_input.proofs.Chains.{refuses_as, missing_as, gives_next}
 use Rattle.part_input.proofs.Missing.{solid_missing}
-use Rattle.draw_core.proofs.NoFile.{drawn_by_words}
+use Rattle.part_input.proofs.NoFile.{drawn_by_words}
 use Rattle.draw_core.proofs.Orders.{job_in_order, part_in_order}
 use Rattle.draw_core.proofs.Unmet.{of_rack}
 use Rattle.draw_core.proofs.take.take_files.Goals as goal
@@ -139,4 +139,4 @@ returns-in-Ok-fetch_solid-clause-no_file g c =
 
 pub returns-in-Ok-fetch_solid-clause-by_words : goal.returns-in-Ok-fetch_solid-clause-by_words
 returns-in-Ok-fetch_solid-clause-by_words g c =
-    drawn_by_words drawn_of c.draw_solid.result (named_seen c.args.named) (job_seen c.in-Ok.job) (solid_part c.in-Ok-fetch_solid.solid) c.in-Ok.ensures.usual c.in-Ok-fetch_solid.ensures.sample c.draw_solid.ensures.answer
+    drawn_by_words drawn_of c.draw_solid.result (named_seen c.args.named).job (named_seen c.args.named).part (job_seen c.in-Ok.job) (solid_part c.in-Ok-fetch_solid.solid) c.in-Ok.ensures.usual c.in-Ok-fetch_solid.ensures.sample c.draw_solid.ensures.answer

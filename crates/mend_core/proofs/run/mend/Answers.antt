@@ -57,7 +57,7 @@ returns-in-Err-Usage-clause-run g c =
     let did = c.refuse.ensures in
     let asked : Option Asks = None in
     subst (λ (o : Option Asks). IsRun (mend_run o) end.status end.fault end.made old new) (sym (c.in-Err-Usage.ensures.usage (ap Err c.in-Err-Usage.field-0-is)))
-    (refused_run (mend_run asked) (lawful asked) old old new Usage (record { refuses = λ told. refl; may = refl; order = λ told. tt; reads = refl; missing = λ steady. tt; no_write = tt; read = refl; }) did.changes
+    (refused_run (mend_run asked) (lawful asked) old old new Usage (record { refuses = λ told. refl; alone = λ none files. refl; may = refl; order = λ told. tt; reads = refl; missing = λ steady. tt; no_write = tt; read = refl }) did.changes
     end.fault did.fault (λ unread. did.told tt) end.status end.made (g.met.D.Desk.steady_tells c.args.desk.now) did.status did.none refl refl (λ told. did.warned told asked) (λ hears. did.whole hears asked))
 
 pub returns-in-Err-Memory-clause-run : goal.returns-in-Err-Memory-clause-run

@@ -44,6 +44,7 @@ returns-in-Err-clause-run g c =
     let read = c.in-Err.ensures.changes in
     refused_run (mend_run asked) (lawful asked) old between new e (record {
       refuses = λ told. refuses_as (MendsPart old.files named) (RunsMend asked old.files) (λ e h. inl h) e (c.in-Err.ensures.answer told);
+      alone = λ sample files. refuses_as (MendsPart files named) (RunsMend asked files) (λ e h. inl h) e (c.in-Err.ensures.sample sample files);
       may = answers_named named e c.in-Err.ensures.of_named;
       order = λ told. in_order named e c.in-Err.ensures.of_named;
       reads = c.in-Err.ensures.reads;
@@ -85,6 +86,8 @@ returns-clause-run g c =
     at_end (λ (f : Option Fault) (made : Option Mended). IsRun (mend_run asked) end.status f made old new) end.fault fault end.made (Some mended) c.ended.ensures.fault c.ended.ensures.made
     (put_run (mend_run asked) (lawful asked) old between new took.changes took.reads (texts_for named.out part summary) (mend_line asked) (Some mended) (record {
       gives = λ told. (Some (made_seen mended), (made_seen mended, took.answer told, refl));
+      alone = λ sample files. (Some (made_seen mended), (made_seen mended, took.sample sample files, refl));
+      words = took.sample;
       part = λ told. (made_seen mended, took.answer told, refl);
       may = λ f is. may_of named f (all_of_writing named part summary f is);
       order = λ f is. writing_in_order named f (of_writing named f part summary is);

@@ -14,6 +14,11 @@ returns-in-Err-clause-answer g c = λ told.
     let named = named_seen c.args.request.now in
     refused_first (TakesPart (g.D.Desk.state c.args.desk.now).files named) (Mends named.limit) c.in-Err.fault (c.in-Err.ensures.answer told)
 
+pub returns-in-Err-clause-sample : goal.returns-in-Err-clause-sample
+returns-in-Err-clause-sample g c = λ sample files.
+    let named = named_seen c.args.request.now in
+    refused_first (TakesPart files named) (Mends named.limit) c.in-Err.fault (c.in-Err.ensures.sample sample files)
+
 pub returns-in-Err-clause-of_named : goal.returns-in-Err-clause-of_named
 returns-in-Err-clause-of_named g c = inl c.in-Err.ensures.of_soup
 
@@ -27,6 +32,11 @@ pub returns-in-Ok-clause-answer : goal.returns-in-Ok-clause-answer
 returns-in-Ok-clause-answer g c = λ told.
     let named = named_seen c.args.request.now in
     gives_next (TakesPart (g.D.Desk.state c.args.desk.now).files named) (Mends named.limit) (part_of c.in-Ok.soup) (c.in-Ok.ensures.answer told) made_seen c.mended.result c.mended.ensures.answer
+
+pub returns-in-Ok-clause-sample : goal.returns-in-Ok-clause-sample
+returns-in-Ok-clause-sample g c = λ sample files.
+    let named = named_seen c.args.request.now in
+    gives_next (TakesPart files named) (Mends named.limit) (part_of c.in-Ok.soup) (c.in-Ok.ensures.sample sample files) made_seen c.mended.result c.mended.ensures.answer
 
 pub returns-in-Ok-clause-of_named : goal.returns-in-Ok-clause-of_named
 returns-in-Ok-clause-of_named g c = mend_of_named (named_seen c.args.request.now) c.in-Ok.ensures.sized c.mended.result c.mended.ensures.of_mending

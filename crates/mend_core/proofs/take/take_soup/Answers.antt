@@ -16,6 +16,13 @@ returns-in-Ok-clause-answer g c = λ told.
     let in_decimals : P named.decimals c.in-Ok.job.unit = subst (λ (decimals : ℕ). P decimals c.in-Ok.job.unit) c.in-Ok.ensures.decimals (c.fetch_soup.ensures.answer told) in
     subst (λ (unit : Length). P named.decimals unit) c.in-Ok.ensures.unit in_decimals
 
+pub returns-in-Ok-clause-sample : goal.returns-in-Ok-clause-sample
+returns-in-Ok-clause-sample g c = λ sample files.
+    let named = named_seen c.args.request.now in
+    let P : ℕ → Length → Type 0 = λ decimals unit. GivesInput part_of (TakesSoup files named.part decimals unit) c.fetch_soup.result in
+    let in_decimals : P named.decimals c.in-Ok.job.unit = subst (λ (decimals : ℕ). P decimals c.in-Ok.job.unit) c.in-Ok.ensures.decimals (c.fetch_soup.ensures.sample sample files) in
+    subst (λ (unit : Length). P named.decimals unit) c.in-Ok.ensures.unit in_decimals
+
 pub returns-in-Ok-clause-missing : goal.returns-in-Ok-clause-missing
 returns-in-Ok-clause-missing g c = λ steady.
     let files = (g.D.Desk.state c.args.desk.now).files in

@@ -53,6 +53,7 @@ returns-in-Err-take-clause-run g c =
     let steps = DrawsPart old.files named.part named.job in
     refused_run (sheet_run asked) (lawful asked) old between new (Common e) (record {
       refuses = λ told. refuses_as steps (RunsSheet asked old.files) (λ e h. inl h) e (took.answer told);
+      alone = λ none files. refuses_as (DrawsPart files named.part named.job) (RunsSheet asked files) (λ e h. inl h) e (took.no_file none files);
       may = answers_files named e took.of_files;
       order = λ told. in_order named old.files e (took.order told);
       reads = took.reads;
@@ -96,6 +97,8 @@ returns-clause-run g c =
     at_end (λ (f : Option SheetFault) (made : Option Drawing). IsRun (sheet_run asked) end.status f made old new) end.fault fault end.made (Some drawing) c.ended.ensures.fault c.ended.ensures.made
     (put_run (sheet_run asked) (lawful asked) old between new took.changes took.reads (texts_for named page list summary) (fault_line (Some named) None) (Some drawing) (record {
       gives = λ told. (Some (drawn_in drawing), (drawn_in drawing, took.answer told, refl));
+      alone = λ none files. (Some (drawn_in drawing), (drawn_in drawing, took.no_file none files, refl));
+      words = took.by_words;
       part = λ told. (drawn_in drawing, took.answer told, refl);
       may = λ f is. may_of named f (all_of_writing named page list summary f is);
       order = λ f is. writing_in_order named old.files f (of_writing named f page list summary is);

@@ -58,7 +58,7 @@ returns-in-Err-Usage-clause-run g c =
     let did = c.end_by.ensures in
     let asked : Option Asks = None in
     subst (λ (o : Option Asks). IsRun (sheet_run o) end.status end.fault end.made old new) (sym (c.in-Err-Usage.ensures.usage (ap Err c.in-Err-Usage.field-0-is)))
-    (ended_run (sheet_run asked) (lawful asked) old old new (Common Usage) (record { refuses = λ told. refl; may = refl; order = λ told. tt; reads = refl; missing = λ steady. tt; no_write = tt; read = refl; }) did.changes
+    (ended_run (sheet_run asked) (lawful asked) old old new (Common Usage) (record { refuses = λ told. refl; alone = λ none files. refl; may = refl; order = λ told. tt; reads = refl; missing = λ steady. tt; no_write = tt; read = refl }) did.changes
     end.fault did.fault USAGE_LINE.now (None, refl, refl) end.status end.made (g.met.D.Desk.steady_tells c.args.desk.now) did.status did.none refl refl did.warned did.whole)
 
 pub returns-in-Err-Memory-clause-run : goal.returns-in-Err-Memory-clause-run

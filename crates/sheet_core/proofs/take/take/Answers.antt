@@ -13,7 +13,8 @@ use Rattle.std.specs.Prelude.{Ok, Err}
 use Rattle.sheet_core.specs.Run.{DrawsPart}
 use Rattle.sheet_core.proofs.Orders.{job_in_order, part_in_order, sheet_in_order}
 use Rattle.sheet_core.specs.inner.Taking.{fault_in}
-use Rattle.sheet_core.proofs.Taking.{job_no_place, place_for, sheet_no_place}
+use Rattle.part_input.proofs.NoFile.{drawn_by_words}
+use Rattle.sheet_core.proofs.Taking.{by_words_in, job_no_place, place_for, sheet_no_place}
 use Rattle.sheet_words.specs.Seen.{named_seen}
 use Rattle.sheet_core.proofs.take.take.Goals as goal
 
@@ -91,3 +92,30 @@ returns-in-Err-take_solid-clause-placed g c =
 
 pub returns-in-Ok-take_solid-clause-placed : goal.returns-in-Ok-take_solid-clause-placed
 returns-in-Ok-take_solid-clause-placed g c = sheet_no_place (Some (named_seen c.args.request.now)) (g.D.Desk.state c.args.desk.now) c.drawn.result c.drawn.ensures.of_sheet c.drawn.ensures.placed
+
+-- ---- where no file is named to be read
+pub returns-in-Err-clause-no_file : goal.returns-in-Err-clause-no_file
+returns-in-Err-clause-no_file g c = λ alone files.
+    let named = named_seen c.args.request.now in
+    refuses_as (TakesReadJob files named.job) (DrawsPart files named.part named.job) (λ e h. inl h) c.in-Err.fault (c.in-Err.ensures.usual alone.no_job files)
+
+pub returns-in-Err-take_solid-clause-no_file : goal.returns-in-Err-take_solid-clause-no_file
+returns-in-Err-take_solid-clause-no_file g c = λ alone files.
+    let named = named_seen c.args.request.now in
+    let values = job_seen c.in-Ok.job in
+    refuses_as (TakesSolid files named.part values.decimals values.unit) (DrawsPart files named.part named.job) (λ e h. inr (values, c.in-Ok.ensures.usual alone.no_job files, inl h)) c.in-Err-take_solid.refusal.fault
+    (c.in-Err-take_solid.ensures.sample alone.sample files)
+
+pub returns-in-Ok-take_solid-clause-no_file : goal.returns-in-Ok-take_solid-clause-no_file
+returns-in-Ok-take_solid-clause-no_file g c = λ alone files.
+    let named = named_seen c.args.request.now in
+    let values = job_seen c.in-Ok.job in
+    let part = solid_part c.in-Ok-take_solid.solid in
+    let from_part = gives_next (TakesSolid files named.part values.decimals values.unit) (PlansSheet values) part (c.in-Ok-take_solid.ensures.sample alone.sample files) drawn_in (fault_in c.drawn.result) c.drawn.ensures.answer in
+    gives_next (TakesReadJob files named.job) (λ values. TakesSolid files named.part values.decimals values.unit and_then PlansSheet values) values (c.in-Ok.ensures.usual alone.no_job files) drawn_in (fault_in c.drawn.result) from_part
+
+pub returns-in-Ok-take_solid-clause-by_words : goal.returns-in-Ok-take_solid-clause-by_words
+returns-in-Ok-take_solid-clause-by_words g c =
+    let named = named_seen c.args.request.now in
+    by_words_in named.job named.part c.drawn.result
+    (drawn_by_words drawn_in (fault_in c.drawn.result) named.job named.part (job_seen c.in-Ok.job) (solid_part c.in-Ok-take_solid.solid) c.in-Ok.ensures.usual c.in-Ok-take_solid.ensures.sample c.drawn.ensures.answer)

@@ -24,3 +24,9 @@ returns-in-Some-clause-missing g c = λ steady.
     let files = (g.D.Desk.state c.args.desk.now).files in
     let P : Option (List ℕ) → Type 0 = λ name. IfErr c.fetch_job.result (IsMissing (TakesReadJob files name)) in
     subst P (sym c.in-Some.is) (job_missing files _ c.fetch_job.result c.fetch_job.ensures.of_job (c.fetch_job.ensures.missing steady))
+
+pub returns-in-None-clause-usual : goal.returns-in-None-clause-usual
+returns-in-None-clause-usual g c =
+    λ none files.
+    let P : Option (List ℕ) → Type 0 = λ name. GivesInput job_seen (TakesReadJob files name) c.usual_job.result in
+    subst P (sym c.in-None.is) (c.usual_job.ensures.answer files)

@@ -1,7 +1,7 @@
 use Rattle.geometry.specs.Parts.{part_of}
 use Rattle.solid_mesh.specs.Solids.{solid_part}
 use Rattle.part_input.specs.Parts.{ChecksPart, TakesSoup}
-use Rattle.part_input.proofs.Chains.{gives_next}
+use Rattle.part_input.proofs.Chains.{gives_next, refused_first}
 use Rattle.part_input.proofs.Missing.{of_soup}
 use Rattle.sheet_core.specs.inner.Taking.{fault_in}
 use Rattle.sheet_core.proofs.Taking.{all_placed, mesh_counts, mesh_not_missing, mesh_of_part, soup_no_place}
@@ -29,3 +29,12 @@ returns-in-Err-clause-of_part g c = of_soup (g.D.Desk.state c.args.desk.now).fil
 
 pub returns-in-Err-clause-placed : goal.returns-in-Err-clause-placed
 returns-in-Err-clause-placed g c = soup_no_place c.args.name.now c.args.job.now.decimals c.args.job.now.unit (g.D.Desk.state c.args.desk.now) c.in-Err.fault c.in-Err.ensures.of_soup
+
+-- a sample, whatever files there are
+pub returns-in-Ok-clause-sample : goal.returns-in-Ok-clause-sample
+returns-in-Ok-clause-sample g c = λ sample files.
+    gives_next (TakesSoup files c.args.name.now c.args.job.now.decimals c.args.job.now.unit) ChecksPart (part_of c.in-Ok.soup) (c.in-Ok.ensures.sample sample files) solid_part (fault_in c.sound.result) c.sound.ensures.answer
+
+pub returns-in-Err-clause-sample : goal.returns-in-Err-clause-sample
+returns-in-Err-clause-sample g c = λ sample files.
+    refused_first (TakesSoup files c.args.name.now c.args.job.now.decimals c.args.job.now.unit) ChecksPart c.in-Err.fault (c.in-Err.ensures.sample sample files)
