@@ -8,7 +8,7 @@ use Rattle.geometry.specs.Faces.{IsFlat, normal}
 use Rattle.geometry.specs.Parts.{Part, Face, HasNoFlatTriangle, HasNoSideTwice, IsClosed, IsCornerOf, HasNoDouble, AreEdges, start_of, end_of}
 use Rattle.geometry.specs.Sound.{IsSound}
 use Rattle.geometry.proofs.Listed.{same_element, face_at}
-use Rattle.drawing_laws.proofs.EdgesListed.{edges_listed}
+use Rattle.geometry.proofs.EdgesListed.{edges_listed}
 use Rattle.solid_mesh.specs.declared.faults.MeshFault.{MeshFault}
 use Rattle.solid_mesh.specs.declared.faults.MeshFault.TheVariants.{Flat, SameWay, Unpaired, Double, Meet}
 use Rattle.solid_mesh.specs.Faults.{IsLeast, IsFlatAt, SharesEarlier, IsUnpaired, DoublesEarlier, MeetsAt, HasFault}

@@ -9,7 +9,7 @@ use Rattle.lattice.specs.Points.{Point, point_of, scaled, difference}
 use Rattle.geometry.specs.Faces.{IsPointOfEdge}
 use Rattle.geometry.specs.Parts.{Part, Edge}
 use Rattle.geometry.specs.Views.{IsSeenOver}
-use Rattle.drawing_laws.proofs.EdgeStepLines.{on_line_between, edge_point-is_point}
+use Rattle.geometry.proofs.EdgeStepLines.{on_line_between, edge_point-is_point}
 use Rattle.drawing_laws.proofs.LinesAlong.{line_along, on_line_along, on_line_of_sight, IsHeldAlong}
 use Rattle.drawing_laws.proofs.LinesListed.{for_two, Contains-flat_map, Contains-for_two, Contains-first}
 use Rattle.drawing_laws.proofs.LinesThrough.{lines_through}

@@ -9,18 +9,18 @@ use Rattle.integers.proofs.Ring.{var, con, ◌⊕◌, ◌⊖◌, ◌⊗◌, ring
 use Rattle.integers.proofs.Signs.{zero_of_mul}
 use Rattle.lattice.specs.declared.points.Corner.{Corner}
 use Rattle.lattice.specs.Cuts.{Plane, toward_of, plane_height, IsBeyond, IsOnPlane, IsBeforePlane}
-use Rattle.lattice.specs.Triple.{Triple, dot, cross, det, right_axis, up_axis}
+use Rattle.lattice.specs.Triple.{Triple, dot, cross, right_axis, up_axis}
 use Rattle.lattice.specs.Points.{Point, IsPoint, point_of, scaled, OnOneSight}
 use Rattle.lattice.proofs.OnLines.{weighted_sum, product_of_sum}
-use Rattle.lattice.proofs.Vectors.{letters, dots, crosses}
 use Rattle.geometry.specs.Cuts.{EdgeOrBorder, edge, border, step_of, over_of, IsOnBorder, IsSeenOverInCut, IsOrdinaryInCut}
 use Rattle.geometry.specs.Faces.{normal, edge_sum, IsPointOfEdge, IsPointOfFace}
 use Rattle.geometry.specs.Parts.{Part, Edge, Face}
 use Rattle.geometry.proofs.BorderSteps.{along_normal}
+use Rattle.geometry.proofs.CutViews.{on_both}
 use Rattle.geometry.proofs.Borders.{edge_rise, rise_on, side_of_corner, over_beyond, over_before}
 use Rattle.geometry.proofs.FacePoints.{dot-edge_sum}
 use Rattle.geometry.proofs.Sights.{sight_on}
-use Rattle.drawing_laws.proofs.EdgeStepLines.{edge_point-is_point}
+use Rattle.geometry.proofs.EdgeStepLines.{edge_point-is_point}
 use Rattle.drawing_laws.proofs.CornerViewLines.{part_lines, lines_of_corner, edge_held, listed_corner}
 use Rattle.drawing_laws.proofs.LinesAlong.{line_along, on_line_along, on_line_of_sight, IsHeldAlong, parallel_steps}
 use Rattle.drawing_laws.proofs.LinesListed.{for_two, for_three, Contains-for_two, Contains-for_three, Contains-first}
@@ -102,16 +102,6 @@ border_number c k l m =
 
 abbrev border_line : Plane → Corner → Corner → Corner → ViewLine
 border_line c k l m = line_along (toward_of c) (cross (toward_of c) (normal k l m)) (border_number c k l m)
-
--- a point of known products with d and with n
-pub on_both : (d n p : Triple) (h g w : ℤ) → pos 2 *ℤ dot d p ≡ h *ℤ w → pos 1 *ℤ dot n p ≡ g *ℤ w → pos 2 *ℤ det d (cross d n) p ≡ ((dot d n *ℤ h) -ℤ ((pos 2 *ℤ dot d d) *ℤ g)) *ℤ w
-on_both d n p h g w e f =
-    by_two _ _ (pos 2 *ℤ dot d p) (h *ℤ w) (dot d n) (pos 1 *ℤ dot n p) (g *ℤ w) (pos 0 -ℤ (pos 2 *ℤ dot d d))
-    (ring (d.x ∷ d.y ∷ d.z ∷ n.x ∷ n.y ∷ n.z ∷ p.x ∷ p.y ∷ p.z ∷ h ∷ g ∷ w ∷ [])
-    ((con (pos 2) ⊗ dots (letters 0) (crosses (crosses (letters 0) (letters 3)) (letters 6)))
-    ⊖ (((dots (letters 0) (letters 3) ⊗ var 9) ⊖ ((con (pos 2) ⊗ dots (letters 0) (letters 0)) ⊗ var 10)) ⊗ var 11))
-    ((((con (pos 2) ⊗ dots (letters 0) (letters 6)) ⊖ (var 9 ⊗ var 11)) ⊗ dots (letters 0) (letters 3))
-    ⊕ (((con (pos 1) ⊗ dots (letters 3) (letters 6)) ⊖ (var 10 ⊗ var 11)) ⊗ (con (pos 0) ⊖ (con (pos 2) ⊗ dots (letters 0) (letters 0))))) refl) e f
 
 on_border_line : (c : Plane) {s : Part} (f : Face s) (q : Point) → IsOnBorder c f q → IsOnViewLine (toward_of c) (border_line c f.a f.b f.c) q
 on_border_line c f q on =

@@ -14,20 +14,6 @@ mod LinesAlong
 mod LinesListed
 mod LinesThrough
 mod TraceViewLines
-mod Lists
-pub mod EdgesListed
-mod Crossings
-mod ForEach
-mod Marks
-mod EdgeStepLines
-mod CornerMarks
-mod BorderEnds
-pub mod CutViews
-mod TraceStepLines
-mod TraceEnds
-pub mod TraceViews
-pub mod PlainViews
-pub mod EachPart
 pub mod OnePoint
 pub mod OnPaper
 pub mod Reach

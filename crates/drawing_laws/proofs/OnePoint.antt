@@ -18,7 +18,7 @@ use Rattle.geometry.specs.Parts.{Part, Edge}
 use Rattle.geometry.specs.Views.{IsEndOn}
 use Rattle.geometry.proofs.Shares.{edge_share, end_on}
 use Rattle.geometry.proofs.Sights.{sight_back}
-use Rattle.drawing_laws.proofs.Crossings.{one_number}
+use Rattle.geometry.proofs.Crossings.{one_number}
 
 -- ---- edges
 -- shares of one value are one point

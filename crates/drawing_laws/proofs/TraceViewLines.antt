@@ -19,7 +19,7 @@ use Rattle.drawing_laws.proofs.LinesAlong.{line_along, on_line_along, on_line_of
 use Rattle.drawing_laws.proofs.LinesListed.{Contains-flat_map, Contains-first, Contains-second, Contains-third}
 use Rattle.drawing_laws.proofs.LinesThrough.{lines_through}
 use Rattle.drawing_laws.proofs.Sparse.{ViewLine}
-use Rattle.drawing_laws.proofs.TraceStepLines.{trace_number, on_trace}
+use Rattle.geometry.proofs.TraceStepLines.{trace_number, on_trace}
 
 -- ---- the line of a trace
 abbrev trace_line : Triple → Plane → Axis → ViewLine

@@ -1,4 +1,3 @@
 pub mod Alike
-pub mod Exceptions
 pub mod Standing
 pub mod Views

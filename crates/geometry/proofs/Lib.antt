@@ -13,3 +13,17 @@ pub mod PlaceOrder
 pub mod PlaceFractions
 pub mod SamePlaces
 pub mod TracePoints
+pub mod EdgesListed
+mod Lists
+pub mod Crossings
+mod ForEach
+mod Marks
+pub mod EdgeStepLines
+mod CornerMarks
+mod BorderEnds
+pub mod TraceStepLines
+mod TraceEnds
+mod PlainViews
+mod TraceViews
+pub mod CutViews
+mod EachPart

@@ -13,4 +13,5 @@ pub mod Counts
 pub mod Shares
 pub mod Covers
 pub mod Turns
+pub mod Exceptions
 pub mod inner

@@ -7,7 +7,7 @@ use Rattle.lattice.specs.declared.soup.Tri.{Tri}
 use Rattle.geometry.specs.Parts.{Part, Face, Edge, IsHalf, AreEdges, start_of, end_of}
 use Rattle.geometry.proofs.Listed.{same_element}
 use Rattle.geometry.proofs.EachEdge.{turned_edge}
-use Rattle.drawing_laws.proofs.Lists.{Contains-first, Contains-listed, Contains-flat_map, All-flat_map, length-flat_map-few}
+use Rattle.geometry.proofs.Lists.{Contains-first, Contains-listed, Contains-flat_map, All-flat_map, length-flat_map-few}
 
 -- ---- edges, by their halves
 module _ {A : Type 0} (f : Corner → Corner → A) (s : Part) where

@@ -10,12 +10,12 @@ use Rattle.lattice.specs.Points.{Point, IsPoint, OnOneSight, across_of, upward_o
 use Rattle.lattice.specs.Triple.{Triple, det}
 use Rattle.geometry.proofs.TracePoints.{det_turned}
 use Rattle.integers.proofs.Lists.{Contains-later}
-use Rattle.drawing_laws.specs.Exceptions.{pairs_of, IsInSightOfOne, HoldsExceptAt}
-use Rattle.drawing_laws.proofs.Crossings.{StepLine, IsSeenOn, turn_of, crossings, crossings-few, crossings-points, crossings-listed}
-use Rattle.drawing_laws.proofs.Lists.{Contains-first, pairs-suc}
+use Rattle.geometry.specs.Exceptions.{pairs_of, IsInSightOfOne, HoldsExceptAt}
+use Rattle.geometry.proofs.Crossings.{StepLine, IsSeenOn, turn_of, crossings, crossings-few, crossings-points, crossings-listed}
+use Rattle.geometry.proofs.Lists.{Contains-first, pairs-suc}
 
 -- ---- decisions
-same_or_not : (a b : ℤ) → (a ≡ b) ⊎ ¬ (a ≡ b)
+pub same_or_not : (a b : ℤ) → (a ≡ b) ⊎ ¬ (a ≡ b)
 same_or_not a b = by_lt_z a b (λ h. inr (λ e. omega (arith, ints))) (λ h. by_lt_z b a (λ k. inr (λ e. omega (arith, ints))) (λ k. inl (same_of_both a b k h)))
 
 sight_or_not : (d : Triple) (p q : Point) → OnOneSight d p q ⊎ ¬ OnOneSight d p q

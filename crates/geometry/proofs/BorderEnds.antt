@@ -15,9 +15,9 @@ use Rattle.geometry.specs.Parts.{Part, Edge, AreEdges}
 use Rattle.geometry.proofs.Borders.{edge_rise, rise_on, side_of_corner, over_beyond, over_before}
 use Rattle.geometry.proofs.FacePoints.{dot-edge_sum, edge_point-turned}
 use Rattle.geometry.proofs.Sights.{sight_on}
-use Rattle.drawing_laws.specs.Exceptions.{IsInSightOfOne}
-use Rattle.drawing_laws.proofs.EdgeStepLines.{edge_point-is_point}
-use Rattle.drawing_laws.proofs.ForEach.{for_edges, for_edges-few, for_edges-all, Contains-for_edges}
+use Rattle.geometry.specs.Exceptions.{IsInSightOfOne}
+use Rattle.geometry.proofs.EdgeStepLines.{edge_point-is_point}
+use Rattle.geometry.proofs.ForEach.{for_edges, for_edges-few, for_edges-all, Contains-for_edges}
 
 -- weights i, j and m, n in one ratio give one point, in its product with any vector
 one_product : (s : Triple) (a b : Corner) (i j m n : ℕ) → i * n ≡ j * m → dot s (scaled (edge_sum a b m n)) *ℤ pos (i + j) ≡ dot s (scaled (edge_sum a b i j)) *ℤ pos (m + n)

@@ -8,11 +8,11 @@ use Rattle.lattice.specs.Triple.{Triple}
 use Rattle.geometry.specs.Faces.{difference}
 use Rattle.geometry.specs.Parts.{Part, AreEdges}
 use Rattle.geometry.specs.Views.{IsOrdinary}
-use Rattle.drawing_laws.specs.Exceptions.{IsInSightOfOne}
-use Rattle.drawing_laws.proofs.Crossings.{StepLine, crossings}
-use Rattle.drawing_laws.proofs.EdgeStepLines.{edge_lines, edge_held}
-use Rattle.drawing_laws.proofs.Lists.{Contains-first, Contains-flat_map, All-flat_map, length-flat_map-few}
-use Rattle.drawing_laws.proofs.Marks.{parallel_steps}
+use Rattle.geometry.specs.Exceptions.{IsInSightOfOne}
+use Rattle.geometry.proofs.Crossings.{StepLine, crossings}
+use Rattle.geometry.proofs.EdgeStepLines.{edge_lines, edge_held}
+use Rattle.geometry.proofs.Lists.{Contains-first, Contains-flat_map, All-flat_map, length-flat_map-few}
+use Rattle.geometry.proofs.Marks.{parallel_steps}
 
 abbrev mark_of : Corner → List Point
 mark_of k = point_of k ∷ []

@@ -7,15 +7,15 @@ use Rattle.lattice.specs.Points.{Point, IsPoint}
 use Rattle.lattice.specs.Triple.{Triple}
 use Rattle.geometry.specs.Parts.{Part, AreEdges}
 use Rattle.geometry.specs.Traces.{TraceRuns, EdgeRuns, IsOrdinaryBeside}
-use Rattle.drawing_laws.specs.Exceptions.{pairs_of, IsInSightOfOne, HoldsExceptAt}
-use Rattle.drawing_laws.proofs.CornerMarks.{corner_marks, corner_marks-few, corner_marks-points, ordinary_off}
-use Rattle.drawing_laws.proofs.Crossings.{StepLine, crossings}
-use Rattle.drawing_laws.proofs.EdgeStepLines.{line_between, edge_lines, edge_held}
-use Rattle.drawing_laws.proofs.ForEach.{for_edges-few}
-use Rattle.drawing_laws.proofs.Lists.{at_most_one_each, length-joined}
-use Rattle.drawing_laws.proofs.Marks.{IsStill, IsHeld, parallel_steps, except_at}
-use Rattle.drawing_laws.proofs.TraceEnds.{trace_end_marks, trace_end_marks-few, trace_end_marks-points, off_trace_end}
-use Rattle.drawing_laws.proofs.TraceStepLines.{trace_lines, trace_lines-few, trace_held}
+use Rattle.geometry.specs.Exceptions.{pairs_of, IsInSightOfOne, HoldsExceptAt}
+use Rattle.geometry.proofs.CornerMarks.{corner_marks, corner_marks-few, corner_marks-points, ordinary_off}
+use Rattle.geometry.proofs.Crossings.{StepLine, crossings}
+use Rattle.geometry.proofs.EdgeStepLines.{line_between, edge_lines, edge_held}
+use Rattle.geometry.proofs.ForEach.{for_edges-few}
+use Rattle.geometry.proofs.Lists.{at_most_one_each, length-joined}
+use Rattle.geometry.proofs.Marks.{IsStill, IsHeld, parallel_steps, except_at}
+use Rattle.geometry.proofs.TraceEnds.{trace_end_marks, trace_end_marks-few, trace_end_marks-points, off_trace_end}
+use Rattle.geometry.proofs.TraceStepLines.{trace_lines, trace_lines-few, trace_held}
 
 module _ (d : Triple) (s : Part) (cuts : List Plane) (halves : List ℕ) (edges : AreEdges s halves) where
   abbrev marks : List Point

@@ -19,9 +19,9 @@ use Rattle.lattice.specs.Axes.{component_of, coordinate_of, third_of}
 use Rattle.geometry.specs.Traces.{IsAmongCorners, IsOnTrace, IsOutermost, IsTraceEnd}
 use Rattle.geometry.proofs.Sights.{sight_on}
 use Rattle.geometry.proofs.TracePoints.{one_of_others, third_aside, unit_here, unit_elsewhere, sight_of_coordinates}
-use Rattle.drawing_laws.specs.Exceptions.{IsInSightOfOne}
-use Rattle.drawing_laws.proofs.TraceStepLines.{sight_of, sight_is}
-use Rattle.drawing_laws.proofs.Lists.{Contains-first, Contains-flat_map, All-flat_map, length-flat_map-few}
+use Rattle.geometry.specs.Exceptions.{IsInSightOfOne}
+use Rattle.geometry.proofs.TraceStepLines.{sight_of, sight_is}
+use Rattle.geometry.proofs.Lists.{Contains-first, Contains-flat_map, All-flat_map, length-flat_map-few}
 
 -- ---- corners of the least value
 record IsLeast (value : Corner → ℤ) (corners : List Corner) (k : Corner) : Type 0 where

@@ -3,12 +3,12 @@ use Rattle.std.proofs.Common.{ℕ, ◌+◌, List, length}
 use Rattle.lattice.specs.Triple.{Triple}
 use Rattle.geometry.specs.Parts.{Part, AreEdges}
 use Rattle.geometry.specs.Views.{IsOrdinary}
-use Rattle.drawing_laws.specs.Exceptions.{pairs_of, HoldsExceptAt}
-use Rattle.drawing_laws.proofs.CornerMarks.{corner_marks, corner_marks-few, corner_marks-points, ordinary_off}
-use Rattle.drawing_laws.proofs.EdgeStepLines.{line_between, edge_lines}
-use Rattle.drawing_laws.proofs.ForEach.{for_edges-few}
-use Rattle.drawing_laws.proofs.Lists.{at_most_one_each}
-use Rattle.drawing_laws.proofs.Marks.{except_at}
+use Rattle.geometry.specs.Exceptions.{pairs_of, HoldsExceptAt}
+use Rattle.geometry.proofs.CornerMarks.{corner_marks, corner_marks-few, corner_marks-points, ordinary_off}
+use Rattle.geometry.proofs.EdgeStepLines.{line_between, edge_lines}
+use Rattle.geometry.proofs.ForEach.{for_edges-few}
+use Rattle.geometry.proofs.Lists.{at_most_one_each}
+use Rattle.geometry.proofs.Marks.{except_at}
 
 pub ordinary_except_at : (d : Triple) (s : Part) (halves : List ℕ) → AreEdges s halves → HoldsExceptAt d (length s.corners + pairs_of (length halves)) (IsOrdinary d s)
 ordinary_except_at d s halves edges =

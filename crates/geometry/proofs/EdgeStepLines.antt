@@ -11,9 +11,9 @@ use Rattle.geometry.specs.Faces.{difference, IsPointOfEdge}
 use Rattle.geometry.specs.Parts.{Part, Edge, AreEdges}
 use Rattle.geometry.specs.Views.{IsSeenOver}
 use Rattle.geometry.proofs.FacePoints.{edge_point-turned}
-use Rattle.drawing_laws.proofs.Crossings.{StepLine, IsOnStepLine, IsSeenOn}
-use Rattle.drawing_laws.proofs.ForEach.{for_edges, Contains-for_edges}
-use Rattle.drawing_laws.proofs.Marks.{IsStill, IsHeld}
+use Rattle.geometry.proofs.Crossings.{StepLine, IsOnStepLine, IsSeenOn}
+use Rattle.geometry.proofs.ForEach.{for_edges, Contains-for_edges}
+use Rattle.geometry.proofs.Marks.{IsStill, IsHeld}
 
 -- through two corners
 abbrev pub line_between : Triple → Corner → Corner → StepLine

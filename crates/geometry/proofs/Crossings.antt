@@ -14,8 +14,8 @@ use Rattle.lattice.proofs.SightAxes.{agree_of_sight}
 use Rattle.lattice.proofs.SightLines.{offset, nothing_along, sight_of_along, up_axis-level}
 use Rattle.lattice.proofs.Vectors.{Letters, letters, dots, crosses}
 use Rattle.geometry.proofs.TracePoints.{det_turned}
-use Rattle.drawing_laws.specs.Exceptions.{pairs_of, IsInSightOfOne}
-use Rattle.drawing_laws.proofs.Lists.{Contains-first, Contains-flat_map, All-flat_map, length-flat_map-few, pairs-suc}
+use Rattle.geometry.specs.Exceptions.{pairs_of, IsInSightOfOne}
+use Rattle.geometry.proofs.Lists.{Contains-first, Contains-flat_map, All-flat_map, length-flat_map-few, pairs-suc}
 
 -- ---- lines
 -- along the step, through the points at which twice the determinant of direction, step and point is this number

@@ -1,28 +1,39 @@
 -- The points that aren't ordinary in a cut view are on few lines of sight: those of the corners and of the ends of borders, and one for
 -- each pair of edges or borders.
-use Rattle.std.proofs.Common.{◌⊎◌, inr, ℕ, ◌+◌, ◌≤◌, List, ◌++◌, length, sym, subst}
+use Rattle.std.proofs.Common.{◌≡◌, ◌⊎◌, inr, ℕ, ◌+◌, ◌≤◌, List, [], ◌∷◌, ◌++◌, length, refl, sym, subst}
 use Rattle.std.specs.Prelude.{ℤ, pos, ◌-ℤ◌, ◌*ℤ◌}
 use Rattle.std.proofs.lemmas.List.Elements.{All-append, Contains-append_left, Contains-append_right}
 use Rattle.integers.proofs.Absolutes.{natural_positive}
+use Rattle.integers.proofs.Ring.{var, con, ◌⊕◌, ◌⊖◌, ◌⊗◌, ring, by_two}
 use Rattle.lattice.specs.declared.points.Corner.{Corner}
 use Rattle.lattice.specs.Cuts.{Plane, toward_of, plane_height}
 use Rattle.lattice.specs.Points.{Point, IsPoint, point_of, scaled}
-use Rattle.lattice.specs.Triple.{Triple, dot, cross}
+use Rattle.lattice.specs.Triple.{Triple, dot, cross, det}
+use Rattle.lattice.proofs.Vectors.{letters, dots, crosses}
 use Rattle.geometry.specs.Cuts.{EdgeOrBorder, edge, border, step_of, IsOnBorder, IsSeenOverInCut, IsOrdinaryInCut}
 use Rattle.geometry.specs.Faces.{normal, IsPointOfFace}
 use Rattle.geometry.specs.Parts.{Part, Face, AreEdges}
 use Rattle.geometry.proofs.BorderSteps.{along_normal}
-use Rattle.drawing_laws.specs.Exceptions.{pairs_of, IsInSightOfOne, HoldsExceptAt}
-use Rattle.drawing_laws.proofs.BorderEnds.{end_marks, end_marks-few, end_marks-points, off_end}
-use Rattle.drawing_laws.proofs.CornerMarks.{corner_marks, corner_marks-few, corner_marks-points, off_corner}
-use Rattle.drawing_laws.proofs.Crossings.{StepLine, IsOnStepLine, crossings}
-use Rattle.drawing_laws.proofs.EdgeStepLines.{line_between, edge_lines, edge_held}
-use Rattle.drawing_laws.proofs.ForEach.{for_faces, for_edges-few, for_faces-few, Contains-for_faces}
-use Rattle.drawing_laws.proofs.Lists.{at_most_one_each, length-joined}
-use Rattle.drawing_laws.proofs.Marks.{IsStill, IsHeld, parallel_steps, except_at}
-use Rattle.drawing_laws.proofs.CutLines.{on_both}
+use Rattle.geometry.specs.Exceptions.{pairs_of, IsInSightOfOne, HoldsExceptAt}
+use Rattle.geometry.proofs.BorderEnds.{end_marks, end_marks-few, end_marks-points, off_end}
+use Rattle.geometry.proofs.CornerMarks.{corner_marks, corner_marks-few, corner_marks-points, off_corner}
+use Rattle.geometry.proofs.Crossings.{StepLine, IsOnStepLine, crossings}
+use Rattle.geometry.proofs.EdgeStepLines.{line_between, edge_lines, edge_held}
+use Rattle.geometry.proofs.ForEach.{for_faces, for_edges-few, for_faces-few, Contains-for_faces}
+use Rattle.geometry.proofs.Lists.{at_most_one_each, length-joined}
+use Rattle.geometry.proofs.Marks.{IsStill, IsHeld, parallel_steps, except_at}
 
 -- ---- the line of a border
+-- a point of known products with d and with n
+pub on_both : (d n p : Triple) (h g w : ℤ) → pos 2 *ℤ dot d p ≡ h *ℤ w → pos 1 *ℤ dot n p ≡ g *ℤ w → pos 2 *ℤ det d (cross d n) p ≡ ((dot d n *ℤ h) -ℤ ((pos 2 *ℤ dot d d) *ℤ g)) *ℤ w
+on_both d n p h g w e f =
+    by_two _ _ (pos 2 *ℤ dot d p) (h *ℤ w) (dot d n) (pos 1 *ℤ dot n p) (g *ℤ w) (pos 0 -ℤ (pos 2 *ℤ dot d d))
+    (ring (d.x ∷ d.y ∷ d.z ∷ n.x ∷ n.y ∷ n.z ∷ p.x ∷ p.y ∷ p.z ∷ h ∷ g ∷ w ∷ [])
+    ((con (pos 2) ⊗ dots (letters 0) (crosses (crosses (letters 0) (letters 3)) (letters 6)))
+    ⊖ (((dots (letters 0) (letters 3) ⊗ var 9) ⊖ ((con (pos 2) ⊗ dots (letters 0) (letters 0)) ⊗ var 10)) ⊗ var 11))
+    ((((con (pos 2) ⊗ dots (letters 0) (letters 6)) ⊖ (var 9 ⊗ var 11)) ⊗ dots (letters 0) (letters 3))
+    ⊕ (((con (pos 1) ⊗ dots (letters 3) (letters 6)) ⊖ (var 10 ⊗ var 11)) ⊗ (con (pos 0) ⊖ (con (pos 2) ⊗ dots (letters 0) (letters 0))))) refl) e f
+
 abbrev border_line : Plane → Corner → Corner → Corner → StepLine
 border_line c k l m =
     let d = toward_of c in

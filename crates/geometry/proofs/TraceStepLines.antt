@@ -11,9 +11,9 @@ use Rattle.lattice.proofs.Vectors.{Letters, letters, dots, crosses}
 use Rattle.geometry.specs.Parts.{Part}
 use Rattle.lattice.specs.Axes.{coordinate_of, third_of, IsAlong}
 use Rattle.geometry.specs.Traces.{TraceRuns}
-use Rattle.drawing_laws.proofs.Crossings.{StepLine}
-use Rattle.drawing_laws.proofs.Lists.{Contains-first, Contains-flat_map, length-flat_map-few}
-use Rattle.drawing_laws.proofs.Marks.{IsHeld}
+use Rattle.geometry.proofs.Crossings.{StepLine}
+use Rattle.geometry.proofs.Lists.{Contains-first, Contains-flat_map, length-flat_map-few}
+use Rattle.geometry.proofs.Marks.{IsHeld}
 
 -- ---- the axis of a view
 abbrev first_nonzero : ℤ → ℤ → Axis
