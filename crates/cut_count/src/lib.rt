@@ -79,7 +79,8 @@ pub fn cut_bound(solid: &Solid, section: &Section, picked: &Picked) -> u64
 /// and `right` are the two counts, and the point is hidden exactly where they are not both 0. Neighbours may have equal counts.
 ///
 /// Cost: for each drawn edge with a part beyond the plane one test of each triangle that the finder doesn't pass over, of each segment
-/// and of each outline that the finder lists along it, and a sort of the crossings that are there. Also where memory runs out, at most `cut_bound` tests are made.
+/// and of each outline that the finder lists along it, and a sort of the crossings that are there. Asking the finder is no test. Also
+/// where memory runs out, at most `cut_bound` tests are made.
 pub fn spans_cut<F: Finder>(
     alloc: Global,
     solid: &Solid,

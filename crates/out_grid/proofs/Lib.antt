@@ -1,3 +1,4 @@
+pub mod BoxSizes
 pub mod Bridges
 pub mod CellBounds
 pub mod CellPuts

@@ -10,8 +10,8 @@ ghost use Rattle.edge_pick.specs.declared.Picked.{Picked};
 use crate::corners::corner_cells;
 use crate::listing::lists_along;
 use crate::lists::{empty_lists, number_at, put_in};
-use crate::meter::CellMeter;
-use crate::near::TriangleCells;
+use crate::meter::{CellMeter, NearMeter};
+use crate::near::NearTriangles;
 use crate::places::raster_over;
 use crate::putting::put_outlines;
 use edge_pick::Picked;
@@ -28,7 +28,7 @@ pub struct GridOutlines {
     cells: Vec<Vec<u32>>,
     corner_cells: Vec<u32>,
     lists: Vec<Vec<u32>>,
-    triangles: TriangleCells,
+    triangles: NearTriangles,
     ghost few: { columns ≤ 256 },
     ghost full: { vec_len cells ≡ columns * columns },
 }
@@ -39,10 +39,10 @@ impl GridOutlines {
 
     /// The grid of what is picked of a solid for this direction. Each cell has the outlines with a point in it; along a drawn edge
     /// those are listed that have a point in a cell in which the edge has one, each once, and along others none; over a corner
-    /// those of its cell. Near a corner are the triangles whose boxes of U and V meet its cell in another grid, which isn't counted.
+    /// those of its cell. Which triangles are near a corner is told by `NearTriangles`, which it makes first, with a meter of its own.
     ///
     /// Cost: it counts at most `cell_bound` cells, also where memory runs out; time and memory grow with those and with the lists,
-    /// and linearly with the corners and the triangles.
+    /// linearly with the corners, and by what `NearTriangles::new` takes.
     pub fn new(
         alloc: Global,
         solid: &Solid,
@@ -63,7 +63,8 @@ impl GridOutlines {
         ensures counted { (bound : ℕ) → IsCellBound (of_dir d.now) (solid_part solid.now) (edge_halves solid.now) picked.now columns bound →
             meter.new.cells ≤ meter.old.cells + bound }
     {
-        let triangles = TriangleCells::new(alloc, solid, d)?;
+        let mut near = NearMeter { steps: 0 };
+        let triangles = NearTriangles::new(alloc, solid, d, &mut near)?;
         let raster = raster_over(solid, d, columns);
         let corner_cells = corner_cells(alloc, solid, d, &raster, columns)?;
         let mut cells = empty_lists(alloc, columns * columns)?;

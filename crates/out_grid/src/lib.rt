@@ -11,8 +11,9 @@
 //! there are at most as many as its columns and rows less one. An edge's list is made without a search in it: each outline has a
 //! stamp, the last edge that took it.
 //!
-//! A second grid has the triangles, each in the cells that the box of its U and V meets; near a corner are those of its cell. Its
-//! columns are so few that the boxes meet at most eight cells for each triangle, on an average, where there is more than one.
+//! A second grid, `NearTriangles`, has the triangles, each in the cells that the box of its U and V meets; near a corner are those of
+//! its cell. Its columns are so few that the boxes together meet at most eight cells for each triangle. To make it takes a number of
+//! steps that is linear in the corners and the triangles, by a meter of its own.
 #![tactic(auto)]
 
 mod bounds;
@@ -31,4 +32,5 @@ mod raster;
 
 pub use bounds::cell_bound;
 pub use grid::GridOutlines;
-pub use meter::CellMeter;
+pub use meter::{CellMeter, NearMeter};
+pub use near::NearTriangles;

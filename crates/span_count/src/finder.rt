@@ -9,7 +9,7 @@ use edge_pick::Picked;
 /// serve for what is picked of a solid: the lists hold outlines, none twice; that of a drawn edge has every outline that changes one
 /// of the counts along it, and that of a corner every outline that does not have the corner and is strictly nearer over it. Near a
 /// corner is every triangle that is not seen strictly to one side of it, and maybe others; where a finder does not say it, all are.
-/// No call takes memory.
+/// So a caller learns without a test what need not be tested, and nothing else. No call takes memory, and none is counted.
 pub trait Finder {
     ghost list_along: { Self → ℕ → List ℕ };
 

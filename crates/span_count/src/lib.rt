@@ -14,8 +14,10 @@
 //! which a face reaches, so a corner of an outline on that line is no special case.
 //!
 //! Cost: `bound` tests at most, and sorts. The faces are seen only through a `Sight`, which counts the tests and tells no
-//! coordinate. Besides the spans, memory is taken for the order of the drawn edges, for two pairs of numbers for each of them,
-//! and for the crossings of one edge at a time.
+//! coordinate, and through the `Finder`, which is asked without a count: what it doesn't list changes no count at that edge or
+//! corner, and what it passes over isn't over that corner. What it hands out is tested by the sight, each outline once for the edge or
+//! the turn, and each triangle once for the run. Besides the spans, memory is taken for the order of the drawn edges, for two pairs
+//! of numbers for each of them, and for the crossings of one edge at a time.
 //!
 //! Where the crossings of an edge are found by other means, as in a cut view, `ascending`, `change_over`, `first_counts_by` and
 //! `carried` make spans of them along the whole edge or a part of it.
@@ -56,9 +58,10 @@ pub use step::Sides;
 /// an ordinary point. At each ordinary point within a span, `left` and `right` are the two counts, and the point is hidden
 /// exactly where they are not both 0. Neighbours may have equal counts.
 ///
-/// Cost: for each run one test of each triangle that the finder doesn't pass over; for each drawn edge one test of each outline that the finder lists along it and
-/// over the corner that it is come to, and of each triangle at its two ends; and a sort of the crossings that are there. Also
-/// where memory runs out, at most `bound` tests are made, and the sight has the same solid and the same direction as before.
+/// Cost: for each run one test of each triangle that the finder doesn't pass over; for each drawn edge one test of each outline that
+/// the finder lists along it and over the corner that it is come to, and of each triangle at its two ends; and a sort of the crossings
+/// that are there. Asking the finder is no test. Also where memory runs out, at most `bound` tests are made, and the sight has the
+/// same solid and the same direction as before.
 pub fn spans_counted<S: Sight, F: Finder>(
     alloc: Global,
     sight: &mut S,

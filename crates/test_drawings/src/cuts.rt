@@ -1,13 +1,13 @@
 // Views of cuts: the counts along their drawn edges.
-use crate::runs::{desk_of, words_of};
-use draw_core::{Drawing, draw};
+use crate::runs;
+use draw_core::Drawing;
 use exact_frac::Frac;
 use std::alloc::Global;
 use std::test::Fail;
 use view_lines::ViewDrawing;
 
 // A block with a square bore along its height.
-const TUBE: &str =
+pub(crate) const TUBE: &str =
     "OFF 16 16 0\n0 0 0 30 0 0 30 30 0 0 30 0 10 10 0 20 10 0 20 20 0 10 20 0 0 0 20 30 0 20 30 30 20 0 30 20 10 10 20 20 10 20 20 20 20 10 20 20\n4 0 1 9 8\n4 1 2 10 9\n4 2 3 11 10\n4 3 0 8 11\n4 5 4 12 13\n4 6 5 13 14\n4 7 6 14 15\n4 4 7 15 12\n4 8 9 13 12\n4 9 10 14 13\n4 10 11 15 14\n4 11 8 12 15\n4 1 0 4 5\n4 2 1 5 6\n4 3 2 6 7\n4 0 3 7 4\n";
 
 // A corner of a cube, whose normals point inward.
@@ -17,10 +17,7 @@ const INWARD: &str = "OFF 4 4 0\n0 0 0 10 0 0 0 10 0 0 0 10\n3 1 2 0\n3 3 1 0\n3
 type Counted = (Frac, Frac, u32, u32);
 
 fn drawn(alloc: Global, part: &str, job: &str) -> Result<Drawing, Fail> {
-    let mut desk = desk_of(alloc, part, job)?;
-    let words = words_of(alloc, "--job j p")?;
-    let outcome = draw(alloc, &words, &mut desk, Vec::new(alloc));
-    Ok(outcome.drawing.ok_or("no drawing")?)
+    runs::drawn(alloc, "--job j p", part, job)
 }
 
 // The spans of an edge in a view.
@@ -65,11 +62,14 @@ fn a_plane_before_the_part(rt: HostRuntime) -> Result<(), Fail> {
     let alloc = rt.alloc();
     let job = "[[view]]\nname = \"front\"\n[[view]]\ncut = \"y\"\nat = -1000\nfrom = \"low\"\n";
     let drawing = drawn(alloc, TUBE, job)?;
+    let mut some = false;
     for edge in 0..drawing.solid.edges() {
         let plain = spans_of(alloc, drawing.views.first(), edge)?;
         let cut = spans_of(alloc, drawing.views.last(), edge)?;
+        some = some || !plain.is_empty();
         assert_eq!(rt; plain, cut, "{edge}");
     }
+    assert!(rt; some);
     Ok(())
 }
 

@@ -1,10 +1,10 @@
-// Counts through a grid of outlines, with few columns and with many, beside those through all outlines; and an outline that is put
-// by hand.
+// Counts through a grid of outlines, with few columns and with many, beside those through all outlines; an outline that is put by
+// hand; and the triangles near a corner.
 use cross_find::SolidSight;
 use edge_pick::{Crease, pick};
 use exact_frac::{Frac, OutOfMemory};
 use lattice::Dir;
-use out_grid::{CellMeter, GridOutlines, cell_bound};
+use out_grid::{CellMeter, GridOutlines, NearMeter, NearTriangles, cell_bound};
 use sample_part::boxes;
 use solid_mesh::Solid;
 use span_count::{AllOutlines, CountSpan, EdgeSpans, Finder, bound, spans_counted};
@@ -237,5 +237,17 @@ fn far_triangles_are_passed_over(rt: HostRuntime) -> Result<(), Fail> {
     };
     let d = Dir::new(0, -1, 0)?;
     assert!(rt; near(rt.alloc(), &solid, &d, 84)? == (Some(0), None, Some(84)));
+    Ok(())
+}
+
+// A cube from the front, by hand: the cells of 8 corners are found in 3 columns, 12 triangles looked at, 9 cells made, and 12 triangles
+// put into 60 cells: 4 into all nine, and 8, which are seen edge-on, into a column or a row.
+#[test]
+fn near_triangles_are_counted(rt: HostRuntime) -> Result<(), Fail> {
+    let solid = solid_of(rt.alloc(), CUBE_TEXT).ok_or("no solid")?;
+    let d = Dir::new(0, -1, 0)?;
+    let mut meter = NearMeter { steps: 0 };
+    let near = NearTriangles::new(rt.alloc(), &solid, &d, &mut meter)?;
+    assert_eq!(rt; (meter.steps, near.next_near(0, 0, 0)), (101, Some(0)));
     Ok(())
 }

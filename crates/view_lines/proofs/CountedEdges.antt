@@ -24,7 +24,7 @@ use Rattle.lattice.specs.Cuts.{Plane, toward_of}
 use Rattle.lattice.specs.declared.pieces.Strip.{Strip}
 use Rattle.cut_count.specs.CutSpans.{AreCutCountSpans, IsCutEntry}
 use Rattle.view_lines.specs.Counts.{AreCountsAlong, AreCountsBeyond}
-use Rattle.view_lines.specs.Told.{AreTold}
+use Rattle.view_lines.specs.inner.Told.{AreTold}
 use Rattle.view_lines.specs.inner.Chained.{AreChained}
 use Rattle.drawn_strips.specs.Strips.{TellHidden, IsOffBorders, TellHiddenInCut, AreEdgeStrips}
 use Rattle.view_lines.proofs.CountedSpans.{edge_chained, beyond_chained, told_spans, told_cut_spans}

@@ -26,7 +26,7 @@ use Rattle.cut_plane.specs.Beyond as cut
 use Rattle.geometry.specs.Spans as plain
 use Rattle.geometry.specs.Spans.{IsAnswer}
 use Rattle.lattice.specs.declared.spans.Span.{Span}
-use Rattle.view_lines.specs.Told.{IsToldBy, AreJoined, AreToldBy}
+use Rattle.view_lines.specs.inner.Told.{IsToldBy, AreJoined, AreToldBy}
 use Rattle.view_lines.specs.inner.Chained.{AreChained}
 use Rattle.drawn_strips.specs.Strips.{TellHidden, IsOffBorders, IsFreeAnswer, TellHiddenInCut}
 use Rattle.view_lines.proofs.Runs.{HasRun, run_of, run_no_end, runs_follow, runs_of_none, single_within}

@@ -30,8 +30,8 @@ use Rattle.lattice.specs.declared.spans.Span.{Span}
 use Rattle.drawn_strips.specs.Strips.{IsStripOf, AreEdgeStrips}
 use Rattle.drawn_strips.proofs.StripPlaces.{span_ends}
 use Rattle.view_lines.proofs.CountedSpans.{told_earlier}
-use Rattle.view_lines.specs.Merged.{AreStripsTold}
-use Rattle.view_lines.specs.Told.{AreTold}
+use Rattle.view_lines.specs.inner.Merged.{AreStripsTold}
+use Rattle.view_lines.specs.inner.Told.{AreTold}
 use Rattle.view_lines.specs.declared.sources.Placed.{Placed}
 use Rattle.view_lines.specs.inner.Sources.{Origin, origin_of, origins, CanBeDrawn, HasLine, AreOriginStrips, IsPlaced, AreTakenOf}
 

@@ -22,7 +22,7 @@ use Rattle.solid_mesh.specs.declared.solid.Solid.{Solid}
 use Rattle.span_count.specs.declared.span.EdgeSpans.{EdgeSpans}
 use Rattle.view_lines.proofs.CountedEdges.{told_along, told_beyond}
 use Rattle.view_lines.specs.Counts.{AreCountsAlong, AreCountsBeyond}
-use Rattle.view_lines.specs.Merged.{AreMergedWith}
+use Rattle.view_lines.specs.inner.Merged.{AreMergedWith}
 
 pub right_plain : (d : Triple) (fraction : ℕ) (solid : Solid) (cuts : List Plane) (entries : List EdgeSpans) (traces : List Strip) (pieces : List Piece) → AreCountsAlong d fraction solid entries
     → AreTraceStrips d (solid_part solid) cuts traces → AreMergedWith d solid entries traces pieces → AreRight d fraction (solid_part solid) cuts pieces

@@ -14,7 +14,7 @@ use Rattle.lattice.specs.Triple.{Triple}
 use Rattle.line_merge.proofs.Lists.{contains_first}
 use Rattle.geometry.specs.Spans.{Follow}
 use Rattle.lattice.specs.declared.spans.Span.{Span}
-use Rattle.view_lines.specs.Told.{IsJoined, AreJoined}
+use Rattle.view_lines.specs.inner.Told.{IsJoined, AreJoined}
 use Rattle.drawn_strips.proofs.SpanPlaces.{StaysAlong, find, weak}
 
 -- ---- how they are made

@@ -1,7 +1,6 @@
 // The view of what a cut leaves of the solid: the spans of its drawn edges by their counts and the section's borders, as strips that
 // are put together to pieces, and the hatch lines of the section.
-ghost use Rattle.std.specs.Prelude.{◌≡◌, ℕ, ◌≤◌, ◌^◌, List, [], IfOk};
-ghost use Rattle.std.specs.List.{AllZip};
+ghost use Rattle.std.specs.Prelude.{◌≡◌, ℕ, ◌≤◌, ◌^◌, IfOk};
 ghost use Rattle.lattice.specs.Creases.{fraction_of};
 ghost use Rattle.lattice.specs.Cuts.{plane_of, toward_of};
 ghost use Rattle.geometry.specs.Pieces.{AreInOrder};
@@ -11,9 +10,6 @@ ghost use Rattle.cut_plane.specs.Loops.{AreBorders};
 ghost use Rattle.hatch_fill.specs.Hatching.{IsHatching};
 ghost use Rattle.view_lines.specs.Counts.{AreCountsBeyond};
 ghost use Rattle.view_lines.specs.Numbers.{CountsView, AreBelow};
-ghost use Rattle.drawn_strips.specs.Strips.{IsBorderStrip};
-ghost use Rattle.lattice.specs.declared.pieces.Strip.{Strip};
-ghost use Rattle.view_lines.specs.Merged.{AreMergedWith, IsMergedView};
 
 use crate::counts::{Counts, counts_beyond};
 use crate::merged::merged_pieces;
@@ -41,8 +37,6 @@ fn cut_pieces(
     ensures right { IfOk result (λ pieces. (fraction : ℕ) → AreCountsBeyond (plane_of section.now.cut) fraction solid.now entries.now →
         AreRightInCut (plane_of section.now.cut) fraction (solid_part solid.now) pieces.items) }
     ensures order { IfOk result (λ pieces. AreInOrder (toward_of (plane_of section.now.cut)) pieces.items) }
-    ensures merged { IfOk result (λ pieces. (of_borders : List Strip) × AllZip IsBorderStrip section.now.segments.items of_borders ×
-        AreMergedWith (toward_of (plane_of section.now.cut)) solid.now entries.now of_borders pieces.items) }
 {
     let mut strips = Vec::new(alloc);
     add_borders(&mut strips, section)?;
@@ -65,7 +59,6 @@ pub(crate) fn cut_lines(
     ensures spec { IfOk result (λ x. x.view.spec ≡ ViewSpec.Section cut.now) }
     ensures right { IfOk result (λ x. AreRightInCut (plane_of cut.now) (fraction_of crease) (solid_part solid.now) x.view.pieces.items) }
     ensures order { IfOk result (λ x. AreInOrder (toward_of (plane_of cut.now)) x.view.pieces.items) }
-    ensures merged { IfOk result (λ x. IsMergedView (ViewSpec.Section cut.now) solid.now [] x.view.counts.items x.view.pieces.items) }
     ensures hatched { IfOk result (λ x. IsHatching (plane_of cut.now) (solid_part solid.now) spacing x.view.hatches.items) }
     ensures counts { IfOk result (λ x. AreCountsBeyond (plane_of cut.now) (fraction_of crease) solid.now x.view.counts.items) }
     ensures tested { IfOk result (λ x. x.numbers.tests ≤ x.numbers.bound) }

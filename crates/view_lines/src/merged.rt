@@ -6,7 +6,7 @@ ghost use Rattle.lattice.specs.declared.lines.Line.{Line};
 ghost use Rattle.geometry.specs.Views.{AreDrawnEdges};
 ghost use Rattle.line_merge.specs.Merging.{AreStrips};
 ghost use Rattle.solid_mesh.specs.Solids.{solid_part, edge_halves};
-ghost use Rattle.view_lines.specs.Merged.{AreMergedWith};
+ghost use Rattle.view_lines.specs.inner.Merged.{AreMergedWith};
 ghost use Rattle.view_lines.specs.inner.Chained.{AreChained};
 ghost use Rattle.view_lines.specs.inner.Sources.{origin_of, CanBeDrawn, AreOriginStrips, IsPlaced, AreTakenOf};
 

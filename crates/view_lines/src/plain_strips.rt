@@ -10,7 +10,7 @@ ghost use Rattle.view_lines.specs.Counts.{AreCountsAlong};
 ghost use Rattle.view_lines.specs.Numbers.{CountsView, AreBelow};
 ghost use Rattle.drawn_strips.specs.Traces.{AreTraceStrips};
 ghost use Rattle.lattice.specs.declared.pieces.Strip.{Strip};
-ghost use Rattle.view_lines.specs.Merged.{AreMergedWith, IsMergedView};
+ghost use Rattle.view_lines.specs.inner.Merged.{AreMergedWith};
 
 use crate::counts::{Counts, counts_along};
 use crate::merged::merged_pieces;
@@ -56,7 +56,6 @@ pub(crate) fn plain_lines(
     ensures spec { IfOk result (λ x. x.view.spec ≡ ViewSpec.Plain d.now) }
     ensures right { IfOk result (λ x. AreRight (of_dir d.now) (fraction_of crease) (solid_part solid.now) (map plane_of cuts.now) x.view.pieces.items) }
     ensures order { IfOk result (λ x. AreInOrder (of_dir d.now) x.view.pieces.items) }
-    ensures merged { IfOk result (λ x. IsMergedView (ViewSpec.Plain d.now) solid.now (map plane_of cuts.now) x.view.counts.items x.view.pieces.items) }
     ensures hatched { IfOk result (λ x. x.view.hatches.items ≡ []) }
     ensures counts { IfOk result (λ x. AreCountsAlong (of_dir d.now) (fraction_of crease) solid.now x.view.counts.items) }
     ensures tested { IfOk result (λ x. x.numbers.tests ≤ x.numbers.bound) }

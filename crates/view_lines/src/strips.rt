@@ -6,7 +6,7 @@ ghost use Rattle.geometry.specs.Views.{IsEndOn};
 ghost use Rattle.edge_pick.specs.Edges.{OfEdge};
 ghost use Rattle.solid_mesh.specs.Solids.{edge_halves};
 ghost use Rattle.geometry.specs.Places.{IsSame};
-ghost use Rattle.view_lines.specs.Told.{IsToldBy, AreJoined, AreToldBy};
+ghost use Rattle.view_lines.specs.inner.Told.{IsToldBy, AreJoined, AreToldBy};
 ghost use Rattle.view_lines.specs.inner.Chained.{AreChained};
 ghost use Rattle.view_lines.specs.inner.Sources.{AreEntryStrips};
 

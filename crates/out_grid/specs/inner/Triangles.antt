@@ -1,6 +1,6 @@
 -- Triangles that are put into the cells which the boxes of their corners' cells hold.
-use Rattle.std.specs.Prelude.{◌≡◌, ◌⊎◌, ℕ, ◌+◌, ◌*◌, ◌/◌, ◌%◌, ◌<◌, ◌≤◌, ◌≤ℤ◌, List, All, Contains, Some, length, slice_get, slice_index_or}
-use Rattle.std.specs.List.{AllZip}
+use Rattle.std.specs.Prelude.{◌≡◌, ◌⊎◌, ℕ, ◌+◌, ◌-◌, ◌*◌, ◌/◌, ◌%◌, ◌<◌, ◌≤◌, ◌≤ℤ◌, List, All, Contains, Some, length, slice_get, slice_index_or, min, max}
+use Rattle.std.specs.List.{AllZip, sum_by}
 use Rattle.std.specs.List.Sorted.{IsNonDecreasing}
 use Rattle.lattice.specs.declared.points.Corner.{Corner}
 use Rattle.lattice.specs.declared.soup.Tri.{Tri}
@@ -37,6 +37,24 @@ pub record IsAmong (a b c k : ℕ) : Type 0 where
 pub record IsInBox (columns : ℕ) (cells : List ℕ) (t : Tri) (column row : ℕ) : Type 0 where
   pub in_columns : IsAmong (slice_index_or cells t.a 0 / columns) (slice_index_or cells t.b 0 / columns) (slice_index_or cells t.c 0 / columns) column
   pub in_rows : IsAmong (slice_index_or cells t.a 0 % columns) (slice_index_or cells t.b 0 % columns) (slice_index_or cells t.c 0 % columns) row
+
+-- how many numbers there are from the least of three to the greatest
+abbrev pub reach_of : ℕ → ℕ → ℕ → ℕ
+reach_of a b c = (max (max a b) c - min (min a b) c) + 1
+
+-- how many cells a triangle's box has
+abbrev pub box_size : ℕ → List ℕ → Tri → ℕ
+box_size columns cells t =
+    reach_of (slice_index_or cells t.a 0 / columns) (slice_index_or cells t.b 0 / columns) (slice_index_or cells t.c 0 / columns)
+    * reach_of (slice_index_or cells t.a 0 % columns) (slice_index_or cells t.b 0 % columns) (slice_index_or cells t.c 0 % columns)
+
+-- how many those of these triangles have together
+abbrev pub box_sizes : ℕ → List ℕ → List Tri → ℕ
+box_sizes columns cells triangles = sum_by (box_size columns cells) triangles
+
+-- they have at most eight times as many as there are triangles
+abbrev pub AreRoomy : ℕ → List ℕ → List Tri → Type 0
+AreRoomy columns cells triangles = box_sizes columns cells triangles ≤ 8 * length triangles
 
 -- each cell holds, in ascending order, some of the first triangles, and among them those whose boxes it is in
 pub record AreFilled (columns : ℕ) (corner_cells : List ℕ) (triangles : List Tri) (count : ℕ) (lists : List (List ℕ)) : Type 0 where

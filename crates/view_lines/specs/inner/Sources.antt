@@ -17,7 +17,7 @@ use Rattle.solid_mesh.specs.Solids.{edge_halves}
 use Rattle.solid_mesh.specs.declared.solid.Solid.{Solid}
 use Rattle.span_count.specs.declared.span.EdgeSpans.{EdgeSpans}
 use Rattle.lattice.specs.declared.spans.Span.{Span}
-use Rattle.view_lines.specs.Told.{AreToldBy}
+use Rattle.view_lines.specs.inner.Told.{AreToldBy}
 use Rattle.view_lines.specs.declared.sources.Source.{Source}
 use Rattle.view_lines.specs.declared.sources.Source.TheVariants.{Edge, Other}
 use Rattle.view_lines.specs.declared.sources.Placed.{Placed}

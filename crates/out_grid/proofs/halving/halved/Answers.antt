@@ -1,4 +1,4 @@
-use Rattle.std.proofs.Common.{◌+◌, get_or, take, sym, subst}
+use Rattle.std.proofs.Common.{◌+◌, get_or, take, sym, subst, arith}
 use Rattle.std.specs.List.{AllZip}
 use Rattle.std.proofs.lemmas.List.Elements.{all_zip_more}
 use Rattle.std.proofs.lemmas.Option.{slice_get-get_or, get_or_from_slice_get}
@@ -11,5 +11,8 @@ loop-cell-preserved c =
     let xs = c.args.cells.now in
     let i = c.loop-cell.cell-index in
     let x = get_or xs i 0 in
-    subst (AllZip R (take (i + 1) xs)) (sym c.in_ok-push.ensures.items)
-    (all_zip_more R xs c.loop-cell.fewer.items i x c.half_cell.result c.loop-cell-test.true (sym (get_or_from_slice_get xs i x x (slice_get-get_or xs i 0 c.loop-cell-test.true))) c.loop-cell.invariant c.half_cell.ensures)
+    let here = sym (get_or_from_slice_get xs i x x (slice_get-get_or xs i 0 c.loop-cell-test.true)) in
+    record {
+      halved = subst (AllZip R (take (i + 1) xs)) (sym c.in_ok-push.ensures.items) (all_zip_more R xs c.loop-cell.fewer.items i x c.half_cell.result c.loop-cell-test.true here c.loop-cell.invariant.halved c.half_cell.ensures);
+      counted = omega (arith, c.loop-cell.invariant.counted);
+    }

@@ -11,7 +11,6 @@ use Rattle.solid_mesh.proofs.Facts.{in_range, sound}
 use Rattle.span_count.specs.declared.span.EdgeSpans.{EdgeSpans}
 use Rattle.hatch_fill.specs.Hatching.{IsHatching}
 use Rattle.view_lines.specs.Counts.{AreCountsBeyond}
-use Rattle.view_lines.specs.Merged.{AreMergedWith}
 use Rattle.view_lines.specs.Numbers.{CountsCut}
 use Rattle.view_lines.proofs.cut_strips.cut_lines.Goals as goal
 
@@ -45,20 +44,6 @@ returns-clause-right c =
 
 pub returns-clause-order : goal.returns-clause-order
 returns-clause-order c = subst (λ (p : Plane). AreInOrder (toward_of p) c.in_ok-pieces.pieces.items) c.in_ok-section.ensures.cut c.in_ok-pieces.ensures.order
-
-pub returns-clause-merged : goal.returns-clause-merged
-returns-clause-merged c =
-    let solid = c.args.solid.now in
-    let section = c.in_ok-section.section in
-    let pieces = c.in_ok-pieces.pieces.items in
-    let (borders, each, merged) = c.in_ok-pieces.ensures.merged in (
-      section,
-      (c.in_ok-section.ensures.cut, c.in_ok-section.ensures.borders),
-      borders,
-      each,
-      subst (λ (xs : List EdgeSpans). AreMergedWith (toward_of (plane_of c.args.cut.now)) solid xs borders pieces) c.deref.ensures.value
-          (subst (λ (p : Plane). AreMergedWith (toward_of p) solid c.deref.result.now borders pieces) c.in_ok-section.ensures.cut merged),
-    )
 
 pub returns-clause-hatched : goal.returns-clause-hatched
 returns-clause-hatched c =

@@ -10,7 +10,7 @@ use Rattle.line_merge.specs.Merging.{AreStrips}
 use Rattle.solid_mesh.specs.Solids.{solid_part, edge_halves}
 use Rattle.solid_mesh.proofs.Facts.{closed}
 use Rattle.drawn_strips.specs.Strips.{IsBorderStrip}
-use Rattle.view_lines.specs.Merged.{AreMergedWith}
+use Rattle.view_lines.specs.inner.Merged.{AreMergedWith}
 use Rattle.view_lines.proofs.CountedEdges.{beyond_cut_chained}
 use Rattle.view_lines.proofs.RightViews.{border_ends, right_cut}
 use Rattle.view_lines.proofs.cut_strips.cut_pieces.Goals as goal
@@ -49,14 +49,3 @@ returns-clause-right c fraction beyond =
 
 pub returns-clause-order : goal.returns-clause-order
 returns-clause-order c = let (of_edges, told, merged) = c.in_ok-pieces.ensures in subst (λ (v : Triple). AreInOrder v c.in_ok-pieces.pieces.items) c.dir.ensures merged.order
-
-pub returns-clause-merged : goal.returns-clause-merged
-returns-clause-merged c =
-    let solid = c.args.solid.now in
-    let segments = c.args.section.now.segments.items in
-    let (here, together, each) = c.in_ok-add_borders.ensures in
-    let same : here ≡ c.deref.result.now = sym {A = List Strip} (c.deref.ensures.value ∙ together ∙ ap (λ (ys : List Strip). ys ++ here) c.new-strips.ensures.items) in (
-      c.deref.result.now,
-      subst (AllZip IsBorderStrip segments) same each,
-      subst (λ (v : Triple). AreMergedWith v solid c.args.entries.now c.deref.result.now c.in_ok-pieces.pieces.items) c.dir.ensures c.in_ok-pieces.ensures,
-    )

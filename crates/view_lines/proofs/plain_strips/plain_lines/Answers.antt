@@ -4,7 +4,6 @@ use Rattle.lattice.specs.Cuts.{plane_of}
 use Rattle.lattice.specs.Points.{of_dir}
 use Rattle.span_count.specs.declared.span.EdgeSpans.{EdgeSpans}
 use Rattle.view_lines.specs.Counts.{AreCountsAlong}
-use Rattle.view_lines.specs.Merged.{AreMergedWith}
 use Rattle.view_lines.proofs.RightViews.{right_plain}
 use Rattle.view_lines.proofs.plain_strips.plain_lines.Goals as goal
 
@@ -23,11 +22,6 @@ returns-clause-right c =
 
 pub returns-clause-order : goal.returns-clause-order
 returns-clause-order c = let (traces, are, (of_edges, told, merged)) = c.in_ok-pieces.ensures in merged.order
-
-pub returns-clause-merged : goal.returns-clause-merged
-returns-clause-merged c =
-    let (traces, are, merged) = c.in_ok-pieces.ensures in
-    (traces, are, subst (λ (xs : List EdgeSpans). AreMergedWith (of_dir c.args.d.now) c.args.solid.now xs traces c.in_ok-pieces.pieces.items) c.deref.ensures.value merged)
 
 pub returns-clause-counted : goal.returns-clause-counted
 returns-clause-counted c = (c.in_ok-picked.picked, c.in_ok-picked.ensures, c.in_ok-entries.ensures.counted)

@@ -4,7 +4,7 @@ use Rattle.lattice.specs.Points.{of_dir}
 use Rattle.lattice.specs.declared.pieces.Strip.{Strip}
 use Rattle.span_count.specs.declared.span.CountSpan.{CountSpan}
 use Rattle.lattice.specs.declared.spans.Span.{Span}
-use Rattle.view_lines.specs.Told.{AreToldBy}
+use Rattle.view_lines.specs.inner.Told.{AreToldBy}
 use Rattle.view_lines.specs.inner.Sources.{AreEntryStrips}
 use Rattle.view_lines.proofs.CountedSpans.{told_earlier}
 use Rattle.view_lines.proofs.strips.entry_strips.Goals as goal

@@ -1,7 +1,7 @@
 use Rattle.std.proofs.Common.{◌≡◌, Bool, true, false, refl, List, ◌++◌, ◌∷◌, [], sym, subst}
 use Rattle.std.proofs.Math.Bool.{beq}
 use Rattle.lattice.specs.declared.spans.Span.{Span}
-use Rattle.view_lines.specs.Told.{AreJoined}
+use Rattle.view_lines.specs.inner.Told.{AreJoined}
 use Rattle.view_lines.proofs.Runs.{runs_more, runs_longer}
 use Rattle.view_lines.proofs.strips.go_on.Goals as goal
 

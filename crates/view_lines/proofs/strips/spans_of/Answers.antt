@@ -4,7 +4,7 @@ use Rattle.std.proofs.lemmas.List.{take_all, take_more}
 use Rattle.line_merge.proofs.Zips.{zip_push}
 use Rattle.span_count.specs.declared.span.CountSpan.{CountSpan}
 use Rattle.lattice.specs.declared.spans.Span.{Span}
-use Rattle.view_lines.specs.Told.{IsToldBy, AreJoined}
+use Rattle.view_lines.specs.inner.Told.{IsToldBy, AreJoined}
 use Rattle.view_lines.proofs.Runs.{run_of_one}
 use Rattle.view_lines.proofs.strips.spans_of.Goals as goal
 

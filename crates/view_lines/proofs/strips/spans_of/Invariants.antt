@@ -2,7 +2,7 @@ use Rattle.std.proofs.Common.{◌≡◌, List, [], ◌∷◌, ◌++◌, take}
 use Rattle.std.specs.List.{AllZip}
 use Rattle.span_count.specs.declared.span.CountSpan.{CountSpan}
 use Rattle.lattice.specs.declared.spans.Span.{Span}
-use Rattle.view_lines.specs.Told.{IsToldBy, AreJoined}
+use Rattle.view_lines.specs.inner.Told.{IsToldBy, AreJoined}
 use Rattle.view_lines.proofs.strips.spans_of.Given as goal
 
 -- the spans so far, with the last one, are those that the counts so far tell

@@ -52,7 +52,7 @@ returns-clause-grid c =
     c.in_ok-lists.ensures.others
 
 pub returns-clause-law : goal.returns-clause-law
-returns-clause-law c tests = law_of_solid (of_dir c.args.d.now) c.args.solid.now c.args.picked.now c.args.columns _ (returns-clause-grid c) c.in_ok-triangles.ensures tests
+returns-clause-law c tests = law_of_solid (of_dir c.args.d.now) c.args.solid.now c.args.picked.now c.args.columns _ (returns-clause-grid c) c.in_ok-triangles.ensures.near tests
 
 pub returns-clause-counted : goal.returns-clause-counted
 returns-clause-counted c bound h =

@@ -5,23 +5,23 @@ use Rattle.std.proofs.lemmas.Option.{get_or_from_slice_get}
 use Rattle.solid_mesh.specs.Stars.{lists_of}
 use Rattle.span_count.specs.Finders.{IsNext}
 use Rattle.span_count.proofs.Lists.{none_past}
-use Rattle.out_grid.specs.declared.near.TriangleCells.{TriangleCells}
+use Rattle.out_grid.specs.declared.near.NearTriangles.{NearTriangles}
 use Rattle.out_grid.specs.Near.{near_list}
 use Rattle.out_grid.proofs.Stamps.{none_in}
-use Rattle.out_grid.proofs.near.TriangleCells.next_near.Goals as goal
+use Rattle.out_grid.proofs.near.NearTriangles.next_near.Goals as goal
 
 abbrev items_of : Vec ℕ Global → List ℕ
 items_of list = list.items
 
 -- the list of a corner's cell
-read_list : (t : TriangleCells) (cell : ℕ) (list : Vec ℕ Global) → cell < length t.cells.items → list ≡ get_or t.cells.items cell list → list.items ≡ get_or (lists_of t.cells.items) cell []
+read_list : (t : NearTriangles) (cell : ℕ) (list : Vec ℕ Global) → cell < length t.cells.items → list ≡ get_or t.cells.items cell list → list.items ≡ get_or (lists_of t.cells.items) cell []
 read_list t cell list within is = ap items_of is ∙ sym (get_or-map items_of t.cells.items cell list [] within)
 
-read_near : (t : TriangleCells) (corner cell : ℕ) (list : Vec ℕ Global) → slice_get t.corner_cells.items corner ≡ Some cell → list ≡ get_or t.cells.items cell list → list.items ≡ near_list t corner
+read_near : (t : NearTriangles) (corner cell : ℕ) (list : Vec ℕ Global) → slice_get t.corner_cells.items corner ≡ Some cell → list ≡ get_or t.cells.items cell list → list.items ≡ near_list t corner
 read_near t corner cell list at is =
     read_list t cell list (t.within corner cell at) is ∙ ap (λ (k : ℕ). get_or (lists_of t.cells.items) k []) (sym (get_or_from_slice_get t.corner_cells.items corner cell (length t.cells.items) at))
 
-near_none : (t : TriangleCells) (corner : ℕ) → slice_get t.corner_cells.items corner ≡ None → near_list t corner ≡ []
+near_none : (t : NearTriangles) (corner : ℕ) → slice_get t.corner_cells.items corner ≡ None → near_list t corner ≡ []
 near_none t corner none =
     ap (λ (k : ℕ). get_or (lists_of t.cells.items) k []) (get_or_past t.corner_cells.items corner (length t.cells.items) (none_past t.corner_cells.items corner none))
     ∙ get_or_past (lists_of t.cells.items) (length t.cells.items) [] (omega (arith, length-map t.cells.items items_of))
