@@ -12,7 +12,7 @@ use Rattle.cut_marks.specs.Figures.{marks_in, heading_over}
 use Rattle.cut_marks.specs.Lanes.{AreLaned}
 use Rattle.job_file.specs.ShownCuts.{cuts_in}
 use Rattle.cut_marks.specs.Letters.{IsLetterOf}
-use Rattle.geometry.specs.Traces.{GoesThrough}
+use Rattle.cut_plane.specs.Loops.{HasSegment}
 use Rattle.cut_marks.specs.Traces.{AreTraces}
 use Rattle.sheet_plan.specs.declared.boxes.ViewBox.{ViewBox}
 use Rattle.cut_marks.specs.declared.figures.Heading.{Heading}
@@ -26,7 +26,7 @@ pub record IsHeaded (sheet : Sheet) (s : Part) (view number : ℕ) (c : Cut) (h 
   pub is_box : TakesBox sheet s.corners view (box_of box)
   pub lettered : IsLetterOf number h.letter
   pub over : h ≡ heading_over box h.letter h.has_section
-  pub through : IsTrue h.has_section ↔ GoesThrough (plane_of c) s.corners
+  pub section : IsTrue h.has_section ↔ HasSegment (plane_of c) s
 
 -- the marks of the cuts' traces in the plain view with this number, and the letters that have no place
 pub record ArePlainMarks (sheet : Sheet) (s : Part) (cuts : List Cut) (view : ℕ) (m : ViewMarks) : Type 0 where

@@ -43,7 +43,7 @@ pub struct CutMark {
 }
 
 /// The heading of a cut view, `A-A` with this letter, 5 mm high, with the middle of its base line at x and y. Where the cut's plane
-/// doesn't go through the part the view shows no section.
+/// crosses no triangle the view shows no section.
 #[derive(Clone, Copy, Debug)]
 pub struct Heading {
     pub letter: u8,

@@ -11,9 +11,9 @@ ghost use Rattle.cut_marks.specs.Reach.{AreInReach};
 use crate::figures::{Heading, heading_over, marks_in};
 use crate::lanes::{Told, laned};
 use crate::letters::letter_of;
-use crate::sections::goes_through;
 use crate::traces::traces_in;
 use crate::views::ViewMarks;
+use cut_plane::has_segment;
 use exact_frac::OutOfMemory;
 use job_file::{JobView, cuts_in};
 use lattice::{Cut, ViewSpec};
@@ -51,7 +51,7 @@ fn heading_of(solid: &Solid, sheet: &Sheet, view: u32, number: usize, cut: &Cut)
     ensures { IsHeaded sheet.now (solid_part solid.now) view number cut.now result }
 {
     let b = ViewBox::of(solid, sheet, view);
-    heading_over(&b, letter_of(number), goes_through(solid, cut))
+    heading_over(&b, letter_of(number), has_segment(solid, cut))
 }
 
 /// What tells the cuts in the view with this number, which shows this, where so many cuts are shown before it.

@@ -21,6 +21,10 @@ pub record IsSegmentOf (c : Plane) (s : Part) (x : Segment) : Type 0 where
   pub border : IsBorderOf c face (of_spot x.a) (of_spot x.b)
   pub line : IsBorderLine c face.a face.b face.c x.line
 
+-- the section has a segment: the plane crosses a triangle
+abbrev pub HasSegment : Plane → Part → Type 0
+HasSegment c s = (f : Face s) × IsCrossed c f
+
 -- the triangles of the segments
 abbrev pub triangles_of : List Segment → List ℕ
 triangles_of xs = map (λ x. x.tri) xs

@@ -13,7 +13,7 @@ mod seen;
 mod segments;
 mod side_crossings;
 
-pub use loops::{Section, borders};
+pub use loops::{Section, borders, has_segment};
 pub use parity::{inside, is_right_of};
 pub use places::{EdgeAt, crossing, crossings};
 pub use seen::{InView, seen_corner};

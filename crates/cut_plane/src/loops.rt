@@ -2,7 +2,7 @@
 ghost use Rattle.std.specs.Prelude.{◌≡◌, ◌<◌, ◌↔◌, length, IsTrue, OnOk, IfOk};
 ghost use Rattle.lattice.specs.Cuts.{plane_of};
 ghost use Rattle.solid_mesh.specs.Solids.{solid_part};
-ghost use Rattle.cut_plane.specs.Loops.{AreBorders};
+ghost use Rattle.cut_plane.specs.Loops.{AreBorders, HasSegment};
 ghost use Rattle.cut_plane.specs.inner.Walks.{IsCrossedAt, IsMarked, AreFollowing, IsStep, IsRound};
 
 use crate::segments::{Segment, across_side, corners_of, segment_of, sides_of};
@@ -64,6 +64,18 @@ fn is_crossed(solid: &Solid, cut: &Cut, tri: u32) -> bool
     ensures { IsTrue result ↔ IsCrossedAt (plane_of cut.now) (solid_part solid.now) tri }
 {
     sides_of(cut, &corners_of(solid, tri)).is_some()
+}
+
+/// The section has a segment. Looks at one triangle after the other until the plane crosses one.
+pub fn has_segment(solid: &Solid, cut: &Cut) -> bool
+    ensures { IsTrue result ↔ HasSegment (plane_of cut.now) (solid_part solid.now) }
+{
+    for tri in 0..solid.triangles() {
+        if is_crossed(solid, cut, tri) {
+            return true;
+        }
+    }
+    false
 }
 
 /// Adds the loop that begins at a triangle with a border, and marks its triangles, in constant time for each.

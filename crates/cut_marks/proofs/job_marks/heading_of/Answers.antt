@@ -3,7 +3,7 @@ use Rattle.lattice.specs.Cuts.{plane_of}
 use Rattle.solid_mesh.specs.Solids.{solid_part}
 use Rattle.cut_marks.specs.Figures.{heading_over}
 use Rattle.cut_marks.specs.Letters.{IsLetterOf}
-use Rattle.geometry.specs.Traces.{GoesThrough}
+use Rattle.cut_plane.specs.Loops.{HasSegment}
 use Rattle.cut_marks.specs.declared.figures.Heading.{Heading}
 use Rattle.cut_marks.proofs.job_marks.heading_of.Goals as goal
 
@@ -12,11 +12,11 @@ returns c =
     let b = c.of-b.result in
     let h : Heading = c.heading_over.result in
     let letter : c.letter_of.result ≡ h.letter = sym (ap (λ (x : Heading). x.letter) c.heading_over.ensures) in
-    let section : c.goes_through.result ≡ h.has_section = sym (ap (λ (x : Heading). x.has_section) c.heading_over.ensures) in
+    let same : c.has_segment.result ≡ h.has_section = sym (ap (λ (x : Heading). x.has_section) c.heading_over.ensures) in
     record {
       box = b;
       is_box = c.of-b.ensures;
       lettered = subst (IsLetterOf c.args.number) letter c.letter_of.ensures;
-      over = c.heading_over.ensures ∙ (λ i. heading_over b (letter i) (section i));
-      through = subst (λ (v : Bool). IsTrue v ↔ GoesThrough (plane_of c.args.cut.now) (solid_part c.args.solid.now).corners) section c.goes_through.ensures;
+      over = c.heading_over.ensures ∙ (λ i. heading_over b (letter i) (same i));
+      section = subst (λ (v : Bool). IsTrue v ↔ HasSegment (plane_of c.args.cut.now) (solid_part c.args.solid.now)) same c.has_segment.ensures;
     }

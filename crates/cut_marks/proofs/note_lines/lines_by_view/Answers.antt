@@ -1,6 +1,6 @@
 use Rattle.std.proofs.Common.{sym}
 use Rattle.cut_marks.proofs.Written.{one_noted, all_noted}
-use Rattle.cut_marks.proofs.note_lines.notes.Goals as goal
+use Rattle.cut_marks.proofs.note_lines.lines_by_view.Goals as goal
 
 pub loop-view-preserved : goal.loop-view-preserved
 loop-view-preserved c =
