@@ -1,9 +1,9 @@
--- Where a fault of a surface is: the middle of the box that its two figures have in common.
+-- Where a fault of a surface is: at the first point of an edge that a triangle has, or in the middle of the box that two figures have in common.
 use Rattle.std.specs.Prelude.{◌≡◌, ℕ, ◌+◌, ◌*◌, ℤ, pos, ◌+ℤ◌, ◌*ℤ◌, ◌≤ℤ◌, List}
 use Rattle.std.specs.Int.{int_min, int_max}
 use Rattle.integers.specs.Floors.{floor_of}
 use Rattle.lattice.specs.declared.points.Corner.{Corner}
-use Rattle.lattice.specs.Points.{Point}
+use Rattle.lattice.specs.Points.{Point, difference, IsNearer}
 use Rattle.geometry.specs.Faces.{IsPointOfEdge, IsPointOfFace}
 use Rattle.geometry.specs.Parts.{Part, Face, Edge, AreEdges, IsNumbered}
 use Rattle.solid_mesh.specs.declared.faults.MeshFault.{MeshFault}
@@ -64,18 +64,45 @@ IsTriangle s t figure = (f : Face s) × (f.number ≡ t) × (figure ≡ triangle
 abbrev pub IsSide : Part → ℕ → Figure → Type 0
 IsSide s half figure = (e : Side s half) × (figure ≡ stretch e.p e.q)
 
--- the edge with this number
-abbrev pub IsEdge : Part → ℕ → Figure → Type 0
-IsEdge s i figure = (halves : List ℕ) × AreEdges s halves × ((e : Edge s) × IsNumbered halves i e × (figure ≡ stretch e.a e.b))
-
 -- the middle of some figure that is the one and some figure that is the other
 abbrev pub IsBetween : (Figure → Type 0) → (Figure → Type 0) → Corner → Type 0
 IsBetween P Q place = (f : Figure) × (g : Figure) × P f × Q g × IsMiddle f g place
 
--- the place of a fault: between its triangles, or its edge and its triangle, or of the one figure that it has
+-- ---- where an edge meets a triangle
+-- the first point, from p on, that the edge from p to q has in common with the closed triangle: none is nearer to p
+pub record IsFirstCommon (p q a b c : Corner) (first : Point) : Type 0 where
+  pub on_edge : IsPointOfEdge p q first
+  pub on_face : IsPointOfFace a b c first
+  pub none_nearer : (other : Point) → IsPointOfEdge p q other → IsPointOfFace a b c other → ¬ IsNearer (difference q p) other first
+
+-- the whole number nearest to n / d, and of two the greater; d is positive
+abbrev pub nearest : ℤ → ℤ → ℤ
+nearest n d = floor_of (pos 2 *ℤ n +ℤ d) (pos 2 *ℤ d)
+
+-- the point, rounded to whole units
+pub record IsRounded (p : Point) (place : Corner) : Type 0 where
+  pub x : place.x ≡ nearest p.x p.w
+  pub y : place.y ≡ nearest p.y p.w
+  pub z : place.z ≡ nearest p.z p.w
+
+-- the first common point, rounded
+abbrev pub IsFirstPlace : Corner → Corner → Corner → Corner → Corner → Corner → Type 0
+IsFirstPlace p q a b c place = (first : Point) × IsFirstCommon p q a b c first × IsRounded first place
+
+-- that of the edge with this number, along its half, and of the triangle with this number
+pub record IsMeetingPlace (s : Part) (i t : ℕ) (place : Corner) : Type 0 where
+  pub halves : List ℕ
+  pub are : AreEdges s halves
+  pub edge : Edge s
+  pub face : Face s
+  pub number : IsNumbered halves i edge
+  pub number_of_face : face.number ≡ t
+  pub there : IsFirstPlace edge.a edge.b face.a face.b face.c place
+
+-- ---- the place of a fault: where its edge and its triangle meet, or between its triangles, or of the one figure that it has
 abbrev pub IsPlaceOf : Part → MeshFault → Corner → Type 0
 IsPlaceOf s (Flat t) = IsBetween (IsTriangle s t) (IsTriangle s t)
 IsPlaceOf s (SameWay a b) = IsBetween (IsTriangle s a) (IsTriangle s b)
 IsPlaceOf s (Unpaired t side) = IsBetween (IsSide s (3 * t + side)) (IsSide s (3 * t + side))
 IsPlaceOf s (Double a b) = IsBetween (IsTriangle s a) (IsTriangle s b)
-IsPlaceOf s (Meet e t) = IsBetween (IsEdge s e) (IsTriangle s t)
+IsPlaceOf s (Meet e t) = IsMeetingPlace s e t

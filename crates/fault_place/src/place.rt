@@ -5,15 +5,18 @@ ghost use Rattle.solid_mesh.specs.Faults.{HasFault};
 ghost use Rattle.fault_place.specs.Places.{IsTriangle, IsSide, IsBetween, IsPlaceOf};
 
 use crate::bounds::{middle_of, side_bounds, triangle_bounds};
+use crate::first_point::of_meeting;
 use crate::halves::half_of_edge;
 use exact_frac::OutOfMemory;
 use lattice::{Corner, Soup};
 use solid_mesh::MeshFault;
 use std::alloc::Global;
 
-/// Where a fault of a surface is, in units: the middle of the box that both of its figures have in common. Along each axis that is the
-/// whole part, rounded down, of half the sum of the greater of their least coordinates and the lesser of their greatest ones. Takes
-/// constant time, but for `Meet`, where it takes that of two hashes for each directed side, and memory.
+/// Where a fault of a surface is, in units. Of `Meet` it is the first point of the edge that the triangle has, from the corner at
+/// which the edge's half begins, each coordinate rounded to the nearest whole number, and halves up; that takes the time of two hashes
+/// for each directed side, and memory. Of any other fault it is the middle of the box that both of its figures have in common: along
+/// each axis, half the sum of the greater of their least coordinates and the lesser of their greatest ones, rounded down; that takes
+/// constant time.
 pub fn fault_place(alloc: Global, soup: &Soup, fault: &MeshFault) -> Result<Corner, OutOfMemory>
     requires fault { HasFault (part_of soup.now) fault.now }
     ensures { IfOk result (IsPlaceOf (part_of soup.now) fault.now) }
@@ -46,13 +49,4 @@ fn of_side(soup: &Soup, half: u128) -> Corner
 {
     let side = side_bounds(soup, half);
     middle_of(&side, &side)
-}
-
-/// The place of a side and a triangle.
-fn of_meeting(soup: &Soup, half: u128, t: u32) -> Corner
-    requires side { half < 3 * length (part_of soup.now).triangles }
-    requires triangle { t < length (part_of soup.now).triangles }
-    ensures { IsBetween (IsSide (part_of soup.now) half) (IsTriangle (part_of soup.now) t) result }
-{
-    middle_of(&side_bounds(soup, half), &triangle_bounds(soup, t))
 }

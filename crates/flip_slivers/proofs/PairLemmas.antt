@@ -1,5 +1,5 @@
 -- Partners, and the triangles that are left.
-use Rattle.std.proofs.Common.{◌≡◌, ◌≢◌, ℕ, ◌<◌, ◌≤◌, ◌+◌, List, [], ◌∷◌, ◌++◌, length, get_or, drop, set, replicate, Option, Some, None, Bool, true, false, not, refl, sym, ap, ◌∙◌, subst, arith, inl, inr, ◌⊎◌, ⊎_elim, append_assoc}
+use Rattle.std.proofs.Common.{◌≡◌, ◌≢◌, ℕ, zero, suc, ◌<◌, ◌≤◌, ◌+◌, ◌*◌, List, [], ◌∷◌, ◌++◌, length, get_or, drop, set, replicate, Option, Some, None, Bool, true, false, not, refl, sym, ap, ◌∙◌, subst, arith, inl, inr, ◌⊎◌, ⊎_elim, append_assoc}
 use Rattle.std.specs.Prelude.{slice_get, Contains}
 use Rattle.std.specs.List.{All}
 use Rattle.std.specs.Option.{is_some}
@@ -34,6 +34,9 @@ opposite_at_back triangles i j o = record {
   opposite = opposite_back o.first o.second o.opposite;
 }
 
+none_is_some : (l : ℕ) (o : Option (Option ℕ)) → o ≡ Some None → o ≡ Some (Some l) → ⊥
+none_is_some l o none some = none-some l (same_Some None (Some l) (sym none ∙ some))
+
 -- ---- one pair more
 abbrev pub with_pair : List (Option ℕ) → ℕ → ℕ → List (Option ℕ)
 with_pair partners i j = set (set partners i (Some j)) j (Some i)
@@ -46,6 +49,25 @@ pair_at_first partners i j differ alone = set_other (set partners i (Some j)) j 
 
 pair_elsewhere : (partners : List (Option ℕ)) (i j k : ℕ) → k ≢ i → k ≢ j → slice_get (with_pair partners i j) k ≡ slice_get partners k
 pair_elsewhere partners i j k first second = set_other (set partners i (Some j)) j k (Some i) second ∙ set_other partners i k (Some j) first
+
+-- with a partner at a place one less is alone
+one_less : (triangles : List Tri) (partners : List (Option ℕ)) (i j : ℕ) → length partners ≡ length triangles → slice_get partners i ≡ Some None
+    → length (alone triangles partners) ≡ length (alone triangles (set partners i (Some j))) + 1
+one_less [] [] i j same at = absurd (none-some None at)
+one_less [] (p ∷ partners) i j same at = absurd (omega arith)
+one_less (t ∷ triangles) [] i j same at = absurd (omega arith)
+one_less (t ∷ triangles) (None ∷ partners) zero j same at = omega arith
+one_less (t ∷ triangles) (Some k ∷ partners) zero j same at = absurd (none_is_some k (Some (Some k)) at refl)
+one_less (t ∷ triangles) (None ∷ partners) (suc i) j same at = let h = one_less triangles partners i j (omega arith) at in omega arith
+one_less (t ∷ triangles) (Some k ∷ partners) (suc i) j same at = one_less triangles partners i j (omega arith) at
+
+-- with a pair more two
+two_less : (triangles : List Tri) (partners : List (Option ℕ)) (i j : ℕ) → length partners ≡ length triangles → i ≢ j → slice_get partners i ≡ Some None → slice_get partners j ≡ Some None
+    → length (alone triangles partners) ≡ length (alone triangles (with_pair partners i j)) + 2
+two_less triangles partners i j same differ alone_i alone_j =
+    let first = one_less triangles partners i j same alone_i in
+    let second = one_less triangles (set partners i (Some j)) j i (length-set partners i (Some j) ∙ same) (set_other partners i j (Some j) (λ e. differ (sym e)) ∙ alone_j) in
+    omega (arith, first, second)
 
 -- the partner at a place: one of the new pair, or as before
 pair_cases : (partners : List (Option ℕ)) (i j k l : ℕ) → i ≢ j → slice_get partners i ≡ Some None → slice_get partners j ≡ Some None → slice_get (with_pair partners i j) k ≡ Some (Some l)
@@ -68,9 +90,6 @@ fewer_alone partners i j k differ alone free at = elim (cases_eq k i) [
   ]
 ]
 
-none_is_some : (l : ℕ) (o : Option (Option ℕ)) → o ≡ Some None → o ≡ Some (Some l) → ⊥
-none_is_some l o none some = none-some l (same_Some None (Some l) (sym none ∙ some))
-
 pub paired : (triangles : List Tri) (partners : List (Option ℕ)) (i j : ℕ) → ArePartners triangles partners → slice_get partners i ≡ Some None → IsFreePartner triangles partners i j
     → ArePartners triangles (with_pair partners i j)
 paired triangles partners i j before alone free = record {
@@ -78,6 +97,8 @@ paired triangles partners i j before alone free = record {
   both_ways = both_ways;
   different = different;
   opposite = opposite;
+  pairs = before.pairs + 1;
+  in_pairs = omega (arith, before.in_pairs, two_less triangles partners i j before.for_each free.different alone free.free);
 }
   where
     both_ways : (k l : ℕ) → slice_get (with_pair partners i j) k ≡ Some (Some l) → slice_get (with_pair partners i j) l ≡ Some (Some k)
@@ -109,12 +130,18 @@ none_has n i j at =
     let below : i < n = omega (arith, length-replicate {A = Option ℕ} n None) in
     none_is_some j (slice_get (replicate n None) i) (slice_get-get_or (replicate n None) i None within ∙ ap Some (get_or-replicate n i None None below)) at
 
+all_are_alone : (triangles : List Tri) → length (alone triangles (replicate (length triangles) None)) ≡ length triangles
+all_are_alone [] = refl
+all_are_alone (t ∷ triangles) = let h = all_are_alone triangles in omega arith
+
 pub none_paired : (triangles : List Tri) (partners : List (Option ℕ)) → partners ≡ replicate (length triangles) None → ArePartners triangles partners
 none_paired triangles partners e = let P : List (Option ℕ) → Type 0 = λ xs. ArePartners triangles xs in subst P (sym e) (record {
   for_each = length-replicate (length triangles) None;
   both_ways = λ i j at. absurd (none_has (length triangles) i j at);
   different = λ i j at. absurd (none_has (length triangles) i j at);
   opposite = λ i j at. absurd (none_has (length triangles) i j at);
+  pairs = 0;
+  in_pairs = omega (arith, all_are_alone triangles);
 })
 
 -- a triangle that is alone stays so
@@ -186,6 +213,8 @@ without triangles left partners are others e = record {
   different = are.different;
   opposite = are.opposite;
   is_left = e;
+  pairs = are.pairs;
+  in_pairs = are.in_pairs ∙ ap (λ (ts : List Tri). length ts + 2 * are.pairs) (sym e);
   none_left = λ i j first second differ opposite. others i first j (record { different = differ; free = second; opposite = opposite });
 }
 

@@ -1,5 +1,5 @@
 -- Triangles on the same corners that are turned opposite, and what is left without them.
-use Rattle.std.specs.Prelude.{◌≡◌, ◌≢◌, ℕ, List, [], ◌∷◌, length, Option, Some, None, slice_get}
+use Rattle.std.specs.Prelude.{◌≡◌, ◌≢◌, ℕ, ◌+◌, ◌*◌, List, [], ◌∷◌, length, Option, Some, None, slice_get}
 use Rattle.lattice.specs.declared.soup.Tri.{Tri}
 use Rattle.flip_slivers.specs.Flips.{tri, IsRound}
 
@@ -22,7 +22,7 @@ alone (t ∷ triangles) [] = []
 alone (t ∷ triangles) (None ∷ partners) = t ∷ alone triangles partners
 alone (t ∷ triangles) (Some place ∷ partners) = alone triangles partners
 
--- the triangles that are left once others went in pairs: partners, for each place the place of its partner if it has one
+-- The triangles that are left once others went in so many pairs: partners, for each place the place of its partner if it has one.
 pub record IsWithoutPairs (triangles left : List Tri) : Type 0 where
   pub partners : List (Option ℕ)
   pub for_each : length partners ≡ length triangles
@@ -30,5 +30,8 @@ pub record IsWithoutPairs (triangles left : List Tri) : Type 0 where
   pub different : (i j : ℕ) → slice_get partners i ≡ Some (Some j) → i ≢ j
   pub opposite : (i j : ℕ) → slice_get partners i ≡ Some (Some j) → AreOppositeAt triangles i j
   pub is_left : left ≡ alone triangles partners
+  -- two for each pair went
+  pub pairs : ℕ
+  pub in_pairs : length triangles ≡ length left + 2 * pairs
   -- no two that are left are opposite
   pub none_left : (i j : ℕ) → slice_get partners i ≡ Some None → slice_get partners j ≡ Some None → i ≢ j → ¬ AreOppositeAt triangles i j

@@ -1,26 +1,30 @@
 -- Which faults a part with names may have, and what a run with them answers.
-use Rattle.std.proofs.Common.{◌≡◌, inl, inr, ℕ, List, Option, Some, None, IfSome, true, false, Result, Ok, Err, refl}
+use Rattle.std.proofs.Common.{◌≡◌, ◌⊎◌, inl, inr, ℕ, List, Option, Some, None, IfSome, IsSome, true, false, Result, Ok, Err, refl}
 use Rattle.std.specs.Prelude.{IfErr, codes}
 use Rattle.std.specs.Result.{result_err}
 use Rattle.fault_lines.specs.Lines.{NamesNothing, fault_line}
+use Rattle.dec_text.specs.declared.number.Length.TheVariants.{Millimetre}
+use Rattle.desk.specs.Files.{Files}
+use Rattle.geometry.specs.Parts.{Part}
 use Rattle.geometry.specs.Sound.{IsSound}
 use Rattle.mend_core.specs.Lines.{mend_line}
-use Rattle.mend_core.specs.Mending.{IsOfMending}
-use Rattle.mend_core.specs.Run.{AnswersMendWords, ComesTo, HasMended, IsOfNamed, RunsInOrder}
+use Rattle.mend_core.specs.Mending.{Made, Mends, IsOfMending}
+use Rattle.mend_core.specs.Run.{AnswersMendWords, ComesTo, HasMended, IsOfNamed, RunsInOrder, TakesPart}
 use Rattle.mend_core.specs.declared.lines.TheConstants.{USAGE}
 use Rattle.mend_core.specs.declared.made.Mended.{Mended}
 use Rattle.mend_core.specs.inner.Faults.{IsOfWriting}
 use Rattle.mend_words.specs.Names.{Asks, Named, help, version, mend}
 use Rattle.part_input.specs.Causes.{cause_of, common, unread}
 use Rattle.part_input.specs.Faults.{CountsReads}
-use Rattle.part_input.specs.Parts.{HasSize, IsOfSoupOr, sample_size}
-use Rattle.part_input.specs.Steps.{IsMissing}
+use Rattle.part_input.specs.Parts.{IsOfSoupOr, TakesSoupOr, sample_size}
+use Rattle.part_input.specs.Steps.{GivesInput, IsMissing, Refuses}
 use Rattle.part_input.specs.declared.fault.Input.{Input}
 use Rattle.part_input.specs.declared.fault.Input.TheVariants.{Job as TheJob, Part as ThePart}
 use Rattle.part_input.specs.declared.fault.Fault.{Fault}
-use Rattle.part_input.specs.declared.fault.Fault.TheVariants.{Usage, ReadFault, WriteFault, Memory}
+use Rattle.part_input.specs.declared.fault.Fault.TheVariants.{Usage, ReadFault, Nothing, Mesh, WriteFault, Memory}
 use Rattle.part_input.specs.declared.fault.Target.{Target}
 use Rattle.part_input.proofs.Causes.{read_only}
+use Rattle.part_input.proofs.SoundSamples.{sample_is_sound}
 use Rattle.put_texts.specs.Faults.{HasNoWriteFault, IsThereOf}
 use Rattle.put_texts.proofs.Counting.{not_there}
 use Rattle.solid_mesh.specs.Solids.{solid_part}
@@ -110,12 +114,30 @@ module _ (named : Named) where
   writing_in_order Memory is = tt
   writing_in_order e is = elim is [ ]
 
+-- ---- a sample is sound, so mending has no fault of it
+module _ (named : Named) (part : Part) (made : IsSome (sample_size named.part) → (files : Files) → TakesPart files named (Ok part)) where
+  abbrev MadeBy : Option (List ℕ) → Type 0
+  MadeBy size = IsSome size → (files : Files) → TakesSoupOr size files named.part named.decimals Millimetre (Ok part)
+
+  abbrev IsOf : Option (List ℕ) → Fault → Type 0
+  IsOf size e = IsOfSoupOr size e ⊎ ((size ≡ None) × IsOfMending e)
+
+  of_sample : (size : List ℕ) → MadeBy (Some size) → (IsSound part → ⊥) → ⊥
+  of_sample size made unsound = unsound (sample_is_sound size part (made refl (λ file. None)))
+
+  by_size : (size : Option (List ℕ)) → MadeBy size → (e : Fault) → IsOfMending e → Refuses (Mends named.limit part) e → IsOf size e
+  by_size None made e h refused = inr (refl, h)
+  by_size (Some size) made Nothing h refused = absurd (of_sample size made refused.0)
+  by_size (Some size) made (Mesh fault) h refused = absurd (of_sample size made refused.0)
+  by_size (Some size) made Memory h refused = inl tt
+  by_size (Some size) made e h refused = absurd h
+
+  pub mend_of_named : {T : Type 0} (view : T → Made) (r : Result T Fault) → IfErr r IsOfMending → GivesInput view (Mends named.limit part) r → IfErr r (IsOfNamed named)
+  mend_of_named view (Ok x) h given = tt
+  mend_of_named view (Err e) h given = by_size (sample_size named.part) made e h given
+
 -- ---- the check of a surface is no reading
 module _ {T : Type 0} where
-  pub mend_of_named : (named : Named) → HasSize named.part → (r : Result T Fault) → IfErr r IsOfMending → IfErr r (IsOfNamed named)
-  mend_of_named named sized (Ok x) h = tt
-  mend_of_named named sized (Err e) h = inr (sized, h)
-
   pub mend_counts : (r : Result T Fault) (old new : ℕ) → IfErr r IsOfMending → new ≡ old → CountsReads (result_err r) old new
   mend_counts (Ok x) old new h same = same
   mend_counts (Err (ReadFault input)) old new h same = absurd h

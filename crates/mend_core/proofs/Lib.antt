@@ -7,3 +7,4 @@ pub mod ReadLists
 pub mod Repairing
 pub mod Accepted
 pub mod Told
+pub mod SomeRun

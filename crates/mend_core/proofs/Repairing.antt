@@ -48,11 +48,11 @@ unsound part e fault is refused = none_sound part fault (subst (IsRefusedFor par
 module _ (limit : ℕ) (given : Part) (unsound : IsSound given → ⊥) where
   makes : (told : Told) (part : Part) → IsRepair limit given told part → Makes limit given told part
   makes sound_already part is = absurd is
-  makes (by_flips flips moved) part is = (unsound, is)
+  makes (by_flips flips moved pairs) part is = (unsound, is)
 
   unmended : (told : Told) (part : Part) → IsRepair limit given told part → (fault : MeshFault) → HasFault part fault → IsUnmended limit given fault
   unmended sound_already part is fault has = absurd is
-  unmended (by_flips flips moved) part is fault has = record { flips = flips; moved = moved; made = part; by = is; has = has }
+  unmended (by_flips flips moved pairs) part is fault has = record { flips = flips; moved = moved; pairs = pairs; made = part; by = is; has = has }
 
   -- all triangles went in pairs
   pub none_left : (e : Fault) → Repairs limit given (Err e) → Mends limit given (Err e)

@@ -1,5 +1,5 @@
 -- What is made of a part: itself where its surface is sound, and else what flips of slivers make sound.
-use Rattle.std.specs.Prelude.{◌≡◌, ◌⊎◌, ℕ, ◌*◌, ◌<◌, ◌≤◌, List, [], length, Result, Ok, Err}
+use Rattle.std.specs.Prelude.{◌≡◌, ◌⊎◌, ℕ, ◌+◌, ◌*◌, ◌<◌, ◌≤◌, List, [], length, Result, Ok, Err}
 use Rattle.flip_slivers.specs.Near.{AreNearSurfaces}
 use Rattle.flip_slivers.specs.Flipped.{IsFlipped}
 use Rattle.flip_slivers.specs.Pairs.{IsWithoutPairs}
@@ -11,10 +11,11 @@ use Rattle.part_input.specs.declared.fault.Fault.TheVariants.{Nothing, Mesh, Mem
 use Rattle.solid_mesh.specs.Faults.{HasFault}
 use Rattle.solid_mesh.specs.declared.faults.MeshFault.{MeshFault}
 
--- how a part came to be sound: it was already, or by so many flips, which moved no point by more than so many 1024ths of a unit
+-- how a part came to be sound: it was already, or by so many flips, which moved no point by more than so many 1024ths of a unit, without
+-- so many pairs of triangles
 pub data Told : Type 0 where
   sound_already : Told
-  by_flips : ℕ → ℕ → Told
+  by_flips : ℕ → ℕ → ℕ → Told
 
 -- a part, and how it came to be sound
 pub record Made : Type 0 where
@@ -22,11 +23,12 @@ pub record Made : Type 0 where
   pub part : Part
 
 -- The part after flips within the limit, in units. It has the corners of the one that was given, in their order, and as many triangles,
--- less those that went in pairs.
-pub record IsMendedBy (limit flips moved : ℕ) (given mended : Part) : Type 0 where
+-- less two for each pair that went; how far points moved is told of the surface without the pairs.
+pub record IsMendedBy (limit flips moved pairs : ℕ) (given mended : Part) : Type 0 where
   pub corners : mended.corners ≡ given.corners
   pub left : List Tri
   pub without_pairs : IsWithoutPairs given.triangles left
+  pub in_pairs : length given.triangles ≡ length left + 2 * pairs
   pub some_left : 0 < length left
   pub flipped : IsFlipped given.corners (1024 * limit) left mended.triangles flips moved
   pub count : length mended.triangles ≡ length left
@@ -37,14 +39,15 @@ pub record IsMendedBy (limit flips moved : ℕ) (given mended : Part) : Type 0 w
 -- so it was made of the part that was given: no sound part is changed
 abbrev pub Makes : ℕ → Part → Told → Part → Type 0
 Makes limit given sound_already made = made ≡ given
-Makes limit given (by_flips flips moved) made = (IsSound given → ⊥) × IsMendedBy limit flips moved given made
+Makes limit given (by_flips flips moved pairs) made = (IsSound given → ⊥) × IsMendedBy limit flips moved pairs given made
 
 -- flips left a surface with this fault
 pub record IsUnmended (limit : ℕ) (given : Part) (fault : MeshFault) : Type 0 where
   pub flips : ℕ
   pub moved : ℕ
+  pub pairs : ℕ
   pub made : Part
-  pub by : IsMendedBy limit flips moved given made
+  pub by : IsMendedBy limit flips moved pairs given made
   pub has : HasFault made fault
 
 -- all triangles went in pairs, or the surface that was left isn't sound

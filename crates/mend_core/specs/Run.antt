@@ -12,7 +12,7 @@ use Rattle.mend_core.specs.declared.made.Mended.{Mended}
 use Rattle.mend_words.specs.Names.{Asks, Named, help, version, mend}
 use Rattle.part_input.specs.Causes.{common}
 use Rattle.part_input.specs.Faults.{status_of}
-use Rattle.part_input.specs.Parts.{sample_size, TakesSoup, HasSize, IsOfSoup, HasSampleOr}
+use Rattle.part_input.specs.Parts.{sample_size, TakesSoup, IsOfSoup, HasSampleOr}
 use Rattle.part_input.specs.Steps.{◌and_then◌}
 use Rattle.part_input.specs.declared.fault.Input.{Input}
 use Rattle.part_input.specs.declared.fault.Input.TheVariants.{Job as TheJob, Part as ThePart}
@@ -65,9 +65,9 @@ AnswersTaken (Ok (Some part)) fault = (fault ≡ None) ⊎ (fault ≡ Some Memor
 abbrev pub IsAnswerTo : (Result (Option Part) Fault → Type 0) → Option Fault → Type 0
 IsAnswerTo steps fault = (r : Result (Option Part) Fault) → steps r → AnswersTaken r fault
 
--- the faults of a part with these names: of reading it, or of mending it, which a sample without a size never comes to
+-- the faults of a part with these names: of reading it, or of mending it, which a sample, being sound, never has
 abbrev pub IsOfNamed : Named → Fault → Type 0
-IsOfNamed named fault = IsOfSoup named.part fault ⊎ (HasSize named.part × IsOfMending fault)
+IsOfNamed named fault = IsOfSoup named.part fault ⊎ ((sample_size named.part ≡ None) × IsOfMending fault)
 
 -- help and the version may be what couldn't be said
 abbrev pub IsOfAsked : Option Asks → Target → Type 0

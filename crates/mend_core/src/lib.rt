@@ -4,6 +4,7 @@
 //! opposite, and then its slivers, nearly flat triangles, are flipped; what is left is checked, and nothing is written that isn't sound.
 #![tactic(auto)]
 
+mod answers;
 mod end;
 mod lines;
 mod lists;
@@ -14,6 +15,7 @@ mod run;
 mod take;
 mod texts;
 
+pub use answers::parts_have_answers;
 pub use end::MendOutcome;
 pub use lines::{HELP, MEMORY_LINE, VERSION};
 pub use made::{Mended, Report};

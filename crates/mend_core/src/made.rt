@@ -6,8 +6,8 @@ use solid_mesh::Solid;
 pub enum Report {
     /// It was already.
     Sound,
-    /// So many flips made it so, and moved no point by more than so many 1024ths of a unit.
-    Mended { flips: u64, moved: u32 },
+    /// It is so without so many pairs of triangles, and after so many flips, which moved no point by more than so many 1024ths of a unit.
+    Mended { flips: u64, moved: u32, pairs: u32 },
 }
 
 /// A sound part, and how it came to be so.

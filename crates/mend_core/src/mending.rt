@@ -1,5 +1,5 @@
 // Mends a part by flips of its slivers.
-ghost use Rattle.std.specs.Prelude.{◌≡◌, ◌<◌, ◌≤◌, length, IfOk, IfErr};
+ghost use Rattle.std.specs.Prelude.{◌≡◌, ℕ, ◌+◌, ◌*◌, ◌<◌, ◌≤◌, length, IfOk, IfErr};
 ghost use Rattle.geometry.specs.Parts.{part_of};
 ghost use Rattle.geometry.specs.Sound.{IsSound};
 ghost use Rattle.mend_core.specs.Mending.{IsOfMending, Mends};
@@ -14,12 +14,22 @@ use part_input::Fault;
 use solid_mesh::{MeshError, Solid};
 use std::alloc::Global;
 
-/// A part after flips, which isn't checked yet.
+/// A part without pairs of triangles, after flips, which isn't checked yet.
 #[derive(Drop)]
 struct Repair {
     soup: Soup,
     flips: u64,
     moved: u32,
+    pairs: u32,
+}
+
+/// How many pairs went where so many triangles of so many are left.
+fn pairs_of(given: usize, left: usize) -> u32
+    requires fewer { left ≤ given }
+    requires few { given ≤ 20000 }
+    ensures { (pairs : ℕ) → given ≡ left + 2 * pairs → result ≡ pairs }
+{
+    ((given - left) / 2) as u32
 }
 
 /// The part without triangles that come in pairs, and its slivers flipped.
@@ -41,6 +51,7 @@ fn repaired(alloc: Global, soup: Soup, limit: u32) -> Result<Repair, Fault>
     if left.is_empty() {
         return Err(Fault::Nothing);
     }
+    let pairs = pairs_of(soup.triangles.len(), left.len());
     let flipped = match flip_slivers(alloc, &soup.corners, &left, limit) {
         Ok(flipped) => flipped,
         Err(_) => return Err(Fault::Memory),
@@ -58,6 +69,7 @@ fn repaired(alloc: Global, soup: Soup, limit: u32) -> Result<Repair, Fault>
         soup: Soup { corners, triangles },
         flips,
         moved,
+        pairs,
     })
 }
 
@@ -69,11 +81,20 @@ fn checked(alloc: Global, repair: Repair) -> Result<Mended, Fault>
     ensures answer { GivesInput made_seen (ChecksRepair (repair_of repair)) result }
     ensures of_mending { IfErr result IsOfMending }
 {
-    let Repair { soup, flips, moved } = repair;
+    let Repair {
+        soup,
+        flips,
+        moved,
+        pairs,
+    } = repair;
     match Solid::check(alloc, soup) {
         Ok(solid) => Ok(Mended {
             solid,
-            report: Report::Mended { flips, moved },
+            report: Report::Mended {
+                flips,
+                moved,
+                pairs,
+            },
         }),
         Err(MeshError::Mesh(fault)) => Err(Fault::Mesh(fault)),
         Err(MeshError::Memory(_)) => Err(Fault::Memory),

@@ -46,8 +46,8 @@ fn mend_part<D: Desk>(alloc: Global, request: &MendRequest, desk: &mut D) -> Men
 /// or `mended.off`, or says it: as it is where its surface is sound, and else without triangles that come in pairs on the same
 /// corners, turned opposite, and with its slivers flipped, if that makes it sound. No flip moves a point by more than the limit
 /// that the words give. Words that ask for help or for the version are answered by a text that is said. At the end it says a line: that
-/// the part was sound already, or how many flips mended it and how far points moved at most; where the part is said, it warns by that.
-/// Of a fault it warns once, by one line.
+/// the part was sound already, or how many flips mended it and how far points moved at most, and, where some were taken out, how many
+/// pairs, which that distance leaves out; where the part is said, it warns by that. Of a fault it warns once, by one line.
 ///
 /// The faults are looked for in this order: the words, a sample's size, the part's bytes, its text, whether it has a triangle, whether
 /// one is left without pairs, the surface after flips, the writing of the part, of the line. Want of memory may be answered at any

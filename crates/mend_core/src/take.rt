@@ -8,7 +8,7 @@ ghost use Rattle.mend_core.specs.Run.{IsOfNamed, MendsPart, TakesPart};
 ghost use Rattle.mend_core.specs.Seen.{made_seen};
 ghost use Rattle.mend_words.specs.Seen.{named_seen};
 ghost use Rattle.part_input.specs.Faults.{CountsReads};
-ghost use Rattle.part_input.specs.Parts.{HasSize, IsOfSoup, sample_size};
+ghost use Rattle.part_input.specs.Parts.{IsOfSoup, sample_size};
 ghost use Rattle.part_input.specs.Steps.{GivesInput, IsMissing};
 
 use crate::made::Mended;
@@ -41,7 +41,6 @@ fn take_soup<D: Desk>(alloc: Global, request: &MendRequest, desk: &mut D) -> Res
     ensures sample { IsSome (sample_size (named_seen request.now).part) → (files : Files) →
         GivesInput part_of (TakesPart files (named_seen request.now)) result }
     ensures of_soup { IfErr result (IsOfSoup (named_seen request.now).part) }
-    ensures sized { IfOk result (λ _. HasSize (named_seen request.now).part) }
     ensures some_triangle { IfOk result (λ soup. 0 < length (part_of soup).triangles) }
     ensures few_corners { IfOk result (λ soup. length (part_of soup).corners ≤ 60000) }
     ensures few_triangles { IfOk result (λ soup. length (part_of soup).triangles ≤ 20000) }

@@ -1,7 +1,7 @@
 // What is written of a mended part, made before anything is.
 ghost use Rattle.std.specs.Prelude.{◌≡◌, ◌≤◌, IfOk, string_bytes};
 ghost use Rattle.mend_core.specs.Seen.{made_seen, told_seen};
-ghost use Rattle.mend_core.specs.Telling.{hundredths_of, hundredths_text, told_text};
+ghost use Rattle.mend_core.specs.Telling.{hundredths_of, hundredths_text, pairs_text, told_text};
 ghost use Rattle.mend_core.specs.inner.Texts.{AreTextsOf};
 
 use crate::lists::soup_of;
@@ -34,12 +34,23 @@ fn hundredths_text(alloc: Global, hundredths: u64) -> Result<String, AllocError>
     format!(in alloc; "{whole}.{tenth}{last}")
 }
 
-/// The line of a part that flips mended.
-fn flipped_text(alloc: Global, flips: u64, moved: u32) -> Result<String, AllocError>
-    ensures { IfOk result (λ text. string_bytes text ≡ told_text (told_seen (Report.Mended flips moved))) }
+/// How many pairs of triangles went, where some did.
+fn pairs_text(alloc: Global, pairs: u32) -> Result<String, AllocError>
+    ensures { IfOk result (λ text. string_bytes text ≡ pairs_text pairs) }
+{
+    if pairs == 0 {
+        return Ok(String::new(alloc));
+    }
+    format!(in alloc; " pairs {pairs}")
+}
+
+/// The line of a part that was mended.
+fn mended_text(alloc: Global, flips: u64, moved: u32, pairs: u32) -> Result<String, AllocError>
+    ensures { IfOk result (λ text. string_bytes text ≡ told_text (told_seen (Report.Mended flips moved pairs))) }
 {
     let far = hundredths_text(alloc, hundredths_of(moved))?;
-    format!(in alloc; "mended flips {flips} moved at most {far} units\n")
+    let gone = pairs_text(alloc, pairs)?;
+    format!(in alloc; "mended flips {flips} moved at most {far} units{gone}\n")
 }
 
 /// The line that tells how a part came to be sound.
@@ -48,7 +59,11 @@ fn told_text(alloc: Global, report: &Report) -> Result<String, AllocError>
 {
     match report {
         Report::Sound => String::from_str(alloc, "sound already\n"),
-        Report::Mended { flips, moved } => flipped_text(alloc, *flips, *moved),
+        Report::Mended {
+            flips,
+            moved,
+            pairs,
+        } => mended_text(alloc, *flips, *moved, *pairs),
     }
 }
 

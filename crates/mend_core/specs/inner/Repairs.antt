@@ -10,13 +10,13 @@ use Rattle.part_input.specs.declared.fault.Fault.TheVariants.{Nothing, Mesh}
 use Rattle.solid_mesh.specs.Faults.{HasFault}
 use Rattle.solid_mesh.specs.declared.faults.MeshFault.{MeshFault}
 
--- a part after so many flips, which moved no point by more than so many 1024ths of a unit
+-- a part after so many flips, which moved no point by more than so many 1024ths of a unit, without so many pairs
 abbrev pub repair_of : Repair → Made
-repair_of r = record { told = by_flips r.flips r.moved; part = part_of r.soup }
+repair_of r = record { told = by_flips r.flips r.moved r.pairs; part = part_of r.soup }
 
 abbrev pub IsRepair : ℕ → Part → Told → Part → Type 0
 IsRepair limit given sound_already part = ⊥
-IsRepair limit given (by_flips flips moved) part = IsMendedBy limit flips moved given part
+IsRepair limit given (by_flips flips moved pairs) part = IsMendedBy limit flips moved pairs given part
 
 -- the part is repaired as far as flips do, or all its triangles went in pairs
 abbrev pub Repairs : ℕ → Part → Result Made Fault → Type 0

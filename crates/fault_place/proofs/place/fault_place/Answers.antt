@@ -3,13 +3,18 @@ use Rattle.geometry.specs.Parts.{part_of}
 use Rattle.solid_mesh.specs.Faults.{HasFault}
 use Rattle.solid_mesh.specs.declared.faults.MeshFault.{MeshFault}
 use Rattle.fault_place.specs.Places.{IsSide, IsBetween, IsPlaceOf}
-use Rattle.fault_place.proofs.Faults.{met_within, place_of_meeting}
+use Rattle.fault_place.proofs.Faults.{met_within, have_common_point, place_of_meeting}
 use Rattle.fault_place.proofs.place.fault_place.Goals as goal
 
 pub of_meeting-requires-clause-triangle : goal.of_meeting-requires-clause-triangle
 of_meeting-requires-clause-triangle c =
     let s = part_of c.args.soup.now in
     met_within s c.in-Meet.edge c.in-Meet.t (subst (HasFault s) c.in-Meet.is c.requires.fault)
+
+pub of_meeting-requires-clause-meet : goal.of_meeting-requires-clause-meet
+of_meeting-requires-clause-meet c =
+    let s = part_of c.args.soup.now in
+    have_common_point s c.in-Meet.edge c.in-Meet.t (subst (HasFault s) c.in-Meet.is c.requires.fault) c.in_ok-half-in-Meet.half c.in_ok-half-in-Meet.ensures.half
 
 pub returns-in-SameWay : goal.returns-in-SameWay
 returns-in-SameWay c =
@@ -30,5 +35,5 @@ pub returns-in_ok-half-in-Meet : goal.returns-in_ok-half-in-Meet
 returns-in_ok-half-in-Meet c =
     let s = part_of c.args.soup.now in
     let fault = subst (HasFault s) c.in-Meet.is c.requires.fault in
-    let place = place_of_meeting s c.in-Meet.edge c.in-Meet.t fault c.in_ok-half-in-Meet.half c.of_meeting.result c.in_ok-half-in-Meet.ensures.half c.of_meeting.ensures in
+    let place = place_of_meeting s c.in-Meet.edge c.in-Meet.t fault c.in_ok-half-in-Meet.half c.in_ok-half-in-Meet.ensures.half c.of_meeting.result c.of_meeting.ensures in
     subst (λ (f : MeshFault). IsPlaceOf s f c.of_meeting.result) (sym c.in-Meet.is) place

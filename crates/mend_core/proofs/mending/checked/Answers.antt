@@ -6,5 +6,5 @@ use Rattle.mend_core.proofs.mending.checked.Goals as goal
 
 pub returns-in-Ok-clause-answer : goal.returns-in-Ok-clause-answer
 returns-in-Ok-clause-answer c =
-    let made : Part → Made = λ p. record { told = by_flips c.args.repair.flips c.args.repair.moved; part = p } in
+    let made : Part → Made = λ p. record { told = by_flips c.args.repair.flips c.args.repair.moved c.args.repair.pairs; part = p } in
     (ap made c.in-Ok.ensures.part, sound c.in-Ok.solid)

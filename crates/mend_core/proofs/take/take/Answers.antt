@@ -39,7 +39,8 @@ returns-in-Ok-clause-sample g c = λ sample files.
     gives_next (TakesPart files named) (Mends named.limit) (part_of c.in-Ok.soup) (c.in-Ok.ensures.sample sample files) made_seen c.mended.result c.mended.ensures.answer
 
 pub returns-in-Ok-clause-of_named : goal.returns-in-Ok-clause-of_named
-returns-in-Ok-clause-of_named g c = mend_of_named (named_seen c.args.request.now) c.in-Ok.ensures.sized c.mended.result c.mended.ensures.of_mending
+returns-in-Ok-clause-of_named g c =
+    mend_of_named (named_seen c.args.request.now) (part_of c.in-Ok.soup) c.in-Ok.ensures.sample made_seen c.mended.result c.mended.ensures.of_mending c.mended.ensures.answer
 
 pub returns-in-Ok-clause-reads : goal.returns-in-Ok-clause-reads
 returns-in-Ok-clause-reads g c = mend_counts c.mended.result _ _ c.mended.ensures.of_mending c.in-Ok.ensures.reads
