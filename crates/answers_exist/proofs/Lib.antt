@@ -17,6 +17,3 @@ mod Separation
 mod CubeChecks
 mod SampleParts
 pub mod SoundSample
-pub mod SomeRun
-pub mod SampleRun
-pub mod SomeSheetRun

@@ -1,5 +1,5 @@
 // Where a run finds and leaves its files, and what it says.
-ghost use Rattle.std.specs.Prelude.{◌≡◌, ◌≤◌, ◌<◌, ◌↔◌, true, length, None, IfOk, IsOk, IsErr, IsErrOf};
+ghost use Rattle.std.specs.Prelude.{◌≡◌, ◌≤◌, ◌<◌, ◌↔◌, ℕ, List, true, length, take, None, IfOk, IsOk, IsErr, IsErrOf};
 ghost use Rattle.desk.specs.Files.{DeskState, OnlyReads, OnlyKeeps, OnlySays, OnlyWarns, Rose, IsFetched, Leaves, Appends};
 
 use exact_frac::OutOfMemory;
@@ -23,12 +23,17 @@ pub trait Desk {
     /// Its files, what was said and warned, where it tells them, and its counts of faults.
     ghost state: { Self → DeskState };
 
+    /// By a fetch of these bytes from a place of a file one desk may become another. A desk may say so what it gives and when;
+    /// one that doesn't allows all.
+    ghost fetches: { Self → List ℕ → ℕ → List ℕ → Self → Type 0 } = { λ old name at bytes new. Unit {0} };
+
     /// Takes bytes of a file from a place on to the front of `into`, and answers how many: 0 exactly at the end.
     fn fetch(&mut self, name: &str, at: u64, into: &mut [u8]) -> Result<usize, Failed>
         requires { 0 < length into.old }
         ensures within { IfOk result (λ n. n ≤ length into.old) }
         ensures took { (state self.old).tells ≡ true →
             IfOk result (λ n. IsFetched ((state self.old).files name.now) at n into.new) }
+        ensures fetched { IfOk result (λ n. fetches self.old name.now at (take n into.new) self.new) }
         ensures changes { OnlyReads (state self.old) (state self.new) }
 
         // It fails only where it counts a fault of its own.

@@ -107,6 +107,13 @@ impl MemoryDesk {
         }
     }
 
+    /// The files, those that were given first. Of files of one name the first counts.
+    pub fn files(&self) -> &[(Name, Vec<u8>)]
+        ensures { file_at result.now ≡ (state_of self.now).files }
+    {
+        &self.files
+    }
+
     /// The bytes of a file.
     pub fn file(&self, name: &str) -> Option<&[u8]>
         ensures { option_map (λ bytes. bytes.now) result ≡ (state_of self.now).files name.now }

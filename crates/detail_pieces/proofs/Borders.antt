@@ -1,23 +1,30 @@
 -- How far points are over the border of a half plane: along a line of sight, and at sums of two spots.
-use Rattle.std.proofs.Common.{◌≡◌, ℕ, [], ◌∷◌, refl, sym, ap, ◌∙◌, arith}
+use Rattle.std.proofs.Common.{◌≡◌, ◌⊎◌, inl, inr, ℕ, zero, suc, [], ◌∷◌, refl, sym, ap, ◌∙◌, ◌+◌, ◌<◌, arith}
 use Rattle.std.specs.Prelude.{ℤ, pos, ◌+ℤ◌, ◌-ℤ◌, ◌*ℤ◌, ◌<ℤ◌, ◌≤ℤ◌}
 use Rattle.std.proofs.lemmas.Int.{ints}
-use Rattle.integers.proofs.Comparisons.{not_negative_at, not_negative_of_positive, sum_not_negative}
+use Rattle.integers.proofs.Comparisons.{not_negative_at, not_negative_of_positive, sum_not_negative, less_not_at_most}
 use Rattle.integers.proofs.Absolutes.{natural_not_negative}
 use Rattle.integers.proofs.Ring.{var, con, ◌⊕◌, ◌⊖◌, ◌⊗◌, ring, by_one, mul_comm}
-use Rattle.integers.proofs.Signs.{mul_nonneg, nonneg_of_mul}
+use Rattle.integers.proofs.Signs.{mul_neg, mul_nonneg, nonneg_of_mul}
+use Rattle.integers.proofs.Weighted.{at_second}
 use Rattle.lattice.specs.declared.points.Spot.{Spot}
-use Rattle.lattice.specs.Triple.{Triple, right_axis, up_axis}
-use Rattle.lattice.specs.Points.{Point, IsPoint, of_spot, OnOneSight}
+use Rattle.lattice.specs.Triple.{Triple, dot, right_axis, up_axis}
+use Rattle.lattice.specs.Points.{Point, IsPoint, of_spot, scaled, OnOneSight}
 use Rattle.lattice.proofs.OnLines.{product_of_sum}
 use Rattle.geometry.specs.Pieces.{spot_sum, LiesBetween}
 use Rattle.geometry.proofs.OnLines.{sum_is_point}
+use Rattle.geometry.proofs.Sights.{sight_back, sight_on}
+use Rattle.line_merge.proofs.Given.{between_turned}
 use Rattle.detail_pieces.specs.declared.sides.Bound.{Bound}
 use Rattle.detail_pieces.specs.declared.sides.Bound.TheVariants.{Least, Most}
 use Rattle.detail_pieces.specs.declared.sides.Side.{Side}
 use Rattle.detail_pieces.specs.declared.sides.ViewAxis.{ViewAxis}
 use Rattle.detail_pieces.specs.declared.sides.ViewAxis.TheVariants.{Across, Upward}
-use Rattle.detail_pieces.specs.inner.Sides.{seen_of, over_by, over_of}
+use Rattle.detail_pieces.specs.inner.Sides.{seen_of, over_by, over_of, AreOnePlace}
+
+-- how far the point is over a border on which U, or V, is k
+abbrev pub over_border : Triple → Bound → ViewAxis → ℤ → Point → ℤ
+over_border d bound axis k p = over_by bound (seen_of d axis p) (k *ℤ p.w)
 
 -- ---- along a line of sight
 seen_same : (d : Triple) (axis : ViewAxis) (p q : Point) → OnOneSight d p q → seen_of d axis p *ℤ q.w ≡ seen_of d axis q *ℤ p.w
@@ -44,16 +51,25 @@ over_by_sum Least k i j s t w v =
 over_by_sum Most k i j s t w v =
     ring (k ∷ i ∷ j ∷ s ∷ t ∷ w ∷ v ∷ []) ((var 0 ⊗ ((var 1 ⊗ var 5) ⊕ (var 2 ⊗ var 6))) ⊖ ((var 1 ⊗ var 3) ⊕ (var 2 ⊗ var 4))) ((var 1 ⊗ ((var 0 ⊗ var 5) ⊖ var 3)) ⊕ (var 2 ⊗ ((var 0 ⊗ var 6) ⊖ var 4))) refl
 
+pub border_sum : (d : Triple) (bound : Bound) (axis : ViewAxis) (k : ℤ) (a b : Spot) (i j : ℕ)
+    → over_border d bound axis k (spot_sum a b i j) ≡ (pos i *ℤ over_border d bound axis k (of_spot a)) +ℤ (pos j *ℤ over_border d bound axis k (of_spot b))
+border_sum d bound axis k a b i j =
+    ap (λ (x : ℤ). over_by bound x (k *ℤ ((pos i *ℤ a.w) +ℤ (pos j *ℤ b.w)))) (seen_sum d axis a b i j)
+    ∙ over_by_sum bound k (pos i) (pos j) (seen_of d axis (of_spot a)) (seen_of d axis (of_spot b)) a.w b.w
+
 pub over_sum : (d : Triple) (h : Side) (a b : Spot) (i j : ℕ) → over_of d h (spot_sum a b i j) ≡ (pos i *ℤ over_of d h (of_spot a)) +ℤ (pos j *ℤ over_of d h (of_spot b))
-over_sum d h a b i j =
-    ap (λ (x : ℤ). over_by h.bound x (h.at *ℤ ((pos i *ℤ a.w) +ℤ (pos j *ℤ b.w)))) (seen_sum d h.axis a b i j)
-    ∙ over_by_sum h.bound h.at (pos i) (pos j) (seen_of d h.axis (of_spot a)) (seen_of d h.axis (of_spot b)) a.w b.w
+over_sum d h a b i j = border_sum d h.bound h.axis h.at a b i j
 
 -- ---- signs along a line of sight
+pub border_along : (d : Triple) (bound : Bound) (axis : ViewAxis) (k : ℤ) (p q : Point) → IsPoint p → IsPoint q → OnOneSight d p q
+    → pos 0 ≤ℤ over_border d bound axis k p → pos 0 ≤ℤ over_border d bound axis k q
+border_along d bound axis k p q hp hq same h =
+    nonneg_of_mul p.w (over_border d bound axis k q) hp
+    (not_negative_at _ _ (mul_comm p.w (over_border d bound axis k q) ∙ sym (over_by_same bound k (seen_of d axis p) p.w (seen_of d axis q) q.w (seen_same d axis p q same)))
+    (mul_nonneg (over_border d bound axis k p) q.w h (not_negative_of_positive q.w hq)))
+
 pub not_negative_along : (d : Triple) (h : Side) (p q : Point) → IsPoint p → IsPoint q → OnOneSight d p q → pos 0 ≤ℤ over_of d h p → pos 0 ≤ℤ over_of d h q
-not_negative_along d h p q hp hq same k =
-    nonneg_of_mul p.w (over_of d h q) hp
-    (not_negative_at _ _ (mul_comm p.w (over_of d h q) ∙ sym (over_same d h p q same)) (mul_nonneg (over_of d h p) q.w k (not_negative_of_positive q.w hq)))
+not_negative_along d h p q hp hq same k = border_along d h.bound h.axis h.at p q hp hq same k
 
 pub not_positive_along : (d : Triple) (h : Side) (p q : Point) → IsPoint p → IsPoint q → OnOneSight d p q → over_of d h p ≤ℤ pos 0 → over_of d h q ≤ℤ pos 0
 not_positive_along d h p q hp hq same k = go (over_of d h p) (over_of d h q) p.w q.w hp hq (over_same d h p q same) k
@@ -99,3 +115,43 @@ module _ (d : Triple) (h : Side) (a b : Spot) (p : Point) (hp : IsPoint p) where
 
       at : (f g : ℤ) → f ≡ g → g ≤ℤ pos 0 → f ≤ℤ pos 0
       at f g e h = omega (arith, ints)
+
+-- ---- two spots that are not inside, of which one is outside
+module _ (d : Triple) (h : Side) where
+  -- a sum without the first is seen where the second is
+  at_last : (a b : Spot) (j : ℕ) → OnOneSight d (of_spot b) (spot_sum a b 0 j)
+  at_last a b j = record { across = end (right_axis d); upward = end (up_axis d) }
+    where
+      end : (r : Triple) → dot r (scaled (of_spot b)) *ℤ (spot_sum a b 0 j).w ≡ dot r (scaled (spot_sum a b 0 j)) *ℤ b.w
+      end r = at_second (dot r (scaled (of_spot a))) a.w (dot r (scaled (of_spot b))) b.w (pos j) ∙ ap (λ (o : ℤ). o *ℤ b.w) (sym (product_of_sum r (pos 0) (pos j) (of_spot a) (of_spot b)))
+
+  -- what between them isn't outside is seen where the other one is
+  last_place : (a b : Spot) → over_of d h (of_spot a) <ℤ pos 0 → over_of d h (of_spot b) ≤ℤ pos 0
+      → (p : Point) → IsPoint p → LiesBetween d a b p → pos 0 ≤ℤ over_of d h p → OnOneSight d (of_spot b) p
+  last_place a b ha hb p hp (zero, j, some, same) k = sight_on d (of_spot b) (spot_sum a b 0 j) p (sum_is_point a b 0 j some) (at_last a b j) same
+  last_place a b ha hb p hp (suc i, j, some, same) k =
+      absurd (less_not_at_most _ _ (negative (over_of d h (spot_sum a b (suc i) j)) _ _ (over_sum d h a b (suc i) j) (mul_neg (pos (suc i)) _ (more i) ha) (rest j (over_of d h (of_spot b)) hb))
+      (not_negative_along d h p (spot_sum a b (suc i) j) hp (sum_is_point a b (suc i) j some) (sight_back d (spot_sum a b (suc i) j) p same) k))
+    where
+      more : (i : ℕ) → pos 0 <ℤ pos (suc i)
+      more i = omega (arith, ints)
+
+      negative : (f x y : ℤ) → f ≡ x +ℤ y → x <ℤ pos 0 → y ≤ℤ pos 0 → f <ℤ pos 0
+      negative f x y e h k = omega (arith, ints)
+
+      rest : (j : ℕ) (y : ℤ) → y ≤ℤ pos 0 → (pos j *ℤ y) ≤ℤ pos 0
+      rest j y h = turned _ _ (ring (pos j ∷ y ∷ []) (var 0 ⊗ (con (pos 0) ⊖ var 1)) (con (pos 0) ⊖ (var 0 ⊗ var 1)) refl) (mul_nonneg (pos j) (pos 0 -ℤ y) (natural_not_negative j) (back y h))
+        where
+          back : (y : ℤ) → y ≤ℤ pos 0 → pos 0 ≤ℤ (pos 0 -ℤ y)
+          back y h = omega (arith, ints)
+
+          turned : (x y : ℤ) → x ≡ pos 0 -ℤ y → pos 0 ≤ℤ x → y ≤ℤ pos 0
+          turned x y e h = omega (arith, ints)
+
+  pub one_place : (a b : Spot) → over_of d h (of_spot a) ≤ℤ pos 0 → over_of d h (of_spot b) ≤ℤ pos 0 → (over_of d h (of_spot a) <ℤ pos 0) ⊎ (over_of d h (of_spot b) <ℤ pos 0)
+      → AreOnePlace d (λ p. LiesBetween d a b p × (pos 0 ≤ℤ over_of d h p))
+  one_place a b ha hb (inl less) p q hp hq k l =
+      sight_on d p (of_spot b) q b.positive (sight_back d (of_spot b) p (last_place a b less hb p hp k.0 k.1)) (last_place a b less hb q hq l.0 l.1)
+  one_place a b ha hb (inr less) p q hp hq k l =
+      sight_on d p (of_spot a) q a.positive (sight_back d (of_spot a) p (last_place b a less ha p hp (between_turned d a b p k.0) k.1))
+      (last_place b a less ha q hq (between_turned d a b q l.0) l.1)

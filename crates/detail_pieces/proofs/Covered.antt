@@ -24,19 +24,19 @@ use Rattle.drawing_laws.proofs.ViewOrder.{IsUpTo, seen_itself, three_ways, befor
 use Rattle.line_merge.proofs.Given.{between_turned}
 
 -- ---- a strip from its one end to the other, and back
-abbrev ahead : Strip → Piece
+abbrev pub ahead : Strip → Piece
 ahead x = record { a = x.a; b = x.b; style = Solid }
 
-abbrev back : Strip → Piece
+abbrev pub back : Strip → Piece
 back x = record { a = x.b; b = x.a; style = Solid }
 
-abbrev both_ways : List Strip → List Piece
+abbrev pub both_ways : List Strip → List Piece
 both_ways strips = map ahead strips ++ map back strips
 
-ahead_in : (strips : List Strip) (x : Strip) → Contains strips x → Contains (both_ways strips) (ahead x)
+pub ahead_in : (strips : List Strip) (x : Strip) → Contains strips x → Contains (both_ways strips) (ahead x)
 ahead_in strips x there = Contains-append_left (map ahead strips) (map back strips) (ahead x) (map_contains ahead strips x there)
 
-back_in : (strips : List Strip) (x : Strip) → Contains strips x → Contains (both_ways strips) (back x)
+pub back_in : (strips : List Strip) (x : Strip) → Contains strips x → Contains (both_ways strips) (back x)
 back_in strips x there = Contains-append_right (map ahead strips) (map back strips) (back x) (map_contains back strips x there)
 
 -- what holds of the first and of the others
@@ -46,11 +46,11 @@ of_each Q n ways first rest m (suc i, within, e) = rest m (i, omega (arith, with
 
 -- ---- the last of the spots before a point
 -- s is on the line and before p, from the spot a on, and no end b of these pieces that is so is behind it
-record IsLastBefore (d : Triple) (line : ViewLine) (p : Point) (ways : List Piece) (a s : Spot) : Type 0 where
-  on : IsOnViewLine d line (of_spot s)
-  before : IsBefore d (of_spot s) p
-  from : IsUpTo d (of_spot a) (of_spot s)
-  last : (m : Piece) → Contains ways m → IsOnViewLine d line (of_spot m.b) → IsBefore d (of_spot m.b) p → IsUpTo d (of_spot m.b) (of_spot s)
+pub record IsLastBefore (d : Triple) (line : ViewLine) (p : Point) (ways : List Piece) (a s : Spot) : Type 0 where
+  pub on : IsOnViewLine d line (of_spot s)
+  pub before : IsBefore d (of_spot s) p
+  pub from : IsUpTo d (of_spot a) (of_spot s)
+  pub last : (m : Piece) → Contains ways m → IsOnViewLine d line (of_spot m.b) → IsBefore d (of_spot m.b) p → IsUpTo d (of_spot m.b) (of_spot s)
 
 module _ (d : Triple) (line : ViewLine) (p : Point) (positive : IsPoint p) where
   abbrev IsEarlier : Spot → Type 0
@@ -94,7 +94,7 @@ module _ (d : Triple) (line : ViewLine) (p : Point) (positive : IsPoint p) where
       one_more (inl h) (inr (inl seen)) = as_before (λ g. inr seen)
       one_more (inl h) (inr (inr more)) = behind h more
 
-    last_before : (ways : List Piece) → IsOnViewLine d line (of_spot a) → IsBefore d (of_spot a) p → (s : Spot) × IsLastBefore d line p ways a s
+    pub last_before : (ways : List Piece) → IsOnViewLine d line (of_spot a) → IsBefore d (of_spot a) p → (s : Spot) × IsLastBefore d line p ways a s
     last_before [] on less = (a, record { on = on; before = less; from = inr (seen_itself d (of_spot a)); last = λ m there. absurd (none m there) })
       where
         none : (m : Piece) → ¬ Contains [] m
@@ -144,7 +144,7 @@ module _ (d : Triple) (strips : List Strip) (are : AreStrips d strips) where
         (on_too d line along (of_spot y.a) (of_spot y.b) (of_spot x.a) proper of_y.apart line_y.0 line_y.1 line_x.0 of_y.first of_y.second)
         (on_too d line along (of_spot y.a) (of_spot y.b) (of_spot x.b) proper of_y.apart line_y.0 line_y.1 line_x.1 of_y.first of_y.second)
 
-    clear_near : IsClear d strips q
+    pub clear_near : IsClear d strips q
     clear_near = record {
       off_ends = λ k x within.
           let y = get_or strips k x in
@@ -171,7 +171,7 @@ module _ (d : Triple) (strips : List Strip) (are : AreStrips d strips) where
 
 -- ---- the strips that are put together
 module _ (d : Triple) (strips : List Strip) (are : AreStrips d strips) (pieces : List Piece) (merged : AreMerged d strips pieces) where
-  strip_at_clear : (q : Point) → IsPoint q → IsClear d strips q → (l : Piece) → Contains pieces l → LiesOn d l q → (x : Strip) × Contains strips x × LiesOnStrip d x q
+  pub strip_at_clear : (q : Point) → IsPoint q → IsClear d strips q → (l : Piece) → Contains pieces l → LiesOn d l q → (x : Strip) × Contains strips x × LiesOnStrip d x q
   strip_at_clear q positive clear l there lies = by l.style refl
     where
       by : (style : Style) → l.style ≡ style → (x : Strip) × Contains strips x × LiesOnStrip d x q

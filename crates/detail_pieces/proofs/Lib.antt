@@ -1,8 +1,10 @@
 pub mod DetailRight
 pub mod ViewDetails
+mod InWindow
+mod Told
+mod Beside
 mod Covered
-mod StripsInside
-mod WindowSides
+mod Another
 mod Borders
 mod Boxes
 mod Kept

@@ -39,7 +39,7 @@ sum_in_box a b i j = record {
 }
 
 -- ---- lines that run along a border
-leads : (a b : ℤ) → pos 0 <ℤ leading_of a b → a ≡ pos 0 → b ≡ pos 0 → ⊥
+pub leads : (a b : ℤ) → pos 0 <ℤ leading_of a b → a ≡ pos 0 → b ≡ pos 0 → ⊥
 leads a b h f e = nothing (subst (λ (y : ℤ). pos 0 <ℤ y) e (subst (λ (x : ℤ). pos 0 <ℤ leading_of x b) f h))
   where
     nothing : pos 0 <ℤ pos 0 → ⊥

@@ -5,3 +5,5 @@ mod Endings
 mod Readings
 mod Runs
 mod Showings
+pub mod SomeRun
+mod Takings

@@ -4,4 +4,5 @@ pub mod Run
 pub mod Seen
 pub mod Steps
 pub mod Words
+pub mod Taken
 pub mod inner

@@ -3,3 +3,4 @@ pub mod Drawing
 pub mod Judging
 pub mod Showing
 pub mod Steps
+pub mod Taking

@@ -12,7 +12,9 @@ ghost use Rattle.detail_view.specs.Steps.{Yields};
 ghost use Rattle.detail_view.specs.inner.Steps.{IsMissing};
 ghost use Rattle.detail_view.specs.Words.{checks};
 ghost use Rattle.put_texts.specs.Runs.{IsAnswer};
+ghost use Rattle.detail_view.specs.Taken.{ChecksTaken, IsVerdictTaken};
 ghost use Rattle.detail_view.specs.inner.Judging.{Judges, ComesAfterJob, IsOfSaying, Tells};
+ghost use Rattle.detail_view.specs.inner.Taking.{IsJudged, IsPartJudged};
 
 use crate::fault::{PiecesFault, PiecesOutcome};
 use crate::inputs::{take_job, take_list, take_solid};
@@ -33,6 +35,7 @@ fn judge_list<D: Desk>(
 ) -> Result<Verdict, PiecesFault>
     ensures answer { (D.state desk.old).tells ≡ true →
         Judges (Yields (listed (job_seen job.now) (solid_part solid.now)) (TakesReadList (D.state desk.old).files words.now.list)) result }
+    ensures taken { IfOk result (IsJudged D.fetches words.now.list (job_seen job.now) (solid_part solid.now) desk.old desk.new) }
     ensures of_list { IfErr result IsOfList }
     ensures reads { CountsReads (result_err result) (D.state desk.old).read_faults (D.state desk.new).read_faults }
     ensures missing { (D.state desk.old).steady ≡ true →
@@ -58,6 +61,7 @@ fn judge_part<D: Desk>(
 ) -> Result<Verdict, PiecesFault>
     ensures answer { (D.state desk.old).tells ≡ true →
         Judges (ChecksBy (D.state desk.old).files (check_seen words.now) (job_seen job.now)) result }
+    ensures taken { IfOk result (IsPartJudged D.fetches (check_seen words.now) (job_seen job.now) desk.old desk.new) }
     ensures of_both { IfErr result (λ e. IsOfPartNamed words.now.part e ⊎ IsOfList e) }
     ensures order { (D.state desk.old).tells ≡ true →
         IfErr result (ComesAfterJob (D.state desk.old).files (check_seen words.now) (job_seen job.now)) }
@@ -75,6 +79,7 @@ fn judge_part<D: Desk>(
 /// The verdict on what the words name.
 fn judge<D: Desk>(alloc: Global, words: &CheckWords, desk: &mut D) -> Result<Verdict, PiecesFault>
     ensures answer { (D.state desk.old).tells ≡ true → Judges (Checks (D.state desk.old).files (check_seen words.now)) result }
+    ensures taken { IfOk result (ChecksTaken D.fetches (check_seen words.now) desk.old desk.new) }
     ensures of_check { IfErr result (IsOfCheck (check_seen words.now)) }
     ensures order { (D.state desk.old).tells ≡ true → IfErr result (ChecksInOrder (D.state desk.old).files (check_seen words.now)) }
     ensures reads { CountsReads (result_err result) (D.state desk.old).read_faults (D.state desk.new).read_faults }
@@ -168,6 +173,7 @@ pub(crate) fn check<D: Desk>(alloc: Global, words: &CheckWords, desk: &mut D) ->
     ensures none { result.detail ≡ None }
     ensures shown { HasVerdict (Some (checks (check_seen words.now))) result.fault (is_some result.verdict) }
     ensures verdict { (D.state desk.old).tells ≡ true → IfSome result.verdict (IsVerdictOf (Checks (D.state desk.old).files (check_seen words.now))) }
+    ensures taken { IfSome result.verdict (IsVerdictTaken D.fetches D.state (Some (checks (check_seen words.now))) desk.old desk.new) }
     ensures said { (D.state desk.old).tells_said ≡ true →
         SaysAsked (D.state desk.old).tells (Some (checks (check_seen words.now))) (D.state desk.old).files result.fault result.verdict (D.state desk.old).said (D.state desk.new).said }
     ensures refused { IfSome result.fault (λ e. IsRefusal e → OnlyReads (D.state desk.old) (D.state desk.new)) }

@@ -1,5 +1,5 @@
 // Draws what of a view stands in a window, by the words of a detail.
-ghost use Rattle.std.specs.Prelude.{◌≡◌, ◌⊎◌, ◌<◌, true, length, Some, None, IfOk, IfErr, IfSome, is_some};
+ghost use Rattle.std.specs.Prelude.{◌≡◌, ◌⊎◌, ◌<◌, ℕ, List, true, length, Some, None, IfOk, IfErr, IfSome, is_some};
 ghost use Rattle.std.specs.Result.{result_err};
 ghost use Rattle.desk.specs.Files.{OnlyReads, OnlyKeeps};
 ghost use Rattle.job_file.specs.Seen.{job_seen};
@@ -11,7 +11,9 @@ ghost use Rattle.detail_view.specs.Seen.{detail_seen};
 ghost use Rattle.detail_view.specs.inner.Steps.{GivesPieces, IsMissing};
 ghost use Rattle.detail_view.specs.Words.{details};
 ghost use Rattle.put_texts.specs.Runs.{IsAnswer};
+ghost use Rattle.detail_view.specs.Taken.{ArePiecesTaken};
 ghost use Rattle.detail_view.specs.inner.Drawing.{LeavesPage, TellsPieces};
+ghost use Rattle.detail_view.specs.inner.Taking.{IsViewedTaken, IsShownTaken};
 ghost use Rattle.detail_view.specs.inner.Judging.{IsOfSaying};
 ghost use Rattle.detail_view.specs.inner.Showing.{given_of};
 
@@ -49,6 +51,7 @@ fn take_viewed<D: Desk>(
 ) -> Result<Job, PiecesFault>
     ensures answer { (D.state desk.old).tells ≡ true →
         GivesPieces job_seen (TakesViewed (D.state desk.old).files (detail_seen words.now)) result }
+    ensures taken { IfOk result (λ job. IsViewedTaken D.fetches (detail_seen words.now) desk.old desk.new (job_seen job)) }
     ensures in_range { IfOk result (λ job. words.now.view < length job.views.items) }
     ensures of_job { IfErr result (λ e. IsOfJob e ⊎ IsOfView words.now.view e) }
     ensures reads { CountsReads (result_err result) (D.state desk.old).read_faults (D.state desk.new).read_faults }
@@ -77,6 +80,7 @@ fn take_shown<D: Desk>(
 ) -> Result<Shown, PiecesFault>
     ensures answer { (D.state desk.old).tells ≡ true →
         GivesPieces given_of (Details (D.state desk.old).files (detail_seen words.now)) result }
+    ensures taken { IfOk result (IsShownTaken D.fetches (detail_seen words.now) desk.old desk.new) }
     ensures in_range { IfOk result (λ shown. words.now.view < length shown.job.views.items) }
     ensures of_detail { IfErr result (IsOfDetail (detail_seen words.now)) }
     ensures order { (D.state desk.old).tells ≡ true → IfErr result (DetailsInOrder (D.state desk.old).files (detail_seen words.now)) }
@@ -154,6 +158,7 @@ fn finish<D: Desk>(alloc: Global, words: &DetailWords, shown: &Shown, desk: &mut
     ensures none { result.verdict ≡ None }
     ensures fault { IfSome result.fault IsOfSaying }
     ensures drawn { HasDetail (Some (details (detail_seen words.now))) result.fault (is_some result.detail) }
+    ensures made { IfSome (pieces_told result.detail) (λ pieces. (page : List ℕ) × IsDrawnOf shown.now.job shown.now.solid words.now.view words.now.window words.now.scale pieces page) }
     ensures files { (D.state desk.old).tells ≡ true →
         LeavesDrawn (IsDrawnOf shown.now.job shown.now.solid words.now.view words.now.window words.now.scale) words.now.out result.fault (pieces_told result.detail) (D.state desk.old).files (D.state desk.new).files }
     ensures writes { CountsWrites result.fault (D.state desk.old).write_faults (D.state desk.new).write_faults }
@@ -172,6 +177,7 @@ pub(crate) fn detail<D: Desk>(alloc: Global, words: &DetailWords, desk: &mut D) 
     ensures status { result.status ≡ status_of result.fault result.verdict }
     ensures none { result.verdict ≡ None }
     ensures drawn { HasDetail (Some (details (detail_seen words.now))) result.fault (is_some result.detail) }
+    ensures taken { IfSome (pieces_told result.detail) (ArePiecesTaken D.fetches D.state (Some (details (detail_seen words.now))) desk.old desk.new) }
     ensures files { (D.state desk.old).tells ≡ true →
         KeepsPage (Some (details (detail_seen words.now))) result.fault (pieces_told result.detail) (D.state desk.old).files (D.state desk.new).files }
     ensures refused { IfSome result.fault (λ e. IsRefusal e → OnlyReads (D.state desk.old) (D.state desk.new)) }

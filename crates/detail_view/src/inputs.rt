@@ -1,17 +1,19 @@
 // Takes a job, a part and a list from a desk.
-ghost use Rattle.std.specs.Prelude.{◌≡◌, ◌≤◌, true, length, Some, IfErr};
+ghost use Rattle.std.specs.Prelude.{◌≡◌, ◌≤◌, ℕ, List, true, length, Some, IfOk, IfErr};
 ghost use Rattle.std.specs.Result.{result_err};
 ghost use Rattle.desk.specs.Files.{OnlyReads};
 ghost use Rattle.job_file.specs.Seen.{job_seen};
 ghost use Rattle.solid_mesh.specs.Solids.{solid_part};
 ghost use Rattle.part_input.specs.Jobs.{TakesReadJob};
 ghost use Rattle.part_input.specs.Causes.{unread};
+ghost use Rattle.part_input.specs.Taken.{IsJobTaken, IsPartTaken};
 ghost use Rattle.detail_view.specs.Faults.{cause_of, fault_of};
 ghost use Rattle.detail_view.specs.inner.Steps.{CountsReads};
 ghost use Rattle.detail_view.specs.Steps.{Lifted};
 ghost use Rattle.detail_view.specs.inner.Steps.{GivesPieces, IsMissing};
 ghost use Rattle.detail_view.specs.Run.{ReadsList, TakesPart, TakesReadList, IsOfJob, IsOfPartNamed, IsOfList};
 ghost use Rattle.detail_view.specs.inner.Judging.{GivesEntries};
+ghost use Rattle.detail_view.specs.inner.Taking.{IsListTaken};
 
 use crate::fault::PiecesFault;
 use dec_text::Name;
@@ -40,6 +42,7 @@ pub(crate) fn take_job<D: Desk>(
 ) -> Result<Job, PiecesFault>
     ensures answer { (D.state desk.old).tells ≡ true →
         GivesPieces job_seen (Lifted (TakesReadJob (D.state desk.old).files (Some name.now))) result }
+    ensures taken { IfOk result (λ job. (text : List ℕ) × IsJobTaken D.fetches name.now desk.old desk.new text (job_seen job)) }
     ensures of_job { IfErr result IsOfJob }
     ensures reads { CountsReads (result_err result) (D.state desk.old).read_faults (D.state desk.new).read_faults }
     ensures missing { (D.state desk.old).steady ≡ true →
@@ -61,6 +64,7 @@ pub(crate) fn take_solid<D: Desk>(
 ) -> Result<Solid, PiecesFault>
     ensures answer { (D.state desk.old).tells ≡ true →
         GivesPieces solid_part (TakesPart (D.state desk.old).files name.now (job_seen job.now)) result }
+    ensures taken { IfOk result (λ solid. (text : List ℕ) × IsPartTaken D.fetches name.now job.now.decimals job.now.unit desk.old desk.new text (solid_part solid)) }
     ensures of_part { IfErr result (IsOfPartNamed name.now) }
     ensures reads { CountsReads (result_err result) (D.state desk.old).read_faults (D.state desk.new).read_faults }
     ensures missing { (D.state desk.old).steady ≡ true →
@@ -94,6 +98,7 @@ pub(crate) fn take_list<D: Desk>(
     desk: &mut D,
 ) -> Result<PieceList, PiecesFault>
     ensures answer { (D.state desk.old).tells ≡ true → GivesEntries (TakesReadList (D.state desk.old).files name.now) result }
+    ensures taken { IfOk result (IsListTaken D.fetches name.now desk.old desk.new) }
     ensures of_list { IfErr result IsOfList }
     ensures reads { CountsReads (result_err result) (D.state desk.old).read_faults (D.state desk.new).read_faults }
     ensures missing { (D.state desk.old).steady ≡ true → IfErr result (IsMissing (TakesReadList (D.state desk.old).files name.now)) }

@@ -12,3 +12,4 @@ pub mod Saying
 pub mod StrokeLists
 pub mod Unmet
 pub mod Warned
+pub mod SomeRun

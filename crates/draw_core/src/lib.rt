@@ -1,6 +1,7 @@
 //! The top call: from the words and a desk to a drawing.
 #![tactic(auto)]
 
+mod answers;
 mod keep;
 mod lines;
 mod made;
@@ -12,6 +13,7 @@ mod run;
 mod summary;
 mod take;
 
+pub use answers::runs_have_answers;
 pub use drawing::{CellMeter, Drawing, Meter, ViewDrawing};
 pub use edge_pick::Picked;
 pub use lines::MEMORY_LINE;

@@ -9,3 +9,6 @@ pub mod OneSheet
 pub mod Samples
 pub mod Singles
 pub mod There
+pub mod SomeSteps
+pub mod SoundSamples
+pub mod Takings

@@ -1,16 +1,19 @@
 -- Which faults are whose, and a fault of reading is that of a missing file.
 use Rattle.std.proofs.Common.{◌≡◌, ℕ, List, Option, Some, None, IsSome, Result, Ok, Err, inl, refl, sym, subst}
-use Rattle.std.specs.Prelude.{◌↔◌, IfErr, IfSome, IsErrOf}
+use Rattle.std.specs.Prelude.{◌↔◌, IfErr, IsErrOf}
 use Rattle.dec_text.specs.declared.number.Length.{Length}
 use Rattle.desk.specs.Files.{Files}
 use Rattle.part_input.specs.Jobs.{TakesReadJob, IsOfJobFile}
-use Rattle.part_input.specs.Parts.{sample_size, cubes_along, TakesSoupOr, TakesSoup, TakesSolid, HasSize, IsOfSoupOr, IsOfSoup, IsOfSampleOr, IsOfPart}
-use Rattle.part_input.specs.Steps.{IsMissing}
+use Rattle.geometry.specs.Parts.{Part}
+use Rattle.part_input.specs.Parts.{sample_size, ChecksPart, TakesSoupOr, TakesSoup, TakesSolid, IsOfSoupOr, IsOfSoup, IsOfSampleOr, IsOfPart}
+use Rattle.part_input.specs.Steps.{GivesInput, IsMissing, Refuses}
 use Rattle.part_input.specs.inner.Texts.{IsOfMesh}
 use Rattle.part_input.specs.declared.fault.Input.{Input}
 use Rattle.part_input.specs.declared.fault.Input.TheVariants.{Job as TheJob, Part as ThePart}
 use Rattle.part_input.specs.declared.fault.Fault.{Fault}
-use Rattle.part_input.specs.declared.fault.Fault.TheVariants.{ReadFault, SampleRange, PartTooLong, Part as PartUnread, Nothing, Mesh, WriteFault, Memory}
+use Rattle.part_input.specs.declared.fault.Fault.TheVariants.{ReadFault, PartTooLong, Part as PartUnread, Nothing, Mesh, WriteFault, Memory}
+use Rattle.answers_unique.proofs.OneFault.{none_sound}
+use Rattle.part_input.proofs.SoundSamples.{sample_is_sound}
 use Rattle.part_input.proofs.Answered.{IsOfNoDesk, IsOfNoWriting}
 
 -- ---- jobs
@@ -50,16 +53,21 @@ soup_in_part None (PartUnread cause) h = tt
 soup_in_part None Nothing h = tt
 soup_in_part None Memory h = tt
 soup_in_part None e h = absurd h
-soup_in_part (Some size) SampleRange h = h
-soup_in_part (Some size) Memory h = tt
-soup_in_part (Some size) e h = absurd h
+soup_in_part (Some size) e h = h
 
-mesh_in_part : (size : Option (List ℕ)) → IfSome size (λ s. IsSome (cubes_along s)) → (e : Fault) → IsOfMesh e → IsOfSampleOr size e
-mesh_in_part None sized (Mesh fault) h = tt
-mesh_in_part None sized Memory h = tt
-mesh_in_part (Some size) sized (Mesh fault) h = sized
-mesh_in_part (Some size) sized Memory h = tt
-mesh_in_part size sized e h = absurd h
+-- the part of a sample is sound, so its check has no fault of a surface
+module _ (name : List ℕ) (decimals : ℕ) (unit : Length) (part : Part) where
+  checked_in : (size : Option (List ℕ)) → (IsSome size → (files : Files) → TakesSoupOr size files name decimals unit (Ok part)) → (e : Fault) → IsOfMesh e → Refuses (ChecksPart part) e → IsOfSampleOr size e
+  checked_in None made (Mesh fault) h refused = tt
+  checked_in None made Memory h refused = tt
+  checked_in (Some size) made (Mesh fault) h (other, same, has) = absurd (none_sound part other has (sample_is_sound size part (made refl (λ file. None))))
+  checked_in (Some size) made Memory h refused = tt
+  checked_in size made e h refused = absurd h
+
+  pub checked_of_part : {X : Type 0} (view : X → Part) → (IsSome (sample_size name) → (files : Files) → TakesSoup files name decimals unit (Ok part)) → (r : Result X Fault) → IfErr r IsOfMesh
+      → GivesInput view (ChecksPart part) r → IfErr r (IsOfPart name)
+  checked_of_part view made (Ok x) h given = tt
+  checked_of_part view made (Err e) h given = checked_in (sample_size name) made e h given
 
 -- the check is no fault of the desk
 pub mesh_no_desk : {X : Type 0} (r : Result X Fault) → IfErr r IsOfMesh → IfErr r IsOfNoDesk
@@ -71,9 +79,6 @@ mesh_no_desk (Err e) h = tt
 module _ (files : Files) (name : List ℕ) where
   pub of_soup : (e : Fault) → IsOfSoup name e → IsOfPart name e
   of_soup e h = soup_in_part (sample_size name) e h
-
-  pub of_mesh : HasSize name → (e : Fault) → IsOfMesh e → IsOfPart name e
-  of_mesh sized e h = mesh_in_part (sample_size name) sized e h
 
   module _ {X : Type 0} where
     pub soups : (r : Result X Fault) → IfErr r (IsOfSoup name) → IfErr r (IsOfPart name)

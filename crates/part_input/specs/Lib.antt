@@ -5,4 +5,5 @@ pub mod Parts
 pub mod Reading
 pub mod Sheets
 pub mod Steps
+pub mod Taken
 pub mod inner

@@ -1,5 +1,5 @@
 -- The part that a name stands for, a sample or the part of a file: what is taken, what it says, and what may be at fault.
-use Rattle.std.specs.Prelude.{◌≡◌, ◌<◌, ◌-◌, ◌&&◌, nat_le, ℕ, List, [], ◌∷◌, length, map, codes, Option, Some, None, IfSome, IsSome, IsSomeAnd, Result, Ok, Err, if◌then◌else◌}
+use Rattle.std.specs.Prelude.{◌≡◌, ◌<◌, ◌-◌, ◌&&◌, nat_le, ℕ, List, [], ◌∷◌, length, map, codes, Option, Some, None, IsSome, IsSomeAnd, Result, Ok, Err, if◌then◌else◌}
 use Rattle.dec_text.specs.declared.number.Length.{Length}
 use Rattle.desk.specs.Files.{Files}
 use Rattle.command_words.specs.Grammar.{behind}
@@ -71,10 +71,6 @@ TakesSoup files name decimals unit = TakesSoupOr (sample_size name) files name d
 abbrev pub TakesSolid : Files → List ℕ → ℕ → Length → Result Part Fault → Type 0
 TakesSolid files name decimals unit = TakesSoup files name decimals unit and_then ChecksPart
 
--- a sample has a size
-abbrev pub HasSize : List ℕ → Type 0
-HasSize name = IfSome (sample_size name) (λ size. IsSome (cubes_along size))
-
 -- ---- faults
 -- those of making a sample of this size, and those of the text of a file
 abbrev pub IsOfSize : List ℕ → Fault → Type 0
@@ -98,13 +94,7 @@ IsOfSoupOr None fault = IsOfPartText fault
 abbrev pub IsOfSoup : List ℕ → Fault → Type 0
 IsOfSoup name fault = IsOfSoupOr (sample_size name) fault
 
--- the faults of a sample of this size, and those of a file
-abbrev pub IsOfSample : List ℕ → Fault → Type 0
-IsOfSample size SampleRange = cubes_along size ≡ None
-IsOfSample size (Mesh fault) = IsSome (cubes_along size)
-IsOfSample size Memory = Unit {0}
-IsOfSample size fault = ⊥
-
+-- the faults of the part of a file
 abbrev pub IsOfPartFile : Fault → Type 0
 IsOfPartFile (ReadFault ThePart) = Unit {0}
 IsOfPartFile PartTooLong = Unit {0}
@@ -115,10 +105,10 @@ IsOfPartFile Memory = Unit {0}
 IsOfPartFile fault = ⊥
 
 abbrev pub IsOfSampleOr : Option (List ℕ) → Fault → Type 0
-IsOfSampleOr (Some size) fault = IsOfSample size fault
+IsOfSampleOr (Some size) fault = IsOfSize size fault
 IsOfSampleOr None fault = IsOfPartFile fault
 
--- the faults of the part that a name stands for
+-- the faults of the part that a name stands for: a sample, which is sound, has none of a surface
 abbrev pub IsOfPart : List ℕ → Fault → Type 0
 IsOfPart name fault = IsOfSampleOr (sample_size name) fault
 

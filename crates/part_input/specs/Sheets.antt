@@ -5,8 +5,10 @@ use Rattle.job_file.specs.Documents.{JobValues}
 use Rattle.job_file.specs.declared.job.Job.{Job}
 use Rattle.lattice.specs.declared.points.Corner.{Corner}
 use Rattle.sheet_plan.specs.JobSheets.{Drawn, HasNoRoomFor, HasSheet, HasNoSheet}
-use Rattle.part_input.specs.Jobs.{ReadsJob}
-use Rattle.part_input.specs.Parts.{MakesSample, sample_size}
+use Rattle.desk.specs.Files.{Files}
+use Rattle.part_input.specs.Jobs.{ReadsJob, TakesReadJob}
+use Rattle.part_input.specs.Parts.{MakesSample, TakesSolid, sample_size}
+use Rattle.part_input.specs.Steps.{◌and_then◌}
 use Rattle.part_input.specs.declared.fault.Fault.{Fault}
 use Rattle.part_input.specs.declared.fault.Fault.TheVariants.{DoesNotFit, Memory}
 
@@ -15,6 +17,11 @@ abbrev pub PlansSheet : JobValues → Part → Result Drawn Fault → Type 0
 PlansSheet job part (Ok drawn) = (drawn ≡ record { job = job; part = part }) × HasSheet job part.corners
 PlansSheet job part (Err (DoesNotFit need_w need_h have_w have_h)) = HasNoSheet job part.corners need_w need_h have_w have_h
 PlansSheet job part (Err e) = ⊥
+
+-- the job that was named or the usual one, the part, and the sheet
+abbrev pub DrawsPart : Files → List ℕ → Option (List ℕ) → Result Drawn Fault → Type 0
+DrawsPart files part job =
+    TakesReadJob files job and_then λ values. (TakesSolid files part values.decimals values.unit and_then PlansSheet values)
 
 -- the fault of a sheet
 abbrev pub IsOfSheet : Fault → Type 0

@@ -9,6 +9,10 @@ abbrev pub ◌and_then◌ : {A B F : Type 0} → (Result A F → Type 0) → (A 
 ◌and_then◌ {A} first next (Ok y) = (x : A) × first (Ok x) × next x (Ok y)
 ◌and_then◌ {A} first next (Err e) = first (Err e) ⊎ ((x : A) × first (Ok x) × next x (Err e))
 
+-- there is an answer to them
+abbrev pub HasAnswer : {A F : Type 0} → (Result A F → Type 0) → Type 0
+HasAnswer {A} {F} steps = (r : Result A F) × steps r
+
 -- ---- refusals
 -- Want of memory is free, and a fault of reading or writing has its count; each other refusal is that of the steps.
 abbrev pub RefusesBy : Cause → Type 0 → Type 0

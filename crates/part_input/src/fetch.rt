@@ -1,7 +1,8 @@
 // Fetches a file from a desk, a block at a time.
-ghost use Rattle.std.specs.Prelude.{◌≡◌, ◌<◌, ◌≤◌, ◌+◌, ◌↔◌, true, length, None, Some, vec_len, IfOk, IsErrOf, IsSomeAnd};
+ghost use Rattle.std.specs.Prelude.{◌≡◌, ◌<◌, ◌≤◌, ◌+◌, ◌++◌, ◌↔◌, ℕ, List, true, length, None, Some, vec_len, IfOk, IsErrOf, IsSomeAnd};
 ghost use Rattle.desk.specs.Files.{OnlyReads, Rose};
-ghost use Rattle.part_input.specs.inner.Fetch.{IsFetchedOnto};
+ghost use Rattle.desk.specs.Taken.{IsTaken};
+ghost use Rattle.part_input.specs.inner.Fetch.{IsFetchedOnto, AddsFetched};
 ghost use Rattle.part_input.specs.declared.fetch.FetchFault.TheVariants.{Memory};
 
 use desk::{Desk, Failed};
@@ -34,6 +35,7 @@ fn fetch_block<D: Desk>(desk: &mut D, name: &str, out: &mut Vec<u8>) -> Result<u
     ensures took { (D.state desk.old).tells ≡ true →
         IfOk result (λ n. IsFetchedOnto ((D.state desk.old).files name.now) out.old.items n out.new.items) }
     ensures count { IfOk result (λ n. (vec_len out.new ≡ vec_len out.old + n) × (n ≤ BLOCK)) }
+    ensures fetched { IfOk result (λ n. AddsFetched D.fetches name.now desk.old desk.new out.old.items n out.new.items) }
     ensures not_long { IsErrOf result FetchFault.TooLong → ⊥ }
     ensures changes { OnlyReads (D.state desk.old) (D.state desk.new) }
     ensures cause { IsErrOf result FetchFault.Failed →
@@ -64,6 +66,7 @@ pub(crate) fn fetch_all<D: Desk>(
     ensures took { (D.state desk.old).tells ≡ true →
         IfOk result (λ bytes. (D.state desk.old).files name.now ≡ Some bytes.items) }
     ensures within { IfOk result (λ bytes. vec_len bytes ≤ limit) }
+    ensures taken { IfOk result (λ bytes. IsTaken D.fetches name.now desk.old desk.new bytes.items) }
     ensures too_long { (D.state desk.old).tells ≡ true → IsErrOf result FetchFault.TooLong →
         IsSomeAnd ((D.state desk.old).files name.now) (λ bytes. limit < length bytes) }
     ensures changes { OnlyReads (D.state desk.old) (D.state desk.new) }

@@ -1,11 +1,12 @@
 // Takes a job from a desk.
-ghost use Rattle.std.specs.Prelude.{◌≡◌, ◌↔◌, true, IsSome, None, Some, IfErr, IsErrOf};
+ghost use Rattle.std.specs.Prelude.{◌≡◌, ◌↔◌, ℕ, List, true, IsSome, None, Some, IfOk, IfErr, IsErrOf};
 ghost use Rattle.std.specs.Result.{result_err};
 ghost use Rattle.desk.specs.Files.{OnlyReads, Rose};
 ghost use Rattle.job_file.specs.Seen.{job_seen};
 ghost use Rattle.part_input.specs.Faults.{CountsReads};
 ghost use Rattle.part_input.specs.Jobs.{ReadsJob, TakesReadJob, IsOfJobFile};
 ghost use Rattle.part_input.specs.Steps.{GivesInput, IsAnswerOf};
+ghost use Rattle.part_input.specs.Taken.{IsJobTaken};
 
 use crate::fault::{Fault, Input};
 use crate::fetch::{FetchFault, fetch_all};
@@ -34,6 +35,7 @@ fn job_of(alloc: Global, bytes: &[u8]) -> Result<Job, Fault>
 fn job_of_file<D: Desk>(alloc: Global, name: &Name, desk: &mut D) -> Result<Job, Fault>
     ensures answer { (D.state desk.old).tells ≡ true →
         GivesInput job_seen (TakesReadJob (D.state desk.old).files (Some name.now)) result }
+    ensures taken { IfOk result (λ job. (text : List ℕ) × IsJobTaken D.fetches name.now desk.old desk.new text (job_seen job)) }
     ensures of_job { IfErr result IsOfJobFile }
     ensures reads { CountsReads (result_err result) (D.state desk.old).read_faults (D.state desk.new).read_faults }
     ensures missing { (D.state desk.old).steady ≡ true →
@@ -54,6 +56,9 @@ pub fn fetch_job<D: Desk>(alloc: Global, name: &Name, desk: &mut D) -> Result<Jo
     ensures answer { (D.state desk.old).tells ≡ true →
         GivesInput job_seen (TakesReadJob (D.state desk.old).files (Some name.now)) result }
     ensures of_job { IfErr result IsOfJobFile }
+
+    // On every desk it is that of the bytes that the desk gave, from the first to the last, and nothing else was fetched.
+    ensures taken { IfOk result (λ job. (text : List ℕ) × IsJobTaken D.fetches name.now desk.old desk.new text (job_seen job)) }
 
     // Where no fault of reading was counted, the answer is that of the file, or want of memory; on a steady desk always.
     ensures complete { (D.state desk.old).tells ≡ true →

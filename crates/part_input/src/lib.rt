@@ -1,6 +1,8 @@
-//! The reading of a job, of a part and of a list from a desk, the sheet of both, the faults of a run, and its status.
+//! The reading of a job, of a part and of a list from a desk, the sheet of both, the faults of a run, and its status; and that each of
+//! these steps has an answer.
 #![tactic(auto)]
 
+mod answers;
 mod fault;
 mod fetch;
 mod job;
@@ -11,6 +13,7 @@ mod solid;
 mod soup;
 mod usual;
 
+pub use answers::steps_have_answers;
 pub use fault::{Fault, Input, Target};
 pub use fetch::FetchFault;
 pub use job::fetch_job;

@@ -1,5 +1,5 @@
 // The part that a name `sample:N` stands for: it is made, and nothing is fetched.
-ghost use Rattle.std.specs.Prelude.{◌≡◌, ◌<◌, ◌≤◌, length, option_copied, IfOk, IfErr, IsSome};
+ghost use Rattle.std.specs.Prelude.{◌≡◌, ◌<◌, ◌≤◌, length, option_copied, IfOk, IfErr};
 ghost use Rattle.geometry.specs.Parts.{part_of};
 ghost use Rattle.part_input.specs.Parts.{sample_size, cubes_along, MakesSample, IsOfSize};
 ghost use Rattle.part_input.specs.Steps.{GivesInput};
@@ -30,7 +30,6 @@ fn cubes_along(size: &str) -> Option<u32>
 pub(crate) fn sample_soup(alloc: Global, size: &str) -> Result<Soup, Fault>
     ensures answer { GivesInput part_of (MakesSample size.now) result }
     ensures of_size { IfErr result (IsOfSize size.now) }
-    ensures sized { IfOk result (λ _. IsSome (cubes_along size.now)) }
     ensures some_triangle { IfOk result (λ soup. 0 < length (part_of soup).triangles) }
     ensures few_corners { IfOk result (λ soup. length (part_of soup).corners ≤ 60000) }
     ensures few_triangles { IfOk result (λ soup. length (part_of soup).triangles ≤ 20000) }

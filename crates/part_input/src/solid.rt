@@ -1,12 +1,14 @@
 // Takes a part from a desk, or makes a sample.
-ghost use Rattle.std.specs.Prelude.{◌≡◌, ◌<◌, ◌≤◌, ◌↔◌, true, length, None, IfOk, IfErr, IsErrOf, IsSome};
+ghost use Rattle.std.specs.Prelude.{◌≡◌, ◌<◌, ◌≤◌, ◌↔◌, ℕ, List, true, length, None, Ok, IfOk, IfErr, IsErrOf, IsSome};
+ghost use Rattle.desk.specs.Taken.{IsTaken, all_hold};
 ghost use Rattle.std.specs.Result.{result_err};
 ghost use Rattle.desk.specs.Files.{Files, OnlyReads, Rose};
 ghost use Rattle.geometry.specs.Parts.{part_of};
 ghost use Rattle.solid_mesh.specs.Solids.{solid_part};
 ghost use Rattle.part_input.specs.Faults.{CountsReads};
-ghost use Rattle.part_input.specs.Parts.{ChecksPart, TakesSoupOr, TakesSoup, TakesSolid, sample_size, HasSize, IsOfPartText, IsOfSoup, IsOfPart, HasSampleOr};
+ghost use Rattle.part_input.specs.Parts.{ChecksPart, TakesSoupOr, TakesSoup, TakesSolid, sample_size, IsOfPartText, IsOfSoup, IsOfPart, HasSampleOr};
 ghost use Rattle.part_input.specs.Steps.{GivesInput, IsAnswerOf};
+ghost use Rattle.part_input.specs.Taken.{IsSoupTaken, IsPartTaken};
 ghost use Rattle.part_input.specs.inner.Texts.{IsOfMesh};
 
 use crate::fault::{Fault, Input};
@@ -34,6 +36,7 @@ fn file_soup<D: Desk>(
     requires { decimals ≤ 6 }
     ensures answer { (D.state desk.old).tells ≡ true →
         GivesInput part_of (TakesSoupOr None (D.state desk.old).files name.now decimals unit) result }
+    ensures taken { IfOk result (λ soup. (text : List ℕ) × IsTaken D.fetches name.now desk.old desk.new text × TakesSoupOr None (all_hold text) name.now decimals unit (Ok (part_of soup))) }
     ensures of_text { IfErr result IsOfPartText }
     ensures some_triangle { IfOk result (λ soup. 0 < length (part_of soup).triangles) }
     ensures few_corners { IfOk result (λ soup. length (part_of soup).corners ≤ 60000) }
@@ -60,9 +63,9 @@ fn sample_or_file<D: Desk>(
 ) -> Result<Soup, Fault>
     ensures answer { (D.state desk.old).tells ≡ true →
         GivesInput part_of (TakesSoup (D.state desk.old).files name.now job.now.decimals job.now.unit) result }
+    ensures taken { IfOk result (λ soup. (text : List ℕ) × IsSoupTaken D.fetches name.now job.now.decimals job.now.unit desk.old desk.new text (part_of soup)) }
     ensures sample { IsSome (sample_size name.now) → (files : Files) → GivesInput part_of (TakesSoup files name.now job.now.decimals job.now.unit) result }
     ensures of_soup { IfErr result (IsOfSoup name.now) }
-    ensures sized { IfOk result (λ _. HasSize name.now) }
     ensures some_triangle { IfOk result (λ soup. 0 < length (part_of soup).triangles) }
     ensures few_corners { IfOk result (λ soup. length (part_of soup).corners ≤ 60000) }
     ensures few_triangles { IfOk result (λ soup. length (part_of soup).triangles ≤ 20000) }
@@ -94,8 +97,10 @@ pub fn fetch_soup<D: Desk>(
     ensures sample { IsSome (sample_size name.now) → (files : Files) →
         GivesInput part_of (TakesSoup files name.now job.now.decimals job.now.unit) result }
 
+    // On every desk it is that of the bytes that the desk gave, from the first to the last, and nothing else was fetched.
+    ensures taken { IfOk result (λ soup. (text : List ℕ) × IsSoupTaken D.fetches name.now job.now.decimals job.now.unit desk.old desk.new text (part_of soup)) }
+
     // It may be checked.
-    ensures sized { IfOk result (λ _. HasSize name.now) }
     ensures some_triangle { IfOk result (λ soup. 0 < length (part_of soup).triangles) }
     ensures few_corners { IfOk result (λ soup. length (part_of soup).corners ≤ 60000) }
     ensures few_triangles { IfOk result (λ soup. length (part_of soup).triangles ≤ 20000) }
@@ -145,11 +150,13 @@ pub fn fetch_solid<D: Desk>(
     ensures answer { (D.state desk.old).tells ≡ true →
         GivesInput solid_part (TakesSolid (D.state desk.old).files name.now job.now.decimals job.now.unit) result }
     ensures of_part { IfErr result (IsOfPart name.now) }
-    ensures sized { IfOk result (λ _. HasSize name.now) }
 
     // A sample is that of its size on every desk, whatever files there are.
     ensures sample { IsSome (sample_size name.now) → (files : Files) →
         GivesInput solid_part (TakesSolid files name.now job.now.decimals job.now.unit) result }
+
+    // On every desk it is that of the bytes that the desk gave, from the first to the last, and nothing else was fetched.
+    ensures taken { IfOk result (λ solid. (text : List ℕ) × IsPartTaken D.fetches name.now job.now.decimals job.now.unit desk.old desk.new text (solid_part solid)) }
 
     // Where no fault of reading was counted, the answer is that of the name, or want of memory; on a steady desk always.
     ensures complete { (D.state desk.old).tells ≡ true →

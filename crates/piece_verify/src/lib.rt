@@ -21,4 +21,4 @@ mod split;
 
 pub use check::{Verdict, check_list, view_dir, view_strips};
 pub use line::Entry;
-pub use list::{ListError, ListFault, PieceList, read_list};
+pub use list::{ListError, ListFault, PieceList, list_fault, read_list};

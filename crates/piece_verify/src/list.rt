@@ -1,5 +1,5 @@
 // Reading a piece list.
-ghost use Rattle.std.specs.Prelude.{◌≡◌, ◌<◌, ◌≤◌, ◌^◌, length, List, Err, IfOk};
+ghost use Rattle.std.specs.Prelude.{◌≡◌, ◌<◌, ◌≤◌, ◌^◌, length, List, Err, IfNone, IfOk, IfSome};
 ghost use Rattle.std.specs.List.{AllZip};
 ghost use Rattle.sheet_plan.specs.declared.sheet.Stroke.{Stroke};
 ghost use Rattle.piece_verify.specs.ListLines.{IsEntryOf};
@@ -83,4 +83,27 @@ pub fn read_list(alloc: Global, bytes: &[u8]) -> Result<PieceList, ListError>
         rest = behind;
     }
     Ok(PieceList { entries })
+}
+
+/// The first line at which the text can't be a list, if there is one. It takes no memory: so each text of this length is a list, or has
+/// such a line. One pass over the text, as `read_list`.
+pub fn list_fault(bytes: &[u8]) -> Option<ListFault>
+    requires { length bytes.now ≤ 16777216 }
+    ensures list { IfNone result ((strokes : List Stroke) × IsList bytes.now strokes) }
+    ensures fault { IfSome result (λ f. IsFaultLine bytes.now f.line) }
+{
+    let Some(mut rest) = read_page(bytes) else {
+        return Some(ListFault { line: 1 });
+    };
+    let mut least = 0;
+    let mut line = 2;
+    while !rest.is_empty() {
+        let Some((entry, behind)) = read_entry(rest, least) else {
+            return Some(ListFault { line });
+        };
+        least = entry.view;
+        rest = behind;
+        line += 1;
+    }
+    None
 }

@@ -1,5 +1,5 @@
 -- Texts that are put one after the other, each where it goes.
-use Rattle.std.specs.Prelude.{◌≡◌, ◌⊎◌, ◌++◌, ℕ, List, [], ◌∷◌, Option, None, Some}
+use Rattle.std.specs.Prelude.{◌≡◌, ◌⊎◌, ◌++◌, ℕ, List, [], ◌∷◌, All, Option, None, Some}
 use Rattle.desk.specs.Files.{Files, Keeps, MayKeepFront, AppendsFront}
 use Rattle.part_input.specs.Causes.{Cause, Faults, unwritten, wanting}
 
@@ -75,6 +75,14 @@ KeepsTexts faults fault texts old new = InOrder faults KeepsText KeepsTextPart f
 
 abbrev pub SaysTexts : {F : Type 0} → Faults F → Option F → List (Text F) → List ℕ → List ℕ → Type 0
 SaysTexts faults fault texts old new = InOrder faults SaysText SaysTextPart fault texts old new
+
+-- a text that goes under a name is held there
+abbrev pub HoldsText : Way → List ℕ → Files → Type 0
+HoldsText (under name) bytes files = files name ≡ Some bytes
+HoldsText way bytes files = Unit {0}
+
+abbrev pub HoldTexts : {F : Type 0} → List (Text F) → Files → Type 0
+HoldTexts texts files = All (λ t. HoldsText t.way t.bytes files) texts
 
 -- ---- on every desk
 -- what isn't kept touches no file, and what isn't said adds nothing to what was said

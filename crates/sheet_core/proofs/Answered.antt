@@ -2,7 +2,7 @@
 use Rattle.std.proofs.Common.{◌≡◌, inl, inr, ℕ, List, Option, Some, None, Ok, Err, refl, sym, subst}
 use Rattle.desk.specs.Files.{Files}
 use Rattle.part_input.specs.Causes.{unread, unwritten}
-use Rattle.part_input.specs.Sheets.{NamesNoFile, PlansSheet}
+use Rattle.part_input.specs.Sheets.{DrawsPart, NamesNoFile, PlansSheet}
 use Rattle.part_input.specs.Jobs.{TakesJob, ReadsJob, TakesReadJob}
 use Rattle.part_input.specs.Parts.{TakesSolid, sample_size}
 use Rattle.part_input.specs.Steps.{◌and_then◌}
@@ -17,7 +17,7 @@ use Rattle.put_texts.proofs.Runs.{IsLawful, settled_steps}
 use Rattle.sheet_core.specs.Faults.{cause_of}
 use Rattle.sheet_core.specs.declared.fault.SheetFault.{SheetFault}
 use Rattle.sheet_core.specs.declared.fault.SheetFault.TheVariants.{Common, WriteList}
-use Rattle.sheet_core.specs.Run.{AnswersSheetWords, DrawsPart, HasFiles, HasFilesAsked, IsOfFiles, IsOfJob, Lifted, NamesNoFileAsked, RunsSheet, sheet_task}
+use Rattle.sheet_core.specs.Run.{AnswersSheetWords, HasFiles, HasFilesAsked, IsOfFiles, IsOfJob, Lifted, NamesNoFileAsked, RunsSheet, sheet_task}
 use Rattle.sheet_core.proofs.OneAnswer.{lifted_single, one_answer}
 use Rattle.sheet_core.specs.inner.Shortage.{short_alone}
 use Rattle.sheet_plan.specs.JobSheets.{Drawn}

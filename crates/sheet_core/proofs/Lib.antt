@@ -9,3 +9,5 @@ pub mod Taking
 pub mod Told
 pub mod Warned
 pub mod Digits
+pub mod SomeRun
+pub mod HeldTexts

@@ -1,14 +1,14 @@
 -- A run has one answer: each of its steps has, and so have steps in order.
 use Rattle.std.proofs.Common.{◌≡◌, ℕ, List, Option, None, Some, Result, Ok, Err, sym, ap, ◌∙◌}
 use Rattle.desk.specs.Files.{Files}
-use Rattle.part_input.specs.Sheets.{PlansSheet}
+use Rattle.part_input.specs.Sheets.{DrawsPart, PlansSheet}
 use Rattle.part_input.proofs.OneSheet.{plan_single}
 use Rattle.part_input.specs.Jobs.{TakesReadJob}
 use Rattle.part_input.specs.Parts.{TakesSolid}
 use Rattle.part_input.specs.Steps.{◌and_then◌}
 use Rattle.part_input.specs.declared.fault.Fault.{Fault}
 use Rattle.part_input.proofs.Singles.{IsSingle, single_then, not_both, same_fault, same_value, named_job_single, solid_single}
-use Rattle.sheet_core.specs.Run.{DrawsPart, Lifted, RunsSheet}
+use Rattle.sheet_core.specs.Run.{Lifted, RunsSheet}
 use Rattle.sheet_core.specs.declared.fault.SheetFault.TheVariants.{Common, WriteList}
 use Rattle.sheet_words.specs.Names.{Asks, help, version, sheet}
 

@@ -11,9 +11,8 @@ use Rattle.geometry.specs.Parts.{Part}
 use Rattle.job_file.specs.Documents.{JobValues}
 use Rattle.part_input.specs.Faults.{CountsReads}
 use Rattle.part_input.specs.Jobs.{TakesReadJob}
-use Rattle.part_input.specs.Parts.{HasSize, IsOfPart, IsOfSoup, IsOfSoupOr, TakesSoup, sample_size}
+use Rattle.part_input.specs.Parts.{IsOfSoup, IsOfSoupOr, TakesSoup, sample_size}
 use Rattle.part_input.specs.inner.Texts.{IsOfMesh}
-use Rattle.part_input.proofs.Missing.{of_mesh}
 use Rattle.part_input.specs.declared.fault.Input.TheVariants.{Part as ThePart}
 use Rattle.part_input.specs.declared.fault.Fault.{Fault}
 use Rattle.part_input.specs.declared.fault.Fault.TheVariants.{ReadFault, Mesh}
@@ -76,11 +75,6 @@ module _ (named : Named) (old between : DeskState) (same : OnlyReads old between
   place_for e place h = h
 
 -- ---- the check of a surface
-module _ {T : Type 0} (files : Files) (name : List ℕ) where
-  pub mesh_of_part : HasSize name → (r : Result T Fault) → IfErr r IsOfMesh → IfErr r (IsOfPart name)
-  mesh_of_part sized (Ok x) h = tt
-  mesh_of_part sized (Err e) h = of_mesh files name sized e h
-
 pub mesh_counts : {T : Type 0} (r : Result T Fault) (old new : ℕ) → IfErr r IsOfMesh → new ≡ old → CountsReads (result_err r) old new
 mesh_counts (Ok x) old new h same = same
 mesh_counts (Err (ReadFault input)) old new h same = absurd h

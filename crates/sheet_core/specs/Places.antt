@@ -25,6 +25,6 @@ mm_text decimals (pos n) = length_text decimals n
 mm_text decimals (negsuc n) = codes "-" ⊕ length_text decimals (suc n)
 
 -- a place in mm
-abbrev pub near_text : FaultPlace → List ℕ
-near_text place =
-    codes "near (" ⊕ mm_text place.decimals place.corner.x ⊕ codes ", " ⊕ mm_text place.decimals place.corner.y ⊕ codes ", " ⊕ mm_text place.decimals place.corner.z ⊕ codes ") mm"
+abbrev pub point_text : FaultPlace → List ℕ
+point_text place =
+    codes "(" ⊕ mm_text place.decimals place.corner.x ⊕ codes ", " ⊕ mm_text place.decimals place.corner.y ⊕ codes ", " ⊕ mm_text place.decimals place.corner.z ⊕ codes ") mm"

@@ -11,7 +11,7 @@ use Rattle.part_input.specs.declared.fault.Fault.TheVariants.{Usage, ReadFault, 
 use Rattle.part_input.specs.declared.fault.Input.TheVariants as input
 use Rattle.part_input.specs.declared.fault.Target.{Target}
 use Rattle.part_input.specs.declared.fault.Target.TheVariants as target
-use Rattle.sheet_core.specs.Places.{mm_text, near_text}
+use Rattle.sheet_core.specs.Places.{mm_text, point_text}
 use Rattle.sheet_core.specs.declared.fault.SheetFault.{SheetFault}
 use Rattle.sheet_core.specs.declared.fault.SheetFault.TheVariants.{Common, WriteList}
 use Rattle.sheet_core.specs.declared.place.FaultPlace.{FaultPlace}
@@ -65,14 +65,22 @@ mesh_text (Unpaired t side) = codes "side " ⊕ decimal side ⊕ codes " of tria
 mesh_text (Double a b) = codes "triangles " ⊕ decimal a ⊕ codes " and " ⊕ decimal b ⊕ codes " have the same corners"
 mesh_text (Meet e t) = codes "edge " ⊕ decimal e ⊕ codes " meets triangle " ⊕ decimal t
 
--- and near which place, if one is given
-abbrev pub placed_text : Option FaultPlace → List ℕ
-placed_text None = []
-placed_text (Some place) = codes ", " ⊕ near_text place
+-- the place where an edge meets a triangle is in both; the one of another fault is near it
+abbrev pub nearness : MeshFault → List ℕ
+nearness (Flat t) = codes "near"
+nearness (SameWay a b) = codes "near"
+nearness (Unpaired t side) = codes "near"
+nearness (Double a b) = codes "near"
+nearness (Meet e t) = codes "at"
+
+-- and where, if a place is given
+abbrev pub placed_text : Option FaultPlace → MeshFault → List ℕ
+placed_text None fault = []
+placed_text (Some place) fault = codes ", " ⊕ nearness fault ⊕ codes " " ⊕ point_text place
 
 -- and where the mending is told
 abbrev pub surface_text : Option FaultPlace → MeshFault → List ℕ
-surface_text place fault = mesh_text fault ⊕ placed_text place ⊕ codes ": docs/from-cad.md says how it is mended"
+surface_text place fault = mesh_text fault ⊕ placed_text place fault ⊕ codes ": docs/from-cad.md says how it is mended"
 
 -- what the views need, and what the sheet has, from hundredths of a millimetre
 abbrev pub size_text : ℤ → ℤ → List ℕ

@@ -4,10 +4,10 @@ use Rattle.desk.specs.Files.{Files}
 use Rattle.drawing.specs.Drawing.{drawn_in}
 use Rattle.drawing.specs.declared.drawn.Drawing.{Drawing}
 use Rattle.sheet_plan.specs.JobSheets.{Drawn}
-use Rattle.part_input.specs.Sheets.{PlansSheet, IsOfSheet, IsOfWords, NamesNoFile}
+use Rattle.part_input.specs.Sheets.{DrawsPart, IsOfSheet, IsOfWords, NamesNoFile}
 use Rattle.part_input.specs.Jobs.{IsOfUsualJob, HasJobFile, TakesReadJob, IsOfJobFile}
 use Rattle.job_file.specs.Documents.{JobValues}
-use Rattle.part_input.specs.Parts.{sample_size, TakesSolid, IsOfPart, HasSampleOr}
+use Rattle.part_input.specs.Parts.{sample_size, IsOfPart, HasSampleOr}
 use Rattle.part_input.specs.Steps.{◌and_then◌, AnswersSteps}
 use Rattle.part_input.specs.declared.fault.Input.{Input}
 use Rattle.part_input.specs.declared.fault.Input.TheVariants.{Job as TheJob, Part as ThePart}
@@ -25,11 +25,6 @@ use Rattle.sheet_core.specs.declared.fault.SheetFault.TheVariants.{Common, Write
 use Rattle.sheet_words.specs.Names.{Asks, help, version, sheet}
 
 -- ---- the steps of a run
--- the job that was named or the usual one, the part, and the sheet
-abbrev pub DrawsPart : Files → List ℕ → Option (List ℕ) → Result Drawn Fault → Type 0
-DrawsPart files part job =
-    TakesReadJob files job and_then λ values. (TakesSolid files part values.decimals values.unit and_then PlansSheet values)
-
 -- A run: what is drawn, if anything is, or the refusal. Words that ask for nothing are refused.
 abbrev pub RunsSheet : Option Asks → Files → Result (Option Drawn) Fault → Type 0
 RunsSheet None files r = r ≡ Err Usage

@@ -8,7 +8,7 @@ use Rattle.part_input.specs.declared.fault.Target.{Target}
 use Rattle.part_input.specs.declared.fault.Target.TheVariants.{Out, Plot, Summary}
 use Rattle.put_texts.specs.Desks.{HearsAll}
 use Rattle.put_texts.specs.Noting.{IsQuiet, Notes, NotesWhole, unless_said}
-use Rattle.put_texts.specs.Order.{Way, Text, nowhere, aloud, under, SaysAlone, KeepsTexts, SaysTexts, SparesFiles, SparesSaid}
+use Rattle.put_texts.specs.Order.{Way, Text, nowhere, aloud, under, SaysAlone, HoldTexts, KeepsTexts, SaysTexts, SparesFiles, SparesSaid}
 use Rattle.sheet_core.specs.Faults.{sheet_faults}
 use Rattle.sheet_core.specs.Pages.{IsPageWith, shown_strokes}
 use Rattle.sheet_core.specs.Summary.{summary_of}
@@ -76,6 +76,10 @@ pub record Writes (named : Named) (fault : Option SheetFault) (old new : DeskSta
   pub noted : old.tells_warned ≡ true → IfNone fault (Notes (summary_way named) (summary_of d page marks) old.warned new.warned)
   pub noted_whole : HearsAll old new → IfNone fault (NotesWhole (summary_way named) (summary_of d page marks) old.warned new.warned)
 
+-- and with no fault each file that is named holds its text at the end, for the list doesn't go where the sheet goes
+abbrev pub WritesHeld : Named → Option SheetFault → DeskState → DeskState → Drawing → Type 0
+WritesHeld named fault old new d = (w : Writes named fault old new d) × (old.tells ≡ true → IfNone fault (HoldTexts w.texts new.files))
+
 -- the faults of writing beside that of a list: of the sheet, or of a summary that is said
 abbrev pub IsOfTarget : Named → Target → Type 0
 IsOfTarget named Out = Unit {0}
@@ -92,7 +96,7 @@ AsksSheetAnd (Some (sheet named)) P = P named
 
 -- the drawing is written as it was asked for
 abbrev pub WritesAsked : Option Asks → Option SheetFault → DeskState → DeskState → Drawing → Type 0
-WritesAsked asked fault old new d = AsksSheetAnd asked (λ named. Writes named fault old new d)
+WritesAsked asked fault old new d = AsksSheetAnd asked (λ named. WritesHeld named fault old new d)
 
 -- without a fault no warning fails but beside a text that is said
 abbrev pub IsQuietIfAsked : Option Asks → ℕ → ℕ → Type 0

@@ -4,6 +4,7 @@
 //! lists its strokes for programs where that is asked for. Of a fault it tells one line, with the file's name and the fault's place.
 #![tactic(auto)]
 
+mod answers;
 mod end;
 mod fault;
 mod jobs;
@@ -20,6 +21,7 @@ mod take;
 mod texts;
 mod unread;
 
+pub use answers::runs_have_answers;
 pub use drawing::Drawing;
 pub use end::SheetOutcome;
 pub use fault::{SheetFault, SheetTarget};

@@ -1,6 +1,6 @@
 // Lengths and places in millimetres, as a line tells them.
 ghost use Rattle.std.specs.Prelude.{◌≡◌, ◌≤◌, ◌<◌, ◌^◌, IfOk, string_bytes};
-ghost use Rattle.sheet_core.specs.Places.{behind_point, digits, length_text, mm_text, near_text};
+ghost use Rattle.sheet_core.specs.Places.{behind_point, digits, length_text, mm_text, point_text};
 
 use crate::place::FaultPlace;
 use std::alloc::{AllocError, Global};
@@ -75,11 +75,11 @@ pub(crate) fn mm_text(alloc: Global, decimals: u8, units: i64) -> Result<String,
 }
 
 // A place in mm.
-pub(crate) fn near_text(alloc: Global, place: &FaultPlace) -> Result<String, AllocError>
-    ensures { IfOk result (λ text. string_bytes text ≡ near_text place.now) }
+pub(crate) fn point_text(alloc: Global, place: &FaultPlace) -> Result<String, AllocError>
+    ensures { IfOk result (λ text. string_bytes text ≡ point_text place.now) }
 {
     let x = mm_text(alloc, place.decimals, i64::from(place.corner.x))?;
     let y = mm_text(alloc, place.decimals, i64::from(place.corner.y))?;
     let z = mm_text(alloc, place.decimals, i64::from(place.corner.z))?;
-    format!(in alloc; "near ({x}, {y}, {z}) mm")
+    format!(in alloc; "({x}, {y}, {z}) mm")
 }

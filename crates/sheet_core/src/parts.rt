@@ -1,8 +1,8 @@
 // What is wrong with a part.
 ghost use Rattle.std.specs.Prelude.{◌≡◌, IfOk, string_bytes};
-ghost use Rattle.sheet_core.specs.Refusals.{mesh_text, place_text, placed_text, room_text, size_text, surface_text};
+ghost use Rattle.sheet_core.specs.Refusals.{mesh_text, nearness, place_text, placed_text, room_text, size_text, surface_text};
 
-use crate::millimetres::{mm_text, near_text};
+use crate::millimetres::{mm_text, point_text};
 use crate::place::FaultPlace;
 use fault_lines::kind_text;
 use solid_mesh::MeshFault;
@@ -37,20 +37,38 @@ fn mesh_text(alloc: Global, fault: &MeshFault) -> Result<String, AllocError>
     }
 }
 
-// Near which place, if one is given.
-fn placed_text(alloc: Global, place: &Option<FaultPlace>) -> Result<String, AllocError>
-    ensures { IfOk result (λ text. string_bytes text ≡ placed_text place.now) }
+// Whether the place of a fault is in it or near it.
+fn nearness(fault: &MeshFault) -> &'static str
+    ensures { result.now ≡ nearness fault.now }
+{
+    match fault {
+        MeshFault::Flat(_) => "near",
+        MeshFault::SameWay(_, _) => "near",
+        MeshFault::Unpaired(_, _) => "near",
+        MeshFault::Double(_, _) => "near",
+        MeshFault::Meet(_, _) => "at",
+    }
+}
+
+// Where it is, if a place is given.
+fn placed_text(
+    alloc: Global,
+    place: &Option<FaultPlace>,
+    fault: &MeshFault,
+) -> Result<String, AllocError>
+    ensures { IfOk result (λ text. string_bytes text ≡ placed_text place.now fault.now) }
 {
     match place {
         None => Ok(String::new(alloc)),
         Some(place) => {
-            let near = near_text(alloc, place)?;
-            format!(in alloc; ", {near}")
+            let point = point_text(alloc, place)?;
+            let near = nearness(fault);
+            format!(in alloc; ", {near} {point}")
         }
     }
 }
 
-// What is wrong with a surface, near which place, and where the mending is told.
+// What is wrong with a surface, where it is, and where the mending is told.
 pub(crate) fn surface_text(
     alloc: Global,
     place: &Option<FaultPlace>,
@@ -59,7 +77,7 @@ pub(crate) fn surface_text(
     ensures { IfOk result (λ text. string_bytes text ≡ surface_text place.now fault.now) }
 {
     let text = mesh_text(alloc, fault)?;
-    let placed = placed_text(alloc, place)?;
+    let placed = placed_text(alloc, place, fault)?;
     format!(in alloc; "{text}{placed}: docs/from-cad.md says how it is mended")
 }
 

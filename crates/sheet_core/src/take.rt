@@ -10,11 +10,11 @@ ghost use Rattle.part_input.specs.Parts.{ChecksPart, IsOfPart, TakesSolid, sampl
 ghost use Rattle.part_input.specs.Steps.{GivesInput, IsMissing};
 ghost use Rattle.part_input.specs.inner.Texts.{IsOfMesh};
 ghost use Rattle.drawing.specs.Drawing.{drawn_in, IsPlannedDrawing};
-ghost use Rattle.part_input.specs.Sheets.{IsOfSheet, IsOfWords, NamesNoFile, PlansSheet};
+ghost use Rattle.part_input.specs.Sheets.{DrawsPart, IsOfSheet, IsOfWords, NamesNoFile, PlansSheet};
 ghost use Rattle.solid_mesh.specs.Faults.{HasFault};
 ghost use Rattle.solid_mesh.specs.Solids.{solid_part};
 ghost use Rattle.sheet_core.specs.Lines.{IsPlaceFor};
-ghost use Rattle.sheet_core.specs.Run.{DrawsPart, IsOfJob, IsOfFiles, ReadsInOrder};
+ghost use Rattle.sheet_core.specs.Run.{IsOfJob, IsOfFiles, ReadsInOrder};
 ghost use Rattle.sheet_core.specs.inner.Taking.{IsPlaceIn, IsRefusalOf, fault_in};
 ghost use Rattle.sheet_words.specs.Seen.{named_seen};
 

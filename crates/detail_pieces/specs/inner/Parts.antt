@@ -9,7 +9,7 @@ use Rattle.line_merge.specs.Merging.{LiesOnStrip}
 use Rattle.detail_pieces.specs.declared.sides.ViewAxis.{ViewAxis}
 use Rattle.detail_pieces.specs.declared.windows.Window.{Window}
 use Rattle.detail_pieces.specs.Windows.{IsInside, IsWithinWindow, IsOnSide}
-use Rattle.detail_pieces.specs.inner.Sides.{seen_of}
+use Rattle.detail_pieces.specs.inner.Sides.{seen_of, AreOnePlace}
 
 -- U or V of the point is from the one number to the other
 abbrev pub IsBetween : Triple → ViewAxis → ℤ → ℤ → Point → Type 0
@@ -28,10 +28,10 @@ pub record IsLeftBetween (d : Triple) (axis : ViewAxis) (least most : ℤ) (s t 
   pub first : IsKeptOrOn d axis least most s.a t.a
   pub second : IsKeptOrOn d axis least most s.b t.b
 
--- no point of s is strictly between
-abbrev pub IsOutBetween : Triple → ViewAxis → ℤ → ℤ → Strip → Type 0
-IsOutBetween d axis least most s =
-    (p : Point) → IsPoint p → LiesOnStrip d s p → (least *ℤ p.w) <ℤ seen_of d axis p → ¬ (seen_of d axis p <ℤ (most *ℤ p.w))
+-- no point of s is strictly between, and on the borders it has one place at most
+pub record IsOutBetween (d : Triple) (axis : ViewAxis) (least most : ℤ) (s : Strip) : Type 0 where
+  pub none : (p : Point) → IsPoint p → LiesOnStrip d s p → (least *ℤ p.w) <ℤ seen_of d axis p → ¬ (seen_of d axis p <ℤ (most *ℤ p.w))
+  pub alone : AreOnePlace d (λ p. LiesOnStrip d s p × IsBetween d axis least most p)
 
 -- t is what of s is seen in the window
 pub record IsPartIn (d : Triple) (o : Window) (s t : Strip) : Type 0 where
@@ -42,6 +42,7 @@ pub record IsPartIn (d : Triple) (o : Window) (s t : Strip) : Type 0 where
   pub first : (of_spot t.a ≡ of_spot s.a) ⊎ IsOnSide d o (of_spot t.a)
   pub second : (of_spot t.b ≡ of_spot s.b) ⊎ IsOnSide d o (of_spot t.b)
 
--- no point of s is inside the window
-abbrev pub IsUnseen : Triple → Window → Strip → Type 0
-IsUnseen d o s = (p : Point) → IsPoint p → LiesOnStrip d s p → ¬ IsInside d o p
+-- no point of s is inside the window, and on its sides it has one place at most
+pub record IsUnseen (d : Triple) (o : Window) (s : Strip) : Type 0 where
+  pub none : (p : Point) → IsPoint p → LiesOnStrip d s p → ¬ IsInside d o p
+  pub alone : AreOnePlace d (λ p. LiesOnStrip d s p × IsWithinWindow d o p)

@@ -3,7 +3,7 @@ use Rattle.std.specs.Prelude.{◌≡◌, ◌⊎◌, ◌↔◌, ℤ, pos, ◌-ℤ
 use Rattle.lattice.specs.declared.pieces.Strip.{Strip}
 use Rattle.lattice.specs.declared.points.Spot.{Spot}
 use Rattle.lattice.specs.Triple.{Triple}
-use Rattle.lattice.specs.Points.{Point, IsPoint, of_spot, across_of, upward_of}
+use Rattle.lattice.specs.Points.{Point, IsPoint, of_spot, across_of, upward_of, OnOneSight}
 use Rattle.lattice.specs.Lines.{AreStripEnds, IsSameLine}
 use Rattle.geometry.specs.Pieces.{spot_sum}
 use Rattle.line_merge.specs.Merging.{LiesOnStrip}
@@ -43,6 +43,11 @@ pub record IsLeftOf (d : Triple) (h : Side) (s t : Strip) : Type 0 where
   pub first : IsKeptOrCut d h s.a t.a
   pub second : IsKeptOrCut d h s.b t.b
 
--- no point of s is inside
+-- all these points are seen at one place
+abbrev pub AreOnePlace : Triple → (Point → Type 0) → Type 0
+AreOnePlace d P = (p q : Point) → IsPoint p → IsPoint q → P p → P q → OnOneSight d p q
+
+-- no point of s is inside, and on the border it has one place at most
 pub record IsOut (d : Triple) (h : Side) (s : Strip) : Type 0 where
   pub none : (p : Point) → IsPoint p → LiesOnStrip d s p → over_of d h p ≤ℤ pos 0
+  pub alone : AreOnePlace d (λ p. LiesOnStrip d s p × (pos 0 ≤ℤ over_of d h p))

@@ -1,4 +1,4 @@
-use Rattle.std.proofs.Common.{rules, ◌≡◌, inl, inr, true, false, refl, FitsSigned, arith}
+use Rattle.std.proofs.Common.{rules, ◌≡◌, ◌⊎◌, inl, inr, true, false, refl, FitsSigned, arith}
 use Rattle.std.specs.Prelude.{ℤ, pos, ◌<ℤ◌, ◌≤ℤ◌}
 use Rattle.std.specs.Int.{w128}
 use Rattle.std.specs.Int.Signed.{lt_z, le_z}
@@ -6,7 +6,7 @@ use Rattle.std.proofs.lemmas.Int.{ints, to_z-of_z}
 use Rattle.lattice.specs.Points.{of_dir, of_spot}
 use Rattle.lattice.proofs.OnLines.{strip_seen}
 use Rattle.detail_pieces.specs.inner.Sides.{over_of}
-use Rattle.detail_pieces.proofs.Borders.{not_outside, not_inside}
+use Rattle.detail_pieces.proofs.Borders.{not_outside, not_inside, one_place}
 use Rattle.detail_pieces.proofs.Shortened.{cut_on_border, lies_cut, lies_cut_back, cut_ends, cut_ends_back}
 use Rattle.detail_pieces.proofs.halves.left_of.Goals.{else-a-ge0-via-then-a-ge0+else-b-ge0, else-a-ge0-via-else-a-ge0}
 use Rattle.detail_pieces.proofs.halves.left_of.Goals as goal
@@ -126,4 +126,8 @@ returns-clause-none c =
     let b_fits : FitsSigned w128 c.over-b.result = search rules in
     let a = not_positive_of c.over-a.result (over_of d h (of_spot s.a)) c.over-a.ensures (simp to_z-of_z at c.if-a-gt0.false) in
     let b = not_positive_of c.over-b.result (over_of d h (of_spot s.b)) c.over-b.ensures (simp to_z-of_z at c.if-b-gt0.false) in
-    λ _. record { none = λ p hp k. not_inside d h s.a s.b p hp a b k }
+    let outside : (over_of d h (of_spot s.a) <ℤ pos 0) ⊎ (over_of d h (of_spot s.b) <ℤ pos 0) = elim c.else-a-ge0.branch [
+      | else-a-ge0-via-then-a-ge0+else-b-ge0 w ↦ inr (negative_of c.over-b.result (over_of d h (of_spot s.b)) c.over-b.ensures (simp to_z-of_z at w.if-b-ge0.false))
+      | else-a-ge0-via-else-a-ge0 w ↦ inl (negative_of c.over-a.result (over_of d h (of_spot s.a)) c.over-a.ensures (simp to_z-of_z at w.if-a-ge0.false))
+    ] in
+    λ _. record { none = λ p hp k. not_inside d h s.a s.b p hp a b k; alone = one_place d h s.a s.b a b outside }

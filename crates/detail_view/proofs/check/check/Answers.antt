@@ -1,5 +1,6 @@
 use Rattle.std.proofs.Common.{inl, ℕ, List, Some, refl, ap, subst, ◌∙◌}
 use Rattle.desk.specs.Files.{DeskState}
+use Rattle.detail_view.specs.Taken.{IsVerdictTaken}
 use Rattle.detail_view.specs.Run.{Checks, IsVerdictOf, pieces_task, verdict_line, Says}
 use Rattle.detail_view.specs.Seen.{check_seen}
 use Rattle.detail_view.specs.Words.{checks}
@@ -43,3 +44,10 @@ returns-in-Ok-clause-said g c = λ told.
     let P : List ℕ → Type 0 = λ said. Says end.fault said new (verdict_line c.in-Ok.verdict) in
     said_asked old.tells (check_seen c.args.words.now) old.files c.in-Ok.verdict end.fault end.verdict old.said new c.say_verdict.ensures.fault c.say_verdict.ensures.told c.in-Ok.ensures.answer
     (subst P (ap (λ (s : DeskState). s.said) c.in-Ok.ensures.changes) (c.say_verdict.ensures.said tells))
+
+pub returns-in-Ok-clause-taken : goal.returns-in-Ok-clause-taken
+returns-in-Ok-clause-taken g c =
+    let asked = Some (checks (check_seen c.args.words.now)) in
+    let end = c.say_verdict.result in
+    told_verdict (IsVerdictTaken g.D.Desk.fetches g.D.Desk.state asked c.args.desk.now c.say_verdict.new.desk) c.in-Ok.verdict (c.judge.new.desk, c.in-Ok.ensures.taken, c.say_verdict.ensures.changes)
+    end.fault end.verdict c.say_verdict.ensures.told

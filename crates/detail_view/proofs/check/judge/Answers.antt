@@ -9,6 +9,7 @@ use Rattle.detail_view.specs.Steps.{Lifted}
 use Rattle.detail_view.specs.inner.Steps.{IsMissing}
 use Rattle.detail_view.specs.inner.Judging.{Judges, ComesAfterJob}
 use Rattle.detail_view.proofs.Chains.{judges_next, missing_next, after_job}
+use Rattle.detail_view.proofs.Takings.{checks_taken}
 use Rattle.detail_view.proofs.check.judge.Goals as goal
 
 pub returns-in-Ok-clause-answer : goal.returns-in-Ok-clause-answer
@@ -40,3 +41,8 @@ returns-in-Ok-clause-missing g c = λ steady.
     let P : Files → Type 0 = λ f. IfErr c.judge_part.result (IsMissing (ChecksBy f w job)) in
     missing_next (Lifted (TakesReadJob files (Some w.job))) (ChecksBy files w) job (c.in-Ok.ensures.answer told) c.judge_part.result
     (subst P (ap (λ (s : DeskState). s.files) c.in-Ok.ensures.changes) (c.judge_part.ensures.missing still))
+
+pub returns-in-Ok-clause-taken : goal.returns-in-Ok-clause-taken
+returns-in-Ok-clause-taken g c =
+    checks_taken g.D.Desk.fetches (check_seen c.args.words.now) (job_seen c.in-Ok.job) c.args.desk.now c.take_job.new.desk c.judge_part.new.desk
+    c.in-Ok.ensures.taken.0 c.in-Ok.ensures.taken.1 c.judge_part.result c.judge_part.ensures.taken

@@ -1,4 +1,5 @@
 use Rattle.std.proofs.Common.{refl}
+use Rattle.detail_view.proofs.Takings.{judged}
 use Rattle.detail_view.proofs.check.judge_list.Goals as goal
 
 pub returns-in-Ok-check_list-clause-answer : goal.returns-in-Ok-check_list-clause-answer
@@ -13,3 +14,7 @@ returns-in-Ok-check_list-clause-answer g c = λ told.
       read = taken.2;
       is = c.in-Ok-check_list.ensures.verdict;
     }
+
+pub returns-in-Ok-check_list-clause-taken : goal.returns-in-Ok-check_list-clause-taken
+returns-in-Ok-check_list-clause-taken g c =
+    judged g.D.Desk.fetches c.args.words.now.list c.args.job.now c.args.solid.now c.args.desk.now c.take_list.new.desk c.in-Ok.list c.in-Ok.ensures.taken c.in-Ok-check_list.verdict c.in-Ok-check_list.ensures.verdict

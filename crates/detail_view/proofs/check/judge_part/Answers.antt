@@ -7,6 +7,7 @@ use Rattle.detail_view.specs.Seen.{check_seen}
 use Rattle.detail_view.specs.Steps.{Yields}
 use Rattle.detail_view.specs.inner.Judging.{Judges}
 use Rattle.detail_view.proofs.Chains.{judges_next, part_after}
+use Rattle.detail_view.proofs.Takings.{part_judged}
 use Rattle.detail_view.proofs.check.judge_part.Goals as goal
 
 pub returns-in-Ok-clause-answer : goal.returns-in-Ok-clause-answer
@@ -23,3 +24,8 @@ returns-in-Ok-clause-answer g c = λ told.
 pub returns-in-Err-clause-order : goal.returns-in-Err-clause-order
 returns-in-Err-clause-order g c = λ told.
     part_after (g.D.Desk.state c.args.desk.now).files (check_seen c.args.words.now) (job_seen c.args.job.now) c.in-Err.fault c.in-Err.ensures.of_part
+
+pub returns-in-Ok-clause-taken : goal.returns-in-Ok-clause-taken
+returns-in-Ok-clause-taken g c =
+    part_judged g.D.Desk.fetches (check_seen c.args.words.now) (job_seen c.args.job.now) c.args.desk.now c.take_solid.new.desk c.judge_list.new.desk
+    c.in-Ok.ensures.taken.0 (solid_part c.in-Ok.solid) c.in-Ok.ensures.taken.1 c.judge_list.result c.judge_list.ensures.taken

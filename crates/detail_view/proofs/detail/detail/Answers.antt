@@ -9,6 +9,7 @@ use Rattle.put_texts.proofs.Runs.{refused_answer}
 use Rattle.detail_view.proofs.Drawing.{left_also, nothing_kept, drawn_by}
 use Rattle.detail_view.proofs.Endings.{said_answer}
 use Rattle.detail_view.proofs.Runs.{detail_may, detail_unwritten, lawful}
+use Rattle.detail_view.proofs.Takings.{detail_taken}
 use Rattle.detail_view.proofs.detail.detail.Goals as goal
 
 pub returns-in-Ok-clause-run : goal.returns-in-Ok-clause-run
@@ -51,3 +52,8 @@ returns-in-Err-clause-files g c = λ told.
     let new = (g.D.Desk.state c.take_shown.new.desk).files in
     nothing_kept (Some (details (detail_seen c.args.words.now))) c.ended.result.fault (pieces_told c.ended.result.detail) old new (ap pieces_told c.ended.ensures.detail)
     (ap (λ (s : DeskState). s.files) c.in-Err.ensures.changes)
+
+pub returns-in-Ok-clause-taken : goal.returns-in-Ok-clause-taken
+returns-in-Ok-clause-taken g c =
+    detail_taken g.D.Desk.fetches c.args.words.now g.D.Desk.state c.args.desk.now c.take_shown.new.desk c.finish.new.desk c.in-Ok.shown c.in-Ok.ensures.taken c.finish.ensures.changes
+    (pieces_told c.finish.result.detail) c.finish.ensures.made

@@ -8,6 +8,7 @@ use Rattle.detail_view.specs.Seen.{detail_seen}
 use Rattle.detail_view.specs.inner.Steps.{Refuses, IsMissing}
 use Rattle.detail_view.proofs.Chains.{refuses_as, missing_as}
 use Rattle.detail_view.proofs.Showings.{viewed_in_order, part_in_order}
+use Rattle.detail_view.proofs.Takings.{shown_taken}
 use Rattle.detail_view.proofs.detail.take_shown.Goals as goal
 
 pub returns-in-Err-clause-order : goal.returns-in-Err-clause-order
@@ -50,3 +51,7 @@ returns-in-Err-take_solid-clause-missing g c = λ steady.
     let P : Files → Type 0 = λ f. IsMissing (TakesPart f w.part job) fault in
     let missing : P files = subst P (ap (λ (s : DeskState). s.files) c.in-Ok.ensures.changes) (c.in-Err-take_solid.ensures.missing still) in
     missing_as (TakesPart files w.part job) (Details files w) (λ e h. inr (job, c.in-Ok.ensures.answer told, h)) fault missing
+
+pub returns-in-Ok-take_solid-clause-taken : goal.returns-in-Ok-take_solid-clause-taken
+returns-in-Ok-take_solid-clause-taken g c =
+    shown_taken g.D.Desk.fetches (detail_seen c.args.words.now) c.args.desk.now c.take_viewed.new.desk c.take_solid.new.desk _ c.in-Ok-take_solid.ensures.taken.0 c.in-Ok.ensures.taken c.in-Ok-take_solid.ensures.taken.1

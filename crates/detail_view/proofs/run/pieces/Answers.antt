@@ -1,8 +1,10 @@
-use Rattle.std.proofs.Common.{inl, Option, None, Err, refl, ap, sym, subst}
+use Rattle.std.proofs.Common.{inl, Option, Some, None, Err, refl, ap, sym, subst}
 use Rattle.std.specs.Prelude.{IfSome, is_some}
 use Rattle.draw_words.specs.Seen.{texts}
-use Rattle.detail_view.specs.Drawn.{pieces_told, HasDetail, KeepsPage}
-use Rattle.detail_view.specs.Run.{HasVerdict, IsVerdictOn, SaysAsked, OnlyAsked, pieces_task}
+use Rattle.detail_view.specs.Drawn.{pieces_told, KeepsPage}
+use Rattle.detail_view.specs.Run.{IsVerdictOn, SaysAsked, OnlyAsked, pieces_task}
+use Rattle.detail_view.specs.Seen.{asked_seen}
+use Rattle.detail_view.specs.Taken.{HasOutcome, IsOfTexts}
 use Rattle.detail_view.specs.Words.{Asked, asked_by}
 use Rattle.detail_view.specs.declared.fault.PiecesFault.TheVariants.{Usage, Memory}
 use Rattle.put_texts.specs.Runs.{IsAnswer}
@@ -33,10 +35,6 @@ returns-in-Err-Memory-clause-run g c =
     refused_answer (pieces_task asked) (lawful asked) old old old Memory (short_refusal (pieces_task asked) (lawful asked) old old refl refl) refl
     end.result.fault (inl end.ensures.fault) (λ unread. end.ensures.fault) (g.met.D.Desk.steady_tells c.args.desk.now)
 
-pub returns-in-Ok-clause-shown : goal.returns-in-Ok-clause-shown
-returns-in-Ok-clause-shown g c =
-    subst (λ (o : Option Asked). HasVerdict o c.run.result.fault (is_some c.run.result.verdict)) (sym c.in-Ok.ensures.asked) c.run.ensures.shown
-
 pub returns-in-Ok-clause-verdict : goal.returns-in-Ok-clause-verdict
 returns-in-Ok-clause-verdict g c = λ told.
     let files = (g.D.Desk.state c.args.desk.now).files in
@@ -49,25 +47,12 @@ returns-in-Ok-clause-said g c = λ told.
     let end = c.run.result in
     subst (λ (o : Option Asked). SaysAsked old.tells o old.files end.fault end.verdict old.said new.said) (sym c.in-Ok.ensures.asked) (c.run.ensures.said told)
 
-pub returns-in-Err-Memory-clause-shown : goal.returns-in-Err-Memory-clause-shown
-returns-in-Err-Memory-clause-shown g c =
-    no_verdict (asked_by (texts c.args.words.now)) c.ended-in-Err-Memory.result.fault _ c.ended-in-Err-Memory.result.verdict c.ended-in-Err-Memory.ensures.fault c.ended-in-Err-Memory.ensures.verdict
-
-pub returns-in-Ok-clause-drawn : goal.returns-in-Ok-clause-drawn
-returns-in-Ok-clause-drawn g c =
-    subst (λ (o : Option Asked). HasDetail o c.run.result.fault (is_some c.run.result.detail)) (sym c.in-Ok.ensures.asked) c.run.ensures.drawn
-
 pub returns-in-Ok-clause-files : goal.returns-in-Ok-clause-files
 returns-in-Ok-clause-files g c = λ told.
     let old = g.D.Desk.state c.args.desk.now in
     let new = g.D.Desk.state c.run.new.desk in
     let end = c.run.result in
     subst (λ (o : Option Asked). KeepsPage o end.fault (pieces_told end.detail) old.files new.files) (sym c.in-Ok.ensures.asked) (c.run.ensures.files told)
-
-pub returns-in-Err-Memory-clause-drawn : goal.returns-in-Err-Memory-clause-drawn
-returns-in-Err-Memory-clause-drawn g c =
-    let end = c.ended-in-Err-Memory in
-    no_detail (asked_by (texts c.args.words.now)) end.result.fault end.result.detail end.ensures.fault end.ensures.detail
 
 pub returns-in-Err-Memory-clause-files : goal.returns-in-Err-Memory-clause-files
 returns-in-Err-Memory-clause-files g c = λ told.
@@ -81,3 +66,26 @@ returns-in-Ok-clause-changes g c =
 
 pub returns-in-Err-Memory-clause-changes : goal.returns-in-Err-Memory-clause-changes
 returns-in-Err-Memory-clause-changes g c = nothing_asked (asked_by (texts c.args.words.now)) (g.D.Desk.state c.args.desk.now)
+
+pub returns-in-Ok-clause-given : goal.returns-in-Ok-clause-given
+returns-in-Ok-clause-given g c =
+    let end = c.run.result in
+    let is : HasOutcome (Some (asked_seen c.in-Ok.words)) end.fault (is_some end.verdict) (is_some end.detail) = record { shown = c.run.ensures.shown; drawn = c.run.ensures.drawn } in
+    subst (λ (o : Option Asked). HasOutcome o end.fault (is_some end.verdict) (is_some end.detail)) (sym c.in-Ok.ensures.asked) is
+
+pub returns-in-Err-Memory-clause-given : goal.returns-in-Err-Memory-clause-given
+returns-in-Err-Memory-clause-given g c =
+    let asked = asked_by (texts c.args.words.now) in
+    let end = c.ended-in-Err-Memory in
+    record {
+      shown = no_verdict asked end.result.fault _ end.result.verdict end.ensures.fault end.ensures.verdict;
+      drawn = no_detail asked end.result.fault end.result.detail end.ensures.fault end.ensures.detail;
+    }
+
+pub returns-in-Ok-clause-taken : goal.returns-in-Ok-clause-taken
+returns-in-Ok-clause-taken g c =
+    let end = c.run.result in
+    let old = c.args.desk.now in
+    let new = c.run.new.desk in
+    let is : IsOfTexts g.D.Desk.fetches g.D.Desk.state (Some (asked_seen c.in-Ok.words)) old new end.verdict (pieces_told end.detail) = record { judged = c.run.ensures.judged; drawn = c.run.ensures.taken } in
+    subst (λ (o : Option Asked). IsOfTexts g.D.Desk.fetches g.D.Desk.state o old new end.verdict (pieces_told end.detail)) (sym c.in-Ok.ensures.asked) is

@@ -1,4 +1,5 @@
 use Rattle.std.proofs.Common.{◌≡◌, ◌+◌, ◌-◌, true, vec_len}
+use Rattle.desk.specs.Taken.{AreFetched}
 use Rattle.part_input.proofs.Blocks.{IsFront}
 use Rattle.part_input.proofs.fetch.fetch_all.Given as goal
 
@@ -9,6 +10,7 @@ invariant-loop-desk g l =
     record {
       front : (state l.fn.desk).tells ≡ true → IsFront ((state l.fn.desk).files l.name) l.out.items;
       same : state l.desk ≡ state l.fn.desk;
+      blocks : AreFetched g.D.Desk.fetches l.name l.fn.desk l.desk l.out.items;
     }
 
 abbrev pub decreases-loop-desk : goal.decreases-loop-desk

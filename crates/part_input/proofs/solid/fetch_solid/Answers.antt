@@ -3,7 +3,7 @@ use Rattle.solid_mesh.specs.Solids.{solid_part}
 use Rattle.part_input.specs.Parts.{ChecksPart, TakesSoup, TakesSolid}
 use Rattle.part_input.proofs.Answered.{undisturbed}
 use Rattle.part_input.proofs.Chains.{gives_next}
-use Rattle.part_input.proofs.Missing.{of_soup, mesh_no_desk}
+use Rattle.part_input.proofs.Missing.{of_soup, mesh_no_desk, checked_of_part}
 use Rattle.part_input.proofs.Singles.{solid_single}
 use Rattle.part_input.proofs.solid.fetch_solid.Goals as goal
 
@@ -30,3 +30,8 @@ returns-in-Ok-clause-exact g c = λ steady.
 
 pub returns-in-Err-clause-of_part : goal.returns-in-Err-clause-of_part
 returns-in-Err-clause-of_part g c = of_soup (g.D.Desk.state c.args.desk.now).files c.args.name.now c.in-Err.fault c.in-Err.ensures.of_soup
+
+-- a sample is sound
+pub returns-in-Ok-clause-of_part : goal.returns-in-Ok-clause-of_part
+returns-in-Ok-clause-of_part g c =
+    checked_of_part c.args.name.now c.args.job.now.decimals c.args.job.now.unit (part_of c.in-Ok.soup) solid_part c.in-Ok.ensures.sample c.checked.result c.checked.ensures.of_mesh c.checked.ensures.answer

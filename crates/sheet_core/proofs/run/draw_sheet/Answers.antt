@@ -11,7 +11,8 @@ use Rattle.put_texts.proofs.Ends.{at_end, heard_later}
 use Rattle.put_texts.proofs.Runs.{ended_run, made_unwarned, put_run, refused_run, short_refusal}
 use Rattle.sheet_core.specs.Faults.{status_of}
 use Rattle.sheet_core.specs.Pages.{shown_strokes}
-use Rattle.sheet_core.specs.Run.{DrawsPart, RunsSheet, sheet_run, sheet_task}
+use Rattle.part_input.specs.Sheets.{DrawsPart}
+use Rattle.sheet_core.specs.Run.{RunsSheet, sheet_run, sheet_task}
 use Rattle.sheet_core.specs.Writing.{Writes, listed, page_text, summary_way, texts_for}
 use Rattle.sheet_core.specs.declared.fault.SheetFault.{SheetFault}
 use Rattle.sheet_core.specs.declared.fault.SheetFault.TheVariants.{Common}

@@ -7,6 +7,7 @@ use Rattle.sheet_core.specs.declared.lines.TheConstants.{HELP, VERSION}
 use Rattle.sheet_core.specs.declared.refusals.TheConstants.{MEMORY_LINE, SAID_LINE, USAGE_LINE}
 use Rattle.sheet_core.proofs.Answered.{lawful}
 use Rattle.sheet_core.proofs.Asked.{undrawn_short}
+use Rattle.sheet_core.proofs.HeldTexts.{writes_held}
 use Rattle.sheet_core.proofs.Told.{telling, unsaid}
 use Rattle.sheet_words.specs.Names.{Asks, help, version, sheet, asked_by}
 use Rattle.sheet_words.specs.Seen.{asked_seen, named_seen}
@@ -70,3 +71,11 @@ returns-in-Err-Memory-clause-run g c =
     let asked = asked_by (texts c.args.words.now) in
     ended_run (sheet_run asked) (lawful asked) old old new (Common Memory) (short_refusal (sheet_task asked) (lawful asked) old old refl refl) did.changes
     end.fault did.fault MEMORY_LINE.now (None, refl, refl) end.status end.made (g.met.D.Desk.steady_tells c.args.desk.now) did.status did.none (undrawn_short asked) (undrawn_short asked) did.warned did.whole
+
+-- the list doesn't go where the sheet goes
+pub returns-in-Ok-Sheet-clause-written : goal.returns-in-Ok-Sheet-clause-written
+returns-in-Ok-Sheet-clause-written g c =
+    let old = g.D.Desk.state c.args.desk.now in
+    let new = g.D.Desk.state c.draw_sheet.new.desk in
+    let is : asked_by (texts c.args.words.now) ≡ Some (sheet (named_seen c.in-Ok-Sheet.request)) = c.in-Ok-Sheet.ensures.asked ∙ ap (λ (a : Asked). Some (asked_seen a)) c.in-Ok-Sheet.field-0-is in
+    writes_held (texts c.args.words.now) (named_seen c.in-Ok-Sheet.request) is c.draw_sheet.result.fault old new c.draw_sheet.result.made c.draw_sheet.ensures.written

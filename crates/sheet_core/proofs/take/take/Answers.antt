@@ -1,7 +1,7 @@
 use Rattle.std.proofs.Common.{Some, ap, subst, inl, inr, ◌∙◌}
 use Rattle.desk.specs.Files.{Files, DeskState}
 use Rattle.drawing.specs.Drawing.{drawn_in}
-use Rattle.part_input.specs.Sheets.{PlansSheet}
+use Rattle.part_input.specs.Sheets.{DrawsPart, PlansSheet}
 use Rattle.job_file.specs.Seen.{job_seen}
 use Rattle.part_input.specs.Jobs.{TakesReadJob}
 use Rattle.part_input.specs.Parts.{TakesSolid}
@@ -10,7 +10,7 @@ use Rattle.part_input.proofs.Chains.{refuses_as, missing_as, gives_next}
 use Rattle.part_input.proofs.Missing.{solid_missing}
 use Rattle.solid_mesh.specs.Solids.{solid_part}
 use Rattle.std.specs.Prelude.{Ok, Err}
-use Rattle.sheet_core.specs.Run.{DrawsPart}
+use Rattle.sheet_core.specs.Run.{}
 use Rattle.sheet_core.proofs.Orders.{job_in_order, part_in_order, sheet_in_order}
 use Rattle.sheet_core.specs.inner.Taking.{fault_in}
 use Rattle.part_input.proofs.NoFile.{drawn_by_words}

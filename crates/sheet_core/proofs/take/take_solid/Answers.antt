@@ -2,9 +2,9 @@ use Rattle.geometry.specs.Parts.{part_of}
 use Rattle.solid_mesh.specs.Solids.{solid_part}
 use Rattle.part_input.specs.Parts.{ChecksPart, TakesSoup}
 use Rattle.part_input.proofs.Chains.{gives_next, refused_first}
-use Rattle.part_input.proofs.Missing.{of_soup}
+use Rattle.part_input.proofs.Missing.{checked_of_part, of_soup}
 use Rattle.sheet_core.specs.inner.Taking.{fault_in}
-use Rattle.sheet_core.proofs.Taking.{all_placed, mesh_counts, mesh_not_missing, mesh_of_part, soup_no_place}
+use Rattle.sheet_core.proofs.Taking.{all_placed, mesh_counts, mesh_not_missing, soup_no_place}
 use Rattle.sheet_core.proofs.take.take_solid.Goals as goal
 
 pub returns-in-Ok-clause-answer : goal.returns-in-Ok-clause-answer
@@ -13,7 +13,8 @@ returns-in-Ok-clause-answer g c = λ told.
     gives_next (TakesSoup files c.args.name.now c.args.job.now.decimals c.args.job.now.unit) ChecksPart (part_of c.in-Ok.soup) (c.in-Ok.ensures.answer told) solid_part (fault_in c.sound.result) c.sound.ensures.answer
 
 pub returns-in-Ok-clause-of_part : goal.returns-in-Ok-clause-of_part
-returns-in-Ok-clause-of_part g c = mesh_of_part (g.D.Desk.state c.args.desk.now).files c.args.name.now c.in-Ok.ensures.sized (fault_in c.sound.result) c.sound.ensures.of_mesh
+returns-in-Ok-clause-of_part g c =
+    checked_of_part c.args.name.now c.args.job.now.decimals c.args.job.now.unit (part_of c.in-Ok.soup) solid_part c.in-Ok.ensures.sample (fault_in c.sound.result) c.sound.ensures.of_mesh c.sound.ensures.answer
 
 pub returns-in-Ok-clause-reads : goal.returns-in-Ok-clause-reads
 returns-in-Ok-clause-reads g c = mesh_counts (fault_in c.sound.result) _ _ c.sound.ensures.of_mesh c.in-Ok.ensures.reads

@@ -8,7 +8,7 @@ use Rattle.solid_mesh.specs.declared.faults.MeshFault.{MeshFault}
 use Rattle.answers_unique.proofs.OneFault.{none_sound}
 use Rattle.part_input.specs.declared.fault.Fault.TheVariants.{SampleRange, Mesh}
 use Rattle.part_input.specs.Parts.{sample_size, cubes_along, IsSample, MakesSample, TakesSoupOr, TakesSolid}
-use Rattle.answers_exist.proofs.SomeRun.{cubes_within}
+use Rattle.part_input.proofs.SomeSteps.{cubes_within}
 use Rattle.answers_exist.proofs.SoundSample.{sound_sample}
 
 -- the sample that is made for a size is sound

@@ -1,4 +1,4 @@
--- A run has an answer, for all words and files. (A sheet is that of a job in memory, whose vectors were allocated: so an allocator is named.)
+-- Each step has an answer, whatever files there are. (A sheet is that of a job in memory, whose vectors were allocated: so an allocator is named.)
 use Rattle.std.proofs.Common.{◌≡◌, ◌⊎◌, inl, inr, ℕ, ◌-◌, ◌<◌, ◌≤◌, ◌&&◌, Bool, true, false, if◌then◌else◌, List, [], ◌∷◌, All, length, Option, Some, None, IsSomeAnd, Result, Ok, Err, refl, sym, subst, arith}
 use Rattle.std.specs.Prelude.{nat_le, ℤ}
 use Rattle.std.specs.Global.{Global}
@@ -6,7 +6,6 @@ use Rattle.std.proofs.lemmas.Bool.{cases_lt, and_parts, leb-true}
 use Rattle.std.proofs.lemmas.Option.{none-some, same_Some}
 use Rattle.desk.specs.Files.{Files}
 use Rattle.dec_text.specs.declared.number.Length.{Length}
-use Rattle.draw_words.specs.Names.{Named, named_by}
 use Rattle.lattice.specs.declared.points.Corner.{Corner}
 use Rattle.lattice.specs.declared.soup.Tri.{Tri}
 use Rattle.lattice.specs.Triangles.{IsBelow}
@@ -31,16 +30,12 @@ use Rattle.sheet_plan.proofs.Apart.{apart, within_margins}
 use Rattle.sheet_plan.proofs.InLine.{stand_in_column, stand_in_row}
 use Rattle.part_input.specs.declared.fault.Input.{Input}
 use Rattle.part_input.specs.declared.fault.Input.TheVariants.{Job as TheJob, Part as ThePart}
-use Rattle.part_input.specs.declared.fault.Fault.{Fault}
-use Rattle.part_input.specs.declared.fault.Fault.TheVariants.{Usage, ReadFault, Job as JobUnread, NoPlotter, SampleRange, Part as PartUnread, Nothing, Mesh, DoesNotFit}
+use Rattle.part_input.specs.declared.fault.Fault.TheVariants.{ReadFault, Job as JobUnread, SampleRange, Part as PartUnread, Nothing, Mesh, DoesNotFit}
 use Rattle.part_input.specs.Jobs.{limit_of, too_long, TakesFile, TakesJob, ReadsJob, TakesReadJob}
 use Rattle.part_input.specs.Parts.{ReadsText, WeldsPart, ReadsPart, ChecksPart, sample_size, cubes_along, IsSample, MakesSample, TakesSoupOr, TakesSoup, TakesSolid}
 use Rattle.part_input.specs.Reading.{begins_solid, ReadsAs, ReadsPartText}
-use Rattle.part_input.specs.Steps.{◌and_then◌}
-use Rattle.draw_core.specs.Outputs.{first_unmet}
-use Rattle.draw_core.specs.Run.{NamesFiles, HasPlotters, TakesMetJob, DrawsFiles, RunsDraw}
-use Rattle.sheet_plan.specs.JobSheets.{Drawn}
-use Rattle.part_input.specs.Sheets.{PlansSheet}
+use Rattle.part_input.specs.Steps.{◌and_then◌, HasAnswer}
+use Rattle.part_input.specs.Sheets.{PlansSheet, DrawsPart}
 use Rattle.answers_exist.proofs.Decided.{by_option}
 use Rattle.answers_exist.proofs.SomeExtents.{some_extents}
 use Rattle.answers_exist.proofs.SomeFault.{some_fault}
@@ -54,20 +49,24 @@ use Rattle.answers_exist.proofs.SomeWeld.{some_soup}
 
 -- ---- steps in order
 -- P is true of what is given, if something is
-abbrev pub GivesSuch : {A : Type 0} → (A → Type 0) → Result A Fault → Type 0
+abbrev pub GivesSuch : {A F : Type 0} → (A → Type 0) → Result A F → Type 0
 GivesSuch P (Ok x) = P x
 GivesSuch P (Err e) = Unit {0}
 
 -- the step has an answer, and P is true of what it gives
-abbrev pub HasAnswer : {A : Type 0} → (A → Type 0) → (Result A Fault → Type 0) → Type 0
-HasAnswer {A} P step = (r : Result A Fault) × (step r × GivesSuch P r)
+abbrev pub HasAnswerSuch : {A F : Type 0} → (A → Type 0) → (Result A F → Type 0) → Type 0
+HasAnswerSuch {A} {F} P step = (r : Result A F) × (step r × GivesSuch P r)
 
-module _ {A B : Type 0} (P : A → Type 0) (Q : B → Type 0) (first : Result A Fault → Type 0) (next : A → Result B Fault → Type 0) where
-  behind : (x : A) → first (Ok x) → HasAnswer Q (next x) → HasAnswer Q (first and_then next)
+-- then it has an answer
+pub some_answer : {A F : Type 0} (P : A → Type 0) (step : Result A F → Type 0) → HasAnswerSuch P step → HasAnswer step
+some_answer P step (r, (is, such)) = (r, is)
+
+module _ {A B F : Type 0} (P : A → Type 0) (Q : B → Type 0) (first : Result A F → Type 0) (next : A → Result B F → Type 0) where
+  behind : (x : A) → first (Ok x) → HasAnswerSuch Q (next x) → HasAnswerSuch Q (first and_then next)
   behind x a (Ok y, (b, q)) = (Ok y, ((x, a, b), q))
   behind x a (Err e, (b, q)) = (Err e, (inr (x, a, b), tt))
 
-  pub some_and_then : HasAnswer P first → ((x : A) → P x → HasAnswer Q (next x)) → HasAnswer Q (first and_then next)
+  pub some_and_then : HasAnswerSuch P first → ((x : A) → P x → HasAnswerSuch Q (next x)) → HasAnswerSuch Q (first and_then next)
   some_and_then (Ok x, (a, p)) n = behind x a (n x p)
   some_and_then (Err e, (a, p)) n = (Err e, (inl a, tt))
 
@@ -76,13 +75,13 @@ module _ {A B : Type 0} (P : A → Type 0) (Q : B → Type 0) (first : Result A 
 abbrev pub Any : {A : Type 0} → A → Type 0
 Any x = Unit {0}
 
-some_file : (input : Input) (files : Files) (name : List ℕ) → HasAnswer Any (TakesFile input files name)
+some_file : (input : Input) (files : Files) (name : List ℕ) → HasAnswerSuch Any (TakesFile input files name)
 some_file input files name = by_option (files name) (λ e. (Err (ReadFault input), (inl (refl, e), tt))) there
   where
-    there : (bytes : List ℕ) → files name ≡ Some bytes → HasAnswer Any (TakesFile input files name)
+    there : (bytes : List ℕ) → files name ≡ Some bytes → HasAnswerSuch Any (TakesFile input files name)
     there bytes e = by (cases_lt (limit_of input) (length bytes))
       where
-        by : (limit_of input < length bytes) ⊎ (length bytes ≤ limit_of input) → HasAnswer Any (TakesFile input files name)
+        by : (limit_of input < length bytes) ⊎ (length bytes ≤ limit_of input) → HasAnswerSuch Any (TakesFile input files name)
         by (inl long) = (Err (too_long input), (inr (refl, subst (λ (o : Option (List ℕ)). IsSomeAnd o (λ bytes. limit_of input < length bytes)) (sym e) long), tt))
         by (inr short) = (Ok bytes, ((e, short), tt))
 
@@ -91,27 +90,20 @@ some_file input files name = by_option (files name) (λ e. (Err (ReadFault input
 abbrev pub AreValues : JobValues → Type 0
 AreValues values = (job : Job) × (job_seen job ≡ values)
 
-some_job_bytes : (files : Files) (name : Option (List ℕ)) → HasAnswer Any (TakesJob files name)
+some_job_bytes : (files : Files) (name : Option (List ℕ)) → HasAnswerSuch Any (TakesJob files name)
 some_job_bytes files None = (Ok [], (refl, tt))
 some_job_bytes files (Some name) = some_file TheJob files name
 
 module _ (alloc : Global) where
-  some_values : (bytes : List ℕ) → HasAnswer AreValues (ReadsJob bytes)
+  some_values : (bytes : List ℕ) → HasAnswerSuch AreValues (ReadsJob bytes)
   some_values bytes = by (some_job alloc bytes)
     where
-      by : ((job : Job) × (job_of_bytes bytes ≡ Ok (job_seen job))) ⊎ ((cause : JobFault) × (job_of_bytes bytes ≡ Err cause)) → HasAnswer AreValues (ReadsJob bytes)
+      by : ((job : Job) × (job_of_bytes bytes ≡ Ok (job_seen job))) ⊎ ((cause : JobFault) × (job_of_bytes bytes ≡ Err cause)) → HasAnswerSuch AreValues (ReadsJob bytes)
       by (inl (job, e)) = (Ok (job_seen job), (e, (job, refl)))
       by (inr (cause, e)) = (Err (JobUnread cause), ((cause, refl, e), tt))
 
-  pub some_read_job : (files : Files) (name : Option (List ℕ)) → HasAnswer AreValues (TakesReadJob files name)
+  pub some_read_job : (files : Files) (name : Option (List ℕ)) → HasAnswerSuch AreValues (TakesReadJob files name)
   some_read_job files name = some_and_then Any AreValues (TakesJob files name) ReadsJob (some_job_bytes files name) (λ bytes _. some_values bytes)
-
-  some_plotters : (suffixes : List (List ℕ)) (values : JobValues) → AreValues values → HasAnswer AreValues (HasPlotters suffixes values)
-  some_plotters suffixes values are =
-      by_option (first_unmet suffixes values.outputs) (λ e. (Ok values, ((refl, e), are))) (λ name e. (Err (NoPlotter name), ((name, refl, e), tt)))
-
-  some_met_job : (suffixes : List (List ℕ)) (files : Files) (name : Option (List ℕ)) → HasAnswer AreValues (TakesMetJob suffixes files name)
-  some_met_job suffixes files name = some_and_then AreValues AreValues (TakesReadJob files name) (HasPlotters suffixes) (some_read_job files name) (some_plotters suffixes)
 
 -- ---- the part
 -- it has a triangle, and its corner numbers are in range
@@ -130,17 +122,17 @@ module _ (decimals : ℕ) (unit : Length) (bytes : List ℕ) where
       let (r, reads, such) = some_form (begins_solid bytes tokens) in
       (r, (tokens, are_tokens false bytes, reads), such)
 
-  some_text : HasAnswer HasCornerPlaces (ReadsText decimals unit bytes)
+  some_text : HasAnswerSuch HasCornerPlaces (ReadsText decimals unit bytes)
   some_text = by some_part_text
     where
-      by : (r : Result Raw PartFault) × ReadsPartText decimals unit bytes r × SaysSuch HasCornerPlaces r → HasAnswer HasCornerPlaces (ReadsText decimals unit bytes)
+      by : (r : Result Raw PartFault) × ReadsPartText decimals unit bytes r × SaysSuch HasCornerPlaces r → HasAnswerSuch HasCornerPlaces (ReadsText decimals unit bytes)
       by (Ok raw, reads, such) = (Ok raw, (reads, such))
       by (Err cause, reads, such) = (Err (PartUnread cause), ((cause, refl, reads), tt))
 
-some_weld_of : (raw : Raw) → HasCornerPlaces raw → HasAnswer IsProper (WeldsPart raw)
+some_weld_of : (raw : Raw) → HasCornerPlaces raw → HasAnswerSuch IsProper (WeldsPart raw)
 some_weld_of raw each = by (some_soup raw each)
   where
-    by : ((corners : List Corner) × (triangles : List Tri) × IsWeldOf raw corners triangles × (0 < length triangles)) ⊎ (proper_of raw ≡ []) → HasAnswer IsProper (WeldsPart raw)
+    by : ((corners : List Corner) × (triangles : List Tri) × IsWeldOf raw corners triangles × (0 < length triangles)) ⊎ (proper_of raw ≡ []) → HasAnswerSuch IsProper (WeldsPart raw)
     by (inl (corners, triangles, weld, some)) = (Ok (record { corners = corners; triangles = triangles }), ((weld, some), (weld.in_range, some)))
     by (inr none) = (Err Nothing, ((refl, none), tt))
 
@@ -158,49 +150,38 @@ cubes_within [] n e = absurd (none-some n e)
 cubes_within (digit ∷ []) n e = few_cubes (nat_le 49 digit && nat_le digit 56) digit n refl e
 cubes_within (digit ∷ more ∷ rest) n e = absurd (none-some n e)
 
-some_sample_of : (size : List ℕ) → HasAnswer IsProper (MakesSample size)
+some_sample_of : (size : List ℕ) → HasAnswerSuch IsProper (MakesSample size)
 some_sample_of size = by_option (cubes_along size) (λ e. (Err SampleRange, ((refl, e), tt))) there
   where
-    there : (n : ℕ) → cubes_along size ≡ Some n → HasAnswer IsProper (MakesSample size)
+    there : (n : ℕ) → cubes_along size ≡ Some n → HasAnswerSuch IsProper (MakesSample size)
     there n e =
         let (least, most) = cubes_within size n e in
         let (part, is) = some_sample n least most in
         (Ok part, (subst (λ (o : Option ℕ). IsSomeAnd o (λ n. IsSample n part)) (sym e) (record { corners = is.corners; triangles = is.triangles }), (is.in_range, is.some)))
 
 module _ (files : Files) (name : List ℕ) (decimals : ℕ) (unit : Length) where
-  some_soup_or : (size : Option (List ℕ)) → HasAnswer IsProper (TakesSoupOr size files name decimals unit)
+  pub some_soup_or : (size : Option (List ℕ)) → HasAnswerSuch IsProper (TakesSoupOr size files name decimals unit)
   some_soup_or (Some size) = some_sample_of size
   some_soup_or None =
       some_and_then Any IsProper (TakesFile ThePart files name) (ReadsPart decimals unit) (some_file ThePart files name)
       (λ bytes _. some_and_then HasCornerPlaces IsProper (ReadsText decimals unit bytes) WeldsPart (some_text decimals unit bytes) some_weld_of)
 
-  some_check : (part : Part) → IsProper part → HasAnswer IsProper (ChecksPart part)
+  some_check : (part : Part) → IsProper part → HasAnswerSuch IsProper (ChecksPart part)
   some_check part (in_range, some) = by (some_fault part in_range some)
     where
-      by : IsSound part ⊎ ((f : MeshFault) × HasFault part f) → HasAnswer IsProper (ChecksPart part)
+      by : IsSound part ⊎ ((f : MeshFault) × HasFault part f) → HasAnswerSuch IsProper (ChecksPart part)
       by (inl sound) = (Ok part, ((refl, sound), (in_range, some)))
       by (inr (fault, has)) = (Err (Mesh fault), ((fault, refl, has), tt))
 
-  pub some_solid : HasAnswer IsProper (TakesSolid files name decimals unit)
+  pub some_solid : HasAnswerSuch IsProper (TakesSolid files name decimals unit)
   some_solid = some_and_then IsProper IsProper (TakesSoup files name decimals unit) ChecksPart (some_soup_or (sample_size name)) some_check
-
--- the job that is taken and read, the part that a name stands for, and that part checked
-pub some_job_taken : Global → (files : Files) (name : Option (List ℕ)) → (r : Result JobValues Fault) × TakesReadJob files name r
-some_job_taken alloc files name = let (r, (taken, such)) = some_read_job alloc files name in (r, taken)
-
-module _ (files : Files) (name : List ℕ) (decimals : ℕ) (unit : Length) where
-  pub some_soup_taken : (r : Result Part Fault) × TakesSoup files name decimals unit r
-  some_soup_taken = let (r, (taken, such)) = some_soup_or files name decimals unit (sample_size name) in (r, taken)
-
-  pub some_solid_taken : (r : Result Part Fault) × TakesSolid files name decimals unit r
-  some_solid_taken = let (r, (taken, such)) = some_solid files name decimals unit in (r, taken)
 
 -- ---- the sheet
 module _ (values : JobValues) (job : Job) (same : job_seen job ≡ values) (part : Part) where
-  with_extents : (extents : List Extent) × AreExtents part.corners job.views.items extents → HasAnswer Any (PlansSheet values part)
+  with_extents : (extents : List Extent) × AreExtents part.corners job.views.items extents → HasAnswerSuch Any (PlansSheet values part)
   with_extents (extents, reach) = by (some_sheet job part.corners extents reach)
     where
-      by : ((sheet : Sheet) × IsPlanned job extents sheet) ⊎ ((w : ℤ) × (h : ℤ) × (room_w : ℤ) × (room_h : ℤ) × HasNoScale job.scale job extents w h room_w room_h) → HasAnswer Any (PlansSheet values part)
+      by : ((sheet : Sheet) × IsPlanned job extents sheet) ⊎ ((w : ℤ) × (h : ℤ) × (room_w : ℤ) × (room_h : ℤ) × HasNoScale job.scale job extents w h room_w room_h) → HasAnswerSuch Any (PlansSheet values part)
       by (inl (sheet, planned)) =
           let at = planned.sheet_at in (
             Ok (record { job = values; part = part }),
@@ -238,21 +219,17 @@ module _ (values : JobValues) (job : Job) (same : job_seen job ≡ values) (part
           none_below (t ∷ ts) h each = let less = (each 0 t (omega arith)).a in omega (arith, less)
       by (c ∷ cs) e = subst (λ (ks : List Corner). (extents : List Extent) × AreExtents ks job.views.items extents) (sym e) (some_extents c cs job.views.items)
 
-pub some_plan : (values : JobValues) → AreValues values → (part : Part) → IsProper part → HasAnswer Any (PlansSheet values part)
+pub some_plan : (values : JobValues) → AreValues values → (part : Part) → IsProper part → HasAnswerSuch Any (PlansSheet values part)
 some_plan values (job, same) part proper = with_extents values job same part (some_reach values job same part proper)
 
--- ---- the run
-some_names : (words : List (List ℕ)) → HasAnswer Any (NamesFiles words)
-some_names words = by_option (named_by words) (λ e. (Err Usage, ((refl, e), tt))) (λ named e. (Ok named, (e, tt)))
+-- ---- what is drawn
+module _ (alloc : Global) (files : Files) where
+  -- a job's part, whatever comes between
+  pub some_drawn_by : (part : List ℕ) (values : JobValues) → AreValues values → HasAnswerSuch Any (TakesSolid files part values.decimals values.unit and_then PlansSheet values)
+  some_drawn_by part values are =
+      some_and_then IsProper Any (TakesSolid files part values.decimals values.unit) (PlansSheet values) (some_solid files part values.decimals values.unit) (some_plan values are)
 
-module _ (alloc : Global) (suffixes : List (List ℕ)) (files : Files) where
-  some_drawn : (named : Named) → HasAnswer Any (DrawsFiles suffixes files named)
-  some_drawn named =
-      some_and_then AreValues Any (TakesMetJob suffixes files named.job) (λ job. (TakesSolid files named.part job.decimals job.unit and_then PlansSheet job)) (some_met_job alloc suffixes files named.job)
-      (λ job are. some_and_then IsProper Any (TakesSolid files named.part job.decimals job.unit) (PlansSheet job) (some_solid files named.part job.decimals job.unit) (some_plan job are))
-
-  -- for all words and files a run gives something to draw, or a refusal
-  pub some_run : (words : List (List ℕ)) → (r : Result Drawn Fault) × RunsDraw suffixes words files r
-  some_run words =
-      let (r, (runs, such)) = some_and_then Any Any (NamesFiles words) (DrawsFiles suffixes files) (some_names words) (λ named _. some_drawn named) in
-      (r, runs)
+  pub some_part_drawn : (part : List ℕ) (job : Option (List ℕ)) → HasAnswerSuch Any (DrawsPart files part job)
+  some_part_drawn part job =
+      some_and_then AreValues Any (TakesReadJob files job) (λ values. (TakesSolid files part values.decimals values.unit and_then PlansSheet values)) (some_read_job alloc files job)
+      (λ values are. some_drawn_by part values are)
