@@ -60,20 +60,20 @@ impl Case {
         })
     }
 
-    // The name of a drawing where none is given.
-    pub(crate) fn drawing(&self) -> &'static str {
-        match self.program {
-            Program::Draw => "drawing.svg",
-            Program::Sheet => "sheet.svg",
-            Program::Pieces => "pieces.svg",
-            Program::Mend => "mended.off",
-        }
+    // It tells what becomes of the file with this name.
+    pub(crate) fn names(&self, name: &str) -> bool {
+        let kept = self.kept.iter().any(|file| file.0.as_str() == name);
+        let made = self.made.iter().any(|other| other.as_str() == name);
+        kept || made || self.gone.iter().any(|other| other.as_str() == name)
     }
 
-    // It tells that the drawing is there.
-    pub(crate) fn has_drawing(&self) -> bool {
-        let drawing = self.drawing();
-        let kept = self.kept.iter().any(|file| file.0.as_str() == drawing);
-        kept || self.made.iter().any(|name| name.as_str() == drawing)
+    // The bytes of the file that it gives under this name.
+    pub(crate) fn given(&self, name: &str) -> Option<&[u8]> {
+        for file in &self.files {
+            if file.0.as_str() == name {
+                return Some(file.1.as_slice());
+            }
+        }
+        None
     }
 }

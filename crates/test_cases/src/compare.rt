@@ -26,6 +26,9 @@ fn end_of(name: &str, bytes: &[u8], cut: Option<(&str, usize)>) -> usize
 pub(crate) trait Shown: Desk {
     fn file_shown(&self, name: &str) -> Option<&[u8]>;
 
+    // Its files; of a desk with rooms none, for it has no others than those that the case gives and the slots.
+    fn files_shown(&self) -> &[(Name, Vec<u8>)];
+
     fn said_shown(&self) -> &[u8];
 
     fn warned_shown(&self) -> &[u8];
@@ -34,6 +37,10 @@ pub(crate) trait Shown: Desk {
 impl Shown for MemoryDesk {
     fn file_shown(&self, name: &str) -> Option<&[u8]> {
         self.file(name)
+    }
+
+    fn files_shown(&self) -> &[(Name, Vec<u8>)] {
+        self.files()
     }
 
     fn said_shown(&self) -> &[u8] {
@@ -48,6 +55,10 @@ impl Shown for MemoryDesk {
 impl Shown for RoomDesk {
     fn file_shown(&self, name: &str) -> Option<&[u8]> {
         self.file(name)
+    }
+
+    fn files_shown(&self) -> &[(Name, Vec<u8>)] {
+        &[]
     }
 
     fn said_shown(&self) -> &[u8] {
@@ -152,6 +163,37 @@ fn add_found<D: Shown>(
     Ok(())
 }
 
+// The file is as it was given, or the case tells what becomes of it.
+fn is_told<D: Shown>(case: &Case, desk: &D, name: &str) -> bool {
+    if case.names(name) {
+        return true;
+    }
+    match case.given(name) {
+        Some(bytes) => desk.file_shown(name) == Some(bytes),
+        None => false,
+    }
+}
+
+// Adds each file of the desk that is new or changed, and of which the case tells nothing.
+fn add_untold<D: Shown>(told: &mut String, case: &Case, desk: &D) -> io::Result<()> {
+    for (name, _) in desk.files_shown() {
+        if !is_told(case, desk, name.as_str()) {
+            add(told, name.as_str())?;
+        }
+    }
+    Ok(())
+}
+
+// Adds each slot that was kept, and of which the case tells nothing.
+fn add_untold_slots<D: Shown>(told: &mut String, case: &Case, desk: &D) -> io::Result<()> {
+    for (name, _) in &case.slots {
+        if desk.file_shown(name.as_str()).is_some() && !case.names(name.as_str()) {
+            add(told, name.as_str())?;
+        }
+    }
+    Ok(())
+}
+
 // What differs, each word behind a blank.
 fn differences<D: Shown + Drop>(alloc: Global, case: &Case, mut desk: D) -> io::Result<String> {
     let found = run(alloc, case, &mut desk)?;
@@ -165,12 +207,11 @@ fn differences<D: Shown + Drop>(alloc: Global, case: &Case, mut desk: D) -> io::
     if desk.warned_shown() != case.warned.as_slice() {
         add(&mut told, "warned")?;
     }
-    if !case.has_drawing() && desk.file_shown(case.drawing()).is_some() {
-        add(&mut told, case.drawing())?;
-    }
     add_kept(&mut told, case, &desk)?;
     add_found(&mut told, &case.made, &desk, true)?;
     add_found(&mut told, &case.gone, &desk, false)?;
+    add_untold(&mut told, case, &desk)?;
+    add_untold_slots(&mut told, case, &desk)?;
     Ok(told)
 }
 
