@@ -21,7 +21,7 @@ use Rattle.detail_pieces.specs.declared.sides.Bound.TheVariants.{Least, Most}
 use Rattle.detail_pieces.specs.declared.sides.ViewAxis.{ViewAxis}
 use Rattle.detail_pieces.specs.declared.sides.ViewAxis.TheVariants.{Across, Upward}
 use Rattle.detail_pieces.specs.declared.windows.Window.{Window}
-use Rattle.detail_pieces.specs.Windows.{IsWithinWindow, IsAtCorner}
+use Rattle.detail_pieces.specs.Windows.{IsWithinWindow, IsAtWindowCorner}
 use Rattle.detail_pieces.proofs.Borders.{over_border, border_sum, border_along}
 
 -- ---- numbers
@@ -189,7 +189,7 @@ module _ (d : Triple) (o : Window) (a b : Spot) where
     Ways = StaysInside d o a b i j (spot_sum a b 1 0) ⊎ StaysInside d o a b i j (spot_sum a b 0 1)
 
     -- the sum is on one side at most, so towards one of the spots there are more points in the window
-    module _ (within : IsWithinWindow d o (spot_sum a b i j)) (off : ¬ IsAtCorner d o (spot_sum a b i j)) where
+    module _ (within : IsWithinWindow d o (spot_sum a b i j)) (off : ¬ IsAtWindowCorner d o (spot_sum a b i j)) where
       abbrev s : Point
       s = spot_sum a b i j
 
@@ -227,7 +227,7 @@ module _ (d : Triple) (o : Window) (a b : Spot) where
           by (inr l) (inr r) (inr v) (inr t) = inl (record { left = inl (more_of _ _ l); right = inl (more_of _ _ r); below = inl (more_of _ _ v); above = inl (more_of _ _ t) })
 
 module _ (d : Triple) (o : Window) (a b : Spot) (p : Point) (positive : IsPoint p) (off_a : ¬ OnOneSight d (of_spot a) p) (off_b : ¬ OnOneSight d (of_spot b) p)
-    (within : IsWithinWindow d o p) (off : ¬ IsAtCorner d o p) where
+    (within : IsWithinWindow d o p) (off : ¬ IsAtWindowCorner d o p) where
   -- what is said of the point holds of the sum on its line of sight
   module _ (s : Point) (there : IsPoint s) (same : OnOneSight d s p) where
     along : (bound : Bound) (axis : ViewAxis) (k : ℤ) → pos 0 ≤ℤ over_border d bound axis k p → pos 0 ≤ℤ over_border d bound axis k s
@@ -241,7 +241,7 @@ module _ (d : Triple) (o : Window) (a b : Spot) (p : Point) (positive : IsPoint 
       above = at_most_of_gap _ _ (along Most Upward o.v2 (gap_of_at_most _ _ within.above));
     }
 
-    off_along : ¬ IsAtCorner d o s
+    off_along : ¬ IsAtWindowCorner d o s
     off_along (u, v) = off (across u, upward v)
       where
         across : (across_of d s ≡ o.u1 *ℤ s.w) ⊎ (across_of d s ≡ o.u2 *ℤ s.w) → (across_of d p ≡ o.u1 *ℤ p.w) ⊎ (across_of d p ≡ o.u2 *ℤ p.w)

@@ -18,7 +18,7 @@ use Rattle.drawing_laws.proofs.Sparse.{ViewLine, IsOnViewLine}
 use Rattle.drawing_laws.proofs.ViewLines.{IsProper, line_through, through_first, through_second, through_proper, on_between, on_too, parallel_on}
 use Rattle.drawing_laws.proofs.ViewOrder.{IsUpTo, up_to_of_lies}
 use Rattle.detail_pieces.specs.declared.windows.Window.{Window}
-use Rattle.detail_pieces.specs.Windows.{IsWithinWindow, IsAtCorner, AreClipped}
+use Rattle.detail_pieces.specs.Windows.{IsWithinWindow, IsAtWindowCorner, AreClipped}
 use Rattle.detail_pieces.proofs.Another.{another}
 use Rattle.detail_pieces.proofs.Beside.{Way, onward, backward, RunsOn, Goes, IsBeside, HasBeside, beside_onward, beside_backward, beside}
 use Rattle.detail_pieces.proofs.Covered.{both_ways, clear_near, strip_at_clear, strip_of_piece}
@@ -201,7 +201,7 @@ module _ (d : Triple) (o : Window) (strips clipped : List Strip) (proper : AreSt
     a_strip Dashed ((y, there, is, on), none) = (y, there, on)
     a_strip Chain ((y, there, is, on), none, no_hidden) = (y, there, on)
 
-    pub shows : IsWithinWindow d o p → ¬ IsAtCorner d o p → (s : Style) → LiesOnStyle d pieces s p ↔ Tells d strips s p
+    pub shows : IsWithinWindow d o p → ¬ IsAtWindowCorner d o p → (s : Style) → LiesOnStyle d pieces s p ↔ Tells d strips s p
     shows within off s = (λ (l, listed, is, lies). of_style l listed lies s is, λ says. from (a_strip s says) says)
       where
         of_style : (l : Piece) → Contains pieces l → LiesOn d l p → (s : Style) → l.style ≡ s → Tells d strips s p

@@ -14,16 +14,16 @@ use Rattle.geometry.specs.Scenes.{IsSeenAt, SeesVisible, SeesHiddenAlone, SeesTr
 use Rattle.geometry.specs.Traces.{IsTracePoint, IsOrdinaryBeside}
 use Rattle.geometry.specs.Views.{IsHidden, IsDrawnPoint}
 use Rattle.detail_pieces.specs.declared.windows.Window.{Window}
-use Rattle.detail_pieces.specs.Windows.{IsWithinWindow, IsAtCorner}
+use Rattle.detail_pieces.specs.Windows.{IsWithinWindow, IsAtWindowCorner}
 
 -- The pieces are a detail of a view along d, with these drawn and hidden points, points of traces and ordinary points, in a window.
 pub record IsDetailIn (d : Triple) (Drawn Hidden Traced Ordinary : Point → Type 0) (o : Window) (pieces : List Piece) : Type 0 where
   pub proper : AreProper d pieces
   -- an ordinary point in the window lies on a solid, a dashed or a chain piece exactly as in the whole view, on all four sides too,
   -- but not where two of them meet
-  pub visible : (p : Point) → IsPoint p → Ordinary p → IsWithinWindow d o p → ¬ IsAtCorner d o p → LiesOnStyle d pieces Solid p ↔ SeesVisible d Drawn Hidden p
-  pub hidden : (p : Point) → IsPoint p → Ordinary p → IsWithinWindow d o p → ¬ IsAtCorner d o p → LiesOnStyle d pieces Dashed p ↔ SeesHiddenAlone d Drawn Hidden p
-  pub traced : (p : Point) → IsPoint p → Ordinary p → IsWithinWindow d o p → ¬ IsAtCorner d o p → LiesOnStyle d pieces Chain p ↔ SeesTraceAlone d Drawn Traced p
+  pub visible : (p : Point) → IsPoint p → Ordinary p → IsWithinWindow d o p → ¬ IsAtWindowCorner d o p → LiesOnStyle d pieces Solid p ↔ SeesVisible d Drawn Hidden p
+  pub hidden : (p : Point) → IsPoint p → Ordinary p → IsWithinWindow d o p → ¬ IsAtWindowCorner d o p → LiesOnStyle d pieces Dashed p ↔ SeesHiddenAlone d Drawn Hidden p
+  pub traced : (p : Point) → IsPoint p → Ordinary p → IsWithinWindow d o p → ¬ IsAtWindowCorner d o p → LiesOnStyle d pieces Chain p ↔ SeesTraceAlone d Drawn Traced p
   -- no piece has a point outside of the window
   pub within : (l : Piece) → Contains pieces l → (p : Point) → IsPoint p → LiesOn d l p → IsWithinWindow d o p
   -- an ordinary point of a piece has a drawn point or a point of a trace on its line of sight, at a corner of the window too

@@ -30,8 +30,8 @@ IsOnSide d o p =
     (across_of d p ≡ o.u1 *ℤ p.w) ⊎ (across_of d p ≡ o.u2 *ℤ p.w) ⊎ (upward_of d p ≡ o.v1 *ℤ p.w) ⊎ (upward_of d p ≡ o.v2 *ℤ p.w)
 
 -- where two of them meet
-abbrev pub IsAtCorner : Triple → Window → Point → Type 0
-IsAtCorner d o p =
+abbrev pub IsAtWindowCorner : Triple → Window → Point → Type 0
+IsAtWindowCorner d o p =
     ((across_of d p ≡ o.u1 *ℤ p.w) ⊎ (across_of d p ≡ o.u2 *ℤ p.w)) × ((upward_of d p ≡ o.v1 *ℤ p.w) ⊎ (upward_of d p ≡ o.v2 *ℤ p.w))
 
 -- p lies on a strip of this line and kind

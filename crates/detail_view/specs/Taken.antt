@@ -26,8 +26,8 @@ DetailsTexts job part w =
     (Lifted (TakesReadJob (all_hold job) (Some w.job)) and_then HasView w.view) and_then λ j. Yields (viewed j) (TakesPart (all_hold part) w.part j)
 
 -- ---- on every desk
--- The text of the job was taken, then that of the part, unless it is a sample, and then that of the list, each by one fetch; the verdict
--- is that of these texts.
+-- The text of the job was taken, then that of the part, unless it is a sample, and then that of the list, each once; the verdict is that
+-- of these texts.
 pub record ChecksTaken {D : Type 0} (Fetches : D → List ℕ → ℕ → List ℕ → D → Type 0) (c : Check) (old new : D) (v : Verdict) : Type 0 where
   pub job : List ℕ
   pub part : List ℕ
@@ -39,8 +39,7 @@ pub record ChecksTaken {D : Type 0} (Fetches : D → List ℕ → ℕ → List �
   pub takes_list : IsTaken Fetches c.list after_part new list
   pub is : IsVerdictOf (ChecksTexts job part list c) v
 
--- The text of the job was taken, and then that of the part, unless it is a sample, each by one fetch; the pieces are the detail of
--- these texts.
+-- The text of the job was taken, and then that of the part, unless it is a sample, each once; the pieces are the detail of these texts.
 pub record DetailsTaken {D : Type 0} (Fetches : D → List ℕ → ℕ → List ℕ → D → Type 0) (w : Detail) (old new : D) (pieces : List Piece) : Type 0 where
   pub job : List ℕ
   pub part : List ℕ
@@ -60,7 +59,7 @@ ArePiecesTaken {D} Fetches state (Some (details w)) old new pieces = (after : D)
 ArePiecesTaken Fetches state asked old new pieces = ⊥
 
 -- ---- what a run gives
--- it is that of texts which were each taken by one fetch
+-- it is that of texts which were each taken once
 pub record IsOfTexts {D : Type 0} (Fetches : D → List ℕ → ℕ → List ℕ → D → Type 0) (state : D → DeskState) (asked : Option Asked) (old new : D) (verdict : Option Verdict)
     (pieces : Option (List Piece)) : Type 0 where
   pub judged : IfSome verdict (IsVerdictTaken Fetches state asked old new)

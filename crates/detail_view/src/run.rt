@@ -62,7 +62,7 @@ pub fn pieces<D: Desk>(alloc: Global, words: &[String], desk: &mut D) -> PiecesO
     ensures files { (D.state desk.old).tells ≡ true →
         KeepsPage (asked_by (texts words.now)) result.fault (pieces_told result.detail) (D.state desk.old).files (D.state desk.new).files }
 
-    // On every desk both are those of one text of the job, one of the part and one of the list, each taken by one fetch.
+    // By the desk's `fetches` both are those of one text of the job, one of the part and one of the list, each fetched once.
     ensures taken { IsOfTexts D.fetches D.state (asked_by (texts words.now)) desk.old desk.new result.verdict (pieces_told result.detail) }
 
     // A refusal leaves all but the count of the faults of reading. A check keeps nothing, a detail says nothing, and neither warns.

@@ -1,5 +1,5 @@
 -- A file that is fetched a block at a time.
-use Rattle.std.proofs.Common.{◌≡◌, ◌<◌, ℕ, List, [], ◌∷◌, ◌++◌, length, take, drop, Option, Some, None, arith, ap, refl, sym, subst, ◌∙◌}
+use Rattle.std.proofs.Common.{◌≡◌, ◌<◌, ℕ, suc, zero, List, [], ◌∷◌, ◌++◌, length, take, drop, Option, Some, None, arith, ap, refl, sym, subst, ◌∙◌}
 use Rattle.std.specs.Prelude.{IsSomeAnd}
 use Rattle.std.proofs.lemmas.List.{take_all, length-take, append-nil}
 use Rattle.std.proofs.Math.Seq.{take-add}
@@ -47,8 +47,12 @@ module _ {D : Type 0} (Fetches : D → List ℕ → ℕ → List ℕ → D → T
 
   module _ (before after : D) (old : List ℕ) (n : ℕ) (new : List ℕ) (are : AreFetched Fetches name start before old) (adds : AddsFetched Fetches name before after old n new) where
     -- one block more
-    pub fetched_more : AreFetched Fetches name start after new
-    fetched_more = subst (AreFetched Fetches name start after) (sym adds.onto) (block start before after old adds.next are adds.fetched)
+    pub fetched_more : ¬ (n ≡ 0) → AreFetched Fetches name start after new
+    fetched_more some = subst (AreFetched Fetches name start after) (sym adds.onto) (block start before after old adds.next are (longer n adds.count some) adds.fetched)
+      where
+        longer : (n : ℕ) → length adds.next ≡ n → ¬ (n ≡ 0) → 0 < length adds.next
+        longer zero count some = absurd (some refl)
+        longer (suc k) count some = omega (arith, count)
 
     -- no bytes more, and the text was taken
     pub taken_whole : n ≡ 0 → IsTaken Fetches name start after new

@@ -57,7 +57,7 @@ pub fn fetch_job<D: Desk>(alloc: Global, name: &Name, desk: &mut D) -> Result<Jo
         GivesInput job_seen (TakesReadJob (D.state desk.old).files (Some name.now)) result }
     ensures of_job { IfErr result IsOfJobFile }
 
-    // On every desk it is that of the bytes that the desk gave, from the first to the last, and nothing else was fetched.
+    // By the desk's `fetches` it is that of the bytes that the desk gave, from the first to the last, and nothing else was fetched.
     ensures taken { IfOk result (λ job. (text : List ℕ) × IsJobTaken D.fetches name.now desk.old desk.new text (job_seen job)) }
 
     // Where no fault of reading was counted, the answer is that of the file, or want of memory; on a steady desk always.

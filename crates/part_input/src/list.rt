@@ -18,7 +18,7 @@ pub fn fetch_list<D: Desk>(alloc: Global, name: &Name, desk: &mut D) -> Result<V
         IfOk result (λ bytes. (D.state desk.old).files name.now ≡ Some bytes.items) }
     ensures within { IfOk result (λ bytes. length bytes.items ≤ 16777216) }
 
-    // On every desk these are the bytes that the desk gave, from the first to the last, and nothing else was fetched.
+    // By the desk's `fetches` these are the bytes that the desk gave, from the first to the last, and nothing else was fetched.
     ensures taken { IfOk result (λ bytes. IsTaken D.fetches name.now desk.old desk.new bytes.items) }
     ensures too_long { (D.state desk.old).tells ≡ true → IsErrOf result FetchFault.TooLong →
         IsSomeAnd ((D.state desk.old).files name.now) (λ bytes. 16777216 < length bytes) }

@@ -97,7 +97,7 @@ pub fn fetch_soup<D: Desk>(
     ensures sample { IsSome (sample_size name.now) → (files : Files) →
         GivesInput part_of (TakesSoup files name.now job.now.decimals job.now.unit) result }
 
-    // On every desk it is that of the bytes that the desk gave, from the first to the last, and nothing else was fetched.
+    // By the desk's `fetches` it is that of the bytes that the desk gave, from the first to the last, and nothing else was fetched.
     ensures taken { IfOk result (λ soup. (text : List ℕ) × IsSoupTaken D.fetches name.now job.now.decimals job.now.unit desk.old desk.new text (part_of soup)) }
 
     // It may be checked.
@@ -155,7 +155,7 @@ pub fn fetch_solid<D: Desk>(
     ensures sample { IsSome (sample_size name.now) → (files : Files) →
         GivesInput solid_part (TakesSolid files name.now job.now.decimals job.now.unit) result }
 
-    // On every desk it is that of the bytes that the desk gave, from the first to the last, and nothing else was fetched.
+    // By the desk's `fetches` it is that of the bytes that the desk gave, from the first to the last, and nothing else was fetched.
     ensures taken { IfOk result (λ solid. (text : List ℕ) × IsPartTaken D.fetches name.now job.now.decimals job.now.unit desk.old desk.new text (solid_part solid)) }
 
     // Where no fault of reading was counted, the answer is that of the name, or want of memory; on a steady desk always.
