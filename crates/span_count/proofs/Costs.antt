@@ -11,7 +11,7 @@ use Rattle.std.proofs.lemmas.Option.{same_Some, slice_get_within, get_or_from_sl
 use Rattle.cross_find.specs.Sights.{SightState}
 use Rattle.edge_pick.specs.declared.Picked.{Picked}
 use Rattle.span_count.specs.Bounds.{IsEndCount, IsBound}
-use Rattle.span_count.specs.inner.Orders.{start_of, starts_of, AreSteps}
+use Rattle.span_count.specs.Orders.{start_of, starts_of, AreSteps}
 use Rattle.span_count.specs.inner.Tours.{cost_of}
 use Rattle.edge_pick.specs.declared.order.DrawnEnd.{DrawnEnd}
 use Rattle.edge_pick.specs.declared.order.Step.{Step}

@@ -6,6 +6,7 @@ pub mod Counted
 pub mod Stars
 pub mod Moved
 pub mod Own
+pub mod NearTested
 pub mod NearTriangles
 pub mod Around
 pub mod OrderSteps
@@ -14,5 +15,6 @@ pub mod OneBound
 pub mod Costs
 pub mod Tours
 pub mod StepWalks
+pub mod StepTests
 pub mod EndCounts
 pub mod RunCounts

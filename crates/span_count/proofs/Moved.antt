@@ -115,3 +115,10 @@ near_last x edge at_b before mid now e near m h = tests_after_tests x mid now be
 pub near_most : (x : SightState) (edge : ℕ) (at_b : Bool) (before : ℕ) (mid now : SightState) → IsTested before x mid → ((m : ℕ) → IsCornerCount mid edge at_b m → now ≡ with_tests m mid)
     → (m : ℕ) → IsCornerCount x edge at_b m → IsTested (before + m) x now
 near_most x edge at_b before mid now (made, few, e) near m h = (made + m, omega arith, near_last x edge at_b made mid now e near m h)
+
+-- just so many before an edge is walked along and at its one end, then along it and at the other
+pub all_far : (x now new : SightState) (before m list n ends : ℕ) → now ≡ with_tests (before + m) x → new ≡ with_tests (list + n) now → ends ≡ m + n → new ≡ with_tests (before + (list + ends)) x
+all_far x now new before m list n ends e f is = subst (λ (k : ℕ). new ≡ with_tests k x) (together before m list n ends is) (tests_after_tests x now new (before + m) (list + n) e f)
+  where
+    together : (b m l n ends : ℕ) → ends ≡ m + n → (b + m) + (l + n) ≡ b + (l + ends)
+    together b m l n ends is = omega arith

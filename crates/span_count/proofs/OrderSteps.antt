@@ -15,7 +15,7 @@ use Rattle.span_count.specs.Bounds.{IsRunCount}
 use Rattle.edge_pick.specs.declared.order.EdgeCorners.{EdgeCorners}
 use Rattle.edge_pick.specs.declared.order.DrawnEnd.{DrawnEnd}
 use Rattle.edge_pick.specs.declared.order.Step.{Step}
-use Rattle.span_count.specs.inner.Orders.{AreAtOneCorner, ComesFrom, start_of, starts_of, AreSteps}
+use Rattle.span_count.specs.Orders.{AreAtOneCorner, ComesFrom, start_of, starts_of, AreSteps}
 use Rattle.edge_pick.specs.Orders.{corner_at, corner_of, Reaches, places_of, starts_in, IsFrom, AreWalked}
 use Rattle.edge_pick.specs.inner.Numberings.{AreCornersOf}
 use Rattle.edge_pick.proofs.EdgePlaces.{number_is, reaches_of}

@@ -11,7 +11,7 @@ use Rattle.span_count.specs.Bounds.{IsEndCount, IsBound}
 use Rattle.span_count.specs.CountSpans.{AreCountSpans}
 use Rattle.span_count.specs.Entries.{IsEntry}
 use Rattle.span_count.specs.Finders.{IsPickedIn, IsFinder}
-use Rattle.span_count.specs.inner.Orders.{AreAtOneCorner, ComesFrom, AreSteps}
+use Rattle.span_count.specs.Orders.{AreAtOneCorner, ComesFrom, AreSteps}
 use Rattle.span_count.specs.inner.Rests.{AreRests}
 use Rattle.span_count.specs.Tests.{with_tests, IsTested}
 use Rattle.span_count.specs.inner.Tours.{kept_at, IsKept, IsReady, IsWalked, cost_of}

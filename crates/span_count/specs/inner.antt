@@ -1,5 +1,4 @@
 -- What only this crate's own functions cite.
-pub mod Orders
 pub mod Rests
 pub mod Steps
 pub mod Tours

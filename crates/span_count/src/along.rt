@@ -8,7 +8,7 @@ ghost use Rattle.span_count.specs.Carries.{AreSmall};
 ghost use Rattle.span_count.specs.CountSpans.{AreCountSpans};
 ghost use Rattle.span_count.specs.inner.Rests.{IsCornerCount, AreCountsNext, AreRests};
 ghost use Rattle.span_count.specs.inner.Steps.{IsSeenEdge, AreListed};
-ghost use Rattle.span_count.specs.Tests.{IsTested};
+ghost use Rattle.span_count.specs.Tests.{with_tests, IsTested};
 
 use crate::carry::{ascending, carried};
 use crate::corner::own_counts;
@@ -49,6 +49,8 @@ pub(crate) fn walk_edge<S: Sight, F: Finder>(
     ensures second { IfOk result (λ walked. AreRests (S.sight sight.old) end.edge true walked.second) }
     ensures tested { (n : ℕ) → IsCornerCount (S.sight sight.old) end.edge (not end.at_b) n →
         IsTested (length (F.list_along finder.now end.edge) + n) (S.sight sight.old) (S.sight sight.new) }
+    ensures all_tested { (n : ℕ) → IsCornerCount (S.sight sight.old) end.edge (not end.at_b) n →
+        IfOk result (λ _. S.sight sight.new ≡ with_tests (length (F.list_along finder.now end.edge) + n) (S.sight sight.old)) }
 {
     let along = along_edge(alloc, sight, finder, end, start.counts)?;
     let far_end = End {
@@ -76,6 +78,7 @@ fn along_edge<S: Sight, F: Finder>(
         IfOk result (λ along. AreCountSpans (S.sight sight.old).direction e along.spans.items) }
     ensures far { IfOk result (λ along. AreCountsNext (S.sight sight.old) end.edge (not end.at_b) along.far) }
     ensures tested { IsTested (length (F.list_along finder.now end.edge)) (S.sight sight.old) (S.sight sight.new) }
+    ensures all_tested { IfOk result (λ _. S.sight sight.new ≡ with_tests (length (F.list_along finder.now end.edge)) (S.sight sight.old)) }
 {
     let crossings = crossings_along(alloc, sight, finder, end.edge)?;
     let crossings = ascending(crossings)?;

@@ -1,11 +1,11 @@
 // The tests that are made for an edge.
-ghost use Rattle.std.specs.Prelude.{◌≡◌, false, ◌+◌, ◌<◌, ◌≤◌, ◌*◌, ◌^◌, length, vec_len, IfOk};
+ghost use Rattle.std.specs.Prelude.{◌≡◌, ℕ, false, ◌+◌, ◌<◌, ◌≤◌, ◌*◌, ◌^◌, length, vec_len, IfOk};
 ghost use Rattle.geometry.specs.Parts.{Edge, IsNumbered};
 ghost use Rattle.geometry.specs.Turns.{number_at};
 ghost use Rattle.span_count.specs.Finders.{AreAllNear};
 ghost use Rattle.span_count.specs.inner.Rests.{AreCountsNext};
 ghost use Rattle.span_count.specs.inner.Steps.{IsSeenEdge, AreListed, AreCrossings};
-ghost use Rattle.span_count.specs.Tests.{IsTested};
+ghost use Rattle.span_count.specs.Tests.{with_tests, IsTested, AreNearAmong};
 
 use crate::finder::{Finder, next_triangle};
 use crate::step::Sides;
@@ -29,6 +29,7 @@ pub(crate) fn first_counts<S: Sight, F: Finder>(
     requires room { (S.sight sight.old).tests + triangles < 2 ^ 64 }
     ensures counts { AreCountsNext (S.sight sight.old) edge false result }
     ensures tested { IsTested triangles (S.sight sight.old) (S.sight sight.new) }
+    ensures near_tested { (n : ℕ) × AreNearAmong (F.is_near finder.now corner) triangles n × (S.sight sight.new ≡ with_tests n (S.sight sight.old)) }
 {
     let end = End { edge, at_b: false };
     let mut left = 0;
@@ -59,6 +60,7 @@ pub(crate) fn crossings_along<S: Sight, F: Finder>(
         IfOk result (λ crossings. AreCrossings (S.sight sight.old) e (F.list_along finder.now edge) crossings.items) }
     ensures few { IfOk result (λ crossings. vec_len crossings ≤ length (F.list_along finder.now edge)) }
     ensures tested { IsTested (length (F.list_along finder.now edge)) (S.sight sight.old) (S.sight sight.new) }
+    ensures all_tested { IfOk result (λ _. S.sight sight.new ≡ with_tests (length (F.list_along finder.now edge)) (S.sight sight.old)) }
 {
     let mut crossings = Vec::new(alloc);
     let mut i = 0;

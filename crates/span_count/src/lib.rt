@@ -15,9 +15,10 @@
 //!
 //! Cost: `bound` tests at most, and sorts. The faces are seen only through a `Sight`, which counts the tests and tells no
 //! coordinate, and through the `Finder`, which is asked without a count: what it doesn't list changes no count at that edge or
-//! corner, and what it passes over isn't over that corner. What it hands out is tested by the sight, each outline once for the edge or
-//! the turn, and each triangle once for the run. Besides the spans, memory is taken for the order of the drawn edges, for two pairs
-//! of numbers for each of them, and for the crossings of one edge at a time.
+//! corner, and what it passes over isn't over that corner. What it hands out is tested by the sight: each outline once for the edge
+//! or the turn, and once for each run different triangles with all that are near. The tests of a view are these and those of the
+//! triangles at the ends of its edges, no fewer and no more (`all_tested`). Besides the spans, memory is taken for the order of the
+//! drawn edges, for two pairs of numbers for each of them, and for the crossings of one edge at a time.
 //!
 //! Where the crossings of an edge are found by other means, as in a cut view, `ascending`, `change_over`, `first_counts_by` and
 //! `carried` make spans of them along the whole edge or a part of it.
@@ -28,7 +29,7 @@ ghost use Rattle.std.specs.List.{AllZip};
 ghost use Rattle.span_count.specs.Bounds.{IsBound};
 ghost use Rattle.span_count.specs.Finders.{IsFinder, IsPickedIn};
 ghost use Rattle.span_count.specs.Entries.{IsEntry};
-ghost use Rattle.span_count.specs.Tests.{IsTested};
+ghost use Rattle.span_count.specs.Tests.{IsTested, AreAllTested};
 
 mod along;
 mod bounds;
@@ -60,8 +61,8 @@ pub use step::Sides;
 ///
 /// Cost: for each run one test of each triangle that the finder doesn't pass over; for each drawn edge one test of each outline that
 /// the finder lists along it and over the corner that it is come to, and of each triangle at its two ends; and a sort of the crossings
-/// that are there. Asking the finder is no test. Also where memory runs out, at most `bound` tests are made, and the sight has the
-/// same solid and the same direction as before.
+/// that are there. Asking the finder is no test. With spans, just these tests were made. Also where memory runs out, at most `bound`
+/// tests are made, and the sight has the same solid and the same direction as before.
 pub fn spans_counted<S: Sight, F: Finder>(
     alloc: Global,
     sight: &mut S,
@@ -73,6 +74,7 @@ pub fn spans_counted<S: Sight, F: Finder>(
     requires room { (bound : ℕ) × IsBound (S.sight sight.old).part (S.sight sight.old).halves picked.now bound × ((S.sight sight.old).tests + bound < 2 ^ 64) }
     ensures entries { IfOk result (λ entries. AllZip (IsEntry (S.sight sight.old)) picked.now.drawn.items entries.items) }
     ensures tested { (bound : ℕ) → IsBound (S.sight sight.old).part (S.sight sight.old).halves picked.now bound → IsTested bound (S.sight sight.old) (S.sight sight.new) }
+    ensures all_tested { IfOk result (λ _. AreAllTested picked.now (F.list_along finder.now) (F.list_over finder.now) (F.is_near finder.now) (S.sight sight.old) (S.sight sight.new)) }
 {
     let triangles = sight.triangles();
     let steps = steps_of(alloc, sight, picked)?;

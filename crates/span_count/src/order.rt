@@ -3,7 +3,7 @@ ghost use Rattle.std.specs.Prelude.{◌≡◌, ◌<◌, All, length, IfOk};
 ghost use Rattle.cross_find.specs.Sights.{IsSeen};
 ghost use Rattle.edge_pick.specs.inner.Numberings.{AreCornersOf};
 ghost use Rattle.span_count.specs.Finders.{IsPickedIn};
-ghost use Rattle.span_count.specs.inner.Orders.{AreSteps};
+ghost use Rattle.span_count.specs.Orders.{AreSteps};
 
 use cross_find::Sight;
 use edge_pick::{EdgeCorners, Picked, Step, breadth_first};

@@ -8,7 +8,7 @@ ghost use Rattle.span_count.specs.CountSpans.{AreCountSpans};
 ghost use Rattle.span_count.specs.Finders.{AreAllNear};
 ghost use Rattle.span_count.specs.inner.Rests.{IsCornerCount, AreCountsNext, AreRests};
 ghost use Rattle.span_count.specs.inner.Steps.{IsSeenEdge, AreListed, AreListedOver};
-ghost use Rattle.span_count.specs.Tests.{with_tests, IsTested};
+ghost use Rattle.span_count.specs.Tests.{with_tests, IsTested, AreNearAmong};
 
 use crate::along::walk_edge;
 use crate::corner::{corner_of, own_counts, turned};
@@ -110,6 +110,10 @@ pub(crate) fn first_edge<S: Sight, F: Finder>(
     ensures second { IfOk result (λ walked. AreRests (S.sight sight.old) edge true walked.second) }
     ensures tested { (ends : ℕ) → IsEndCount (S.sight sight.old).part (S.sight sight.old).halves edge ends →
         IsTested (triangles + (length (F.list_along finder.now edge) + ends)) (S.sight sight.old) (S.sight sight.new) }
+    ensures all_tested { (e : Edge (S.sight sight.old).part) (ends : ℕ) → IsNumbered (S.sight sight.old).halves edge e →
+        IsEndCount (S.sight sight.old).part (S.sight sight.old).halves edge ends →
+        IfOk result (λ _. (n : ℕ) × AreNearAmong (F.is_near finder.now (number_at e false)) triangles n
+        × (S.sight sight.new ≡ with_tests (n + (length (F.list_along finder.now edge) + ends)) (S.sight sight.old))) }
 {
     let end = End { edge, at_b: false };
     let start = begin(sight, finder, edge, triangles);
@@ -145,6 +149,9 @@ pub(crate) fn next_edge<S: Sight, F: Finder>(
     ensures tested { (f : Edge (S.sight sight.old).part) (ends : ℕ) → IsNumbered (S.sight sight.old).halves to.edge f →
         IsEndCount (S.sight sight.old).part (S.sight sight.old).halves to.edge ends →
         IsTested (length (F.list_over finder.now (number_at f to.at_b)) + (length (F.list_along finder.now to.edge) + ends)) (S.sight sight.old) (S.sight sight.new) }
+    ensures all_tested { (f : Edge (S.sight sight.old).part) (ends : ℕ) → IsNumbered (S.sight sight.old).halves to.edge f →
+        IsEndCount (S.sight sight.old).part (S.sight sight.old).halves to.edge ends →
+        IfOk result (λ _. S.sight sight.new ≡ with_tests (length (F.list_over finder.now (number_at f to.at_b)) + (length (F.list_along finder.now to.edge) + ends)) (S.sight sight.old)) }
 {
     let corner = corner_of(sight, to);
     let start = turn_to(sight, finder, corner, from, rest, to);
@@ -162,6 +169,8 @@ fn begin<S: Sight, F: Finder>(sight: &mut S, finder: &F, edge: u32, triangles: u
     ensures counts { AreCountsNext (S.sight sight.old) edge false result.counts }
     ensures rest { AreRests (S.sight sight.old) edge false result.rest }
     ensures tested { (n : ℕ) → IsCornerCount (S.sight sight.old) edge false n → IsTested (triangles + n) (S.sight sight.old) (S.sight sight.new) }
+    ensures near_tested { (e : Edge (S.sight sight.old).part) (m : ℕ) → IsNumbered (S.sight sight.old).halves edge e → IsCornerCount (S.sight sight.old) edge false m →
+        (n : ℕ) × AreNearAmong (F.is_near finder.now (number_at e false)) triangles n × (S.sight sight.new ≡ with_tests (n + m) (S.sight sight.old)) }
 {
     let end = End { edge, at_b: false };
     let corner = corner_of(sight, end);

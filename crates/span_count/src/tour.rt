@@ -3,7 +3,7 @@ ghost use Rattle.std.specs.Prelude.{◌≡◌, ℕ, ◌+◌, ◌<◌, ◌^◌, S
 ghost use Rattle.cross_find.specs.Sights.{IsSeen};
 ghost use Rattle.span_count.specs.Bounds.{IsEndCount};
 ghost use Rattle.span_count.specs.Finders.{IsFinder, IsPickedIn};
-ghost use Rattle.span_count.specs.Tests.{IsTested};
+ghost use Rattle.span_count.specs.Tests.{with_tests, IsTested, AreStepTests};
 ghost use Rattle.span_count.specs.inner.Tours.{kept_at, IsReady, IsWalked, cost_of};
 
 use crate::finder::Finder;
@@ -97,6 +97,8 @@ pub(crate) fn walk_step<S: Sight, F: Finder>(
     ensures tested { (edge count : ℕ) → slice_get picked.now.drawn.items step.to.place ≡ Some edge →
         IsEndCount (S.sight sight.old).part (S.sight sight.old).halves edge count →
         IsTested (cost_of (length (S.sight sight.old).part.triangles) (length picked.now.outlines.items) count step.from) (S.sight sight.old) (S.sight sight.new) }
+    ensures all_tested { IfOk result (λ _. (n : ℕ) × AreStepTests (S.sight sight.old) picked.now (F.list_along finder.now) (F.list_over finder.now) (F.is_near finder.now) step n
+        × (S.sight sight.new ≡ with_tests n (S.sight sight.old))) }
 {
     let edge = picked.drawn[step.to.place as usize];
     match step.from {

@@ -4,7 +4,7 @@ use Rattle.geometry.specs.Parts.{Edge, IsNumbered}
 use Rattle.cross_find.specs.Sights.{SightState}
 use Rattle.edge_pick.specs.declared.Picked.{Picked}
 use Rattle.span_count.specs.CountSpans.{AreCountSpans}
-use Rattle.span_count.specs.inner.Orders.{AreAtOneCorner}
+use Rattle.span_count.specs.Orders.{AreAtOneCorner}
 use Rattle.span_count.specs.inner.Rests.{AreRests}
 use Rattle.edge_pick.specs.declared.order.DrawnEnd.{DrawnEnd}
 use Rattle.span_count.specs.declared.step.Sides.{Sides}

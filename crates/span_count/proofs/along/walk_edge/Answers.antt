@@ -1,8 +1,8 @@
 use Rattle.std.proofs.Common.{◌+◌, not, List, [], length, sym, subst, arith}
 use Rattle.span_count.specs.declared.span.CountSpan.{CountSpan}
 use Rattle.span_count.specs.CountSpans.{AreCountSpans}
-use Rattle.span_count.proofs.Walks.{edge_after}
-use Rattle.span_count.proofs.Moved.{seen_after, own_before, tested_most, still_far, room_along, along_far}
+use Rattle.span_count.proofs.Walks.{edge_after, tests_after_tests}
+use Rattle.span_count.proofs.Moved.{seen_after, corner_after, own_before, tested_most, still_far, room_along, along_far}
 use Rattle.span_count.proofs.Around.{counts_small, rests_of, rests_first, rests_second}
 use Rattle.span_count.proofs.along.walk_edge.Goals as goal
 
@@ -61,3 +61,11 @@ pub returns-clause-tested : goal.returns-clause-tested
 returns-clause-tested g c =
     along_far (g.S.Sight.sight c.args.sight.now) (g.S.Sight.sight c.along_edge.new.sight) (g.S.Sight.sight c.own_counts.new.sight) c.args.end.edge c.args.end.at_b (length (g.F.Finder.list_along c.args.finder.now c.args.end.edge))
     c.along_edge.ensures.tested c.own_counts.ensures.tested
+
+pub returns-clause-all_tested : goal.returns-clause-all_tested
+returns-clause-all_tested g c n h =
+    let x = g.S.Sight.sight c.args.sight.now in
+    let now = g.S.Sight.sight c.along_edge.new.sight in
+    let list = length (g.F.Finder.list_along c.args.finder.now c.args.end.edge) in
+    tests_after_tests x now (g.S.Sight.sight c.own_counts.new.sight) list n c.in_ok-along.ensures.all_tested
+    (c.own_counts.ensures.tested n (corner_after x now list c.in_ok-along.ensures.all_tested c.args.end.edge (not c.args.end.at_b) n h))

@@ -4,6 +4,7 @@ use Rattle.std.proofs.lemmas.List.Elements.{All-contains}
 use Rattle.std.proofs.lemmas.Option.{slice_get_within, get_or_from_slice_get}
 use Rattle.cross_find.specs.declared.meter.Crossing.{Crossing}
 use Rattle.span_count.specs.inner.Steps.{IsOutlineAt, AreCrossings}
+use Rattle.span_count.specs.Tests.{with_tests}
 use Rattle.span_count.proofs.Sums.{some_push, none_push}
 use Rattle.span_count.proofs.Lists.{none_past}
 use Rattle.span_count.proofs.Walks.{AreFoundSoFar, CrossSays, found_more, more_tests, still_seen, still_outline, still_room}
@@ -82,3 +83,11 @@ returns-clause-crossings g c e here =
     let list = g.F.Finder.list_along c.args.finder.now c.args.edge in
     let past : length list ≤ c.loop-outline.i = none_past list c.loop-outline.i (sym c.along.ensures ∙ c.in_default.is) in
     subst (λ (os : List ℕ). AreCrossings (g.S.Sight.sight c.args.sight.now) e os c.loop-outline.crossings.items) (take_all c.loop-outline.i list past) (c.loop-outline.invariant.found e here)
+
+pub returns-clause-all_tested : goal.returns-clause-all_tested
+returns-clause-all_tested g c =
+    let x = g.S.Sight.sight c.args.sight.now in
+    let list = g.F.Finder.list_along c.args.finder.now c.args.edge in
+    let past : length list ≤ c.loop-outline.i = none_past list c.loop-outline.i (sym c.along.ensures ∙ c.in_default.is) in
+    let all : c.loop-outline.i ≡ length list = omega (arith, past, c.loop-outline.invariant.within) in
+    subst (λ (n : ℕ). g.S.Sight.sight c.loop-outline.sight ≡ with_tests n x) all c.loop-outline.invariant.tested

@@ -1,10 +1,11 @@
-use Rattle.std.proofs.Common.{◌≡◌, ℕ, ◌+◌, ◌<◌, ◌≤◌, false, sym, subst, rules, arith}
+use Rattle.std.proofs.Common.{◌≡◌, ℕ, ◌+◌, ◌<◌, ◌≤◌, false, length, refl, sym, subst, rules, arith}
 use Rattle.geometry.specs.Parts.{Face, Edge, IsNumbered}
 use Rattle.geometry.specs.Counts.{Side}
 use Rattle.geometry.specs.Covers.{IsCountedNext}
 use Rattle.geometry.specs.Turns.{number_at}
 use Rattle.cross_find.specs.Sights.{SightState}
 use Rattle.span_count.specs.Finders.{AreAllNear}
+use Rattle.span_count.proofs.NearTested.{near_among, so_far_none, so_far_past, so_far_more}
 use Rattle.span_count.proofs.NearTriangles.{not_counted}
 use Rattle.span_count.proofs.Walks.{AreFirstSoFar, first_none, first_more, first_past, first_all, still_edge, still_tri, still_seen, still_room}
 use Rattle.span_count.proofs.edge_tests.first_counts.Goals as goal
@@ -24,6 +25,7 @@ loop-tri-init g c =
       few = omega arith;
       sums = first_past x c.args.edge 0 tri x 0 0 (first_none x c.args.edge) c.next_triangle-tri.ensures.from
           (passed x c.args.edge c.args.corner (g.F.Finder.is_near c.args.finder.now) c.requires.near c.requires.corner 0 tri c.next_triangle-tri.ensures.passed_over);
+      near = so_far_past (g.F.Finder.is_near c.args.finder.now c.args.corner) x 0 tri x (so_far_none (g.F.Finder.is_near c.args.finder.now c.args.corner) x) c.next_triangle-tri.ensures.from c.next_triangle-tri.ensures.passed_over;
     }
 
 pub cover-on_left-requires-clause-edge_in_range : goal.cover-on_left-requires-clause-edge_in_range
@@ -70,9 +72,19 @@ loop-tri-preserved g c =
       few = omega (arith, c.loop-tri.invariant.few, c.next_triangle-tri-in-loop-tri.ensures.from);
       sums = subst (λ (n : ℕ). AreFirstSoFar x c.args.edge next new (c.loop-tri.left + n) (c.loop-tri.right + c.from-right.result)) (sym c.from-left.ensures)
           (subst (λ (n : ℕ). AreFirstSoFar x c.args.edge next new (c.loop-tri.left + l) (c.loop-tri.right + n)) (sym c.from-right.ensures) past);
+      near = so_far_past (g.F.Finder.is_near c.args.finder.now c.args.corner) x (k + 1) next new
+          (so_far_more (g.F.Finder.is_near c.args.finder.now c.args.corner) x k now new c.loop-tri.invariant.near c.cover-on_left.ensures.counted) c.next_triangle-tri-in-loop-tri.ensures.from c.next_triangle-tri-in-loop-tri.ensures.passed_over;
     }
 
 pub returns-clause-counts : goal.returns-clause-counts
 returns-clause-counts g c =
     first_all (g.S.Sight.sight c.args.sight.now) c.args.edge c.loop-tri.tri (g.S.Sight.sight c.loop-tri.sight) c.loop-tri.left c.loop-tri.right c.loop-tri.invariant.sums
     (let e = c.requires.triangles in omega (arith, c.loop-tri-test.false, c.loop-tri.invariant.within)) c.counts.result c.counts.ensures.left c.counts.ensures.right
+
+pub returns-clause-near_tested : goal.returns-clause-near_tested
+returns-clause-near_tested g c =
+    let known = c.loop-tri.invariant.near in (
+      length known.tested,
+      near_among (g.F.Finder.is_near c.args.finder.now c.args.corner) c.loop-tri.tri c.args.triangles (length known.tested) known.tested known.are (omega (arith, c.loop-tri-test.false, c.loop-tri.invariant.within)) refl,
+      known.made,
+    )

@@ -1,7 +1,8 @@
-use Rattle.std.proofs.Common.{ℕ, ◌+◌, ◌<◌, ◌≤◌, ◌^◌, false, [], arith}
+use Rattle.std.proofs.Common.{ℕ, ◌+◌, ◌<◌, ◌≤◌, ◌^◌, false, [], subst, arith}
+use Rattle.span_count.specs.Tests.{AreNearAmong}
 use Rattle.span_count.proofs.Walks.{edge_after}
 use Rattle.span_count.proofs.Stars.{corner_count}
-use Rattle.span_count.proofs.Moved.{seen_after, room_after, corner_before, own_before, near_most}
+use Rattle.span_count.proofs.Moved.{seen_after, room_after, corner_before, own_before, near_last, near_most}
 use Rattle.span_count.proofs.Around.{counts_small, rests_of}
 use Rattle.span_count.proofs.step.begin.Goals as goal
 
@@ -50,3 +51,13 @@ pub returns-clause-tested : goal.returns-clause-tested
 returns-clause-tested g c =
     near_most (g.S.Sight.sight c.args.sight.now) c.args.edge false c.args.triangles (g.S.Sight.sight c.first_counts-counts.new.sight) (g.S.Sight.sight c.own_counts-own.new.sight)
     c.first_counts-counts.ensures.tested c.own_counts-own.ensures.tested
+
+pub returns-clause-near_tested : goal.returns-clause-near_tested
+returns-clause-near_tested g c e m at h =
+    let x = g.S.Sight.sight c.args.sight.now in
+    let mid = g.S.Sight.sight c.first_counts-counts.new.sight in
+    let (n, near, made) = c.first_counts-counts.ensures.near_tested in (
+      n,
+      subst (λ (corner : ℕ). AreNearAmong (g.F.Finder.is_near c.args.finder.now corner) c.args.triangles n) (c.corner_of-corner.ensures.number e at) near,
+      near_last x c.args.edge false n mid (g.S.Sight.sight c.own_counts-own.new.sight) made c.own_counts-own.ensures.tested m h,
+    )

@@ -1,12 +1,12 @@
-use Rattle.std.proofs.Common.{false, true, [], length, subst}
+use Rattle.std.proofs.Common.{◌+◌, false, true, [], length, subst}
 use Rattle.std.specs.Prelude.{IfOk}
 use Rattle.std.proofs.lemmas.Result.{IfOk-weaker}
 use Rattle.geometry.specs.Parts.{Edge, IsNumbered}
 use Rattle.span_count.specs.CountSpans.{AreCountSpans}
 use Rattle.span_count.specs.inner.Rests.{AreRests}
 use Rattle.span_count.proofs.Walks.{edge_after, listed_after}
-use Rattle.span_count.proofs.Stars.{corner_count}
-use Rattle.span_count.proofs.Moved.{seen_after, counts_after, rests_after, rests_before, room_near, room_far, tested_far}
+use Rattle.span_count.proofs.Stars.{corner_count, corner_counts}
+use Rattle.span_count.proofs.Moved.{seen_after, corner_after, counts_after, rests_after, rests_before, room_near, room_far, tested_far, all_far}
 use Rattle.span_count.proofs.step.first_edge.Goals as goal
 
 pub begin-start-requires-clause-room : goal.begin-start-requires-clause-room
@@ -86,3 +86,13 @@ pub returns-clause-tested : goal.returns-clause-tested
 returns-clause-tested g c =
     tested_far (g.S.Sight.sight c.args.sight.now) c.requires.seen c.args.edge c.requires.edge.in_range false c.args.triangles (length (g.F.Finder.list_along c.args.finder.now c.args.edge))
     (g.S.Sight.sight c.begin-start.new.sight) (g.S.Sight.sight c.walk_edge.new.sight) c.begin-start.ensures.tested c.walk_edge.ensures.tested
+
+pub returns-clause-all_tested : goal.returns-clause-all_tested
+returns-clause-all_tested g c e ends at h =
+    let x = g.S.Sight.sight c.args.sight.now in
+    let now = g.S.Sight.sight c.begin-start.new.sight in
+    let new = g.S.Sight.sight c.walk_edge.new.sight in
+    let list = length (g.F.Finder.list_along c.args.finder.now c.args.edge) in
+    let (m, n, here, far, is) = corner_counts x c.args.edge ends h false in
+    let (before, near, made) = c.begin-start.ensures.near_tested e m at here in
+    IfOk-weaker c.walk_edge.result _ _ (λ walked t. (before, near, all_far x now new before m list n ends made t is)) (c.walk_edge.ensures.all_tested n (corner_after x now (before + m) made c.args.edge true n far))

@@ -1,4 +1,4 @@
-use Rattle.std.proofs.Common.{ℕ, ◌+◌, ◌<◌, ◌^◌, false, true, [], length, sym, subst}
+use Rattle.std.proofs.Common.{◌≡◌, ℕ, ◌+◌, ◌<◌, ◌^◌, false, true, not, [], length, sym, subst}
 use Rattle.std.specs.Prelude.{IfOk}
 use Rattle.std.proofs.lemmas.Result.{IfOk-weaker}
 use Rattle.geometry.specs.Parts.{Edge, IsNumbered}
@@ -7,9 +7,9 @@ use Rattle.span_count.specs.inner.Rests.{AreRests}
 use Rattle.span_count.proofs.Walks.{edge_after, listed_after}
 use Rattle.span_count.specs.Bounds.{IsEndCount}
 use Rattle.span_count.specs.inner.Steps.{AreListedOver}
-use Rattle.span_count.specs.Tests.{IsTested}
-use Rattle.span_count.proofs.Stars.{edge_at, corner_count}
-use Rattle.span_count.proofs.Moved.{seen_after, counts_after, rests_after, rests_before, room_near, room_far, tested_just, tested_far}
+use Rattle.span_count.specs.Tests.{with_tests, IsTested}
+use Rattle.span_count.proofs.Stars.{edge_at, corner_count, corner_counts}
+use Rattle.span_count.proofs.Moved.{seen_after, corner_after, counts_after, rests_after, rests_before, room_near, room_far, tested_just, tested_far, all_far}
 use Rattle.span_count.proofs.step.next_edge.Goals as goal
 
 pub turn_to-start-requires-clause-listed : goal.turn_to-start-requires-clause-listed
@@ -99,3 +99,15 @@ returns-clause-tested g c f ends at h =
     subst (λ (n : ℕ). IsTested (length (g.F.Finder.list_over c.args.finder.now n) + (list + ends)) x new) (c.corner_of-corner.ensures.number f at)
     (tested_far x c.requires.seen c.args.to.edge c.requires.to.in_range c.args.to.at_b (length (g.F.Finder.list_over c.args.finder.now c.corner_of-corner.result)) list (g.S.Sight.sight c.turn_to-start.new.sight) new
     (λ m h. tested_just x (g.S.Sight.sight c.turn_to-start.new.sight) _ (c.turn_to-start.ensures.tested m h)) c.walk_edge.ensures.tested ends h)
+
+pub returns-clause-all_tested : goal.returns-clause-all_tested
+returns-clause-all_tested g c f ends at h =
+    let x = g.S.Sight.sight c.args.sight.now in
+    let now = g.S.Sight.sight c.turn_to-start.new.sight in
+    let new = g.S.Sight.sight c.walk_edge.new.sight in
+    let list = length (g.F.Finder.list_along c.args.finder.now c.args.to.edge) in
+    let over = length (g.F.Finder.list_over c.args.finder.now c.corner_of-corner.result) in
+    let (m, n, here, far, is) = corner_counts x c.args.to.edge ends h c.args.to.at_b in
+    let made = c.turn_to-start.ensures.tested m here in
+    subst (λ (corner : ℕ). IfOk c.walk_edge.result (λ _. new ≡ with_tests (length (g.F.Finder.list_over c.args.finder.now corner) + (list + ends)) x)) (c.corner_of-corner.ensures.number f at)
+    (IfOk-weaker c.walk_edge.result _ _ (λ walked t. all_far x now new over m list n ends made t is) (c.walk_edge.ensures.all_tested n (corner_after x now (over + m) made c.args.to.edge (not c.args.to.at_b) n far)))

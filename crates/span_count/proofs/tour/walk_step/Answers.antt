@@ -5,6 +5,9 @@ use Rattle.geometry.specs.Turns.{number_at}
 use Rattle.span_count.specs.inner.Tours.{IsReady, cost_of}
 use Rattle.edge_pick.specs.declared.order.DrawnEnd.{DrawnEnd}
 use Rattle.span_count.proofs.Listings.{there_at, seen_edge, few_along, listed, few_over, listed_over}
+use Rattle.std.proofs.lemmas.Result.{IfOk-weaker}
+use Rattle.span_count.proofs.Stars.{edge_at}
+use Rattle.span_count.proofs.StepTests.{some_ends, first_tests, next_tests}
 use Rattle.span_count.proofs.StepWalks.{first_fits, next_fits, first_tested, next_tested, kept_rests, all_walked}
 use Rattle.span_count.proofs.tour.walk_step.Goals as goal
 
@@ -123,3 +126,35 @@ returns-in-Some-clause-tested g c number ends here count =
     let at = drawn_at c.args.picked.now.drawn.items c.args.step.to.place c.index-edge.result.now c.requires.place c.index-edge.ensures in
     next_tested x c.requires.seen c.args.picked.now c.requires.picked (g.F.Finder.list_along c.args.finder.now) (g.F.Finder.list_over c.args.finder.now) _ c.requires.finder c.args.step.to.place number c.index-edge.result.now at here ends count
     (g.S.Sight.sight c.next_edge.new.sight) c.args.step.from c.in-Some.from c.in-Some.is c.args.step.to.at_b c.next_edge.ensures.tested
+
+pub returns-in-None-clause-all_tested : goal.returns-in-None-clause-all_tested
+returns-in-None-clause-all_tested g c =
+    let x = g.S.Sight.sight c.args.sight.now in
+    let p = c.args.picked.now in
+    let along = g.F.Finder.list_along c.args.finder.now in
+    let over = g.F.Finder.list_over c.args.finder.now in
+    let near = g.F.Finder.is_near c.args.finder.now in
+    let edge = c.index-edge.result.now in
+    let at = drawn_at p.drawn.items c.args.step.to.place edge c.requires.place c.index-edge.ensures in
+    let within = (seen_edge x c.requires.seen p c.requires.picked along over near c.requires.finder edge (there_at _ _ _ at)).in_range in
+    let (e, numbered) = edge_at x c.requires.seen edge within in
+    let (ends, at_ends) = some_ends x edge c.requires.seen within in
+    IfOk-weaker c.first_edge.result _ _
+    (λ walked t. (t.0 + (length (along edge) + ends), first_tests x p along over near c.args.step edge at e numbered ends at_ends c.in-None.is c.args.triangles c.requires.triangles t.0 t.1, t.2))
+    (c.first_edge.ensures.all_tested e ends numbered at_ends)
+
+pub returns-in-Some-clause-all_tested : goal.returns-in-Some-clause-all_tested
+returns-in-Some-clause-all_tested g c =
+    let x = g.S.Sight.sight c.args.sight.now in
+    let p = c.args.picked.now in
+    let along = g.F.Finder.list_along c.args.finder.now in
+    let over = g.F.Finder.list_over c.args.finder.now in
+    let near = g.F.Finder.is_near c.args.finder.now in
+    let edge = c.index-edge.result.now in
+    let at = drawn_at p.drawn.items c.args.step.to.place edge c.requires.place c.index-edge.ensures in
+    let within = (seen_edge x c.requires.seen p c.requires.picked along over near c.requires.finder edge (there_at _ _ _ at)).in_range in
+    let (e, numbered) = edge_at x c.requires.seen edge within in
+    let (ends, at_ends) = some_ends x edge c.requires.seen within in
+    IfOk-weaker c.next_edge.result _ _
+    (λ walked t. (length (over (number_at e c.args.step.to.at_b)) + (length (along edge) + ends), next_tests x p along over near c.args.step edge at e numbered ends at_ends c.in-Some.from c.in-Some.is, t))
+    (c.next_edge.ensures.all_tested e ends numbered at_ends)
