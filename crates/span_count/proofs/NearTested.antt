@@ -2,8 +2,8 @@
 use Rattle.std.proofs.Common.{◌≡◌, ⊎_elim, ℕ, ◌+◌, ◌<◌, ◌≤◌, List, [], ◌∷◌, ◌++◌, All, AllPairs, Contains, length, sym, subst, ap, ◌∙◌, arith, length-append}
 use Rattle.std.specs.Prelude.{◌≢◌}
 use Rattle.std.proofs.lemmas.Bool.{cases_lt}
-use Rattle.std.proofs.lemmas.List.{get_or_append_left, get_or_push}
 use Rattle.std.proofs.lemmas.List.Elements.{All-push, All-weaker, Contains-append_left, Contains-push}
+use Rattle.std.proofs.lemmas.List.Quantifiers.{all_pairs_push}
 use Rattle.cross_find.specs.Sights.{SightState, with_test}
 use Rattle.span_count.specs.Tests.{with_tests, AreNearAmong}
 use Rattle.span_count.proofs.Walks.{no_tests, more_tests}
@@ -14,19 +14,8 @@ pub record AreNearBelow (near : ℕ → Type 0) (k : ℕ) (tested : List ℕ) : 
   pub once : AllPairs ◌≢◌ tested
   pub all_near : (tri : ℕ) → tri < k → near tri → Contains tested tri
 
-pushed_apart : (k : ℕ) (xs : List ℕ) → All (λ x. x < k) xs → AllPairs ◌≢◌ xs → AllPairs ◌≢◌ (xs ++ k ∷ [])
-pushed_apart k xs below apart i j d less within same =
-    let long = length-append xs (k ∷ []) in
-    let first = get_or_append_left xs (k ∷ []) d i (omega (arith, less, within, long)) in
-    ⊎_elim (λ inside. apart i j d less inside (sym first ∙ same ∙ get_or_append_left xs (k ∷ []) d j inside))
-    (λ past.
-    let last = get_or_push xs k d j (omega (arith, past, within, long)) in
-    let under = below i d (omega (arith, less, within, long)) in
-    absurd (omega (arith, under, sym first ∙ same ∙ last)))
-    (cases_lt j (length xs))
-
 module _ (near : ℕ → Type 0) where
-  near_none : AreNearBelow near 0 []
+  pub near_none : AreNearBelow near 0 []
   near_none = record { within = λ i d h. absurd (omega (arith, h)); once = λ i j d l h. absurd (omega (arith, h)); all_near = λ tri h n. absurd (omega (arith, h)) }
 
   -- what is passed over is not near
@@ -40,7 +29,7 @@ module _ (near : ℕ → Type 0) where
   pub near_more : (k : ℕ) (tested : List ℕ) → AreNearBelow near k tested → AreNearBelow near (k + 1) (tested ++ k ∷ [])
   near_more k tested h = record {
     within = All-push (λ tri. tri < k + 1) tested k (All-weaker (λ tri. tri < k) (λ tri. tri < k + 1) (λ tri l. omega (arith, l)) tested h.within) (omega arith);
-    once = pushed_apart k tested h.within h.once;
+    once = all_pairs_push ◌≢◌ tested k h.once (λ i d l e. let less = h.within i d l in absurd (omega (arith, less, e)));
     all_near = λ tri l n. ⊎_elim (λ below. Contains-append_left tested (k ∷ []) tri (h.all_near tri below n))
         (λ from. let same : k ≡ tri = omega (arith, l, from) in subst (Contains (tested ++ k ∷ [])) same (Contains-push tested k)) (cases_lt tri k);
   }
