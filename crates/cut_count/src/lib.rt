@@ -19,9 +19,10 @@
 //!
 //! Cost: for each drawn edge with a part beyond the plane one test of each triangle that the finder doesn't pass over at that end, of
 //! each segment of the section and of each outline that the finder lists along it, and sorts of the borders and of the crossings that
-//! are there; so at most `cut_bound` tests. On success `spans_cut` makes exactly these tests and counts each (`IsEdgeTests`). No test takes memory. Each takes constant time, but for `border_cross`, which goes once over
-//! the segments where the border passes over an inner place of the edge that is beyond the plane; `spans_cut` doesn't call it. Besides
-//! the spans, memory is taken for the borders and the crossings of one edge at a time.
+//! are there; so at most `cut_bound` tests. On success exactly so many are counted (`IsEdgeTests`). No test takes memory. Each takes
+//! constant time, but for `border_cross`, which goes once over the segments where the border passes over an inner place of the edge that
+//! is beyond the plane; `spans_cut` doesn't call it. Besides the spans, memory is taken for the borders and the crossings of one edge at
+//! a time.
 #![tactic(auto)]
 
 ghost use Rattle.std.specs.Prelude.{◌≡◌, ◌≤◌, ◌+◌, ◌<◌, ◌^◌, ℕ, List, IfOk, OnOk, length, sum};
