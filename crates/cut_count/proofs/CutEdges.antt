@@ -1,6 +1,7 @@
 -- The drawn edges of a cut view one after another: which lists serve for them, what was found so far, and how many tests that took.
-use Rattle.std.proofs.Common.{◌≡◌, ℕ, suc, ◌+◌, ◌*◌, ◌<◌, ◌≤◌, List, [], ◌∷◌, ◌++◌, Contains, length, get_or, take, sym, subst, arith, mul-le-mul}
+use Rattle.std.proofs.Common.{◌≡◌, ℕ, suc, ◌+◌, ◌*◌, ◌<◌, ◌≤◌, List, [], ◌∷◌, ◌++◌, Contains, length, get_or, take, sum, sym, subst, arith, mul-le-mul}
 use Rattle.std.specs.List.{AllZip}
+use Rattle.std.proofs.lemmas.List.Sums.{sum_by_push}
 use Rattle.std.proofs.lemmas.Option.{slice_get-get_or}
 use Rattle.lattice.specs.Cuts.{Plane, toward_of}
 use Rattle.geometry.specs.Parts.{Part, Edge, IsNumbered}
@@ -60,17 +61,20 @@ module _ (solid : Solid) (c : Plane) (tests : ℕ) where
         }
 
 -- ---- so far
--- what the first i edges cost, where each costs at most so much, and their entries
-pub record AreEntriesSoFar (c : Plane) (s : Part) (halves drawn : List ℕ) (cost tests i now : ℕ) (entries : List EdgeSpans) : Type 0 where
+-- what the first i edges cost, where each takes such a number of tests and costs at most so much, and their entries
+pub record AreEntriesSoFar (c : Plane) (s : Part) (halves drawn : List ℕ) (takes : ℕ → ℕ → Type 0) (cost tests i now : ℕ) (entries : List EdgeSpans) : Type 0 where
   pub least : tests ≤ now
   pub most : now ≤ tests + i * cost
+  pub counts : List ℕ
+  pub counted : AllZip takes (take i drawn) counts
+  pub all : now ≡ tests + sum counts
   pub entered : AllZip (IsCutEntry c s halves) (take i drawn) entries
 
-module _ (c : Plane) (s : Part) (halves drawn : List ℕ) (cost tests : ℕ) where
-  pub entries_none : (entries : List EdgeSpans) → entries ≡ [] → AreEntriesSoFar c s halves drawn cost tests 0 tests entries
-  entries_none entries none = record { least = omega arith; most = omega arith; entered = subst (AllZip (IsCutEntry c s halves) []) (sym none) tt }
+module _ (c : Plane) (s : Part) (halves drawn : List ℕ) (takes : ℕ → ℕ → Type 0) (cost tests : ℕ) where
+  pub entries_none : (entries : List EdgeSpans) → entries ≡ [] → AreEntriesSoFar c s halves drawn takes cost tests 0 tests entries
+  entries_none entries none = record { least = omega arith; most = omega arith; counts = []; counted = tt; all = omega arith; entered = subst (AllZip (IsCutEntry c s halves) []) (sym none) tt }
 
-  module _ (i now : ℕ) (entries : List EdgeSpans) (known : AreEntriesSoFar c s halves drawn cost tests i now entries) where
+  module _ (i now : ℕ) (entries : List EdgeSpans) (known : AreEntriesSoFar c s halves drawn takes cost tests i now entries) where
     -- where there is one more, its tests are within the bound
     pub one_more : i < length drawn → (one : ℕ) → one ≤ cost → now + one ≤ tests + length drawn * cost
     one_more within one most =
@@ -93,10 +97,14 @@ module _ (c : Plane) (s : Part) (halves drawn : List ℕ) (cost tests : ℕ) whe
 
     pub entries_more : i < length drawn → (edge : ℕ) → edge ≡ get_or drawn i 0 → (entry : EdgeSpans) → entry.edge ≡ edge
         → ((e : Edge s) → IsNumbered halves edge e → AreCutCountSpans c e entry.spans.items) → (longer : List EdgeSpans) → longer ≡ entries ++ entry ∷ []
-        → (new one : ℕ) → one ≤ cost → now ≤ new → new ≤ now + one → AreEntriesSoFar c s halves drawn cost tests (i + 1) new longer
-    entries_more within edge at entry of spans longer pushed new one small least most = record {
+        → (new one : ℕ) → one ≤ cost → now ≤ new → new ≤ now + one → (n : ℕ) → takes edge n → new ≡ now + n → AreEntriesSoFar c s halves drawn takes cost tests (i + 1) new longer
+    entries_more within edge at entry of spans longer pushed new one small least most n taken is = record {
       least = let h = known.least in omega arith;
       most = next;
+      counts = known.counts ++ n ∷ [];
+      counted = subst (λ xs. AllZip takes xs (known.counts ++ n ∷ [])) (front_get drawn i (get_or drawn i 0) (slice_get-get_or drawn i 0 within))
+          (all_zip_push takes (take i drawn) known.counts (get_or drawn i 0) n known.counted (subst (λ number. takes number n) at taken));
+      all = together (sum known.counts) (sum (known.counts ++ n ∷ [])) (sum_by_push (λ m. m) known.counts n) known.all;
       entered = subst (λ xs. AllZip (IsCutEntry c s halves) xs longer) (front_get drawn i (get_or drawn i 0) (slice_get-get_or drawn i 0 within))
           (subst (AllZip (IsCutEntry c s halves) (take i drawn ++ get_or drawn i 0 ∷ [])) (sym pushed)
           (all_zip_push (IsCutEntry c s halves) (take i drawn) entries (get_or drawn i 0) entry known.entered
@@ -108,5 +116,8 @@ module _ (c : Plane) (s : Part) (halves drawn : List ℕ) (cost tests : ℕ) whe
 
         next : new ≤ tests + (i + 1) * cost
         next =
-            let sum : new ≤ tests + suc i * cost = omega (arith, known.most) in
-            subst (λ k. new ≤ tests + k * cost) (sym following) sum
+            let further : new ≤ tests + suc i * cost = omega (arith, known.most) in
+            subst (λ k. new ≤ tests + k * cost) (sym following) further
+
+        together : (before all : ℕ) → all ≡ before + n → now ≡ tests + before → new ≡ tests + all
+        together before all more so_far = omega arith

@@ -18,6 +18,7 @@ pub mod FewCrossings
 pub mod FoundBorders
 pub mod GrownBorders
 pub mod MiddleSizes
+pub mod NearTested
 pub mod NextCounted
 pub mod NextRests
 pub mod OutlineTotals

@@ -1,4 +1,5 @@
 pub mod Bounds
 pub mod Crossings
 pub mod CutSpans
+pub mod Tests
 pub mod inner

@@ -19,12 +19,13 @@
 //!
 //! Cost: for each drawn edge with a part beyond the plane one test of each triangle that the finder doesn't pass over at that end, of
 //! each segment of the section and of each outline that the finder lists along it, and sorts of the borders and of the crossings that
-//! are there; so at most `cut_bound` tests. No test takes memory. Each takes constant time, but for `border_cross`, which goes once over
-//! the segments where the border passes over an inner place of the edge that is beyond the plane; `spans_cut` doesn't call it. Besides
-//! the spans, memory is taken for the borders and the crossings of one edge at a time.
+//! are there; so at most `cut_bound` tests. On success exactly so many are counted (`IsEdgeTests`). No test takes memory. Each takes
+//! constant time, but for `border_cross`, which goes once over the segments where the border passes over an inner place of the edge that
+//! is beyond the plane; `spans_cut` doesn't call it. Besides the spans, memory is taken for the borders and the crossings of one edge at
+//! a time.
 #![tactic(auto)]
 
-ghost use Rattle.std.specs.Prelude.{◌≡◌, ◌≤◌, ◌+◌, ◌<◌, ◌^◌, ℕ, IfOk, length};
+ghost use Rattle.std.specs.Prelude.{◌≡◌, ◌≤◌, ◌+◌, ◌<◌, ◌^◌, ℕ, List, IfOk, OnOk, length, sum};
 ghost use Rattle.std.specs.List.{AllZip};
 ghost use Rattle.lattice.specs.Cuts.{plane_of, toward_of};
 ghost use Rattle.solid_mesh.specs.Solids.{solid_part, edge_halves};
@@ -33,6 +34,7 @@ ghost use Rattle.edge_pick.specs.Picked.{IsPicked};
 ghost use Rattle.span_count.specs.Finders.{IsFinder, IsPickedIn};
 ghost use Rattle.cut_count.specs.Bounds.{IsCutBound};
 ghost use Rattle.cut_count.specs.CutSpans.{IsCutEntry};
+ghost use Rattle.cut_count.specs.Tests.{IsEdgeTests};
 
 mod beyond;
 mod border;
@@ -79,8 +81,10 @@ pub fn cut_bound(solid: &Solid, section: &Section, picked: &Picked) -> u64
 /// and `right` are the two counts, and the point is hidden exactly where they are not both 0. Neighbours may have equal counts.
 ///
 /// Cost: for each drawn edge with a part beyond the plane one test of each triangle that the finder doesn't pass over, of each segment
-/// and of each outline that the finder lists along it, and a sort of the crossings that are there. Asking the finder is no test. Also
-/// where memory runs out, at most `cut_bound` tests are made.
+/// and of each outline that the finder lists along it, and a sort of the crossings that are there. Asking the finder is no test. On
+/// success exactly so many tests are counted: one of each such segment and outline, and of different triangles with each that is near
+/// the corner where the edge's counts start among them; none of an edge that has no part beyond the plane. Also where memory runs out,
+/// at most `cut_bound` tests are made.
 pub fn spans_cut<F: Finder>(
     alloc: Global,
     solid: &Solid,
@@ -96,6 +100,9 @@ pub fn spans_cut<F: Finder>(
     requires room { (bound : ℕ) → IsCutBound (solid_part solid.now) section.now picked.now bound → meter.old.tests + bound < 2 ^ 64 }
     ensures entries { IfOk result (λ entries. AllZip (IsCutEntry (plane_of section.now.cut) (solid_part solid.now) (edge_halves solid.now)) picked.now.drawn.items entries.items) }
     ensures tested { (bound : ℕ) → IsCutBound (solid_part solid.now) section.now picked.now bound → (meter.old.tests ≤ meter.new.tests) × (meter.new.tests ≤ meter.old.tests + bound) }
+    ensures all_tested { OnOk result ((counts : List ℕ)
+        × AllZip (IsEdgeTests (plane_of section.now.cut) (solid_part solid.now) (edge_halves solid.now) (F.list_along finder.now) (length section.now.segments.items) (F.is_near finder.now)) picked.now.drawn.items counts
+        × (meter.new.tests ≡ meter.old.tests + sum counts)) }
 {
     let mut entries = Vec::new(alloc);
     for edge in &picked.drawn {

@@ -32,6 +32,7 @@ pub(crate) fn add_outlines<F: Finder>(
         × AreOutlineCrossings (plane_of section.now.cut) e (edge_halves solid.now) (F.list_along finder.now edge) here) }
     ensures most { OnOk result (vec_len crossings.new ≤ vec_len crossings.old + length (F.list_along finder.now edge)) }
     ensures tested { (meter.old.tests ≤ meter.new.tests) × (meter.new.tests ≤ meter.old.tests + length (F.list_along finder.now edge)) }
+    ensures all_tested { OnOk result (meter.new.tests ≡ meter.old.tests + length (F.list_along finder.now edge)) }
 {
     let mut i = 0;
     while let Some(outline) = finder.along(edge, i) {

@@ -1,6 +1,6 @@
 // What an edge is asked at the end from which its counts start: which borders are ahead of it and which cross the edge, and which faces are
 // nearer next to it.
-ghost use Rattle.std.specs.Prelude.{◌≡◌, ◌≢◌, ◌⊎◌, ℕ, ◌≤◌, ◌+◌, ◌<◌, ◌^◌, ◌↔◌, ◌-ℤ◌, ◌*ℤ◌, ◌<ℤ◌, pos, length, sum, unsigned_abs, IsTrue, IfOk};
+ghost use Rattle.std.specs.Prelude.{◌≡◌, ◌≢◌, ◌⊎◌, ℕ, ◌≤◌, ◌+◌, ◌<◌, ◌^◌, ◌↔◌, ◌-ℤ◌, ◌*ℤ◌, ◌<ℤ◌, pos, length, sum, unsigned_abs, IsTrue, IfOk, OnOk};
 ghost use Rattle.lattice.specs.Cuts.{plane_of, toward_of, IsBeyond};
 ghost use Rattle.lattice.specs.Points.{of_spot, point_of};
 ghost use Rattle.geometry.specs.Parts.{Part, Face, Edge, IsNumbered};
@@ -14,6 +14,7 @@ ghost use Rattle.cut_plane.specs.Loops.{IsSegmentOf, AreBorders};
 ghost use Rattle.cut_count.specs.inner.Borders.{IsAhead, IsFoundOr, ahead_turn};
 ghost use Rattle.cut_plane.proofs.Xors.{xor};
 ghost use Rattle.span_count.specs.Finders.{AreAllNear};
+ghost use Rattle.span_count.specs.Tests.{AreNearAmong};
 ghost use Rattle.cut_plane.specs.Beyond.{IsStretch};
 ghost use Rattle.cut_count.specs.inner.Walks.{AreFound, IsOddAhead, AreCoverCounts};
 
@@ -67,6 +68,7 @@ pub(crate) fn borders_along(
     ensures right { IfOk result (λ x. IsOddAhead to_right at_b (toward_of (plane_of section.now.cut)) seen.now.at.a seen.now.at.b section.now.segments.items x.odd.right) }
     ensures least { meter.old.tests ≤ meter.new.tests }
     ensures most { meter.new.tests ≤ meter.old.tests + length section.now.segments.items }
+    ensures all_tested { OnOk result (meter.new.tests ≡ meter.old.tests + length section.now.segments.items) }
 {
     let mut found = Vec::new(alloc);
     let mut odd = Odds {
@@ -232,6 +234,8 @@ pub(crate) fn cover_counts<F: Finder>(
     ensures right { (e : Edge (solid_part solid.now)) → IsNumbered (edge_halves solid.now) end.edge e → AreCoverCounts to_right (plane_of section.now.cut) e end.at_b result.right }
     ensures least { meter.old.tests ≤ meter.new.tests }
     ensures most { meter.new.tests ≤ meter.old.tests + length (solid_part solid.now).triangles }
+    ensures near_tested { (e : Edge (solid_part solid.now)) → IsNumbered (edge_halves solid.now) end.edge e →
+        (n : ℕ) × AreNearAmong (F.is_near finder.now (number_at e end.at_b)) (length (solid_part solid.now).triangles) n × (meter.new.tests ≡ meter.old.tests + n) }
 {
     let corner = corner_of(solid, end);
     let triangles = solid.triangles();

@@ -1,5 +1,5 @@
 // Along an edge in the view of a cut, from an end of it that is beyond the plane.
-ghost use Rattle.std.specs.Prelude.{◌≡◌, ◌≢◌, ◌≤◌, ◌+◌, ◌<◌, ◌^◌, ℤ, pos, ◌+ℤ◌, cond, length, IfOk, IsPermutation};
+ghost use Rattle.std.specs.Prelude.{◌≡◌, ◌≢◌, ◌≤◌, ◌+◌, ◌<◌, ◌^◌, ℕ, ℤ, pos, ◌+ℤ◌, cond, length, IfOk, OnOk, IsPermutation};
 ghost use Rattle.std.specs.List.Sorted.{IsSortedByKey};
 ghost use Rattle.exact_frac.specs.Frac.{order_of};
 ghost use Rattle.lattice.specs.Cuts.{plane_of, toward_of};
@@ -8,6 +8,7 @@ ghost use Rattle.geometry.specs.Views.{IsEndOn};
 ghost use Rattle.solid_mesh.specs.Solids.{solid_part, edge_halves};
 ghost use Rattle.cut_plane.specs.Loops.{AreBorders};
 ghost use Rattle.cut_count.specs.CutSpans.{AreCutCountSpans};
+ghost use Rattle.cut_count.specs.Tests.{IsEdgeTests};
 ghost use Rattle.cut_plane.proofs.Xors.{xor};
 ghost use Rattle.span_count.specs.Finders.{AreAllNear};
 ghost use Rattle.cut_count.specs.inner.Walks.{AreListedInCut, AreSectionCrossings, odd_turns, turn_left, turn_right, section_change};
@@ -44,6 +45,8 @@ pub(crate) fn edge_spans<F: Finder>(
         IfOk result (λ spans. AreCutCountSpans (plane_of section.now.cut) e spans.items) }
     ensures tested { (meter.old.tests ≤ meter.new.tests)
         × (meter.new.tests ≤ meter.old.tests + (length (solid_part solid.now).triangles + length (F.list_along finder.now edge) + length section.now.segments.items)) }
+    ensures all_tested { OnOk result ((n : ℕ) × IsEdgeTests (plane_of section.now.cut) (solid_part solid.now) (edge_halves solid.now) (F.list_along finder.now) (length section.now.segments.items) (F.is_near finder.now) edge n
+        × (meter.new.tests ≡ meter.old.tests + n)) }
 {
     let seen = SeenEdge::new(solid, &section.cut, edge);
     let Some(part) = part_beyond(&section.cut, &seen.at.a, &seen.at.b) else {

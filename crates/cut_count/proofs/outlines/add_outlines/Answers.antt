@@ -58,3 +58,12 @@ returns-clause-added g c e here =
     let all : AreAdded plane e halves list c.args.crossings.now.items c.loop-outline.crossings.items =
     subst (λ (os : List ℕ). AreAdded plane e halves os c.args.crossings.now.items c.loop-outline.crossings.items) (take_all c.loop-outline.i list past) (c.loop-outline.invariant.added e here) in
     (all.here, all.all, all.right)
+
+just_tests : (tests first i all : ℕ) → tests ≡ first + i → i ≤ all → all ≤ i → tests ≡ first + all
+just_tests tests first i all e p q = omega arith
+
+pub returns-clause-all_tested : goal.returns-clause-all_tested
+returns-clause-all_tested g c =
+    let list = g.F.Finder.list_along c.args.finder.now c.args.edge in
+    let past : length list ≤ c.loop-outline.i = none_past list c.loop-outline.i (sym c.along.ensures ∙ c.in_default.is) in
+    just_tests c.loop-outline.meter.tests c.args.meter.now.tests c.loop-outline.i (length list) c.loop-outline.invariant.tested c.loop-outline.invariant.within past

@@ -140,3 +140,11 @@ pub returns-clause-most : goal.returns-clause-most
 returns-clause-most c =
     all_tests c.loop-segment.meter.tests c.args.meter.now.tests c.loop-segment.segment-index (length c.args.section.now.segments.items) (length c.as_slice-segment-items.result.now)
     c.loop-segment.invariant.tests c.loop-segment.auto.segment-index-end (ap (λ (xs : List Segment). length xs) c.as_slice-segment-items.ensures.value)
+
+just_tests : (tests first i all more : ℕ) → tests ≡ first + i → i ≤ more → more ≤ i → more ≡ all → tests ≡ first + all
+just_tests tests first i all more e p q same = omega arith
+
+pub returns-clause-all_tested : goal.returns-clause-all_tested
+returns-clause-all_tested c =
+    just_tests c.loop-segment.meter.tests c.args.meter.now.tests c.loop-segment.segment-index (length c.args.section.now.segments.items) (length c.as_slice-segment-items.result.now)
+    c.loop-segment.invariant.tests c.loop-segment.auto.segment-index-end c.loop-segment-test.false (ap (λ (xs : List Segment). length xs) c.as_slice-segment-items.ensures.value)

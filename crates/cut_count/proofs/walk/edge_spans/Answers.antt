@@ -1,4 +1,4 @@
-use Rattle.std.proofs.Common.{rules, ℕ, ◌<◌, ◌^◌, cond, List, [], ◌∷◌, length, sym, subst, ap, ◌∙◌, arith, FitsSigned, to_z, of_z, w64}
+use Rattle.std.proofs.Common.{rules, ◌≡◌, inl, inr, ℕ, ◌+◌, ◌<◌, ◌^◌, cond, List, [], ◌∷◌, length, Result, Ok, Err, OnOk, refl, sym, subst, ap, ◌∙◌, arith, FitsSigned, to_z, of_z, w64}
 use Rattle.std.specs.Prelude.{pos, ◌+ℤ◌, ◌-ℤ◌, IsPermutation}
 use Rattle.std.specs.Int.Signed.{lt_z}
 use Rattle.std.specs.List.Sorted.{IsSortedByKey}
@@ -34,6 +34,12 @@ returns-in_default-clause-spans g c e at =
     let q = plane_of c.args.section.now.cut in
     let (a, b) = c.new-seen.ensures.ends e at in
     subst (AreCutCountSpans q {s = s} e) (sym c.new.ensures.items) (no_cut_spans q e (c.in_default.ensures s e a b))
+
+pub returns-in_default-clause-all_tested : goal.returns-in_default-clause-all_tested
+returns-in_default-clause-all_tested g c =
+    let (e, at) = edge_there c.args.solid.now c.args.edge c.requires.in_range in
+    let (a, b) = c.new-seen.ensures.ends e at in
+    (0, record { edge = e; numbered = at; tests = inl (c.in_default.ensures (solid_part c.args.solid.now) e a b, refl) }, omega arith)
 
 pub borders_along-requires-clause-ends : goal.borders_along-requires-clause-ends
 borders_along-requires-clause-ends g c e at = c.new-seen.ensures.ends e (subst (λ (i : ℕ). IsNumbered (edge_halves c.args.solid.now) i e) c.new-seen.ensures.number at)
@@ -214,3 +220,44 @@ returns-clause-spans g c e at =
     c.cover_counts.result.left c.cover_counts.result.right first.left first.right (c.cover_counts.ensures.left e at) (c.cover_counts.ensures.right e at) first_left first_right spans.items
     (subst (λ (xs : List Crossing). AreCarried part.from part.to xs first.left first.right spans.items) c.deref-4.ensures.value carried))
     c.carried.ensures
+
+-- what holds is said of a success
+on_success : {T E P : Type 0} (r : Result T E) → P → OnOk r P
+on_success (Ok x) p = p
+on_success (Err x) p = tt
+
+-- the tests of the segments, of the outlines and of the triangles
+all_tests : (old after_segments after_outlines new segments outlines triangles : ℕ) → after_segments ≡ old + segments → after_outlines ≡ after_segments + outlines → new ≡ after_outlines + triangles
+    → new ≡ old + (triangles + outlines + segments)
+all_tests old after_segments after_outlines new segments outlines triangles p q r = omega arith
+
+pub returns-clause-all_tested : goal.returns-clause-all_tested
+returns-clause-all_tested g c =
+    let s = solid_part c.args.solid.now in
+    let q = plane_of c.args.section.now.cut in
+    let segments = length c.args.section.now.segments.items in
+    let outlines = length (g.F.Finder.list_along c.args.finder.now c.args.edge) in
+    let at_b = lt_z (pos 0) (to_z w64 (of_z w64 c.over-at_b.result)) in
+    let (e, at) = edge_there c.args.solid.now c.args.edge c.requires.in_range in
+    let (a, b) = c.new-seen.ensures.ends e at in
+    let f : FitsSigned w64 c.over-at_b.result = search rules in
+    let beyond : IsPartBeyond q e (c.in-Some.part ∷ []) = c.in-Some.ensures s e a b in
+    let there : IsBeyond q (point_of (corner_at e at_b)) = end_beyond q e c.in-Some.part beyond at_b (ap (lt_z (pos 0)) (to_z-of_z w64 c.over-at_b.result f ∙ c.over-at_b.ensures.value ∙ ap (over_of q) (sym a))) in
+    let (triangles, among, is) = c.cover_counts.ensures.near_tested e at in
+    on_success c.carried.result (
+      triangles + outlines + segments,
+      record {
+        edge = e;
+        numbered = at;
+        tests = inr (record {
+          part = c.in-Some.part;
+          beyond = beyond;
+          at_b = at_b;
+          starts = there;
+          triangles = triangles;
+          near_among = among;
+          number = refl;
+        });
+      },
+      all_tests c.args.meter.now.tests c.borders_along.new.meter.tests c.add_outlines.new.meter.tests c.cover_counts.new.meter.tests segments outlines triangles c.in_ok-found.ensures.all_tested c.in_ok-add_outlines.ensures.all_tested is,
+    )
