@@ -9,8 +9,7 @@ use Rattle.geometry.specs.Turns.{corner_at, number_at}
 use Rattle.span_count.specs.Tests.{AreNearAmong}
 use Rattle.cut_plane.specs.Beyond.{IsPartBeyond}
 
--- of an edge with a part beyond the plane: one of each segment of the section, of each outline that is listed along the edge, and of
--- different triangles, with each that is near the corner from which the counts start among them
+-- an edge with a part beyond the plane takes one of each segment of the section, of each outline that is listed along it, and of different triangles, with each that is near the corner from which its counts start among them
 pub record IsTestedAlong (c : Plane) {s : Part} (e : Edge s) (near : ℕ → ℕ → Type 0) (outlines segments n : ℕ) : Type 0 where
   pub part : Interval Frac
   pub beyond : IsPartBeyond c e (part ∷ [])
@@ -20,7 +19,7 @@ pub record IsTestedAlong (c : Plane) {s : Part} (e : Edge s) (near : ℕ → ℕ
   pub near_among : AreNearAmong (near (number_at e at_b)) (length s.triangles) triangles
   pub number : n ≡ triangles + outlines + segments
 
--- and none of an edge that has no part beyond the plane
+-- the edge with that number takes so many: none where it has no part beyond the plane
 pub record IsEdgeTests (c : Plane) (s : Part) (halves : List ℕ) (along : ℕ → List ℕ) (segments : ℕ) (near : ℕ → ℕ → Type 0) (number n : ℕ) : Type 0 where
   pub edge : Edge s
   pub numbered : IsNumbered halves number edge
