@@ -92,16 +92,19 @@ no_side_no_area corners t area side h none =
     natural e = cc
 
 -- ---- lower heights
+pub lower_by : (corners : List Corner) (t u : Tri) (area side area' side' : ℤ) → HasHeight corners t area side → HasHeight corners u area' side' → IsLower corners t u → (area *ℤ side') <ℤ (area' *ℤ side)
+lower_by corners t u area side area' side' h k x =
+    let first = one_height corners t x.area x.side area side x.height h in
+    let second = one_height corners u x.other_area x.other_side area' side' x.other_height k in
+    let P : ℤ → Type 0 = λ z. (z *ℤ x.other_side) <ℤ (x.other_area *ℤ x.side) in
+    let Q : ℤ → Type 0 = λ z. (area *ℤ z) <ℤ (x.other_area *ℤ x.side) in
+    let R : ℤ → Type 0 = λ z. (area *ℤ side') <ℤ (z *ℤ x.side) in
+    let S : ℤ → Type 0 = λ z. (area *ℤ side') <ℤ (area' *ℤ z) in
+    subst S first.1 (subst R second.0 (subst Q second.1 (subst P first.0 x.less)))
+
 pub lower_as : (corners : List Corner) (t u : Tri) (area side area' side' : ℕ) → HasHeight corners t (pos area) (pos side) → HasHeight corners u (pos area') (pos side')
     → IsLower corners t u → (pos area *ℤ pos side') <ℤ (pos area' *ℤ pos side)
-lower_as corners t u area side area' side' h k x =
-    let first = one_height corners t x.area x.side (pos area) (pos side) x.height h in
-    let second = one_height corners u x.other_area x.other_side (pos area') (pos side') x.other_height k in
-    let P : ℤ → Type 0 = λ z. (z *ℤ x.other_side) <ℤ (x.other_area *ℤ x.side) in
-    let Q : ℤ → Type 0 = λ z. (pos area *ℤ z) <ℤ (x.other_area *ℤ x.side) in
-    let R : ℤ → Type 0 = λ z. (pos area *ℤ pos side') <ℤ (z *ℤ x.side) in
-    let S : ℤ → Type 0 = λ z. (pos area *ℤ pos side') <ℤ (pos area' *ℤ z) in
-    subst S first.1 (subst R second.0 (subst Q second.1 (subst P first.0 x.less)))
+lower_as corners t u area side area' side' = lower_by corners t u (pos area) (pos side) (pos area') (pos side')
 
 -- the products compare only where both have a side
 pub less_sides : (area side area' side' : ℕ) → (side' ≡ 0 → area' ≡ 0) → (pos area *ℤ pos side') <ℤ (pos area' *ℤ pos side) → (side ≡ 0) ⊎ (side' ≡ 0) → ⊥

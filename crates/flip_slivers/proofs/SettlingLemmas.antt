@@ -12,7 +12,7 @@ use Rattle.lattice.specs.Triangles.{IsBelow}
 use Rattle.geometry.specs.Parts.{part_with}
 use Rattle.flip_slivers.specs.declared.bounded.Bounded.{Bounded}
 use Rattle.flip_slivers.specs.Near.{AreNearSurfaces}
-use Rattle.flip_slivers.specs.Flips.{AreFlips, unmoved, IsGreatestBound}
+use Rattle.flip_slivers.specs.Flips.{IsFlip, AreFlips, unmoved, IsGreatestBound}
 use Rattle.flip_slivers.proofs.FlipsNear.{flips_near, flips_within, flips_count, flips_in_range}
 use Rattle.flip_slivers.specs.Flipped.{IsFlipped}
 use Rattle.flip_slivers.specs.declared.measures.Measure.{Measure}
@@ -56,21 +56,27 @@ pub record Settled (corners : List Corner) (most : ℕ) (given left : List Tri) 
   pub near : AreNearSurfaces moved (part_with corners given) (part_with corners left)
   pub within : moved ≤ most
 
-abbrev pub settled : (corners : List Corner) (most : ℕ) (given left : List Tri) (first last : List Bounded) (flips moved : ℕ) → All (IsBelow (length corners)) given → first ≡ map unmoved given
-    → AreFlips corners most flips first last → left ≡ triangles_of last → IsGreatestBound last moved → AreSettled corners most last → Settled corners most given left flips moved
-settled corners most given left first last flips moved in_range start by_flips bare greatest none =
+abbrev pub settled_by : (corners : List Corner) (most : ℕ) (given left : List Tri) (first last : List Bounded) (flips moved : ℕ) → All (IsBelow (length corners)) given → first ≡ map unmoved given
+    → AreFlips corners most flips first last → left ≡ triangles_of last → IsGreatestBound last moved → ((new : List Bounded) → ¬ IsFlip corners most last new) → Settled corners most given left flips moved
+settled_by corners most given left first last flips moved in_range start by_flips bare greatest none =
     let P : List Bounded → Type 0 = λ s. AreFlips corners most flips s last in
     let from : AreFlips corners most flips (map unmoved given) last = subst P start by_flips in
     let Q : List Tri → Type 0 = λ ts. All (IsBelow (length corners)) ts in
     let N : List Tri → Type 0 = λ ts. AreNearSurfaces moved (part_with corners given) (part_with corners ts) in
     record {
-      flipped = record { last = last; by_flips = from; is_triangles = bare; is_moved = greatest; settled = λ new. flip_choice corners most last new none };
+      flipped = record { last = last; by_flips = from; is_triangles = bare; is_moved = greatest; settled = none };
       count = ap length bare ∙ length-map last (λ (x : Bounded). x.tri) ∙ flips_count corners most flips (map unmoved given) last from ∙ length-map given unmoved;
       in_range = subst Q (sym bare) (All-map (IsBelow (length corners)) (λ (x : Bounded). x.tri) last
           (flips_in_range corners most flips (map unmoved given) last from (All-map (λ (x : Bounded). IsBelow (length corners) x.tri) unmoved given in_range)));
       near = subst N (sym bare) (flips_near corners most flips moved given last from greatest);
       within = flips_within corners most flips moved given last from greatest;
     }
+
+-- where no flip may be chosen there is none
+abbrev pub settled : (corners : List Corner) (most : ℕ) (given left : List Tri) (first last : List Bounded) (flips moved : ℕ) → All (IsBelow (length corners)) given → first ≡ map unmoved given
+    → AreFlips corners most flips first last → left ≡ triangles_of last → IsGreatestBound last moved → AreSettled corners most last → Settled corners most given left flips moved
+settled corners most given left first last flips moved in_range start by_flips bare greatest none =
+    settled_by corners most given left first last flips moved in_range start by_flips bare greatest (λ new. flip_choice corners most last new none)
 
 -- ---- the greatest bound of the first triangles
 pub record IsGreatestOfFirst (surface : List Bounded) (count most : ℕ) : Type 0 where

@@ -7,4 +7,8 @@ pub mod ReadLists
 pub mod Repairing
 pub mod Accepted
 pub mod Told
+pub mod DecidedFlips
+pub mod SomeFlips
+pub mod SomeMending
+pub mod SomePairs
 pub mod SomeRun

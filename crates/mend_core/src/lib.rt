@@ -15,7 +15,7 @@ mod run;
 mod take;
 mod texts;
 
-pub use answers::parts_have_answers;
+pub use answers::runs_have_answers;
 pub use end::MendOutcome;
 pub use lines::{HELP, MEMORY_LINE, VERSION};
 pub use made::{Mended, Report};
