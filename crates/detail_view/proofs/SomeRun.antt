@@ -7,7 +7,7 @@ use Rattle.desk.specs.Files.{Files}
 use Rattle.job_file.specs.Documents.{JobValues}
 use Rattle.part_input.specs.Jobs.{TakesReadJob}
 use Rattle.part_input.specs.Parts.{TakesSolid}
-use Rattle.part_input.specs.Steps.{◌and_then◌, HasAnswer}
+use Rattle.part_input.specs.Steps.{HasAnswer}
 use Rattle.part_input.specs.declared.fault.Fault.{Fault}
 use Rattle.part_input.proofs.SomeSteps.{HasAnswerSuch, Any, AreValues, IsProper, some_and_then, some_read_job, some_solid}
 use Rattle.piece_verify.specs.declared.list.ListFault.{ListFault}
