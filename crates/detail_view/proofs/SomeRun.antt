@@ -1,4 +1,4 @@
--- A run has an answer, for all words and files, where each text of a list has one.
+-- A run has an answer, for all words and files.
 use Rattle.std.proofs.Common.{◌≡◌, ◌⊎◌, inl, inr, ℕ, ◌<◌, ◌≤◌, List, length, Option, Some, None, IsSomeAnd, Result, Ok, Err, refl, sym, subst}
 use Rattle.std.specs.Global.{Global}
 use Rattle.std.proofs.lemmas.Bool.{cases_lt}
@@ -7,14 +7,16 @@ use Rattle.desk.specs.Files.{Files}
 use Rattle.job_file.specs.Documents.{JobValues}
 use Rattle.part_input.specs.Jobs.{TakesReadJob}
 use Rattle.part_input.specs.Parts.{TakesSolid}
-use Rattle.part_input.specs.Steps.{◌and_then◌, HasAnswer}
+use Rattle.part_input.specs.Steps.{HasAnswer}
 use Rattle.part_input.specs.declared.fault.Fault.{Fault}
 use Rattle.part_input.proofs.SomeSteps.{HasAnswerSuch, Any, AreValues, IsProper, some_and_then, some_read_job, some_solid}
+use Rattle.piece_verify.specs.declared.list.ListFault.{ListFault}
+use Rattle.piece_verify.proofs.SomeList.{some_list}
 use Rattle.detail_view.specs.Run.{listed, viewed, TakesList, ReadsList, TakesReadList, HasView, TakesPart, ChecksBy, Checks, TakesViewed, Details, RunsPieces}
 use Rattle.detail_view.specs.Steps.{Lifted, Yields}
 use Rattle.detail_view.specs.Words.{Check, Detail, Asked, checks, details}
 use Rattle.detail_view.specs.declared.fault.PiecesFault.{PiecesFault}
-use Rattle.detail_view.specs.declared.fault.PiecesFault.TheVariants.{Usage, Input, NoView, ReadList, ListTooLong}
+use Rattle.detail_view.specs.declared.fault.PiecesFault.TheVariants.{Usage, Input, NoView, ReadList, ListTooLong, List as Unlisted}
 
 -- ---- steps of reading, and what is made of what steps give
 lift : {A : Type 0} (P : A → Type 0) (steps : Result A Fault → Type 0) → HasAnswerSuch P steps → HasAnswerSuch P (Lifted steps)
@@ -25,26 +27,29 @@ yield : {A B : Type 0} (P : A → Type 0) (f : A → B) (steps : Result A Pieces
 yield P f steps (Ok x, (is, such)) = (Ok (f x), ((x, is, refl), tt))
 yield P f steps (Err fault, (is, such)) = (Err fault, (is, tt))
 
-any : {A F : Type 0} (steps : Result A F → Type 0) → HasAnswer steps → HasAnswerSuch Any steps
-any steps (Ok x, is) = (Ok x, (is, tt))
-any steps (Err fault, is) = (Err fault, (is, tt))
-
 none : {A F : Type 0} (P : A → Type 0) (steps : Result A F → Type 0) → HasAnswerSuch P steps → HasAnswer steps
 none P steps (r, (is, such)) = (r, is)
 
 -- ---- lists and views
-abbrev IsShort : List ℕ → Type 0
-IsShort bytes = length bytes ≤ 16777216
-
-some_list : (files : Files) (name : List ℕ) → HasAnswerSuch IsShort (TakesList files name)
-some_list files name = by_option (files name) (λ e. (Err ReadList, (inl (refl, e), tt))) there
+some_bytes : (files : Files) (name : List ℕ) → HasAnswerSuch Any (TakesList files name)
+some_bytes files name = by_option (files name) (λ e. (Err ReadList, (inl (refl, e), tt))) there
   where
-    there : (bytes : List ℕ) → files name ≡ Some bytes → HasAnswerSuch IsShort (TakesList files name)
+    there : (bytes : List ℕ) → files name ≡ Some bytes → HasAnswerSuch Any (TakesList files name)
     there bytes e = by (cases_lt 16777216 (length bytes))
       where
-        by : (16777216 < length bytes) ⊎ (length bytes ≤ 16777216) → HasAnswerSuch IsShort (TakesList files name)
+        by : (16777216 < length bytes) ⊎ (length bytes ≤ 16777216) → HasAnswerSuch Any (TakesList files name)
         by (inl long) = (Err ListTooLong, (inr (refl, subst (λ (o : Option (List ℕ)). IsSomeAnd o (λ bytes. 16777216 < length bytes)) (sym e) long), tt))
-        by (inr short) = (Ok bytes, ((e, short), short))
+        by (inr short) = (Ok bytes, ((e, short), tt))
+
+-- a text is a list, or has a first line at which it is none
+some_strokes : (bytes : List ℕ) → HasAnswerSuch Any (ReadsList bytes)
+some_strokes bytes = elim (some_list bytes) [
+  | inl (strokes, is) ↦ (Ok strokes, (is, tt))
+  | inr (n, is) ↦ (let fault : ListFault = record { line = n } in (Err (Unlisted fault), ((fault, refl, is), tt)))
+]
+
+some_read_list : (files : Files) (name : List ℕ) → HasAnswerSuch Any (TakesReadList files name)
+some_read_list files name = some_and_then Any Any (TakesList files name) ReadsList (some_bytes files name) (λ bytes any. some_strokes bytes)
 
 some_view : (view : ℕ) (job : JobValues) → AreValues job → HasAnswerSuch AreValues (HasView view job)
 some_view view job are = by (cases_lt view (length job.views))
@@ -67,20 +72,13 @@ module _ (alloc : Global) (files : Files) where
       (some_and_then AreValues AreValues (Lifted (TakesReadJob files (Some d.job))) (HasView d.view) (some_job d.job) (some_view d.view))
       (λ job are. yield IsProper (viewed job) (TakesPart files d.part job) (some_part d.part job))
 
-  module _ (each : (bytes : List ℕ) → IsShort bytes → HasAnswer (ReadsList bytes)) where
-    some_strokes : (name : List ℕ) → HasAnswerSuch Any (TakesReadList files name)
-    some_strokes name = some_and_then IsShort Any (TakesList files name) ReadsList (some_list files name) (λ bytes short. any (ReadsList bytes) (each bytes short))
+  some_check : (c : Check) → HasAnswerSuch Any (Checks files c)
+  some_check c =
+      some_and_then AreValues Any (Lifted (TakesReadJob files (Some c.job))) (ChecksBy files c) (some_job c.job)
+      (λ job are. some_and_then IsProper Any (TakesPart files c.part job) (λ part. Yields (listed job part) (TakesReadList files c.list)) (some_part c.part job)
+      (λ part proper. yield Any (listed job part) (TakesReadList files c.list) (some_read_list files c.list)))
 
-    some_check : (c : Check) → HasAnswerSuch Any (Checks files c)
-    some_check c =
-        some_and_then AreValues Any (Lifted (TakesReadJob files (Some c.job))) (ChecksBy files c) (some_job c.job)
-        (λ job are. some_and_then IsProper Any (TakesPart files c.part job) (λ part. Yields (listed job part) (TakesReadList files c.list)) (some_part c.part job)
-        (λ part proper. yield Any (listed job part) (TakesReadList files c.list) (some_strokes c.list)))
-
-    pub some_run : (asked : Option Asked) → HasAnswer (RunsPieces asked files)
-    some_run None = (Err Usage, refl)
-    some_run (Some (checks c)) = none Any (Checks files c) (some_check c)
-    some_run (Some (details d)) = none Any (Details files d) (some_detail d)
-
-  pub some_detailed : (d : Detail) → HasAnswer (Details files d)
-  some_detailed d = none Any (Details files d) (some_detail d)
+  pub some_run : (asked : Option Asked) → HasAnswer (RunsPieces asked files)
+  some_run None = (Err Usage, refl)
+  some_run (Some (checks c)) = none Any (Checks files c) (some_check c)
+  some_run (Some (details d)) = none Any (Details files d) (some_detail d)

@@ -12,3 +12,5 @@ pub mod ListLines
 pub mod Numerals
 pub mod Parts
 pub mod Ratios
+pub mod SomeColumns
+pub mod SomeList

@@ -46,16 +46,16 @@ a_page text word behind page rest is same one = record {
 abbrev Points : Type 0 → Type 0
 Points X = (X × X) × (X × X)
 
-abbrev IsDrawn : Points Frac × Points ℤ → Type 0
+abbrev pub IsDrawn : Points Frac × Points ℤ → Type 0
 IsDrawn = Both AreEnds ArePlaces
 
-abbrev drawn_text : Points Frac × Points ℤ → List ℕ
+abbrev pub drawn_text : Points Frac × Points ℤ → List ℕ
 drawn_text = both_texts ends_text places_text
 
-abbrev IsMarked : Mark × (Points Frac × Points ℤ) → Type 0
+abbrev pub IsMarked : Mark × (Points Frac × Points ℤ) → Type 0
 IsMarked = Both IsAny IsDrawn
 
-abbrev marked_text : Mark × (Points Frac × Points ℤ) → List ℕ
+abbrev pub marked_text : Mark × (Points Frac × Points ℤ) → List ℕ
 marked_text = both_texts word_of drawn_text
 
 abbrev IsLine : ℕ → ℕ × (Mark × (Points Frac × Points ℤ)) → Type 0
@@ -101,7 +101,7 @@ stroke_form s rest =
     line_form (decimal s.view) (word_of s.mark) (frac_text s.u1) (frac_text s.v1) (frac_text s.u2) (frac_text s.v2)
     (signed_decimal s.x1) (signed_decimal s.y1) (signed_decimal s.x2) (signed_decimal s.y2) rest
 
-no_line : (least : ℕ) (text : List ℕ) → HasNoColumn (IsLine least) line_text 10 text → HasNoEntry least text
+pub no_line : (least : ℕ) (text : List ℕ) → HasNoColumn (IsLine least) line_text 10 text → HasNoEntry least text
 no_line least text none s rest h from e =
     none (columns s) rest (
       record { from = from; size = h.view },

@@ -85,8 +85,8 @@ pub fn read_list(alloc: Global, bytes: &[u8]) -> Result<PieceList, ListError>
     Ok(PieceList { entries })
 }
 
-/// The first line at which the text can't be a list, if there is one. It takes no memory: so each text of this length is a list, or has
-/// such a line. One pass over the text, as `read_list`.
+/// The first line at which the text can't be a list, if there is one. It takes no memory, so it answers for any bytes of this length.
+/// One pass over the text, as `read_list`.
 pub fn list_fault(bytes: &[u8]) -> Option<ListFault>
     requires { length bytes.now ≤ 16777216 }
     ensures list { IfNone result ((strokes : List Stroke) × IsList bytes.now strokes) }
