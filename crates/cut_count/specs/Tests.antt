@@ -9,7 +9,8 @@ use Rattle.geometry.specs.Turns.{corner_at, number_at}
 use Rattle.span_count.specs.Tests.{AreNearAmong}
 use Rattle.cut_plane.specs.Beyond.{IsPartBeyond}
 
--- an edge with a part beyond the plane takes one of each segment of the section, of each outline that is listed along it, and of different triangles, with each that is near the corner from which its counts start among them
+-- Of an edge with a part beyond the plane: one of each segment of the section, and one of each outline that is listed along the edge.
+-- Besides these, those of different triangles, with each that is near a corner of the edge beyond the plane among them.
 pub record IsTestedAlong (c : Plane) {s : Part} (e : Edge s) (near : ℕ → ℕ → Type 0) (outlines segments n : ℕ) : Type 0 where
   pub part : Interval Frac
   pub beyond : IsPartBeyond c e (part ∷ [])

@@ -9,7 +9,7 @@ use Rattle.part_input.specs.Jobs.{TakesReadJob}
 use Rattle.part_input.specs.Parts.{TakesSolid}
 use Rattle.part_input.specs.Steps.{HasAnswer}
 use Rattle.part_input.specs.declared.fault.Fault.{Fault}
-use Rattle.part_input.proofs.SomeSteps.{HasAnswerSuch, Any, AreValues, IsProper, some_and_then, some_read_job, some_solid}
+use Rattle.part_input.proofs.SomeSteps.{HasAnswerSuch, Any, AreValues, IsProper, some_and_then, some_answer, some_read_job, some_solid}
 use Rattle.piece_verify.specs.declared.list.ListFault.{ListFault}
 use Rattle.piece_verify.proofs.SomeList.{some_list}
 use Rattle.detail_view.specs.Run.{listed, viewed, TakesList, ReadsList, TakesReadList, HasView, TakesPart, ChecksBy, Checks, TakesViewed, Details, RunsPieces}
@@ -26,9 +26,6 @@ lift P steps (Err fault, (is, such)) = (Err (Input fault), (is, such))
 yield : {A B : Type 0} (P : A → Type 0) (f : A → B) (steps : Result A PiecesFault → Type 0) → HasAnswerSuch P steps → HasAnswerSuch Any (Yields f steps)
 yield P f steps (Ok x, (is, such)) = (Ok (f x), ((x, is, refl), tt))
 yield P f steps (Err fault, (is, such)) = (Err fault, (is, tt))
-
-none : {A F : Type 0} (P : A → Type 0) (steps : Result A F → Type 0) → HasAnswerSuch P steps → HasAnswer steps
-none P steps (r, (is, such)) = (r, is)
 
 -- ---- lists and views
 some_bytes : (files : Files) (name : List ℕ) → HasAnswerSuch Any (TakesList files name)
@@ -80,5 +77,5 @@ module _ (alloc : Global) (files : Files) where
 
   pub some_run : (asked : Option Asked) → HasAnswer (RunsPieces asked files)
   some_run None = (Err Usage, refl)
-  some_run (Some (checks c)) = none Any (Checks files c) (some_check c)
-  some_run (Some (details d)) = none Any (Details files d) (some_detail d)
+  some_run (Some (checks c)) = some_answer Any (Checks files c) (some_check c)
+  some_run (Some (details d)) = some_answer Any (Details files d) (some_detail d)

@@ -18,19 +18,19 @@ use Rattle.flip_slivers.proofs.OneHeight.{lower_by, one_height, rounded_once}
 use Rattle.mend_core.proofs.SomePairs.{decided_tri}
 
 -- ---- numbers
-less_of_gap : (a b : ℤ) → (b -ℤ a) <ℤ pos 0 → b <ℤ a
-less_of_gap a b h = omega (arith, ints)
+less_of_fall : (a b : ℤ) → (b -ℤ a) <ℤ pos 0 → b <ℤ a
+less_of_fall a b h = omega (arith, ints)
 
-at_most_of_gap : (a b : ℤ) → ((b -ℤ a) ≡ pos 0) ⊎ (pos 0 <ℤ (b -ℤ a)) → a ≤ℤ b
-at_most_of_gap a b (inl e) = omega (arith, ints)
-at_most_of_gap a b (inr h) = omega (arith, ints)
+at_most_of_rise : (a b : ℤ) → ((b -ℤ a) ≡ pos 0) ⊎ (pos 0 <ℤ (b -ℤ a)) → a ≤ℤ b
+at_most_of_rise a b (inl e) = omega (arith, ints)
+at_most_of_rise a b (inr h) = omega (arith, ints)
 
 not_at_most : (a b : ℤ) → ¬ (a ≤ℤ b) → b <ℤ a
 not_at_most a b fails = by (sign_of (b -ℤ a))
   where
     by : Sign (b -ℤ a) → b <ℤ a
-    by (inl less) = less_of_gap a b less
-    by (inr other) = absurd (fails (at_most_of_gap a b other))
+    by (inl less) = less_of_fall a b less
+    by (inr other) = absurd (fails (at_most_of_rise a b other))
 
 decided_within : (m n : ℕ) → Decided (m ≤ n)
 decided_within m n = by (cases_lt n m)
@@ -41,8 +41,8 @@ decided_within m n = by (cases_lt n m)
 
 -- ---- heights
 -- the greatest of three
-some_greatest : (x y z : ℤ) → (l : ℤ) × (((l ≡ x) ⊎ (l ≡ y) ⊎ (l ≡ z)) × ((x ≤ℤ l) × (y ≤ℤ l) × (z ≤ℤ l)))
-some_greatest x y z = by (decided_at_most x y) (decided_at_most x z) (decided_at_most y z)
+greatest_of_three : (x y z : ℤ) → (l : ℤ) × (((l ≡ x) ⊎ (l ≡ y) ⊎ (l ≡ z)) × ((x ≤ℤ l) × (y ≤ℤ l) × (z ≤ℤ l)))
+greatest_of_three x y z = by (decided_at_most x y) (decided_at_most x z) (decided_at_most y z)
   where
     first : (x y z : ℤ) → y <ℤ x → z <ℤ x → (x ≤ℤ x) × (y ≤ℤ x) × (z ≤ℤ x)
     first x y z h k = (omega (arith, ints), omega (arith, ints), omega (arith, ints))
@@ -116,7 +116,7 @@ module _ (corners : List Corner) (most : ℕ) where
     where
       by : Placed corners t → (area : ℤ) × (side : ℤ) × HasHeight corners t area side
       by p =
-          let (l, (one, bounds)) = some_greatest (side_square p.a p.b) (side_square p.b p.c) (side_square p.c p.a) in
+          let (l, (one, bounds)) = greatest_of_three (side_square p.a p.b) (side_square p.b p.c) (side_square p.c p.a) in
           (area_square p.a p.b p.c, l, record { placed = p; is_area = refl; is_side = record { one = one; first = bounds.0; second = bounds.1; third = bounds.2 } })
 
   -- ---- what a flip asks of heights

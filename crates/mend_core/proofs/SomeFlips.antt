@@ -17,28 +17,28 @@ use Rattle.mend_core.proofs.DecidedFlips.{decided_flip}
 
 -- ---- until none is left
 module _ (corners : List Corner) (most : ℕ) (first : List Bounded) (in_range : All (λ (x : Bounded). IsBelow (length corners) x.tri) first) where
-  record Ends : Type 0 where
+  record FlipsEnd : Type 0 where
     pub last : List Bounded
     pub count : ℕ
     pub by_flips : AreFlips corners most count first last
     pub left : (new : List Bounded) → ¬ IsFlip corners most last new
 
   -- so many more flips at most: their sum falls at each
-  abbrev EndsWithin : ℕ → Type 0
-  EndsWithin room = (count : ℕ) (s : List Bounded) → AreFlips corners most count first s → potential corners most s < room → Ends
+  abbrev FlipsEndWithin : ℕ → Type 0
+  FlipsEndWithin room = (count : ℕ) (s : List Bounded) → AreFlips corners most count first s → potential corners most s < room → FlipsEnd
 
-  after_one : (room : ℕ) → EndsWithin room → EndsWithin (suc room)
+  after_one : (room : ℕ) → FlipsEndWithin room → FlipsEndWithin (suc room)
   after_one room ends count s flips fits = by (decided_flip corners most s (flips_in_range corners most count first s flips in_range))
     where
-      by : Decided ((new : List Bounded) × IsFlip corners most s new) → Ends
+      by : Decided ((new : List Bounded) × IsFlip corners most s new) → FlipsEnd
       by (inl (new, x)) = let falls = flip_falls corners most s new x in ends (suc count) new (one_more count first s new flips x) (omega (arith, falls, fits))
       by (inr fails) = record { last = s; count = count; by_flips = flips; left = λ new x. fails (new, x) }
 
-  ends_within : (room : ℕ) → EndsWithin room
+  ends_within : (room : ℕ) → FlipsEndWithin room
   ends_within zero count s flips fits = absurd (omega (arith, fits))
   ends_within (suc room) count s flips fits = after_one room (ends_within room) count s flips fits
 
-  flips_end : Ends
+  flips_end : FlipsEnd
   flips_end = ends_within (suc (potential corners most first)) 0 first (no_flips first) (omega arith)
 
 -- ---- the greatest bound
@@ -64,5 +64,5 @@ some_bound surface = let (moved, first) = of_first (length surface) (omega arith
 pub some_flips : (corners : List Corner) (most : ℕ) (given : List Tri) → All (IsBelow (length corners)) given → (left : List Tri) × (flips : ℕ) × (moved : ℕ) × Settled corners most given left flips moved
 some_flips corners most given in_range = by (flips_end corners most (map unmoved given) (All-map (λ (x : Bounded). IsBelow (length corners) x.tri) unmoved given in_range))
   where
-    by : Ends corners most (map unmoved given) (All-map (λ (x : Bounded). IsBelow (length corners) x.tri) unmoved given in_range) → (left : List Tri) × (flips : ℕ) × (moved : ℕ) × Settled corners most given left flips moved
+    by : FlipsEnd corners most (map unmoved given) (All-map (λ (x : Bounded). IsBelow (length corners) x.tri) unmoved given in_range) → (left : List Tri) × (flips : ℕ) × (moved : ℕ) × Settled corners most given left flips moved
     by e = let (moved, greatest) = some_bound e.last in (triangles_of e.last, e.count, moved, settled_by corners most given (triangles_of e.last) (map unmoved given) e.last e.count moved in_range refl e.by_flips refl greatest e.left)

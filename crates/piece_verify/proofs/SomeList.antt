@@ -1,4 +1,4 @@
--- Each text is a list, or has a first line at which it can't be one: line by line, as the lines are read, where nothing is run.
+-- Each text is a list, or has a first line at which it can't be one: line by line, as `read_list` goes, with no call.
 use Rattle.std.proofs.Common.{◌≡◌, ◌≢◌, ◌⊎◌, inl, inr, ℕ, ◌+◌, ◌<◌, zero, suc, List, [], ◌∷◌, ◌++◌, codes, length, arith, lit<}
 use Rattle.sheet_plan.specs.declared.sheet.Stroke.{Stroke}
 use Rattle.sheet_plan.specs.LineKinds.{word_of}
@@ -72,14 +72,14 @@ some_entry least text = by (view_column least text)
     by (inr v) = mark v (mark_column v.rest)
 
 -- ---- lists
-abbrev Ends : List ℕ → Type 0
-Ends text = ((strokes : List Stroke) × IsList text strokes) ⊎ ((n : ℕ) × IsFaultLine text n)
+abbrev IsListOrFault : List ℕ → Type 0
+IsListOrFault text = ((strokes : List Stroke) × IsList text strokes) ⊎ ((n : ℕ) × IsFaultLine text n)
 
 no_bytes : (b : ℕ) (bytes : List ℕ) → b ∷ bytes ≢ []
 no_bytes b bytes e = cc
 
 -- from what is read on, where the bytes left are fewer than this number
-read_from : (text : List ℕ) (most : ℕ) (entries : List Entry) (least : ℕ) (rest : List ℕ) → length rest < most → IsReadTo text entries least rest → Ends text
+read_from : (text : List ℕ) (most : ℕ) (entries : List Entry) (least : ℕ) (rest : List ℕ) → length rest < most → IsReadTo text entries least rest → IsListOrFault text
 read_from text zero entries least rest few r = absurd (omega (arith, few))
 read_from text (suc most) entries least [] few r = let (strokes, is, each) = all_read text entries least r in inl (strokes, is)
 read_from text (suc most) entries least (b ∷ bytes) few r = elim (some_entry least (b ∷ bytes)) [
@@ -89,9 +89,9 @@ read_from text (suc most) entries least (b ∷ bytes) few r = elim (some_entry l
 ]
 
 -- each text is a list, or has a first line at which it can't be one
-pub some_list : (text : List ℕ) → Ends text
+pub some_list : (text : List ℕ) → IsListOrFault text
 some_list text = by (some_page text)
   where
-    by : HasNoPage text ⊎ IsPage text → Ends text
+    by : HasNoPage text ⊎ IsPage text → IsListOrFault text
     by (inl none) = inr (1, first_fault text none)
     by (inr p) = read_from text (suc (length p.rest)) [] 0 p.rest (omega arith) (started text p.rest p.is)

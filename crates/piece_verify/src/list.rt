@@ -85,7 +85,7 @@ pub fn read_list(alloc: Global, bytes: &[u8]) -> Result<PieceList, ListError>
     Ok(PieceList { entries })
 }
 
-/// The first line at which the text can't be a list, if there is one. It takes no memory, so it answers for any bytes of this length.
+/// The first line at which the text can't be a list, if there is one. It takes no memory, so it answers for any bytes, up to 16,777,216 of them.
 /// One pass over the text, as `read_list`.
 pub fn list_fault(bytes: &[u8]) -> Option<ListFault>
     requires { length bytes.now ≤ 16777216 }

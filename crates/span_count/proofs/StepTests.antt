@@ -1,5 +1,5 @@
 -- The tests of a step, and of all steps so far.
-use Rattle.std.proofs.Common.{◌≡◌, ℕ, ◌+◌, ◌<◌, ◌≤◌, false, true, not, List, [], ◌∷◌, ◌++◌, length, take, refl, sym, subst, ap, ◌∙◌}
+use Rattle.std.proofs.Common.{◌≡◌, ℕ, ◌+◌, ◌<◌, ◌≤◌, false, true, List, [], ◌∷◌, ◌++◌, length, take, refl, sym, subst, ap, ◌∙◌}
 use Rattle.std.specs.Prelude.{Option, None, Some, slice_get, sum}
 use Rattle.std.specs.List.{AllZip}
 use Rattle.std.proofs.lemmas.List.{take_all}
@@ -33,7 +33,7 @@ module _ (x : SightState) (p : Picked) (along over : ℕ → List ℕ) (near : �
     pub first_tests : step.from ≡ None → (triangles : ℕ) → triangles ≡ length x.part.triangles → (before : ℕ) → AreNearAmong (near (number_at e false)) triangles before
         → AreStepTests x p along over near step (before + (length (along edge) + ends))
     first_tests none triangles same before are =
-        step_tests before (subst (λ (from : Option DrawnEnd). AreCornerTests over near e step.to from before) (sym none) (false, subst (λ (n : ℕ). AreNearAmong (near (number_at e false)) n before) same are))
+        step_tests before (subst (λ (from : Option DrawnEnd). AreCornerTests over near e step.to from before) (sym none) (subst (λ (n : ℕ). AreNearAmong (near (number_at e false)) n before) same are))
 
     pub next_tests : (from : DrawnEnd) → step.from ≡ Some from → AreStepTests x p along over near step (length (over (number_at e step.to.at_b)) + (length (along edge) + ends))
     next_tests from some =

@@ -15,6 +15,7 @@ abbrev pub AreAtOneCorner : (x : SightState) → Picked → DrawnEnd → DrawnEn
 AreAtOneCorner x p a b = (i j : ℕ) (e f : Edge x.part) → slice_get p.drawn.items a.place ≡ Some i → slice_get p.drawn.items b.place ≡ Some j →
     IsNumbered x.halves i e → IsNumbered x.halves j f → number_at e a.at_b ≡ number_at f b.at_b
 
+-- the step goes on from an end of an edge that was walked before it, at the same corner; or it begins a run
 abbrev pub ComesFrom : SightState → Picked → List Step → ℕ → DrawnEnd → Option DrawnEnd → Type 0
 ComesFrom x p steps k to None = Unit {0}
 ComesFrom x p steps k to (Some from) = IsWalkedBefore steps k from.place × AreAtOneCorner x p from to

@@ -1,5 +1,5 @@
 -- How many tests a call made.
-use Rattle.std.specs.Prelude.{◌≡◌, ◌≢◌, ℕ, ◌+◌, ◌<◌, ◌≤◌, Bool, List, All, AllPairs, Contains, Option, Some, None, length, slice_get, sum}
+use Rattle.std.specs.Prelude.{◌≡◌, ◌≢◌, ℕ, ◌+◌, ◌<◌, ◌≤◌, false, List, All, AllPairs, Contains, Option, Some, None, length, slice_get, sum}
 use Rattle.std.specs.List.{AllZip}
 use Rattle.geometry.specs.Parts.{Part, Edge, IsNumbered}
 use Rattle.geometry.specs.Turns.{number_at}
@@ -26,13 +26,14 @@ pub record AreNearAmong (near : ℕ → Type 0) (triangles n : ℕ) : Type 0 whe
   pub all_near : (tri : ℕ) → tri < triangles → near tri → Contains tested tri
   pub number : n ≡ length tested
 
--- Before an edge is walked along: where a run begins, a test of different triangles, with each that is near one end's corner among them; else one of each
--- outline that is listed over the corner that is come to.
+-- How many tests come before an edge is walked along. Where a run begins, they are those of different triangles, with each that is near the edge's first
+-- corner among them. Else there is one of each outline that is listed over the corner that is come to.
 abbrev pub AreCornerTests : (ℕ → List ℕ) → (ℕ → ℕ → Type 0) → {s : Part} → Edge s → DrawnEnd → Option DrawnEnd → ℕ → Type 0
-AreCornerTests over near {s} e to None n = (at_b : Bool) × AreNearAmong (near (number_at e at_b)) (length s.triangles) n
+AreCornerTests over near {s} e to None n = AreNearAmong (near (number_at e false)) (length s.triangles) n
 AreCornerTests over near {s} e to (Some from) n = n ≡ length (over (number_at e to.at_b))
 
--- so many tests does a step take: those before its edge is walked along, one of each outline that is listed along it, and one of each triangle at its two ends
+-- How many tests a walk step takes: those before its edge is walked along, one of each outline that is listed along it, and one of each triangle at
+-- either end, those at both twice.
 pub record AreStepTests (x : SightState) (p : Picked) (along over : ℕ → List ℕ) (near : ℕ → ℕ → Type 0) (step : Step) (n : ℕ) : Type 0 where
   pub edge : ℕ
   pub drawn : slice_get p.drawn.items step.to.place ≡ Some edge
@@ -44,7 +45,7 @@ pub record AreStepTests (x : SightState) (p : Picked) (along over : ℕ → List
   pub at_ends : IsEndCount x.part x.halves edge ends
   pub number : n ≡ before + (length (along edge) + ends)
 
--- all drawn edges were walked in some order, and just the tests of these steps were made
+-- The drawn edges were walked in some order, each once, and as many tests were counted as these steps take.
 pub record AreAllTested (p : Picked) (along over : ℕ → List ℕ) (near : ℕ → ℕ → Type 0) (old new : SightState) : Type 0 where
   pub steps : List Step
   pub are_steps : AreSteps old p steps

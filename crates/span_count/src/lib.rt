@@ -15,10 +15,11 @@
 //!
 //! Cost: `bound` tests at most, and sorts. The faces are seen only through a `Sight`, which counts the tests and tells no
 //! coordinate, and through the `Finder`, which is asked without a count: what it doesn't list changes no count at that edge or
-//! corner, and what it passes over isn't over that corner. What it hands out is tested by the sight: each outline once for the edge
-//! or the turn, and once for each run different triangles with all that are near. The tests of a view are these and those of the
-//! triangles at the ends of its edges, no fewer and no more (`all_tested`). Besides the spans, memory is taken for the order of the
-//! drawn edges, for two pairs of numbers for each of them, and for the crossings of one edge at a time.
+//! corner, and what it passes over isn't over that corner. The body tests what it hands out. A clause gives
+//! the number of tests (`all_tested`): one for each outline that is listed, for each edge and for each turn; one for each triangle at
+//! either end of an edge; and where a run begins, those of different triangles with all near ones among them. Besides the spans,
+//! memory is taken for the order of the drawn edges, for two pairs of numbers for each of them, and for the crossings of one edge at a
+//! time.
 //!
 //! Where the crossings of an edge are found by other means, as in a cut view, `ascending`, `change_over`, `first_counts_by` and
 //! `carried` make spans of them along the whole edge or a part of it.
@@ -61,8 +62,10 @@ pub use step::Sides;
 ///
 /// Cost: for each run one test of each triangle that the finder doesn't pass over; for each drawn edge one test of each outline that
 /// the finder lists along it and over the corner that it is come to, and of each triangle at its two ends; and a sort of the crossings
-/// that are there. Asking the finder is no test. With spans, just these tests were made. Also where memory runs out, at most `bound`
-/// tests are made, and the sight has the same solid and the same direction as before.
+/// that are there. Asking the finder is no test. On success exactly so many tests are counted (`AreAllTested`). Where a run begins,
+/// they are those of different triangles with all near ones among them, perhaps with others. Which outline or triangle was tested, no
+/// clause says. Also where memory runs out, at most `bound` tests are made, and the sight has the same solid and the same direction as
+/// before.
 pub fn spans_counted<S: Sight, F: Finder>(
     alloc: Global,
     sight: &mut S,
