@@ -1,0 +1,4 @@
+pub mod Lines
+pub mod Readings
+pub mod Seen
+pub mod Values

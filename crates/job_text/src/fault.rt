@@ -1,0 +1,65 @@
+// What is wrong with a text, and where.
+ghost use Rattle.std.specs.Prelude.{◌≡◌, length};
+ghost use Rattle.job_text.specs.Readings.{Says, flawed};
+ghost use Rattle.toml_parser.specs.declared.error.ParseError.TheVariants as parse;
+
+use exact_frac::OutOfMemory;
+use toml_parser::ParseError;
+
+/// What is wrong at a place of a text.
+#[derive(Clone, Copy, PartialEq, Eq, Debug)]
+pub enum Flaw {
+    /// No key is there.
+    NoKey,
+    /// The key is in quotes.
+    QuotedKey,
+    /// The key has more than one part.
+    DottedKey,
+    /// No `=` is there.
+    NoEquals,
+    /// No closing bracket is there.
+    NoBracket,
+    /// No value is there.
+    NoValue,
+    /// The text in quotes has no end on its line, or an escape that isn't one.
+    BrokenText,
+    /// A text of several lines begins there.
+    LongText,
+    /// An inline table begins there.
+    InlineTable,
+    /// The date isn't in quotes.
+    BareDate,
+    /// The number isn't one of digits, a sign and a point.
+    NoNumber,
+    /// Neither a comma nor the closing bracket of a list is there.
+    BrokenList,
+    /// Something else is on the line.
+    More,
+}
+
+/// Why a text isn't read.
+#[derive(Clone, Copy, PartialEq, Eq, Debug)]
+pub enum Stop {
+    /// It has a flaw, with so many bytes from there to the text's end.
+    At(Flaw, usize),
+    /// Memory ran out.
+    Memory(OutOfMemory),
+}
+
+/// The flaw, at the front of this text.
+pub(crate) fn flawed(flaw: Flaw, front: &str) -> Stop
+    ensures { result ≡ Stop.At flaw (length front.now) }
+{
+    Stop::At(flaw, front.len())
+}
+
+/// The flaw of what a reader of TOML refused, at the front of this text; or that memory ran out.
+pub(crate) fn refused(error: ParseError, flaw: Flaw, front: &str) -> Stop
+    ensures memory { error ≡ parse.OutOfMemory → result ≡ Stop.Memory (record {}) }
+    ensures other { (error ≡ parse.OutOfMemory → ⊥) → result ≡ Stop.At flaw (length front.now) }
+{
+    match error {
+        ParseError::OutOfMemory => Stop::Memory(OutOfMemory),
+        ParseError::At(_, _, _) => flawed(flaw, front),
+    }
+}

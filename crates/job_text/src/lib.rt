@@ -1,0 +1,21 @@
+//! The lines of a job's text, with their places.
+//!
+//! The text is a part of TOML 1.1: each line is empty, a header `[key]` or `[[key]]`, or an entry `key = value`, and may end with a
+//! comment. A key is one word without quotes. A value is on its line: a text in quotes, `true` or `false`, a number of digits, a sign
+//! and a point, or a list of these. What is read is read by the same readers as TOML itself (`toml_parser`), so that each line means
+//! what it means there. Numbers stay as they are written, so that no digit of theirs is lost.
+//!
+//! Cost: one pass over the text.
+#![tactic(auto)]
+
+mod fault;
+mod item;
+mod key;
+mod line;
+mod lines;
+mod list;
+
+pub use fault::{Flaw, Stop};
+pub use item::{Item, Written};
+pub use line::{Line, Meaning};
+pub use lines::lines_of;
