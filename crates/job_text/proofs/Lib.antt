@@ -1,1 +1,2 @@
+mod PlacesBehind
 mod Turns

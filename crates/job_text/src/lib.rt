@@ -14,8 +14,10 @@ mod key;
 mod line;
 mod lines;
 mod list;
+mod place;
 
 pub use fault::{Flaw, Stop};
 pub use item::{Item, Written};
 pub use line::{Line, Meaning};
 pub use lines::lines_of;
+pub use place::{Place, place_of};
