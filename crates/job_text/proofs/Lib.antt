@@ -1,2 +1,3 @@
+mod Edits
 mod PlacesBehind
 mod Turns

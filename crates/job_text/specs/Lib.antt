@@ -2,4 +2,5 @@ pub mod Lines
 pub mod Places
 pub mod Readings
 pub mod Seen
+pub mod Spelling
 pub mod Values

@@ -15,9 +15,11 @@ mod line;
 mod lines;
 mod list;
 mod place;
+mod spelling;
 
 pub use fault::{Flaw, Stop};
 pub use item::{Item, Written};
 pub use line::{Line, Meaning};
 pub use lines::lines_of;
 pub use place::{Place, place_of};
+pub use spelling::are_near;
