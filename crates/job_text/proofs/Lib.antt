@@ -1,1 +1,3 @@
+mod LinesInToml
 mod Turns
+mod ValuesInToml

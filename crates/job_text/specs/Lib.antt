@@ -1,4 +1,5 @@
 pub mod Lines
 pub mod Readings
 pub mod Seen
+pub mod Toml
 pub mod Values

@@ -14,8 +14,10 @@ mod key;
 mod line;
 mod lines;
 mod list;
+mod meaning_in_toml;
 
 pub use fault::{Flaw, Stop};
 pub use item::{Item, Written};
 pub use line::{Line, Meaning};
 pub use lines::lines_of;
+pub use meaning_in_toml::lines_are_toml;
