@@ -3,4 +3,5 @@ pub mod Places
 pub mod Readings
 pub mod Seen
 pub mod Spelling
+pub mod Toml
 pub mod Values

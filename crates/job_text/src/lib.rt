@@ -14,6 +14,7 @@ mod key;
 mod line;
 mod lines;
 mod list;
+mod meaning_in_toml;
 mod place;
 mod spelling;
 
@@ -21,5 +22,6 @@ pub use fault::{Flaw, Stop};
 pub use item::{Item, Written};
 pub use line::{Line, Meaning};
 pub use lines::lines_of;
+pub use meaning_in_toml::lines_are_toml;
 pub use place::{Place, place_of};
 pub use spelling::are_near;
