@@ -22,6 +22,7 @@ use Rattle.job_text.proofs.ValuesInToml.{both_ok, test_met, told, same_read, lef
 abbrev pub IsRead : (List ℕ → Read Expression) → List ℕ → Meaning → List ℕ → Type 0
 IsRead read front m rest = (e : Expression) × IsMeaningOf m e × (read front ≡ Some (e, rest))
 
+-- a key of one part
 abbrev key_alone : List ℕ → Key
 key_alone k = ([], k)
 
@@ -37,23 +38,26 @@ key_bracketed : (front k behind rest : List ℕ) → one_key (skip_ws front) ≡
 unfolding header_key
 key_bracketed front k behind rest named closed = rw ((key_in_toml (skip_ws front) k behind named).1, bracket_in_toml behind rest closed)
 
--- what TOML reads at the front
+-- what TOML reads at the front: a header
 header_read : (front : List ℕ) (k : Key) (rest : List ℕ) → (first front == 91) ≡ true → (first front == 91 && slice_index front 1 == 91) ≡ false → header_key (drop 1 front) ≡ Some (k, rest)
     → expression front ≡ Some ((k, std_table), rest)
 unfolding expression
 header_read front k rest opens alone read = rw (alone, opens, read)
 
+-- a header of a list
 list_header_read : (front : List ℕ) (k : Key) (inner rest : List ℕ) → (first front == 91 && slice_index front 1 == 91) ≡ true → header_key (drop 2 front) ≡ Some (k, inner) → after_byte 93 inner ≡ Some rest
     → expression front ≡ Some ((k, array_table), rest)
 unfolding expression
 list_header_read front k inner rest opens read closed = rw (opens, read, closed)
 
+-- a key and a value
 entry_read : (front : List ℕ) (k : Key) (behind : List ℕ) (d : Data) (rest : List ℕ) → (first front == 91) ≡ false → key front ≡ Some (k, behind) → (first behind == 61) ≡ true
     → val recursion_limit (skip_ws (drop 1 behind)) ≡ Some (d, rest) → expression front ≡ Some ((k, key_value d), rest)
 unfolding expression key_equals
 entry_read front k behind d rest opens named equal read = rw (opens, named, equal, read)
 
 -- ---- what each line is
+-- one bracket
 header_told : (front k behind left : List ℕ) (m : Meaning) (rest : List ℕ) → (first front == 91) ≡ true → (first front == 91 && slice_index front 1 == 91) ≡ false → one_key (skip_ws (drop 1 front)) ≡ Ok (k, behind)
     → bracket behind ≡ Ok left → told (header k) left ≡ Ok (m, rest) → IsRead expression front m rest
 header_told front k behind left m rest opens alone named closed e =
@@ -62,6 +66,7 @@ header_told front k behind left m rest opens alone named closed e =
     let read = header_read front (key_alone k) left opens alone (key_bracketed (drop 1 front) k behind left named closed) in
     (whole, subst (λ (n : Meaning). IsMeaningOf n whole) is.0 refl, read ∙ ap (λ (s : List ℕ). Some (whole, s)) is.1)
 
+-- two brackets
 list_header_told : (front k behind inner left : List ℕ) (m : Meaning) (rest : List ℕ) → (first front == 91 && slice_index front 1 == 91) ≡ true → one_key (skip_ws (drop 2 front)) ≡ Ok (k, behind)
     → bracket behind ≡ Ok inner → bracket inner ≡ Ok left → told (list_header k) left ≡ Ok (m, rest) → IsRead expression front m rest
 list_header_told front k behind inner left m rest opens named closed outer e =
@@ -70,6 +75,7 @@ list_header_told front k behind inner left m rest opens named closed outer e =
     let read = list_header_read front (key_alone k) inner left opens (key_bracketed (drop 2 front) k behind inner named closed) (bracket_in_toml inner left outer) in
     (whole, subst (λ (n : Meaning). IsMeaningOf n whole) is.0 refl, read ∙ ap (λ (s : List ℕ). Some (whole, s)) is.1)
 
+-- a key, `=` and a value
 entry_told : (size : ℕ) (front k behind : List ℕ) (written : Written) (left : List ℕ) (m : Meaning) (rest : List ℕ) → (first front == 91) ≡ false → one_key front ≡ Ok (k, behind) → (first behind == 61) ≡ true
     → value (skip_ws (drop 1 behind)) ≡ Ok (written, left) → told (entry k written (size - length (skip_ws (drop 1 behind)))) left ≡ Ok (m, rest) → IsRead expression front m rest
 entry_told size front k behind written left m rest opens named equal valued e =
@@ -79,12 +85,14 @@ entry_told size front k behind written left m rest opens named equal valued e =
     let read = entry_read front (key_alone k) behind made.0 left opens (key_in_toml front k behind named).1 equal made.2 in
     (whole, subst (λ (n : Meaning). IsMeaningOf n whole) is.0 (made.0, made.1, refl), read ∙ ap (λ (s : List ℕ). Some (whole, s)) is.1)
 
+-- the same from what is read of the line
 header_in_toml : (front : List ℕ) (m : Meaning) (rest : List ℕ) → (first front == 91) ≡ true → (first front == 91 && slice_index front 1 == 91) ≡ false → header_line (drop 1 front) ≡ Ok (m, rest) → IsRead expression front m rest
 header_in_toml front m rest opens alone e =
     let named = both_ok (one_key (skip_ws (drop 1 front))) (λ k. bracket k.1 >>= λ s. told (header k.0) s) (m, rest) e in
     let closed = both_ok (bracket named.0.1) (λ s. told (header named.0.0) s) (m, rest) named.2 in
     header_told front named.0.0 named.0.1 closed.0 m rest opens alone named.1 closed.1 closed.2
 
+-- of a header of a list
 list_header_in_toml : (front : List ℕ) (m : Meaning) (rest : List ℕ) → (first front == 91 && slice_index front 1 == 91) ≡ true → list_header_line (drop 2 front) ≡ Ok (m, rest) → IsRead expression front m rest
 list_header_in_toml front m rest opens e =
     let named = both_ok (one_key (skip_ws (drop 2 front))) (λ k. bracket k.1 >>= λ inner. bracket inner >>= λ s. told (list_header k.0) s) (m, rest) e in
@@ -92,6 +100,7 @@ list_header_in_toml front m rest opens e =
     let outer = both_ok (bracket closed.0) (λ s. told (list_header named.0.0) s) (m, rest) closed.2 in
     list_header_told front named.0.0 named.0.1 closed.0 outer.0 m rest opens named.1 closed.1 outer.1 outer.2
 
+-- of a key and a value
 entry_in_toml : (size : ℕ) (front : List ℕ) (m : Meaning) (rest : List ℕ) → (first front == 91) ≡ false → entry_line size front ≡ Ok (m, rest) → IsRead expression front m rest
 entry_in_toml size front m rest opens e =
     let named = both_ok (one_key front) (λ k. entry_after size k.0 k.1) (m, rest) e in
@@ -112,10 +121,12 @@ meaning_in_toml size front m rest e =
           ]
     ]
 
+-- an expression that has its line to itself
 line_read : (front : List ℕ) (e : Expression) (rest : List ℕ) → expression front ≡ Some (e, rest) → ends_line (skip_ws rest) ≡ true → line front ≡ Some (e, rest)
 unfolding line
 line_read front e rest read over = rw (read, over)
 
+-- what a line is, where nothing else is on it
 line_told : (front : List ℕ) (n : Meaning) (left : List ℕ) (m : Meaning) (rest : List ℕ) → IsRead expression front n left → ends_line (skip_ws left) ≡ true → told n left ≡ Ok (m, rest) → IsRead line front m rest
 line_told front n left m rest (e, means, read) over same =
     let is = same_read n m left rest same in
@@ -148,6 +159,7 @@ rest_more : (n : ℕ) (found : List Line) (front : List ℕ) (l : Line) (e : Exp
 rest_more n found front l e behind all some is read (more, es, whole, zipped, rest) =
     (l ∷ more, e ∷ es, whole ∙ append_assoc found (l ∷ []) more, (is, zipped), λ doc. line_more n doc front e behind es (define doc e) some read rest refl)
 
+-- the rest of the lines is the rest that TOML reads
 rest_in_toml : (size n : ℕ) (found : List Line) (front : List ℕ) (all : List Line) → lines_after size n found front ≡ Ok all → AreRest n found front all
 unfolding lines_after
 rest_in_toml size zero found front all e = absurd (cc)
@@ -166,7 +178,7 @@ rest_in_toml size (suc n) found front all e =
     ]
 
 -- ---- the text
--- a byte order mark is no key, so it is in no text of lines
+-- a byte order mark begins no key
 mark_no_key : (n : ℕ) (path : List (List ℕ)) (front : List ℕ) → (first front == 239) ≡ true → key_after n path front ≡ None
 unfolding key_after simple_key
 mark_no_key zero path front mark = refl
@@ -176,14 +188,17 @@ mark_no_key (suc n) path front mark =
     let not_bare : is_bare (first front) ≡ false = grind (arith, nat_tests) in
     rw (not_quote, not_apostrophe, not_bare)
 
+-- nor a key of one part
 mark_no_one_key : (front k rest : List ℕ) → (first front == 239) ≡ true → one_key front ≡ Ok (k, rest) → ⊥
 mark_no_one_key front k rest mark e =
     let none : key front ≡ None = mark_no_key recursion_limit [] front mark in
     none-some _ (sym none ∙ (key_in_toml front k rest e).1)
 
+-- no header is there
 entry_there : (size : ℕ) (front : List ℕ) (m : Meaning × List ℕ) → (first front == 91) ≡ false → meaning_of size front ≡ Ok m → entry_line size front ≡ Ok m
 entry_there size front m other e = rw other at e
 
+-- nor does a line begin with it
 mark_no_line : (size : ℕ) (front : List ℕ) (m : Meaning × List ℕ) → (first front == 239) ≡ true → line_of size front ≡ Ok m → ⊥
 mark_no_line size front m mark e =
     let no_header : (first front == 91) ≡ false = grind (arith, nat_tests) in
@@ -192,6 +207,7 @@ mark_no_line size front m mark e =
     let named = both_ok (one_key front) (λ k. entry_after size k.0 k.1) read.0 entry_is in
     mark_no_one_key front named.0.0 named.0.1 mark named.1
 
+-- nor a text of lines
 mark_no_lines : (text : List ℕ) (all : List Line) → (first text == 239) ≡ true → lines_of text ≡ Ok all → ⊥
 unfolding lines_after
 mark_no_lines [] all mark e = absurd (grind (arith, nat_tests))
@@ -203,6 +219,7 @@ mark_no_lines (c ∷ cs) all mark e =
     let read = both_ok (line_of size (skip_blank text)) (λ m. lines_after size size (record { at = size - length (skip_blank text); meaning = m.0 } ∷ []) m.1) all (rw some at e) in
     mark_no_line size (skip_blank text) read.0 (rw same mark) read.1
 
+-- so nothing is skipped before the lines
 no_mark : (text : List ℕ) (all : List Line) → lines_of text ≡ Ok all → skip_bom text ≡ text
 unfolding skip_bom
 no_mark text all e =

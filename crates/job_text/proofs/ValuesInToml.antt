@@ -36,10 +36,11 @@ pub test_not_met : {A : Type 0} (test : Bool) (r : Result A (Flaw × ℕ)) (x : 
 test_not_met true r x a e = cc
 test_not_met false r x a e = (refl, e)
 
--- what is read, and what is left
+-- what is read, and the text after it
 abbrev pub told : {A : Type 0} → A → List ℕ → Reading A
 told a s = Ok (a, s)
 
+-- if two are what is read, they are the same
 pub same_read : {A : Type 0} (a b : A) (s t : List ℕ) → told a s ≡ Ok (b, t) → (a ≡ b) × (s ≡ t)
 same_read {A} a b s t e =
     let left : A × List ℕ = (a, s) in
@@ -47,7 +48,7 @@ same_read {A} a b s t e =
     (ap (λ p. p.0) pair, ap (λ p. p.1) pair)
 
 -- ---- white space
--- white space alone is skipped where no line end and no comment is after it
+-- a byte of white space is skipped by both
 skip_ws_white : (c : ℕ) (cs : List ℕ) → is_ws c ≡ true → skip_ws (c ∷ cs) ≡ skip_ws cs
 unfolding skip_ws
 skip_ws_white c cs white =
@@ -61,9 +62,11 @@ skip_blank_white c cs white =
     let turn : skip_turn true false c (first cs) ≡ Some false = grind (arith, nat_tests) in
     rw turn
 
+-- a byte that neither skips
 blank_free : (x c : ℕ) → x ≡ c → is_ws x ≡ false → ((c == 10 || c == 13) || c == 35) ≡ false → (((x == 10 || x == 13) || x == 32) || (x == 9 || x == 35)) ≡ false
 blank_free x c e other h = grind (arith, nat_tests)
 
+-- white space alone is skipped where no line end and no comment is after it
 pub blank_is_ws : (text : List ℕ) (c : ℕ) → first (skip_ws text) ≡ c → ((c == 10 || c == 13) || c == 35) ≡ false → skip_blank text ≡ skip_ws text
 unfolding skip_ws skip_from
 blank_is_ws [] c e h = refl
@@ -87,6 +90,7 @@ no_atom (x ∷ xs) c e h =
     let not_space : (x == 32) ≡ false = grind (arith, nat_tests) in
     rw (not_quote, not_apostrophe, not_word, not_space)
 
+-- so where an item is read none of these bytes is first
 pub atom_front : (front : List ℕ) (r : Data × List ℕ) → atom front ≡ Some r → (((first front == 10 || first front == 13) || first front == 35) || (first front == 91 || first front == 123)) ≡ false
 atom_front front r read =
     elim (cases_Bool (((first front == 10 || first front == 13) || first front == 35) || (first front == 91 || first front == 123))) [
@@ -94,7 +98,7 @@ atom_front front r read =
       | inr good ↦ good
     ]
 
--- the word of a scalar is what was before the text after it
+-- what is before the rest of a text is its front
 word_before : (front : List ℕ) (n : ℕ) → take (length front - length (drop n front)) front ≡ take n front
 word_before front n =
     elim (cases_lt n (length front)) [
@@ -102,13 +106,16 @@ word_before front n =
       | inr past ↦ take_all _ front (omega (arith, length-drop n front)) ∙ sym (take_all n front (omega arith))
     ]
 
+-- the value of a word of so many bytes, and the text after it
 abbrev read_at : ℕ → List ℕ → Option Scalar → Read Scalar
 read_at n front word = option_map (λ d. (d, drop n front)) word
 
+-- what the word is, and what is after it
 word_of_scalar : (front : List ℕ) (word : Option Scalar) (n : ℕ) (scalar : Scalar) (rest : List ℕ) → read_at n front word ≡ Some (scalar, rest) → (word ≡ Some scalar) × (drop n front ≡ rest)
 word_of_scalar front None n scalar rest e = absurd (none-some _ e)
 word_of_scalar front (Some s) n scalar rest e = let pair = same_Some (s, drop n front) (scalar, rest) e in (ap (λ p. Some p.0) pair, ap (λ p. p.1) pair)
 
+-- the word of a scalar is the front that the text after it leaves
 word_read : (front : List ℕ) (scalar : Scalar) (rest : List ℕ) → unquoted front ≡ Some (scalar, rest) → word_value (take (length front - length rest) front) ≡ Some scalar
 unfolding unquoted
 word_read front scalar rest e =
@@ -128,6 +135,7 @@ number_data front scalar rest i behind is e =
     let same = same_read (number word) i rest behind met.1 in
     (subst (λ (j : Item). IsItemOf j (scalar_data scalar)) same.0 (scalar, is, refl), same.1)
 
+-- the data of a word without quotes
 scalar_item : (front : List ℕ) (scalar : Scalar) (rest : List ℕ) (i : Item) (behind : List ℕ) → word_value (take (length front - length rest) front) ≡ Some scalar
     → item_of_scalar front scalar rest ≡ Ok (i, behind) → IsItemOf i (scalar_data scalar) × (rest ≡ behind)
 scalar_item front (Boolean b) rest i behind is e =
@@ -137,12 +145,14 @@ scalar_item front (Integer z) rest i behind is e = number_data front (Integer z)
 scalar_item front (Float x) rest i behind is e = number_data front (Float x) rest i behind is e
 scalar_item front (Datetime d) rest i behind is e = absurd (cc)
 
+-- the same of what is read
 word_item : (front : List ℕ) (read : Read Scalar) (i : Item) (behind : List ℕ) → unquoted front ≡ read → item_of_word front read ≡ Ok (i, behind) → (d : Data) × IsItemOf i d × (read_map scalar_data read ≡ Some (d, behind))
 word_item front None i behind is e = absurd (cc)
 word_item front (Some (scalar, rest)) i behind is e =
     let made = scalar_item front scalar rest i behind (word_read front scalar rest is) e in
     (scalar_data scalar, made.0, ap (λ (after : List ℕ). Some (scalar_data scalar, after)) made.1)
 
+-- a text in quotes is that string
 quotes_item : (front : List ℕ) (read : Read (List ℕ)) (i : Item) (behind : List ℕ) → item_of_quotes front read ≡ Ok (i, behind) → (d : Data) × IsItemOf i d × (read_map string read ≡ Some (d, behind))
 quotes_item front None i behind e = absurd (cc)
 quotes_item front (Some (content, rest)) i behind e =
@@ -163,13 +173,14 @@ item_atom front i behind e =
           (made.0, made.1, rw bare made.2)
     ]
 
+-- an item is a value at any depth
 pub item_val : (depth : ℕ) (front : List ℕ) (i : Item) (behind : List ℕ) → item front ≡ Ok (i, behind) → (d : Data) × IsItemOf i d × (val depth front ≡ Some (d, behind))
 item_val depth front i behind e =
     let made = item_atom front i behind e in
     let good = atom_front front (made.0, behind) made.2 in
     (made.0, made.1, turns.val_atom depth front (grind (arith, nat_tests)) (grind (arith, nat_tests)) ∙ made.2)
 
--- nothing but white space is before an item
+-- only white space is before an item
 item_blank : (front : List ℕ) (i : Item) (behind : List ℕ) → item (skip_ws front) ≡ Ok (i, behind) → skip_blank front ≡ skip_ws front
 item_blank front i behind e =
     let made = item_atom (skip_ws front) i behind e in
@@ -177,9 +188,11 @@ item_blank front i behind e =
     blank_is_ws front (first (skip_ws front)) refl (grind (arith, nat_tests))
 
 -- ---- lists
+-- the text that is left
 abbrev pub left_ok : List ℕ → Result (List ℕ) (Flaw × ℕ)
 left_ok s = Ok s
 
+-- if two are left, they are the same
 pub same_left : (s t : List ℕ) → left_ok s ≡ Ok t → s ≡ t
 same_left s t e = cc
 
@@ -227,6 +240,7 @@ items_rest_more depth n found before front i behind next all left other read ele
     let turn = turns.items_more (val depth) (suc n) before front d behind next (omega arith) (rw same other) (ap (val depth) same ∙ valued) (after_in_toml behind next element) in
     (i ∷ more, d ∷ ds, whole ∙ append_assoc found (i ∷ []) more, (is, zipped), turn ∙ rw less rest)
 
+-- the rest of a list is the rest that TOML reads
 pub items_in_toml : (depth n : ℕ) (found : List Item) (before : Items) (front : List ℕ) (all : List Item) (behind : List ℕ) → items n found front ≡ Ok (all, behind) → IsRest (val depth) n found before front all behind
 unfolding items
 items_in_toml depth zero found before front all behind e = absurd (cc)
@@ -242,6 +256,7 @@ items_in_toml depth (suc n) found before front all behind e =
     ]
 
 -- ---- values
+-- a list is an array
 list_told : (depth : ℕ) (front : List ℕ) (all : List Item) (left : List ℕ) (written : Written) (behind : List ℕ) → (first front == 91) ≡ true → list front ≡ Ok (all, left) → told (several all) left ≡ Ok (written, behind)
     → (d : Data) × IsWrittenOf written d × (val (suc depth) front ≡ Some (d, behind))
 list_told depth front all left written behind bracket read e =
@@ -252,6 +267,7 @@ list_told depth front all left written behind bracket read e =
     let valued : val (suc depth) front ≡ Some (d, left) = rw (turns.val_array depth front bracket, rest) in
     (d, subst (λ (w : Written). IsWrittenOf w d) is.0 (ds, same, refl), rw valued (ap (λ (s : List ℕ). Some (d, s)) is.1))
 
+-- an item is its value
 item_told : (depth : ℕ) (front : List ℕ) (i : Item) (left : List ℕ) (written : Written) (behind : List ℕ) → item front ≡ Ok (i, left) → told (one i) left ≡ Ok (written, behind)
     → (d : Data) × IsWrittenOf written d × (val depth front ≡ Some (d, behind))
 item_told depth front i left written behind read e =
@@ -273,6 +289,7 @@ value_in_toml depth front written behind e =
     ]
 
 -- ---- keys
+-- a key of one part, and the text after it
 key_of_part : (front : List ℕ) (read : Read Key) (k rest : List ℕ) → one_part front read ≡ Ok (k, rest) → read ≡ Some (([], k), rest)
 key_of_part front None k rest e = absurd (cc)
 key_of_part front (Some (([], last), behind)) k rest e =

@@ -3,7 +3,7 @@
 //! The text is a part of TOML 1.1: each line is empty, a header `[key]` or `[[key]]`, or an entry `key = value`, and may end with a
 //! comment. A key is one word without quotes. A value is on its line: a text in quotes, `true` or `false`, a number of digits, a sign
 //! and a point, or a list of these. What is read is read by the same readers as TOML itself (`toml_parser`), so that each line means
-//! what it means there. Numbers stay as they are written, so that no digit of theirs is lost.
+//! what it means there (`lines_are_toml`). Numbers stay as they are written, so that no digit of theirs is lost.
 //!
 //! Cost: one pass over the text.
 #![tactic(auto)]
