@@ -1,5 +1,5 @@
 -- Lines mean the same in TOML.
-use Rattle.std.proofs.Common.{◌≡◌, ℕ, zero, suc, ◌-◌, true, false, ◌&&◌, ◌==◌, List, [], ◌∷◌, ◌++◌, length, drop, slice_index, Option, Some, None, option_map, option_and_then, Ok, refl, sym, ap, subst, ◌∙◌, inl, inr, arith, append-nil, append_assoc}
+use Rattle.std.proofs.Common.{◌≡◌, ℕ, zero, suc, ◌-◌, true, false, ◌&&◌, ◌==◌, List, [], ◌∷◌, ◌++◌, length, drop, map, slice_index, Option, Some, None, option_map, option_and_then, Ok, refl, sym, ap, subst, ◌∙◌, inl, inr, arith, append-nil, append_assoc}
 use Rattle.std.specs.List.{AllZip}
 use Rattle.std.proofs.lemmas.Bool.{cases_Bool, and_parts}
 use Rattle.std.proofs.lemmas.Bool.Decides.{nat_tests}
@@ -13,9 +13,9 @@ use Rattle.toml.proofs.Blanks.{skip_none}
 use Rattle.toml.proofs.Turns as turns
 use Rattle.job_text.specs.Readings.{◌>>=◌}
 use Rattle.job_text.specs.Values.{Written, one_key, value}
-use Rattle.job_text.specs.Lines.{Meaning, header, list_header, entry, Line, bracket, header_line, list_header_line, entry_of, entry_after, entry_line, meaning_of, ended, line_of, lines_after, lines_of}
-use Rattle.job_text.specs.Toml.{IsMeaningOf, IsExpressionOf, defined, AreLinesOfToml}
-use Rattle.job_text.proofs.ValuesInToml.{both_ok, test_met, told, same_read, left_ok, same_left, value_in_toml, key_in_toml}
+use Rattle.job_text.specs.Lines.{Meaning, header, list_header, entry, TextLine, bracket, header_line, list_header_line, entry_of, entry_after, entry_line, meaning_of, ended, is_unprintable, line_of, lines_after, text_lines}
+use Rattle.job_text.specs.Toml.{IsMeaningOf, IsExpressionOf, expressions_after, defined, AreLinesOfToml}
+use Rattle.job_text.proofs.ValuesInToml.{both_ok, test_met, test_not_met, told, same_read, left_ok, same_left, value_in_toml, key_in_toml}
 
 -- ---- one line
 -- what a line is in TOML: an expression of this meaning, and the text after it
@@ -135,7 +135,8 @@ line_told front n left m rest (e, means, read) over same =
 -- a line is the line that TOML reads there
 pub line_in_toml : (size : ℕ) (front : List ℕ) (m : Meaning) (rest : List ℕ) → line_of size front ≡ Ok (m, rest) → IsRead line front m rest
 line_in_toml size front m rest e =
-    let read = both_ok (meaning_of size front) ended (m, rest) e in
+    let printable = test_not_met (is_unprintable front) (meaning_of size front >>= ended) _ (m, rest) e in
+    let read = both_ok (meaning_of size front) ended (m, rest) printable.1 in
     let met = test_met (ends_line (skip_ws read.0.1)) (told read.0.0 read.0.1) _ (m, rest) read.2 in
     line_told front read.0.0 read.0.1 m rest (meaning_in_toml size front read.0.0 read.0.1 read.1) met.0 met.1
 
@@ -149,18 +150,36 @@ line_more n doc front e behind es (Some after) some read rest is =
     turns.lines_more (suc n) doc after front e behind (omega arith) some read is ∙ rw less (rest after)
 
 -- what the rest of the lines is in TOML: lines and their expressions, which the document has after it
-abbrev pub AreRest : ℕ → List Line → List ℕ → List Line → Type 0
-AreRest n found front all =
-    (more : List Line) × (es : List Expression) × (all ≡ found ++ more) × AllZip IsExpressionOf more es × ((doc : Document) → lines n doc front ≡ defined doc es)
+abbrev pub AreRest : ℕ → ℕ → List TextLine → List ℕ → List TextLine → Type 0
+AreRest size n found front all =
+    (more : List TextLine) × (es : List (ℕ × Expression)) × (all ≡ found ++ more) × AllZip IsExpressionOf more es × (expressions_after size n front ≡ Some es)
+    × ((doc : Document) → lines n doc front ≡ defined doc (map (λ e. e.1) es))
+
+-- one more expression is read
+read_more : (size n : ℕ) (front : List ℕ) (e : Expression) (behind : List ℕ) (es : List (ℕ × Expression)) → (length (skip_blank front) == 0) ≡ false → line (skip_blank front) ≡ Some (e, behind)
+    → expressions_after size n behind ≡ Some es → expressions_after size (suc n) front ≡ Some ((size - length (skip_blank front), e) ∷ es)
+unfolding expressions_after
+read_more size n front e behind es some read rest = rw (some, read, rest)
+
+-- none is left
+read_none : (size n : ℕ) (front : List ℕ) → (length (skip_blank front) == 0) ≡ true → expressions_after size (suc n) front ≡ Some []
+unfolding expressions_after
+read_none size n front over = rw over
 
 -- a line, and the rest
-rest_more : (n : ℕ) (found : List Line) (front : List ℕ) (l : Line) (e : Expression) (behind : List ℕ) (all : List Line) → (length (skip_blank front) == 0) ≡ false → IsExpressionOf l e
-    → line (skip_blank front) ≡ Some (e, behind) → AreRest n (found ++ l ∷ []) behind all → AreRest (suc n) found front all
-rest_more n found front l e behind all some is read (more, es, whole, zipped, rest) =
-    (l ∷ more, e ∷ es, whole ∙ append_assoc found (l ∷ []) more, (is, zipped), λ doc. line_more n doc front e behind es (define doc e) some read rest refl)
+rest_more : (size n : ℕ) (found : List TextLine) (front : List ℕ) (l : TextLine) (e : Expression) (behind : List ℕ) (all : List TextLine) → (length (skip_blank front) == 0) ≡ false
+    → IsExpressionOf l (size - length (skip_blank front), e) → line (skip_blank front) ≡ Some (e, behind) → AreRest size n (found ++ l ∷ []) behind all → AreRest size (suc n) found front all
+rest_more size n found front l e behind all some is read (more, es, whole, zipped, told, rest) = (
+  l ∷ more,
+  (size - length (skip_blank front), e) ∷ es,
+  whole ∙ append_assoc found (l ∷ []) more,
+  (is, zipped),
+  read_more size n front e behind es some read told,
+  λ doc. line_more n doc front e behind (map (λ e. e.1) es) (define doc e) some read rest refl,
+)
 
 -- the rest of the lines is the rest that TOML reads
-rest_in_toml : (size n : ℕ) (found : List Line) (front : List ℕ) (all : List Line) → lines_after size n found front ≡ Ok all → AreRest n found front all
+rest_in_toml : (size n : ℕ) (found : List TextLine) (front : List ℕ) (all : List TextLine) → lines_after size n found front ≡ Ok all → AreRest size n found front all
 unfolding lines_after
 rest_in_toml size zero found front all e = absurd (cc)
 rest_in_toml size (suc n) found front all e =
@@ -169,12 +188,12 @@ rest_in_toml size (suc n) found front all e =
       | inl over ↦
           let is : found ≡ all = let ok = rw over at e in cc in
           let none : length start ≡ 0 = grind (arith, nat_tests) in
-          ([], [], sym is ∙ sym (append-nil found), tt, λ doc. turns.lines_end (suc n) doc front (omega arith) none)
+          ([], [], sym is ∙ sym (append-nil found), tt, read_none size n front over, λ doc. turns.lines_end (suc n) doc front (omega arith) none)
       | inr some ↦
           let read = both_ok (line_of size start) (λ m. lines_after size n (found ++ record { at = size - length start; meaning = m.0 } ∷ []) m.1) all (rw some at e) in
-          let l : Line = record { at = size - length start; meaning = read.0.0 } in
+          let l : TextLine = record { at = size - length start; meaning = read.0.0 } in
           let made = line_in_toml size start read.0.0 read.0.1 read.1 in
-          rest_more n found front l made.0 read.0.1 all some made.1 made.2 (rest_in_toml size n (found ++ l ∷ []) read.0.1 all read.2)
+          rest_more size n found front l made.0 read.0.1 all some (refl, made.1) made.2 (rest_in_toml size n (found ++ l ∷ []) read.0.1 all read.2)
     ]
 
 -- ---- the text
@@ -202,13 +221,14 @@ entry_there size front m other e = rw other at e
 mark_no_line : (size : ℕ) (front : List ℕ) (m : Meaning × List ℕ) → (first front == 239) ≡ true → line_of size front ≡ Ok m → ⊥
 mark_no_line size front m mark e =
     let no_header : (first front == 91) ≡ false = grind (arith, nat_tests) in
-    let read = both_ok (meaning_of size front) ended m e in
+    let printable = test_not_met (is_unprintable front) (meaning_of size front >>= ended) _ m e in
+    let read = both_ok (meaning_of size front) ended m printable.1 in
     let entry_is = entry_there size front read.0 no_header read.1 in
     let named = both_ok (one_key front) (λ k. entry_after size k.0 k.1) read.0 entry_is in
     mark_no_one_key front named.0.0 named.0.1 mark named.1
 
 -- nor a text of lines
-mark_no_lines : (text : List ℕ) (all : List Line) → (first text == 239) ≡ true → lines_of text ≡ Ok all → ⊥
+mark_no_lines : (text : List ℕ) (all : List TextLine) → (first text == 239) ≡ true → text_lines text ≡ Ok all → ⊥
 unfolding lines_after
 mark_no_lines [] all mark e = absurd (grind (arith, nat_tests))
 mark_no_lines (c ∷ cs) all mark e =
@@ -220,7 +240,7 @@ mark_no_lines (c ∷ cs) all mark e =
     mark_no_line size (skip_blank text) read.0 (rw same mark) read.1
 
 -- so nothing is skipped before the lines
-no_mark : (text : List ℕ) (all : List Line) → lines_of text ≡ Ok all → skip_bom text ≡ text
+no_mark : (text : List ℕ) (all : List TextLine) → text_lines text ≡ Ok all → skip_bom text ≡ text
 unfolding skip_bom
 no_mark text all e =
     elim (cases_Bool ((first text == 239 && slice_index text 1 == 187) && slice_index text 2 == 191)) [
@@ -229,8 +249,8 @@ no_mark text all e =
     ]
 
 -- what the lines of a text say is what TOML says of it
-pub lines_in_toml : (text : List ℕ) (lines : List Line) → lines_of text ≡ Ok lines → AreLinesOfToml text lines
+pub lines_in_toml : (text : List ℕ) (lines : List TextLine) → text_lines text ≡ Ok lines → AreLinesOfToml text lines
 unfolding parse_document
 lines_in_toml text lines e =
-    let (more, es, whole, zipped, rest) = rest_in_toml (length text) (suc (length text)) [] text lines e in
-    record { expressions = es; each = subst (λ (all : List Line). AllZip IsExpressionOf all es) (sym whole) zipped; all = rw (no_mark text lines e) (ap (option_map (λ doc. close doc.0)) (rest (no_nodes, []))) }
+    let (more, es, whole, zipped, told, rest) = rest_in_toml (length text) (suc (length text)) [] text lines e in
+    record { expressions = es; each = subst (λ (all : List TextLine). AllZip IsExpressionOf all es) (sym whole) zipped; read = told; all = rw (no_mark text lines e) (ap (option_map (λ doc. close doc.0)) (rest (no_nodes, []))) }

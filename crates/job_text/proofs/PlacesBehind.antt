@@ -5,14 +5,14 @@ use Rattle.std.proofs.lemmas.Bool.{false≢true}
 use Rattle.std.proofs.lemmas.Bool.Decides.{nat_tests}
 use Rattle.std.proofs.lemmas.List.Elements.{All-nil, All-push, All-head, All-tail, filter-append}
 use Rattle.toml_parser.specs.Lexical.{line_feed}
-use Rattle.job_text.specs.declared.place.Place.{Place}
-use Rattle.job_text.specs.Places.{is_feed, begins_character, IsPlaceBehind}
+use Rattle.job_text.specs.declared.place.TextPlace.{TextPlace}
+use Rattle.job_text.specs.Places.{is_line_feed, begins_character, IsTextPlaceAfter}
 
-not_feed : (byte : ℕ) → byte ≢ line_feed → is_feed byte ≡ false
+not_feed : (byte : ℕ) → byte ≢ line_feed → is_line_feed byte ≡ false
 not_feed byte other = grind (arith, nat_tests)
 
 -- a line has no line feed in it
-no_feeds : (here : List ℕ) → All (λ byte. byte ≢ line_feed) here → length (filter is_feed here) ≡ 0
+no_feeds : (here : List ℕ) → All (λ byte. byte ≢ line_feed) here → length (filter is_line_feed here) ≡ 0
 no_feeds [] h = refl
 no_feeds (byte ∷ here) h = rw (not_feed byte (All-head (λ byte. byte ≢ line_feed) byte here h)) (no_feeds here (All-tail (λ byte. byte ≢ line_feed) byte here h))
 
@@ -24,33 +24,33 @@ one_more p text byte = ap length (filter-append p text (byte ∷ [])) ∙ by (p 
     by true = length-append (filter p text) (byte ∷ [])
     by false = ap length (append-nil (filter p text))
 
-pub place_none : (place : Place) → place.line ≡ 1 → place.column ≡ 1 → IsPlaceBehind [] place
+pub place_none : (place : TextPlace) → place.line ≡ 1 → place.column ≡ 1 → IsTextPlaceAfter [] place
 place_none place l c = record { before = []; here = []; parts = refl; whole = inl refl; one_line = All-nil (λ byte. byte ≢ line_feed); line = l; column = c }
 
-pub place_more : (text : List ℕ) (place next : Place) (byte : ℕ) → IsPlaceBehind text place → next.line ≡ cond (is_feed byte) (place.line + 1) place.line
-    → next.column ≡ cond (is_feed byte) 1 (cond (begins_character byte) (place.column + 1) place.column) → IsPlaceBehind (text ++ byte ∷ []) next
-place_more text place next byte h l c = by (is_feed byte) refl l c
+pub place_more : (text : List ℕ) (place next : TextPlace) (byte : ℕ) → IsTextPlaceAfter text place → next.line ≡ cond (is_line_feed byte) (place.line + 1) place.line
+    → next.column ≡ cond (is_line_feed byte) 1 (cond (begins_character byte) (place.column + 1) place.column) → IsTextPlaceAfter (text ++ byte ∷ []) next
+place_more text place next byte h l c = by (is_line_feed byte) refl l c
   where
-    feeds : length (filter is_feed text) ≡ length (filter is_feed h.before)
-    feeds = ap (λ t. length (filter is_feed t)) h.parts ∙ ap length (filter-append is_feed h.before h.here) ∙ length-append (filter is_feed h.before) (filter is_feed h.here)
-        ∙ ap (λ n. length (filter is_feed h.before) + n) (no_feeds h.here h.one_line) ∙ no_more (length (filter is_feed h.before))
+    feeds : length (filter is_line_feed text) ≡ length (filter is_line_feed h.before)
+    feeds = ap (λ t. length (filter is_line_feed t)) h.parts ∙ ap length (filter-append is_line_feed h.before h.here) ∙ length-append (filter is_line_feed h.before) (filter is_line_feed h.here)
+        ∙ ap (λ n. length (filter is_line_feed h.before) + n) (no_feeds h.here h.one_line) ∙ no_more (length (filter is_line_feed h.before))
       where
         no_more : (n : ℕ) → n + 0 ≡ n
         no_more n = omega arith
 
-    by : (b : Bool) → is_feed byte ≡ b → next.line ≡ cond b (place.line + 1) place.line → next.column ≡ cond b 1 (cond (begins_character byte) (place.column + 1) place.column)
-        → IsPlaceBehind (text ++ byte ∷ []) next
+    by : (b : Bool) → is_line_feed byte ≡ b → next.line ≡ cond b (place.line + 1) place.line → next.column ≡ cond b 1 (cond (begins_character byte) (place.column + 1) place.column)
+        → IsTextPlaceAfter (text ++ byte ∷ []) next
     by true is l c = record {
       before = text ++ byte ∷ [];
       here = [];
       parts = sym (append-nil (text ++ byte ∷ []));
       whole = inr (text, ap (λ x. text ++ x ∷ []) (same byte is));
       one_line = All-nil (λ byte. byte ≢ line_feed);
-      line = lines (length (filter is_feed text)) (length (filter is_feed h.before)) (length (filter is_feed (text ++ byte ∷ []))) feeds (one_more is_feed text byte ∙ ap (λ b. cond b (length (filter is_feed text) + 1) (length (filter is_feed text))) is) h.line l;
+      line = lines (length (filter is_line_feed text)) (length (filter is_line_feed h.before)) (length (filter is_line_feed (text ++ byte ∷ []))) feeds (one_more is_line_feed text byte ∙ ap (λ b. cond b (length (filter is_line_feed text) + 1) (length (filter is_line_feed text))) is) h.line l;
       column = c;
     }
       where
-        same : (byte : ℕ) → is_feed byte ≡ true → byte ≡ line_feed
+        same : (byte : ℕ) → is_line_feed byte ≡ true → byte ≡ line_feed
         same byte is = grind (arith, nat_tests)
 
         lines : (n m k : ℕ) → n ≡ m → k ≡ n + 1 → place.line ≡ 1 + m → next.line ≡ place.line + 1 → next.line ≡ 1 + k
@@ -65,8 +65,8 @@ place_more text place next byte h l c = by (is_feed byte) refl l c
       column = columns (begins_character byte) (length (filter begins_character h.here)) (length (filter begins_character (h.here ++ byte ∷ []))) (one_more begins_character h.here byte) h.column c;
     }
       where
-        apart : (byte : ℕ) → is_feed byte ≡ false → byte ≢ line_feed
-        apart byte is e = absurd (false≢true (sym is ∙ ap is_feed e))
+        apart : (byte : ℕ) → is_line_feed byte ≡ false → byte ≢ line_feed
+        apart byte is e = absurd (false≢true (sym is ∙ ap is_line_feed e))
 
         columns : (b : Bool) (n k : ℕ) → k ≡ cond b (n + 1) n → place.column ≡ 1 + n → next.column ≡ cond b (place.column + 1) place.column → next.column ≡ 1 + k
         columns true n k e p q = omega arith

@@ -16,9 +16,10 @@ use Rattle.toml.specs.Parse as parse
 use Rattle.toml.proofs.Blanks.{skip_none}
 use Rattle.toml.proofs.Turns as turns
 use Rattle.job_text.specs.declared.fault.Flaw.{Flaw}
-use Rattle.job_text.specs.Readings.{Reading, ◌>>=◌}
-use Rattle.job_text.specs.Values.{Item, text, flag, number, Written, one, several, one_part, one_key, is_plain, plain_number, item_of_scalar, item_of_word, item_of_quotes, starts_long, item, after_item, items, list, as_several, as_one, value}
-use Rattle.job_text.specs.Toml.{IsItemOf, items_of, IsWrittenOf}
+use Rattle.job_text.specs.declared.fault.Flaw.TheVariants.{InnerList}
+use Rattle.job_text.specs.Readings.{TextReading, flawed, ◌>>=◌}
+use Rattle.job_text.specs.Values.{TextItem, text, flag, number, Written, one, several, one_part, one_key, is_number_byte, number_item, item_of_scalar, item_of_word, item_of_quotes, starts_long, bare_item, item, after_item, items, list, as_several, as_one, value}
+use Rattle.job_text.specs.Toml.{IsItemOf, pushed_items, IsWrittenOf}
 
 -- ---- steps that are there
 -- both steps of what is read
@@ -36,8 +37,13 @@ pub test_not_met : {A : Type 0} (test : Bool) (r : Result A (Flaw × ℕ)) (x : 
 test_not_met true r x a e = cc
 test_not_met false r x a e = (refl, e)
 
+-- the second, where the test isn't met
+not_first : {A : Type 0} (test : Bool) (r s : Result A (Flaw × ℕ)) (a : A) → test ≡ false → cond test r s ≡ Ok a → s ≡ Ok a
+not_first true r s a is e = cc
+not_first false r s a is e = e
+
 -- what is read, and the text after it
-abbrev pub told : {A : Type 0} → A → List ℕ → Reading A
+abbrev pub told : {A : Type 0} → A → List ℕ → TextReading A
 told a s = Ok (a, s)
 
 -- if two are what is read, they are the same
@@ -127,40 +133,40 @@ word_read front scalar rest e =
     ]
 
 -- a number's data is that of its word
-number_data : (front : List ℕ) (scalar : Scalar) (rest : List ℕ) (i : Item) (behind : List ℕ) → word_value (take (length front - length rest) front) ≡ Some scalar
-    → plain_number front (take (length front - length rest) front) rest ≡ Ok (i, behind) → IsItemOf i (scalar_data scalar) × (rest ≡ behind)
+number_data : (front : List ℕ) (scalar : Scalar) (rest : List ℕ) (i : TextItem) (behind : List ℕ) → word_value (take (length front - length rest) front) ≡ Some scalar
+    → number_item front (take (length front - length rest) front) rest ≡ Ok (i, behind) → IsItemOf i (scalar_data scalar) × (rest ≡ behind)
 number_data front scalar rest i behind is e =
     let word = take (length front - length rest) front in
-    let met = test_met (list_all is_plain word) (Ok (number word, rest)) _ (i, behind) e in
+    let met = test_met (list_all is_number_byte word) (Ok (number word, rest)) _ (i, behind) e in
     let same = same_read (number word) i rest behind met.1 in
-    (subst (λ (j : Item). IsItemOf j (scalar_data scalar)) same.0 (scalar, is, refl), same.1)
+    (subst (λ (j : TextItem). IsItemOf j (scalar_data scalar)) same.0 (scalar, is, refl), same.1)
 
 -- the data of a word without quotes
-scalar_item : (front : List ℕ) (scalar : Scalar) (rest : List ℕ) (i : Item) (behind : List ℕ) → word_value (take (length front - length rest) front) ≡ Some scalar
+scalar_item : (front : List ℕ) (scalar : Scalar) (rest : List ℕ) (i : TextItem) (behind : List ℕ) → word_value (take (length front - length rest) front) ≡ Some scalar
     → item_of_scalar front scalar rest ≡ Ok (i, behind) → IsItemOf i (scalar_data scalar) × (rest ≡ behind)
 scalar_item front (Boolean b) rest i behind is e =
     let same = same_read (flag b) i rest behind e in
-    (subst (λ (j : Item). IsItemOf j (scalar_data (Boolean b))) same.0 refl, same.1)
+    (subst (λ (j : TextItem). IsItemOf j (scalar_data (Boolean b))) same.0 refl, same.1)
 scalar_item front (Integer z) rest i behind is e = number_data front (Integer z) rest i behind is e
 scalar_item front (Float x) rest i behind is e = number_data front (Float x) rest i behind is e
 scalar_item front (Datetime d) rest i behind is e = absurd (cc)
 
 -- the same of what is read
-word_item : (front : List ℕ) (read : Read Scalar) (i : Item) (behind : List ℕ) → unquoted front ≡ read → item_of_word front read ≡ Ok (i, behind) → (d : Data) × IsItemOf i d × (read_map scalar_data read ≡ Some (d, behind))
+word_item : (front : List ℕ) (read : Read Scalar) (i : TextItem) (behind : List ℕ) → unquoted front ≡ read → item_of_word front read ≡ Ok (i, behind) → (d : Data) × IsItemOf i d × (read_map scalar_data read ≡ Some (d, behind))
 word_item front None i behind is e = absurd (cc)
 word_item front (Some (scalar, rest)) i behind is e =
     let made = scalar_item front scalar rest i behind (word_read front scalar rest is) e in
     (scalar_data scalar, made.0, ap (λ (after : List ℕ). Some (scalar_data scalar, after)) made.1)
 
 -- a text in quotes is that string
-quotes_item : (front : List ℕ) (read : Read (List ℕ)) (i : Item) (behind : List ℕ) → item_of_quotes front read ≡ Ok (i, behind) → (d : Data) × IsItemOf i d × (read_map string read ≡ Some (d, behind))
+quotes_item : (front : List ℕ) (read : Read (List ℕ)) (i : TextItem) (behind : List ℕ) → item_of_quotes front read ≡ Ok (i, behind) → (d : Data) × IsItemOf i d × (read_map string read ≡ Some (d, behind))
 quotes_item front None i behind e = absurd (cc)
 quotes_item front (Some (content, rest)) i behind e =
     let same = same_read (text content) i rest behind e in
-    (string content, subst (λ (j : Item). IsItemOf j (string content)) same.0 refl, ap (λ (after : List ℕ). Some (string content, after)) same.1)
+    (string content, subst (λ (j : TextItem). IsItemOf j (string content)) same.0 refl, ap (λ (after : List ℕ). Some (string content, after)) same.1)
 
 -- an item is the value that TOML reads there
-pub item_atom : (front : List ℕ) (i : Item) (behind : List ℕ) → item front ≡ Ok (i, behind) → (d : Data) × IsItemOf i d × (atom front ≡ Some (d, behind))
+pub item_atom : (front : List ℕ) (i : TextItem) (behind : List ℕ) → item front ≡ Ok (i, behind) → (d : Data) × IsItemOf i d × (atom front ≡ Some (d, behind))
 unfolding atom
 item_atom front i behind e =
     elim (cases_Bool (starts_string front)) [
@@ -169,19 +175,21 @@ item_atom front i behind e =
           let made = quotes_item front (quoted front) i behind met.1 in
           (made.0, made.1, rw begins made.2)
       | inr bare ↦
-          let made = word_item front (unquoted front) i behind refl (rw bare at e) in
+          let no_table = test_not_met (first front == 123) (cond (first front == 91) (flawed InnerList front) (bare_item front)) _ (i, behind) (rw bare at e) in
+          let no_list = test_not_met (first front == 91) (bare_item front) _ (i, behind) no_table.1 in
+          let made = word_item front (unquoted front) i behind refl no_list.1 in
           (made.0, made.1, rw bare made.2)
     ]
 
 -- an item is a value at any depth
-pub item_val : (depth : ℕ) (front : List ℕ) (i : Item) (behind : List ℕ) → item front ≡ Ok (i, behind) → (d : Data) × IsItemOf i d × (val depth front ≡ Some (d, behind))
+pub item_val : (depth : ℕ) (front : List ℕ) (i : TextItem) (behind : List ℕ) → item front ≡ Ok (i, behind) → (d : Data) × IsItemOf i d × (val depth front ≡ Some (d, behind))
 item_val depth front i behind e =
     let made = item_atom front i behind e in
     let good = atom_front front (made.0, behind) made.2 in
     (made.0, made.1, turns.val_atom depth front (grind (arith, nat_tests)) (grind (arith, nat_tests)) ∙ made.2)
 
 -- only white space is before an item
-item_blank : (front : List ℕ) (i : Item) (behind : List ℕ) → item (skip_ws front) ≡ Ok (i, behind) → skip_blank front ≡ skip_ws front
+item_blank : (front : List ℕ) (i : TextItem) (behind : List ℕ) → item (skip_ws front) ≡ Ok (i, behind) → skip_blank front ≡ skip_ws front
 item_blank front i behind e =
     let made = item_atom (skip_ws front) i behind e in
     let good = atom_front (skip_ws front) (made.0, behind) made.2 in
@@ -215,12 +223,12 @@ after_in_toml behind next e =
     ]
 
 -- what the rest of a list is in TOML: items and their values, and the text after it
-abbrev pub IsRest : (List ℕ → Read Data) → ℕ → List Item → Items → List ℕ → List Item → List ℕ → Type 0
+abbrev pub IsRest : (List ℕ → Read Data) → ℕ → List TextItem → Items → List ℕ → List TextItem → List ℕ → Type 0
 IsRest v n found before front all behind =
-    (more : List Item) × (ds : List Data) × (all ≡ found ++ more) × AllZip IsItemOf more ds × (parse.items v n before front ≡ Some (items_of before ds, behind))
+    (more : List TextItem) × (ds : List Data) × (all ≡ found ++ more) × AllZip IsItemOf more ds × (parse.items v n before front ≡ Some (pushed_items before ds, behind))
 
 -- the end of a list
-items_rest_end : (v : List ℕ → Read Data) (n : ℕ) (found : List Item) (before : Items) (front : List ℕ) (all : List Item) (left : List ℕ) → (first (skip_ws front) == 93) ≡ true
+items_rest_end : (v : List ℕ → Read Data) (n : ℕ) (found : List TextItem) (before : Items) (front : List ℕ) (all : List TextItem) (left : List ℕ) → (first (skip_ws front) == 93) ≡ true
     → told found (drop 1 (skip_ws front)) ≡ Ok (all, left) → IsRest v (suc n) found before front all left
 items_rest_end v n found before front all left closing e =
     let same : skip_blank front ≡ skip_ws front = blank_is_ws front (first (skip_ws front)) refl (grind (arith, nat_tests)) in
@@ -230,7 +238,7 @@ items_rest_end v n found before front all left closing e =
     ([], [], sym is.0 ∙ sym (append-nil found), tt, rw over (ap (λ (s : List ℕ). Some (before, s)) behind))
 
 -- an item and the values after it
-items_rest_more : (depth n : ℕ) (found : List Item) (before : Items) (front : List ℕ) (i : Item) (behind next : List ℕ) (all : List Item) (left : List ℕ) → (first (skip_ws front) == 93) ≡ false
+items_rest_more : (depth n : ℕ) (found : List TextItem) (before : Items) (front : List ℕ) (i : TextItem) (behind next : List ℕ) (all : List TextItem) (left : List ℕ) → (first (skip_ws front) == 93) ≡ false
     → item (skip_ws front) ≡ Ok (i, behind) → after_item (skip_ws behind) ≡ Ok next → ((then : Items) → IsRest (val depth) n (found ++ i ∷ []) then next all left) → IsRest (val depth) (suc n) found before front all left
 items_rest_more depth n found before front i behind next all left other read element tail =
     let (d, is, valued) = item_val depth (skip_ws front) i behind read in
@@ -241,7 +249,7 @@ items_rest_more depth n found before front i behind next all left other read ele
     (i ∷ more, d ∷ ds, whole ∙ append_assoc found (i ∷ []) more, (is, zipped), turn ∙ rw less rest)
 
 -- the rest of a list is the rest that TOML reads
-pub items_in_toml : (depth n : ℕ) (found : List Item) (before : Items) (front : List ℕ) (all : List Item) (behind : List ℕ) → items n found front ≡ Ok (all, behind) → IsRest (val depth) n found before front all behind
+pub items_in_toml : (depth n : ℕ) (found : List TextItem) (before : Items) (front : List ℕ) (all : List TextItem) (behind : List ℕ) → items n found front ≡ Ok (all, behind) → IsRest (val depth) n found before front all behind
 unfolding items
 items_in_toml depth zero found before front all behind e = absurd (cc)
 items_in_toml depth (suc n) found before front all behind e =
@@ -257,18 +265,18 @@ items_in_toml depth (suc n) found before front all behind e =
 
 -- ---- values
 -- a list is an array
-list_told : (depth : ℕ) (front : List ℕ) (all : List Item) (left : List ℕ) (written : Written) (behind : List ℕ) → (first front == 91) ≡ true → list front ≡ Ok (all, left) → told (several all) left ≡ Ok (written, behind)
+list_told : (depth : ℕ) (front : List ℕ) (all : List TextItem) (left : List ℕ) (written : Written) (behind : List ℕ) → (first front == 91) ≡ true → list front ≡ Ok (all, left) → told (several all) left ≡ Ok (written, behind)
     → (d : Data) × IsWrittenOf written d × (val (suc depth) front ≡ Some (d, behind))
 list_told depth front all left written behind bracket read e =
     let is = same_read (several all) written left behind e in
     let (more, ds, whole, zipped, rest) = items_in_toml depth (length front) [] no_items (drop 1 front) all left read in
-    let d = array (items_of no_items ds) in
-    let same : AllZip IsItemOf all ds = subst (λ (items : List Item). AllZip IsItemOf items ds) (sym whole) zipped in
+    let d = array (pushed_items no_items ds) in
+    let same : AllZip IsItemOf all ds = subst (λ (items : List TextItem). AllZip IsItemOf items ds) (sym whole) zipped in
     let valued : val (suc depth) front ≡ Some (d, left) = rw (turns.val_array depth front bracket, rest) in
     (d, subst (λ (w : Written). IsWrittenOf w d) is.0 (ds, same, refl), rw valued (ap (λ (s : List ℕ). Some (d, s)) is.1))
 
 -- an item is its value
-item_told : (depth : ℕ) (front : List ℕ) (i : Item) (left : List ℕ) (written : Written) (behind : List ℕ) → item front ≡ Ok (i, left) → told (one i) left ≡ Ok (written, behind)
+item_told : (depth : ℕ) (front : List ℕ) (i : TextItem) (left : List ℕ) (written : Written) (behind : List ℕ) → item front ≡ Ok (i, left) → told (one i) left ≡ Ok (written, behind)
     → (d : Data) × IsWrittenOf written d × (val depth front ≡ Some (d, behind))
 item_told depth front i left written behind read e =
     let is = same_read (one i) written left behind e in
@@ -283,8 +291,7 @@ value_in_toml depth front written behind e =
           let read = both_ok (list front) (λ r. Ok (as_several r)) (written, behind) (rw bracket at e) in
           list_told depth front read.0.0 read.0.1 written behind bracket read.1 read.2
       | inr other ↦
-          let met = test_not_met (first front == 123) (item front >>= λ r. Ok (as_one r)) _ (written, behind) (rw other at e) in
-          let read = both_ok (item front) (λ r. Ok (as_one r)) (written, behind) met.1 in
+          let read = both_ok (item front) (λ r. Ok (as_one r)) (written, behind) (not_first (first front == 91) (list front >>= λ r. Ok (as_several r)) (item front >>= λ r. Ok (as_one r)) (written, behind) other e) in
           item_told (suc depth) front read.0.0 read.0.1 written behind read.1 read.2
     ]
 

@@ -6,8 +6,8 @@ use Rattle.job_text.specs.declared.fault.Stop.{Stop}
 use Rattle.job_text.specs.declared.fault.Stop.TheVariants.{At, Memory}
 
 -- what is read and the text after it; or what is wrong, and how many bytes are left where it is
-abbrev pub Reading : Type 0 → Type 0
-Reading A = Result (A × List ℕ) (Flaw × ℕ)
+abbrev pub TextReading : Type 0 → Type 0
+TextReading A = Result (A × List ℕ) (Flaw × ℕ)
 
 -- the flaw, at the front of this text
 abbrev pub flawed : {A : Type 0} → Flaw → List ℕ → Result A (Flaw × ℕ)
@@ -25,13 +25,13 @@ Stops (At flaw left) said = said ≡ Err (flaw, left)
 Stops (Memory e) said = Unit {0}
 
 -- the result is what is said, seen through f
-abbrev pub Says : {A B : Type 0} → (A → B) → Result A Stop → Result B (Flaw × ℕ) → Type 0
-Says f (Ok x) said = said ≡ Ok (f x)
-Says f (Err stop) said = Stops stop said
+abbrev pub SaysRead : {A B : Type 0} → (A → B) → Result A Stop → Result B (Flaw × ℕ) → Type 0
+SaysRead f (Ok x) said = said ≡ Ok (f x)
+SaysRead f (Err stop) said = Stops stop said
 
 -- the same of something and the text after it
-abbrev pub Reads : {A B : Type 0} → (A → B) → Result (A × Bor (List ℕ)) Stop → Reading B → Type 0
-Reads f result said = Says (λ p. (f p.0, p.1.now)) result said
+abbrev pub Reads : {A B : Type 0} → (A → B) → Result (A × Bor (List ℕ)) Stop → TextReading B → Type 0
+Reads f result said = SaysRead (λ p. (f p.0, p.1.now)) result said
 
 -- less text is left
 abbrev pub Shortens : {A : Type 0} → List ℕ → Result (A × Bor (List ℕ)) Stop → Type 0

@@ -2,15 +2,15 @@
 use Rattle.std.specs.Prelude.{map, string_bytes}
 use Rattle.job_text.specs.Values as written
 use Rattle.job_text.specs.Lines as lines
-use Rattle.job_text.specs.declared.item.Item.{Item}
-use Rattle.job_text.specs.declared.item.Item.TheVariants.{Text, Flag, Number}
+use Rattle.job_text.specs.declared.item.TextItem.{TextItem}
+use Rattle.job_text.specs.declared.item.TextItem.TheVariants.{Text, Flag, Number}
 use Rattle.job_text.specs.declared.item.Written.{Written}
 use Rattle.job_text.specs.declared.item.Written.TheVariants.{One, Several}
-use Rattle.job_text.specs.declared.line.Line.{Line}
+use Rattle.job_text.specs.declared.line.TextLine.{TextLine}
 use Rattle.job_text.specs.declared.line.Meaning.{Meaning}
 use Rattle.job_text.specs.declared.line.Meaning.TheVariants.{Header, ListHeader, Entry}
 
-abbrev pub item_seen : Item → written.Item
+abbrev pub item_seen : TextItem → written.TextItem
 item_seen (Text content) = written.text (string_bytes content)
 item_seen (Flag b) = written.flag b
 item_seen (Number word) = written.number word.items
@@ -24,5 +24,5 @@ meaning_seen (Header key) = lines.header (string_bytes key)
 meaning_seen (ListHeader key) = lines.list_header (string_bytes key)
 meaning_seen (Entry key value at) = lines.entry (string_bytes key) (written_seen value) at
 
-abbrev pub line_seen : Line → lines.Line
+abbrev pub line_seen : TextLine → lines.TextLine
 line_seen line = record { at = line.at; meaning = meaning_seen line.meaning }

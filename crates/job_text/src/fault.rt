@@ -1,6 +1,6 @@
 // What is wrong with a text, and where.
 ghost use Rattle.std.specs.Prelude.{◌≡◌, length};
-ghost use Rattle.job_text.specs.Readings.{Says, flawed};
+ghost use Rattle.job_text.specs.Readings.{SaysRead, flawed};
 ghost use Rattle.toml_parser.specs.declared.error.ParseError.TheVariants as parse;
 
 use exact_frac::OutOfMemory;
@@ -21,20 +21,26 @@ pub enum Flaw {
     NoBracket,
     /// No value is there.
     NoValue,
-    /// The text in quotes has no end on its line, or an escape that isn't one.
+    /// A word is there that is no value: a text needs quotes, and a number the form that TOML has.
+    BadWord,
+    /// The text in quotes has no end on its line, an escape that isn't one, or a control character.
     BrokenText,
-    /// A text of several lines begins there.
+    /// The text begins with three quotes.
     LongText,
     /// An inline table begins there.
     InlineTable,
-    /// The date isn't in quotes.
+    /// A date or a time is there without quotes.
     BareDate,
-    /// The number isn't one of digits, a sign and a point.
+    /// The number has other bytes than digits, a sign and a point.
     NoNumber,
+    /// A list begins there inside a list.
+    InnerList,
     /// Neither a comma nor the closing bracket of a list is there.
     BrokenList,
     /// Something else is on the line.
     More,
+    /// A byte order mark is there, or a control character, as a carriage return without a line feed.
+    Unprintable,
 }
 
 /// Why a text isn't read.

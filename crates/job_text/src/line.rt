@@ -1,7 +1,7 @@
 // One line.
 ghost use Rattle.std.specs.Prelude.{◌≡◌, ◌<◌, ◌≤◌, length, string_bytes, IfOk};
-ghost use Rattle.job_text.specs.Lines.{bracket, header_line, list_header_line, entry_of, entry_line, meaning_of, line_of};
-ghost use Rattle.job_text.specs.Readings.{Reads, Shortens, Says};
+ghost use Rattle.job_text.specs.Lines.{bracket, header_line, list_header_line, entry_of, entry_line, meaning_of, is_unprintable, line_of};
+ghost use Rattle.job_text.specs.Readings.{Reads, Shortens, SaysRead};
 ghost use Rattle.job_text.specs.Seen.{meaning_seen};
 ghost use Rattle.toml.specs.Parse.{ends_line};
 
@@ -23,16 +23,16 @@ pub enum Meaning {
     Entry(String, Written, usize),
 }
 
-/// A line that isn't empty, and how many bytes are before it.
+/// A line that isn't empty, and how many bytes are before its first byte that isn't white space.
 #[derive(Debug, Drop)]
-pub struct Line {
+pub struct TextLine {
     pub at: usize,
     pub meaning: Meaning,
 }
 
 /// The text after the closing bracket at the front.
 fn bracket(front: &str) -> Result<&str, Stop>
-    ensures value { Says (λ rest. rest.now) result (bracket front.now) }
+    ensures value { SaysRead (λ rest. rest.now) result (bracket front.now) }
     ensures within { IfOk result (λ rest. length rest.now ≤ length front.now) }
 {
     if first(front) == b']' {
@@ -42,7 +42,7 @@ fn bracket(front: &str) -> Result<&str, Stop>
     }
 }
 
-/// A header, from behind its opening bracket.
+/// A header, after its opening bracket.
 fn header_line(alloc: Global, front: &str) -> Result<(Meaning, &str), Stop>
     ensures value { Reads meaning_seen result (header_line front.now) }
     ensures shorter { Shortens front.now result }
@@ -52,7 +52,7 @@ fn header_line(alloc: Global, front: &str) -> Result<(Meaning, &str), Stop>
     Ok((Meaning::Header(key), rest))
 }
 
-/// A header of a table of a list, from behind its two opening brackets.
+/// A header of a table of a list, after its two opening brackets.
 fn list_header_line(alloc: Global, front: &str) -> Result<(Meaning, &str), Stop>
     ensures value { Reads meaning_seen result (list_header_line front.now) }
     ensures shorter { Shortens front.now result }
@@ -63,7 +63,7 @@ fn list_header_line(alloc: Global, front: &str) -> Result<(Meaning, &str), Stop>
     Ok((Meaning::ListHeader(key), rest))
 }
 
-/// The value behind `=`, in a text of so many bytes.
+/// The value after `=`, in a text of so many bytes.
 fn entry_of(alloc: Global, size: usize, key: String, front: &str) -> Result<(Meaning, &str), Stop>
     requires { length front.now ≤ size }
     ensures value { Reads meaning_seen result (entry_of size (string_bytes key) front.now) }
@@ -109,12 +109,28 @@ fn ends_line(front: &str) -> bool
     front.is_empty() || matches!(first(front), b'#' | b'\n' | b'\r')
 }
 
+/// A byte order mark or a control character, as a carriage return without a line feed, is there.
+fn is_unprintable(front: &str) -> bool
+    ensures { result ≡ is_unprintable front.now }
+{
+    first(front) < 32
+        || first(front) == 127
+        || (first(front) == 0xEF && byte_at(front, 1) == 0xBB && byte_at(front, 2) == 0xBF)
+}
+
 /// The line at the front, in a text of so many bytes: nothing else is on it but a comment.
-pub(crate) fn read_line(alloc: Global, size: usize, front: &str) -> Result<(Meaning, &str), Stop>
+pub(crate) fn read_text_line(
+    alloc: Global,
+    size: usize,
+    front: &str,
+) -> Result<(Meaning, &str), Stop>
     requires { length front.now ≤ size }
     ensures value { Reads meaning_seen result (line_of size front.now) }
     ensures shorter { Shortens front.now result }
 {
+    if is_unprintable(front) {
+        return Err(flawed(Flaw::Unprintable, front));
+    }
     let (meaning, rest) = meaning_of(alloc, size, front)?;
     if ends_line(skip_ws(rest)) {
         Ok((meaning, rest))

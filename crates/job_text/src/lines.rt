@@ -1,20 +1,20 @@
 // All lines of a text.
 ghost use Rattle.std.specs.Prelude.{◌≡◌, length, map};
-ghost use Rattle.job_text.specs.Lines.{lines_of};
-ghost use Rattle.job_text.specs.Readings.{Says};
+ghost use Rattle.job_text.specs.Lines.{text_lines};
+ghost use Rattle.job_text.specs.Readings.{SaysRead};
 ghost use Rattle.job_text.specs.Seen.{line_seen};
 
 use crate::fault::Stop;
-use crate::line::{Line, read_line};
+use crate::line::{TextLine, read_text_line};
 use exact_frac::OutOfMemory;
 use std::alloc::Global;
 use toml_parser::text::skip_blank;
 
 /// The lines of a text that aren't empty, in order; or its first flaw.
 ///
-/// One pass over the text.
-pub fn lines_of(alloc: Global, text: &str) -> Result<Vec<Line>, Stop>
-    ensures { Says (λ lines. map line_seen lines.items) result (lines_of text.now) }
+/// A key that is there twice is no flaw here: see `lines_are_toml`. Time grows with the text.
+pub fn text_lines(alloc: Global, text: &str) -> Result<Vec<TextLine>, Stop>
+    ensures { SaysRead (λ lines. map line_seen lines.items) result (text_lines text.now) }
 {
     let mut found = Vec::new(alloc);
     let mut rest = text;
@@ -24,11 +24,11 @@ pub fn lines_of(alloc: Global, text: &str) -> Result<Vec<Line>, Stop>
             return Ok(found);
         }
         let at = text.len() - start.len();
-        let (meaning, behind) = match read_line(alloc, text.len(), start) {
+        let (meaning, behind) = match read_text_line(alloc, text.len(), start) {
             Ok(read) => read,
             Err(stop) => return Err(stop),
         };
-        match found.push(Line { at, meaning }) {
+        match found.push(TextLine { at, meaning }) {
             Ok(()) => rest = behind,
             Err(_) => return Err(Stop::Memory(OutOfMemory)),
         }

@@ -1,19 +1,19 @@
 // A list on its line, and a value.
 ghost use Rattle.std.specs.Prelude.{◌≡◌, ◌<◌, ◌≤◌, length, map, IfOk};
-ghost use Rattle.job_text.specs.Readings.{Reads, Shortens, Says};
+ghost use Rattle.job_text.specs.Readings.{Reads, Shortens, SaysRead};
 ghost use Rattle.job_text.specs.Seen.{item_seen, written_seen};
 ghost use Rattle.job_text.specs.Values.{after_item, items, list, value};
 ghost use Rattle.toml_parser.specs.Lexical.{first, left_bracket};
 
 use crate::fault::{Flaw, Stop, flawed};
-use crate::item::{Item, Written, read_item};
+use crate::item::{TextItem, Written, read_item};
 use exact_frac::OutOfMemory;
 use std::alloc::Global;
 use toml_parser::text::{first, skip, skip_ws};
 
-/// Behind an item: a comma, or the closing bracket, which stays.
+/// After an item: a comma, or the closing bracket, which stays.
 fn after_item(front: &str) -> Result<&str, Stop>
-    ensures value { Says (λ rest. rest.now) result (after_item front.now) }
+    ensures value { SaysRead (λ rest. rest.now) result (after_item front.now) }
     ensures within { IfOk result (λ rest. length rest.now ≤ length front.now) }
 {
     if first(front) == b',' {
@@ -25,8 +25,8 @@ fn after_item(front: &str) -> Result<&str, Stop>
     }
 }
 
-/// A list, from behind its opening bracket.
-fn list(alloc: Global, front: &str) -> Result<(Vec<Item>, &str), Stop>
+/// A list, at its opening bracket.
+fn list(alloc: Global, front: &str) -> Result<(Vec<TextItem>, &str), Stop>
     requires { first front.now ≡ left_bracket }
     ensures value { Reads (λ found. map item_seen found.items) result (list front.now) }
     ensures shorter { Shortens front.now result }
@@ -61,9 +61,6 @@ pub(crate) fn value(alloc: Global, front: &str) -> Result<(Written, &str), Stop>
     if first(front) == b'[' {
         let (items, rest) = list(alloc, front)?;
         return Ok((Written::Several(items), rest));
-    }
-    if first(front) == b'{' {
-        return Err(flawed(Flaw::InlineTable, front));
     }
     let (one, rest) = read_item(alloc, front)?;
     Ok((Written::One(one), rest))

@@ -1,10 +1,10 @@
 // Places in a text, as editors count them.
-ghost use Rattle.std.specs.Prelude.{◌≡◌, ◌+◌, ◌<◌, ◌≤◌, ◌^◌, cond, length};
-ghost use Rattle.job_text.specs.Places.{is_feed, begins_character, IsPlaceOf};
+ghost use Rattle.std.specs.Prelude.{◌≡◌, ◌+◌, ◌-◌, ◌<◌, ◌^◌, cond, length};
+ghost use Rattle.job_text.specs.Places.{is_line_feed, begins_character, IsTextPlace};
 
 /// A line and a column, both counted from 1; columns are counted by characters.
 #[derive(Clone, Copy, PartialEq, Eq, Debug)]
-pub struct Place {
+pub struct TextPlace {
     pub line: u32,
     pub column: u32,
 }
@@ -16,20 +16,20 @@ fn begins_character(byte: u8) -> bool
     !(128 <= byte && byte < 192)
 }
 
-/// The place behind one byte more.
-fn past(place: Place, byte: u8) -> Place
+/// The place after one more byte.
+fn past(place: TextPlace, byte: u8) -> TextPlace
     requires line { place.line + 1 < 2 ^ 32 }
     requires column { place.column + 1 < 2 ^ 32 }
-    ensures line { result.line ≡ cond (is_feed byte) (place.line + 1) place.line }
-    ensures column { result.column ≡ cond (is_feed byte) 1 (cond (begins_character byte) (place.column + 1) place.column) }
+    ensures line { result.line ≡ cond (is_line_feed byte) (place.line + 1) place.line }
+    ensures column { result.column ≡ cond (is_line_feed byte) 1 (cond (begins_character byte) (place.column + 1) place.column) }
 {
     if byte == b'\n' {
-        return Place {
+        return TextPlace {
             line: place.line + 1,
             column: 1,
         };
     }
-    Place {
+    TextPlace {
         line: place.line,
         column: if begins_character(byte) {
             place.column + 1
@@ -39,17 +39,23 @@ fn past(place: Place, byte: u8) -> Place
     }
 }
 
-/// The place behind so many bytes of a text.
-///
-/// One pass over these bytes.
-pub fn place_of(text: &str, at: usize) -> Place
-    requires within { at ≤ length text.now }
-    requires few { at < 2 ^ 31 }
-    ensures { IsPlaceOf text.now at result }
+/// The place after the first `at` bytes of a text, or after all if they are fewer. Call it once, for a fault: one pass over these
+/// bytes.
+pub fn text_place(text: &str, at: usize) -> TextPlace
+    requires few { length text.now < 2 ^ 31 }
+    ensures { IsTextPlace text.now at result }
 {
-    let mut place = Place { line: 1, column: 1 };
-    for byte in &text.as_bytes()[..at] {
+    let mut place = TextPlace { line: 1, column: 1 };
+    for byte in &text.as_bytes()[..at.min(text.len())] {
         place = past(place, *byte);
     }
     place
+}
+
+/// The place of a flaw, with so many bytes from there to the end.
+pub fn flaw_place(text: &str, left: usize) -> TextPlace
+    requires few { length text.now < 2 ^ 31 }
+    ensures { IsTextPlace text.now (length text.now - left) result }
+{
+    text_place(text, text.len().saturating_sub(left))
 }

@@ -3,7 +3,7 @@ use Rattle.std.proofs.lemmas.Grind.{common_steps}
 use Rattle.std.proofs.lemmas.Bool.Decides.{nat_tests}
 use Rattle.job_text.specs.Readings.{Stops}
 use Rattle.job_text.specs.Seen.{item_seen}
-use Rattle.job_text.specs.Values.{Item, item, after_item, items}
+use Rattle.job_text.specs.Values.{TextItem, item, after_item, items}
 use Rattle.toml_parser.specs.Lexical.{first, skip_ws}
 use Rattle.job_text.proofs.Turns.{items_end, items_more, items_stopped, items_stopped_end}
 use Rattle.job_text.proofs.list.list.Goals as goal
@@ -48,5 +48,5 @@ items-preserved c =
       inv.2 - 1,
       omega (arith, inv.3, shorter),
       inv.4 ∙ items_more inv.2 (map item_seen c.items.found.items) c.items.rest.now (item_seen c.in-Ok.read.0) c.in-Ok.read.1.now c.in-Ok-after_item.after.now (omega (arith, inv.3)) other read element
-          ∙ ap (λ (found : List Item). items (inv.2 - 1) found c.in-Ok-after_item.after.now) (sym pushed),
+          ∙ ap (λ (found : List TextItem). items (inv.2 - 1) found c.in-Ok-after_item.after.now) (sym pushed),
     )
