@@ -1,7 +1,9 @@
-//! Tests of what is read and of what is written: numbers, tokens and the texts of parts; where views stand on a sheet, strokes and their
-//! paths, dashes, pages, and plotters.
+//! Tests of what is read and of what is written: numbers, tokens and the texts of parts; lines of jobs; where views stand on a sheet,
+//! strokes and their paths, dashes, pages, and plotters.
 #![tactic(auto)]
 
+#[cfg(test)]
+mod job_lines;
 #[cfg(test)]
 mod numbers;
 #[cfg(test)]

@@ -1,0 +1,5 @@
+mod Edits
+mod PlacesBehind
+mod LinesInToml
+mod Turns
+mod ValuesInToml
