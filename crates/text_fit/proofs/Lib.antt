@@ -1,0 +1,3 @@
+mod WidthsBefore
+mod KeptChars
+mod CutTexts
