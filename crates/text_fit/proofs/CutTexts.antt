@@ -1,11 +1,11 @@
 -- Texts that are cut to their places.
-use Rattle.std.proofs.Common.{◌≡◌, ℕ, zero, suc, ◌+◌, ◌-◌, ◌*◌, ◌/◌, ◌<◌, ◌≤◌, Bool, true, false, ◌&&◌, List, [], ◌∷◌, ◌++◌, take, inl, inr, refl, sym, ap, subst, ◌∙◌, arith, div-mul-le_self, mul-le-mul_left, mul-le-mul_right}
-use Rattle.std.specs.Prelude.{encode_utf8_all, codes, min, max}
+use Rattle.std.proofs.Common.{◌≡◌, ℕ, zero, suc, ◌+◌, ◌-◌, ◌*◌, ◌/◌, ◌<◌, ◌≤◌, Bool, true, false, ◌&&◌, List, [], ◌∷◌, ◌++◌, take, inl, inr, refl, sym, ap, subst, ◌∙◌, arith, div-mul-le_self, mul-le-mul_right}
+use Rattle.std.specs.Prelude.{encode_utf8_all, codes}
 use lib.Utf8.{encode}
 use Rattle.std.specs.Str.{chars, all_scalars, IsUtf8}
 use Rattle.std.proofs.lemmas.Nat.{le-div}
 use Rattle.std.proofs.lemmas.Str.{chars-nil, chars-encodes, encodes-append}
-use Rattle.text_fit.specs.Fits.{Fits, IsCut, with_points, size_in}
+use Rattle.text_fit.specs.Fits.{Fits, IsCut, with_points}
 use Rattle.text_fit.specs.Widths.{chars_width, text_width}
 use Rattle.text_fit.specs.inner.Kept.{AreKept}
 use Rattle.text_fit.proofs.KeptChars.{width_of_both, width_of_points}
@@ -58,16 +58,3 @@ cut_inside room size text cut utf8 (inr k) =
     let all = scalars_kept (chars text) n (ap all_scalars whole ∙ utf8.1.0) in
     let same = ap chars k.1.shown ∙ chars-encodes (with_points n text) all in
     subst (λ (cs : List ℕ). Fits room size (chars_width cs)) (sym same) k.1.fits
-
--- a whole text is inside its place
-pub whole_inside : (room most width : ℕ) → Fits room (size_in room most width) width
-whole_inside room most width =
-    let size = size_in room most width in
-    let part = 1000 * room / max 1 width in
-    omega (arith, mul-le-mul_right size (wider width), mul-le-mul_left (max 1 width) (smaller part most), div-mul-le_self (1000 * room) (max 1 width))
-  where
-    wider : (n : ℕ) → n ≤ max 1 n
-    wider n = omega arith
-
-    smaller : (m n : ℕ) → min m n ≤ m
-    smaller m n = omega arith

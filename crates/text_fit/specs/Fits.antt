@@ -9,7 +9,7 @@ use Rattle.text_fit.specs.Widths.{chars_width, text_width}
 abbrev pub Fits : ℕ → ℕ → ℕ → Type 0
 Fits room size width = width * size ≤ 1000 * room
 
--- the greatest size up to the most in which a text of this width fits
+-- the greatest size up to the most in which a text of this width fits; a text of no width is taken to be 1 wide
 abbrev pub size_in : ℕ → ℕ → ℕ → ℕ
 size_in room most width = min (1000 * room / max 1 width) most
 
