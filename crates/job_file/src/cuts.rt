@@ -16,7 +16,7 @@ use lattice::{Axis, Cut, CutFault, ViewSpec};
 use toml::{Table, Value};
 
 /// The axis of this name.
-fn axis_of(text: &str) -> Option<Axis>
+pub fn axis_of(text: &str) -> Option<Axis>
     ensures { result ≡ look_up axes text.now }
 {
     match text {
@@ -28,7 +28,7 @@ fn axis_of(text: &str) -> Option<Axis>
 }
 
 /// The viewer looks from the high side of the axis, or from the low one.
-fn is_from_high(text: &str) -> Option<bool>
+pub fn is_from_high(text: &str) -> Option<bool>
     ensures { result ≡ look_up sides text.now }
 {
     match text {

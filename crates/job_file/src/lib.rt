@@ -16,7 +16,12 @@ mod texts;
 mod view;
 mod views;
 
+pub use cuts::{axis_of, is_from_high};
+pub use directions::{direction_of, principal_of};
 pub use fault::{JobError, JobFault, Key};
 pub use job::{Job, Paper, Scale};
+pub use settings::{angle_of, crease_of, layout_of, length_of, paper_of, scale_of};
 pub use shown_cuts::cuts_in;
+pub use texts::is_title;
 pub use view::{JobView, Principal};
+pub use views::{usual_views, view_named};

@@ -59,7 +59,7 @@ pub fn decimals(table: &Table) -> Result<u8, JobFault>
 }
 
 /// Third-angle projection, or not.
-fn angle_of(text: &str) -> Option<bool>
+pub fn angle_of(text: &str) -> Option<bool>
     ensures { result ≡ look_up angles text.now }
 {
     match text {
@@ -83,7 +83,7 @@ pub fn angle(table: &Table) -> Result<bool, JobFault>
 }
 
 /// A size of paper.
-fn paper_of(text: &str) -> Option<Paper>
+pub fn paper_of(text: &str) -> Option<Paper>
     ensures { result ≡ look_up papers text.now }
 {
     match text {
@@ -110,7 +110,7 @@ pub fn paper(table: &Table) -> Result<Paper, JobFault>
 }
 
 /// A scale, or none for one that fits.
-fn scale_of(text: &str) -> Option<Option<Scale>>
+pub fn scale_of(text: &str) -> Option<Option<Scale>>
     ensures { option_map (option_map scale_seen) result ≡ look_up fits text.now }
 {
     if text == "fit" {
@@ -136,7 +136,7 @@ pub fn scale(table: &Table) -> Result<Option<Scale>, JobFault>
 }
 
 /// A kind of creases.
-fn crease_of(text: &str) -> Option<Crease>
+pub fn crease_of(text: &str) -> Option<Crease>
     ensures { result ≡ look_up creases text.now }
 {
     match text {
@@ -161,7 +161,7 @@ pub fn crease(table: &Table) -> Result<Crease, JobFault>
 }
 
 /// What lengths are given in.
-fn length_of(text: &str) -> Option<Length>
+pub fn length_of(text: &str) -> Option<Length>
     ensures { result ≡ look_up lengths text.now }
 {
     match text {
@@ -185,7 +185,7 @@ pub fn unit(table: &Table) -> Result<Length, JobFault>
 }
 
 /// Upright, or lying.
-fn layout_of(text: &str) -> Option<bool>
+pub fn layout_of(text: &str) -> Option<bool>
     ensures { result ≡ look_up layouts text.now }
 {
     match text {

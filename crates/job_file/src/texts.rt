@@ -23,7 +23,7 @@ fn is_title_char(c: char) -> bool
 }
 
 /// The text is a title.
-fn is_title(text: &str) -> bool
+pub fn is_title(text: &str) -> bool
     ensures { result ≡ is_title text.now }
 {
     if text.len() > 120 {

@@ -45,7 +45,7 @@ fn is_taken(name: Principal, earlier: &[JobView]) -> bool
 }
 
 /// The view of a name.
-fn view_named(name: Principal) -> JobView
+pub fn view_named(name: Principal) -> JobView
     ensures { view_seen result ≡ view_named name }
 {
     JobView {
@@ -177,7 +177,7 @@ fn views_of(alloc: Global, values: &[Value]) -> Result<Vec<JobView>, JobError>
 }
 
 /// From the front, from above and from the left.
-fn usual_views(alloc: Global) -> Result<Vec<JobView>, OutOfMemory>
+pub fn usual_views(alloc: Global) -> Result<Vec<JobView>, OutOfMemory>
     ensures value { IfOk result (λ views. map view_seen views.items ≡ usual_views) }
     ensures apart { IfOk result (λ views. AllPairs (λ v w. AreNamedApart v.named w.named) views.items) }
 {
