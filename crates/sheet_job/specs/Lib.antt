@@ -1,0 +1,10 @@
+pub mod AnyJobs
+pub mod JobsAt
+pub mod SheetFaults
+pub mod SheetJobs
+pub mod SheetKeys
+pub mod SheetSeen
+pub mod SheetViews
+pub mod ShownSheets
+pub mod WrittenValues
+pub mod inner
