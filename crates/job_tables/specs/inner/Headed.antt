@@ -1,0 +1,14 @@
+-- What contracts see of tables with their headers.
+use Rattle.std.specs.Prelude.{string_bytes}
+use Rattle.job_tables.specs.declared.split.Header.{Header}
+use Rattle.job_tables.specs.declared.split.Header.TheVariants.{Single, Double}
+use Rattle.job_tables.specs.declared.split.Headed.{Headed}
+use Rattle.job_tables.specs.Seen.{table_seen}
+use Rattle.job_tables.specs.Tables as tables
+
+abbrev pub header_seen : Header → tables.Header
+header_seen (Single key) = tables.single (string_bytes key)
+header_seen (Double key) = tables.double (string_bytes key)
+
+abbrev pub headed_seen : Headed → tables.Headed
+headed_seen t = record { header = header_seen t.header; table = table_seen t.table }
