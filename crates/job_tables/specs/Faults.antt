@@ -71,6 +71,10 @@ abbrev pub unless : {A : Type 0} → Option (Fault × ℕ) → A → Result A (F
 unless None value = Ok value
 unless (Some fault) value = Err fault
 
--- the tables of a job's lines, or the first fault and the bytes before its place
+-- the tables of lines at their headers, or the first fault and the bytes before its place
+abbrev pub checked : List Entry × List Headed → Result Tables (Fault × ℕ)
+checked s = unless (first_fault s) (tables_of s)
+
+-- the same of a job's lines
 abbrev pub job_tables : List TextLine → Result Tables (Fault × ℕ)
-job_tables lines = let s = split lines in unless (first_fault s) (tables_of s)
+job_tables lines = checked (split lines)

@@ -3,7 +3,7 @@ ghost use Rattle.std.specs.Prelude.{◌≡◌, map, reverse, IfOk};
 ghost use Rattle.job_text.specs.Seen.{line_seen};
 ghost use Rattle.job_tables.specs.Seen.{entry_seen};
 ghost use Rattle.job_tables.specs.Tables.{split};
-ghost use Rattle.job_tables.specs.inner.Headed.{header_seen, headed_seen};
+ghost use Rattle.job_tables.specs.inner.Headed.{header_seen, headed_seen, lines_seen};
 
 use crate::table::{JobTable, TableEntry};
 use exact_frac::OutOfMemory;
@@ -48,7 +48,7 @@ fn with_header(at: usize, header: Header, mut backwards: Vec<TableEntry>) -> Hea
 
 /// The lines at their headers. It goes from the last line back, so that each header finds its entries.
 pub(crate) fn split(alloc: Global, mut lines: Vec<TextLine>) -> Result<LinesByHeader, OutOfMemory>
-    ensures { IfOk result (λ s. (map entry_seen s.first.items, map headed_seen s.tables.items) ≡ split (map line_seen lines.items)) }
+    ensures { IfOk result (λ s. lines_seen s ≡ split (map line_seen lines.items)) }
 {
     let mut first = Vec::new(alloc);
     let mut tables = Vec::new(alloc);

@@ -1,8 +1,10 @@
 // The tables of a job, with their entries.
-ghost use Rattle.std.specs.Prelude.{◌≡◌, ◌≤◌, length, option_map, map, All, IfSome, string_bytes};
+ghost use Rattle.std.specs.Prelude.{◌≡◌, ◌≤◌, length, option_map, map, All, string_bytes};
 ghost use Rattle.std.specs.List.{find};
+ghost use Rattle.std.specs.Option.{ForSome};
 ghost use Rattle.std.specs.Str.{bytes_eq};
 ghost use Rattle.job_tables.specs.Known.{HasKnownKeys};
+ghost use Rattle.job_tables.specs.declared.table.TableKind.TheVariants as kind;
 
 use job_text::Written;
 
@@ -40,9 +42,9 @@ pub struct JobTables {
     pub block: Option<JobTable>,
     pub views: Vec<JobTable>,
     ghost few: { length views.items ≤ 12 },
-    ghost of_job: { HasKnownKeys TableKind.Job job },
-    ghost of_block: { IfSome block (HasKnownKeys TableKind.Block) },
-    ghost of_views: { All (HasKnownKeys TableKind.View) views.items },
+    ghost of_job: { HasKnownKeys kind.Job job },
+    ghost of_block: { ForSome block (HasKnownKeys kind.Block) },
+    ghost of_views: { All (HasKnownKeys kind.View) views.items },
 }
 
 /// The first entry with the key.

@@ -1,10 +1,9 @@
 // The tables of a job's lines.
 ghost use Rattle.std.specs.Prelude.{◌≡◌, map};
 ghost use Rattle.job_text.specs.Seen.{line_seen};
-ghost use Rattle.job_tables.specs.Faults.{first_fault, unless, job_tables};
-ghost use Rattle.job_tables.specs.Seen.{entry_seen, tables_seen, SaysTables};
-ghost use Rattle.job_tables.specs.Tables.{tables_of};
-ghost use Rattle.job_tables.specs.inner.Headed.{headed_seen};
+ghost use Rattle.job_tables.specs.Faults.{checked, job_tables};
+ghost use Rattle.job_tables.specs.Seen.{tables_seen, SaysTables};
+ghost use Rattle.job_tables.specs.inner.Headed.{lines_seen};
 
 use crate::faults::{check_keys, check_table};
 use crate::flaw::TableStop;
@@ -16,7 +15,7 @@ use std::alloc::Global;
 
 /// The tables of lines at their headers, or the first fault.
 fn placed(alloc: Global, lines: LinesByHeader) -> Result<JobTables, TableStop>
-    ensures { let s = (map entry_seen lines.first.items, map headed_seen lines.tables.items) in SaysTables tables_seen result (unless (first_fault s) (tables_of s)) }
+    ensures { SaysTables tables_seen result (checked (lines_seen lines)) }
 {
     let job = JobTable {
         at: 0,

@@ -1,0 +1,4 @@
+mod Lists
+mod Near
+mod Places
+mod Splits
