@@ -1,4 +1,4 @@
 mod Lists
-mod Near
+mod Placed
 mod Places
 mod Splits

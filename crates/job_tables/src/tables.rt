@@ -25,7 +25,10 @@ fn placed(alloc: Global, lines: LinesByHeader) -> Result<JobTables, TableStop>
     let mut block = None;
     let mut views = Vec::new(alloc);
     for headed in lines.tables {
-        check_table(alloc, block.is_some(), views.len(), &headed)?;
+        match check_table(alloc, block.is_some(), views.len(), &headed) {
+            Ok(()) => {}
+            Err(stop) => return Err(stop),
+        }
         match headed.header {
             Header::Single(_) => block = Some(headed.table),
             Header::Double(_) => views.push(headed.table)?,
