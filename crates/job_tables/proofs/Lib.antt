@@ -1,0 +1,4 @@
+mod Lists
+mod Placed
+mod Places
+mod Splits
