@@ -10,7 +10,7 @@ use Rattle.job_text.specs.Lines.{TextLine, text_lines}
 use Rattle.job_text.specs.Places.{IsTextPlace}
 use Rattle.job_text.specs.declared.fault.Flaw.{Flaw}
 use Rattle.toml.specs.Data.{Members, get_member, as_integer}
-use Rattle.sheet_job.specs.SheetFaults.{SheetFault, not_utf8, in_line, refused, flaw_seen, HasHint}
+use Rattle.sheet_job.specs.SheetFaults.{OwnFault, not_utf8, in_line, refused, flaw_seen, HasHint}
 use Rattle.sheet_job.specs.SheetJobs.{SheetJobValues, sheet_job_of_text}
 use Rattle.sheet_job.specs.SheetSeen.{sheet_job_seen, IsPlacedIn}
 use Rattle.sheet_job.specs.declared.any.AnyJob.{AnyJob}
@@ -22,7 +22,7 @@ use Rattle.sheet_job.specs.declared.flaw.PlacedFlaw.{PlacedFlaw}
 -- what TOML reads as a job of version 1 or 2, or of an unknown version; what it reads as one of version 3; or what it refuses
 pub data AnyRead : Type 0 where
   older : Result JobValues JobFault → AnyRead
-  own : Result SheetJobValues (SheetFault × ℕ) → AnyRead
+  own : Result SheetJobValues (OwnFault × ℕ) → AnyRead
   no_toml : AnyRead
 
 abbrev pub is_three : Option ℤ → Bool
@@ -43,17 +43,17 @@ any_job_of_bytes bytes = any_job_of_table bytes (table_of bytes)
 
 -- ---- what TOML refuses
 -- the flaw of the lines; or TOML refuses the text with this line, so many bytes after the text's start
-abbrev pub IsRefusedByLines : List ℕ → Result (List TextLine) (Flaw × ℕ) → SheetFault → ℕ → Type 0
+abbrev pub IsRefusedByLines : List ℕ → Result (List TextLine) (Flaw × ℕ) → OwnFault → ℕ → Type 0
 IsRefusedByLines text (Err (flaw, left)) fault at = (fault ≡ in_line flaw) × (at ≡ length text - left)
 IsRefusedByLines text (Ok lines) fault at = (fault ≡ refused) × ((i : ℕ) × IsRefusedLine text lines i × (option_map (λ line. line.at) (slice_get lines i) ≡ Some at))
 
 -- the bytes are no text from there on; or the text is refused
-abbrev pub IsRefusedFor : List ℕ → SheetFault → ℕ → Type 0
+abbrev pub IsRefusedFor : List ℕ → OwnFault → ℕ → Type 0
 IsRefusedFor bytes fault at =
     (¬ IsUtf8 bytes × (fault ≡ not_utf8) × IsValidUpTo bytes at) ⊎ (IsUtf8 bytes × IsRefusedByLines bytes (text_lines bytes) fault at)
 
 -- what is read has this fault there
-abbrev pub HasFault : List ℕ → AnyRead → SheetFault → ℕ → Type 0
+abbrev pub HasFault : List ℕ → AnyRead → OwnFault → ℕ → Type 0
 HasFault bytes (older said) fault at = ⊥
 HasFault bytes (own said) fault at = said ≡ Err (fault, at)
 HasFault bytes no_toml fault at = IsRefusedFor bytes fault at

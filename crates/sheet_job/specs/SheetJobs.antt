@@ -15,7 +15,7 @@ use Rattle.job_text.specs.Lines.{TextLine, text_lines}
 use Rattle.job_text.specs.declared.fault.Flaw.{Flaw}
 use Rattle.lattice.specs.declared.pieces.Crease.{Crease}
 use Rattle.lattice.specs.declared.pieces.Crease.TheVariants.{Normal}
-use Rattle.sheet_job.specs.SheetFaults.{SheetFault, in_line, in_tables, wrong, ◌>>=◌, unless}
+use Rattle.sheet_job.specs.SheetFaults.{OwnFault, in_line, in_tables, wrong, ◌>>=◌, unless}
 use Rattle.sheet_job.specs.SheetKeys.{key_named, is_right, is_quoted}
 use Rattle.sheet_job.specs.SheetViews.{meaning_at, or_usual, SheetViewValues, sheet_views_of}
 use Rattle.sheet_job.specs.WrittenValues.{choice_in, title_in, hiddens, decimals_in}
@@ -25,16 +25,16 @@ use Rattle.sheet_job.specs.declared.keys.SheetKey.{SheetKey}
 
 -- ---- wrong values
 -- a value that its key doesn't have, and how many bytes are before it
-abbrev pub wrong_value : Option SheetKey → Entry → Option (SheetFault × ℕ)
+abbrev pub wrong_value : Option SheetKey → Entry → Option (OwnFault × ℕ)
 wrong_value None e = None
 wrong_value (Some key) e = if is_right key e.value then None else Some (wrong key (is_quoted key e.value), e.value_at)
 
 -- the first one of some entries of such a table
-abbrev pub first_wrong : TableKind → List Entry → Option (SheetFault × ℕ)
+abbrev pub first_wrong : TableKind → List Entry → Option (OwnFault × ℕ)
 first_wrong kind [] = None
 first_wrong kind (e ∷ es) = option_or (wrong_value (key_named kind e.key) e) (first_wrong kind es)
 
-abbrev pub wrong_in_views : List Table → Option (SheetFault × ℕ)
+abbrev pub wrong_in_views : List Table → Option (OwnFault × ℕ)
 wrong_in_views [] = None
 wrong_in_views (t ∷ ts) = option_or (first_wrong table.View t.entries) (wrong_in_views ts)
 
@@ -44,7 +44,7 @@ entries_in None = []
 entries_in (Some t) = t.entries
 
 -- the first one of all: of the job, then of the block, then of the views
-abbrev pub wrong_in : Tables → Option (SheetFault × ℕ)
+abbrev pub wrong_in : Tables → Option (OwnFault × ℕ)
 wrong_in t = option_or (first_wrong table.Job t.job.entries) (option_or (first_wrong table.Block (entries_in t.block)) (wrong_in_views t.views))
 
 -- ---- values
@@ -109,20 +109,20 @@ values_with entries block views = record {
 }
 
 -- what tables say: a wrong value, or the views' first fault, or the values
-abbrev pub sheet_job_of : Tables → Result SheetJobValues (SheetFault × ℕ)
+abbrev pub sheet_job_of : Tables → Result SheetJobValues (OwnFault × ℕ)
 sheet_job_of t = unless (wrong_in t) (sheet_views_of t.views >>= λ views. Ok (values_with t.job.entries (block_of (entries_in t.block)) views))
 
 -- ---- texts
 -- the flaw of a text's lines
-abbrev pub of_lines : List ℕ → Result (List TextLine) (Flaw × ℕ) → Result (List TextLine) (SheetFault × ℕ)
+abbrev pub of_lines : List ℕ → Result (List TextLine) (Flaw × ℕ) → Result (List TextLine) (OwnFault × ℕ)
 of_lines text (Ok lines) = Ok lines
 of_lines text (Err (flaw, left)) = Err (in_line flaw, length text - left)
 
 -- the fault of the lines' tables
-abbrev pub of_tables : Result Tables (Fault × ℕ) → Result Tables (SheetFault × ℕ)
+abbrev pub of_tables : Result Tables (Fault × ℕ) → Result Tables (OwnFault × ℕ)
 of_tables (Ok tables) = Ok tables
 of_tables (Err (fault, at)) = Err (in_tables fault, at)
 
 -- what a text of version 3 says: the fault of its lines, of its tables, of its values or of its views; or the values
-abbrev pub sheet_job_of_text : List ℕ → Result SheetJobValues (SheetFault × ℕ)
+abbrev pub sheet_job_of_text : List ℕ → Result SheetJobValues (OwnFault × ℕ)
 sheet_job_of_text text = of_lines text (text_lines text) >>= λ lines. of_tables (job_tables lines) >>= λ tables. sheet_job_of tables

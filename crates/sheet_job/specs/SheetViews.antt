@@ -12,7 +12,7 @@ use Rattle.job_tables.specs.Tables.{Entry, Table}
 use Rattle.job_text.specs.Values.{Written}
 use Rattle.lattice.specs.Triple.{Triple}
 use Rattle.lattice.specs.declared.points.Axis.{Axis}
-use Rattle.sheet_job.specs.SheetFaults.{SheetFault, in_view, ◌>>=◌, unless}
+use Rattle.sheet_job.specs.SheetFaults.{OwnFault, in_view, ◌>>=◌, unless}
 use Rattle.sheet_job.specs.WrittenValues.{flag_in, choice_in, title_in, toward_in, length_in}
 use Rattle.sheet_job.specs.declared.flaw.ViewFlaw.{ViewFlaw}
 use Rattle.sheet_job.specs.declared.flaw.ViewFlaw.TheVariants.{Form, WithoutCut, WithoutAt, WithoutFrom, NameTaken}
@@ -58,7 +58,7 @@ abbrev pub named_in : List Entry → Option Principal
 named_in entries = option_map (λ n. n.0) (name_at entries)
 
 -- a fault of the view with this number, at a place
-abbrev pub view_fault : ViewFlaw → ℕ → List Entry → ℕ → SheetFault × ℕ
+abbrev pub view_fault : ViewFlaw → ℕ → List Entry → ℕ → OwnFault × ℕ
 view_fault flaw n entries at = (in_view flaw n (named_in entries), at)
 
 -- a key that only a cut has, and how many bytes are before it
@@ -70,25 +70,25 @@ abbrev pub first_cut_key : List Entry → Option (SheetKey × ℕ)
 first_cut_key entries =
     option_or (cut_key_at key.At (codes "at") entries) (option_or (cut_key_at key.From (codes "from") entries) (cut_key_at key.CutTitle (codes "title") entries))
 
-abbrev pub without_cut : ℕ → List Entry → Option (SheetFault × ℕ)
+abbrev pub without_cut : ℕ → List Entry → Option (OwnFault × ℕ)
 without_cut n entries = option_map (λ k. view_fault (WithoutCut k.0) n entries k.1) (first_cut_key entries)
 
 abbrev pub plain_view : Triple → Option Principal → Option Bool → SheetViewValues
 plain_view direction named hidden = record { shows = plain direction; named = named; title = []; hidden = hidden }
 
 -- a direction goes with no key of a cut
-abbrev pub sheet_toward_view : ℕ → List Entry → Triple → Result SheetViewValues (SheetFault × ℕ)
+abbrev pub sheet_toward_view : ℕ → List Entry → Triple → Result SheetViewValues (OwnFault × ℕ)
 sheet_toward_view n entries direction = unless (without_cut n entries) (Ok (plain_view direction None (hidden_at entries)))
 
 -- nor does a name, which no earlier view has
-abbrev pub sheet_named_view : List SheetViewValues → List Entry → Principal × ℕ → Result SheetViewValues (SheetFault × ℕ)
+abbrev pub sheet_named_view : List SheetViewValues → List Entry → Principal × ℕ → Result SheetViewValues (OwnFault × ℕ)
 sheet_named_view earlier entries name =
     unless (without_cut (length earlier) entries)
     (if list_any (λ v. is_named name.0 v.named) earlier then Err (view_fault NameTaken (length earlier) entries name.1)
     else Ok (plain_view (direction_of name.0) (Some name.0) (hidden_at entries)))
 
 -- the place and the side are there, in this order
-abbrev pub sheet_cut_view : ℕ → Table → Axis → Option (List ℕ × ℕ) → Option Bool → Result SheetViewValues (SheetFault × ℕ)
+abbrev pub sheet_cut_view : ℕ → Table → Axis → Option (List ℕ × ℕ) → Option Bool → Result SheetViewValues (OwnFault × ℕ)
 sheet_cut_view n t axis None from_high = Err (view_fault WithoutAt n t.entries t.at)
 sheet_cut_view n t axis (Some at) None = Err (view_fault WithoutFrom n t.entries t.at)
 sheet_cut_view n t axis (Some at) (Some from_high) = Ok (record {
@@ -99,7 +99,7 @@ sheet_cut_view n t axis (Some at) (Some from_high) = Ok (record {
 })
 
 -- a view has exactly one of the three forms
-abbrev pub view_of_form : List SheetViewValues → Table → Option (Principal × ℕ) → Option Triple → Option Axis → Result SheetViewValues (SheetFault × ℕ)
+abbrev pub view_of_form : List SheetViewValues → Table → Option (Principal × ℕ) → Option Triple → Option Axis → Result SheetViewValues (OwnFault × ℕ)
 view_of_form earlier t (Some name) None None = sheet_named_view earlier t.entries name
 view_of_form earlier t None (Some direction) None = sheet_toward_view (length earlier) t.entries direction
 view_of_form earlier t None None (Some axis) =
@@ -107,13 +107,13 @@ view_of_form earlier t None None (Some axis) =
 view_of_form earlier t name direction axis = Err (view_fault Form (length earlier) t.entries t.at)
 
 -- the view of a table, after those before it
-abbrev pub sheet_view_of : List SheetViewValues → Table → Result SheetViewValues (SheetFault × ℕ)
+abbrev pub sheet_view_of : List SheetViewValues → Table → Result SheetViewValues (OwnFault × ℕ)
 sheet_view_of earlier t =
     view_of_form earlier t (name_at t.entries) (meaning_at toward_in (codes "toward") t.entries) (meaning_at (choice_in axes) (codes "cut") t.entries)
 
 -- ---- all views
 -- one after the other
-abbrev pub sheet_views_after : List SheetViewValues → List Table → Result (List SheetViewValues) (SheetFault × ℕ)
+abbrev pub sheet_views_after : List SheetViewValues → List Table → Result (List SheetViewValues) (OwnFault × ℕ)
 sheet_views_after earlier [] = Ok earlier
 sheet_views_after earlier (t ∷ ts) = sheet_view_of earlier t >>= λ v. sheet_views_after (earlier ++ v ∷ []) ts
 
@@ -125,6 +125,6 @@ usual_view p = plain_view (direction_of p) (Some p) None
 abbrev pub usual_sheet_views : List SheetViewValues
 usual_sheet_views = usual_view Front ∷ usual_view Above ∷ usual_view Left ∷ []
 
-abbrev pub sheet_views_of : List Table → Result (List SheetViewValues) (SheetFault × ℕ)
+abbrev pub sheet_views_of : List Table → Result (List SheetViewValues) (OwnFault × ℕ)
 sheet_views_of [] = Ok usual_sheet_views
 sheet_views_of (t ∷ ts) = sheet_views_after [] (t ∷ ts)

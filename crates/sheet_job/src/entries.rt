@@ -52,7 +52,7 @@ pub(crate) fn no_title(alloc: Global) -> Result<Name, OutOfMemory>
     ensures empty { IfOk result (λ t. t ≡ []) }
     ensures proper { IfOk result (λ t. IsTrue (is_title t)) }
 {
-    Name::new(alloc, "")
+    Ok(Name::new(alloc, "")?)
 }
 
 /// The title at a key, or the empty one.

@@ -1,12 +1,14 @@
 // A job of version 3 at a number of decimals.
-ghost use Rattle.std.specs.Prelude.{◌≤◌, IsTrue, IfOk, IfSome, MatchOption, MatchResult, length, map};
+ghost use Rattle.std.specs.Prelude.{◌≤◌, ◌^◌, IsTrue, unsigned_abs, IfOk, IfErr, IfSome, MatchOption, MatchResult, length, map};
 ghost use Rattle.std.specs.List.{AllZip};
-ghost use Rattle.job_text.specs.declared.place.TextPlace.{TextPlace};
 ghost use Rattle.lattice.specs.Cuts.{plane_of};
 ghost use Rattle.job_file.specs.Seen.{job_seen, shown, view_seen};
 ghost use Rattle.job_file.specs.Texts.{is_title};
 ghost use Rattle.job_file.specs.ViewValues.{behind};
-ghost use Rattle.sheet_job.specs.JobsAt.{StandsAt, IsCutTooFar, IsShownAt, IsShownTooFar, IsViewAt, IsTooFar, IsInRange, GivesViewsAt, IsJobAt};
+ghost use Rattle.sheet_job.specs.JobsAt.{IsUnitsAt, StandsAt, IsNumberTooFar, IsShownAt, IsShownTooFar, IsCutPlace, IsViewAt, IsTooFar, IsJobAt};
+ghost use Rattle.sheet_job.specs.SheetSeen.{shown_seen, sheet_view_seen, sheet_job_seen};
+ghost use Rattle.sheet_job.specs.WrittenValues.{is_length};
+ghost use Rattle.sheet_job.specs.inner.ViewsAt.{GivesViewsAt};
 
 use crate::cut::SheetCut;
 use crate::flaw::{JobFlaw, PlacedFlaw};
@@ -17,7 +19,7 @@ use dec_text::{Length, Name, NumberFault, fixed};
 use exact_frac::OutOfMemory;
 use job_file::{Job, JobView};
 use job_text::TextPlace;
-use lattice::{Cut, ViewSpec};
+use lattice::{Cut, CutFault, ViewSpec};
 use std::alloc::Global;
 
 /// Why there is no job at a number of decimals.
@@ -29,27 +31,40 @@ pub enum AtError {
     Memory(OutOfMemory),
 }
 
+/// The number in units, if it isn't too far away.
+fn units_at(word: &[u8], decimals: u8, unit: Length) -> Option<i32>
+    requires decimals { decimals ≤ 6 }
+    requires number { IsTrue (is_length word.now) }
+    ensures value { MatchOption result (IsNumberTooFar decimals unit word.now) (λ units. IsUnitsAt decimals unit word.now units) }
+    ensures near { IfSome result (λ units. ¬ IsNumberTooFar decimals unit word.now) }
+    ensures size { IfSome result (λ units. unsigned_abs units ≤ 2 ^ 20) }
+{
+    match fixed(word, decimals, unit) {
+        Ok(units) => Some(units),
+        Err(NumberFault::TooLarge) => None,
+        Err(NumberFault::NotANumber(_)) => unreachable!(),
+    }
+}
+
 /// The cut at this number of decimals, if it isn't too far away.
 fn cut_at(cut: &SheetCut, decimals: u8, unit: Length) -> Option<Cut>
     requires { decimals ≤ 6 }
-    ensures value { MatchOption result (IsCutTooFar decimals unit cut.now) (λ c. StandsAt decimals unit cut.now (behind (plane_of c))) }
-    ensures near { IfSome result (λ c. ¬ IsCutTooFar decimals unit cut.now) }
+    ensures value { MatchOption result (IsNumberTooFar decimals unit cut.now.at.items) (λ c. StandsAt decimals unit cut.now.axis cut.now.at.items cut.now.from_high (behind (plane_of c))) }
+    ensures near { IfSome result (λ c. ¬ IsNumberTooFar decimals unit cut.now.at.items) }
 {
-    match fixed(&cut.at, decimals, unit) {
-        Ok(place) => match Cut::new(cut.axis, i64::from(place), cut.from_high) {
-            Ok(cut) => Some(cut),
-            Err(_) => unreachable!(),
-        },
-        Err(NumberFault::TooLarge) => None,
-        Err(NumberFault::NotANumber(_)) => unreachable!(),
+    let units = units_at(&cut.at, decimals, unit)?;
+    match Cut::new(cut.axis, i64::from(units), cut.from_high) {
+        Ok(plane) => Some(plane),
+        Err(CutFault::CutRange) => unreachable!(),
     }
 }
 
 /// What a view shows at this number of decimals; or the place of its cut's number, if the cut is too far away.
 fn shown_at(shows: &SheetShown, decimals: u8, unit: Length) -> Result<ViewSpec, TextPlace>
     requires { decimals ≤ 6 }
-    ensures value { MatchResult result (λ spec. IsShownAt decimals unit shows.now (shown spec)) (λ place. IsShownTooFar decimals unit shows.now place) }
-    ensures near { IfOk result (λ spec. (place : TextPlace) → ¬ IsShownTooFar decimals unit shows.now place) }
+    ensures value { MatchResult result (λ spec. IsShownAt decimals unit (shown_seen shows.now) (shown spec)) (λ place. IsShownTooFar decimals unit (shown_seen shows.now)) }
+    ensures place { IfErr result (λ place. IsCutPlace shows.now place) }
+    ensures near { IfOk result (λ spec. ¬ IsShownTooFar decimals unit (shown_seen shows.now)) }
 {
     match shows {
         SheetShown::Plain(direction) => Ok(ViewSpec::Plain(*direction)),
@@ -63,8 +78,9 @@ fn shown_at(shows: &SheetShown, decimals: u8, unit: Length) -> Result<ViewSpec, 
 /// The view at this number of decimals, or the place of its cut's number.
 fn view_at(view: &SheetView, decimals: u8, unit: Length) -> Result<JobView, TextPlace>
     requires { decimals ≤ 6 }
-    ensures value { MatchResult result (λ v. IsViewAt decimals unit view.now (view_seen v)) (λ place. IsTooFar decimals unit view.now place) }
-    ensures near { IfOk result (λ v. IsInRange decimals unit view.now) }
+    ensures value { MatchResult result (λ v. IsViewAt decimals unit (sheet_view_seen view.now) (view_seen v)) (λ place. IsTooFar decimals unit (sheet_view_seen view.now)) }
+    ensures place { IfErr result (λ place. IsCutPlace view.now.shows place) }
+    ensures near { IfOk result (λ v. ¬ IsTooFar decimals unit (sheet_view_seen view.now)) }
 {
     match shown_at(&view.shows, decimals, unit) {
         Ok(spec) => Ok(JobView {
@@ -115,8 +131,8 @@ fn job_with(
 ) -> Result<Job, OutOfMemory>
     requires decimals { decimals ≤ 6 }
     requires title { IsTrue (is_title title.now) }
-    requires views { AllZip (IsViewAt decimals job.now.unit) job.now.views.items (map view_seen views.items) }
-    ensures { IfOk result (λ made. IsJobAt decimals title.now job.now (job_seen made)) }
+    requires views { AllZip (IsViewAt decimals job.now.unit) (map sheet_view_seen job.now.views.items) (map view_seen views.items) }
+    ensures { IfOk result (λ made. IsJobAt decimals title.now (sheet_job_seen job.now) (job_seen made)) }
 {
     Ok(Job {
         decimals,

@@ -7,7 +7,7 @@ ghost use Rattle.job_text.specs.Seen.{item_seen, written_seen};
 ghost use Rattle.sheet_job.specs.WrittenValues.{decimals_digit, decimals_in, digit_value, signed_digit, small_number, small_in, not_zero, toward_of, toward_in, after_sign, has_point_form, is_length, length_in};
 
 use job_text::{TextItem, Written};
-use lattice::Dir;
+use lattice::{Dir, DirFault};
 
 /// One of the digits 0 to 6.
 pub(crate) fn decimals_digit(word: &[u8]) -> Option<u8>
@@ -93,7 +93,8 @@ fn direction(x: i64, y: i64, z: i64) -> Option<Dir>
 {
     match Dir::new(x, y, z) {
         Ok(direction) => Some(direction),
-        Err(_) => None,
+        Err(DirFault::ZeroDirection) => None,
+        Err(DirFault::DirectionRange(_)) => unreachable!(),
     }
 }
 
@@ -101,13 +102,13 @@ fn direction(x: i64, y: i64, z: i64) -> Option<Dir>
 fn toward_of(items: &[TextItem]) -> Option<Dir>
     ensures { option_map of_dir result ≡ toward_of (map item_seen items.now) }
 {
-    match items {
-        [x, y, z] => match (small_in(x), small_in(y), small_in(z)) {
-            (Some(x), Some(y), Some(z)) => direction(x, y, z),
-            _ => None,
-        },
-        _ => None,
-    }
+    let [x, y, z] = items else {
+        return None;
+    };
+    let x = small_in(x)?;
+    let y = small_in(y)?;
+    let z = small_in(z)?;
+    direction(x, y, z)
 }
 
 /// The direction that a view looks from.
@@ -145,6 +146,7 @@ fn after_sign(text: &[u8]) -> &[u8]
 }
 
 /// Digits, and maybe a point before, among or after them.
+#[tactic(auto, using(crate::proofs::NumberLemmas::point_at, crate::proofs::NumberLemmas::digit_at, crate::proofs::NumberLemmas::other_at))]
 fn has_point_form(text: &[u8]) -> bool
     ensures { result ≡ has_point_form text.now }
 {

@@ -1,7 +1,8 @@
 // Jobs of any version.
-ghost use Rattle.std.specs.Prelude.{◌≡◌, ◌<◌, ◌^◌, length, Err};
+ghost use Rattle.std.specs.Prelude.{◌≡◌, ◌<◌, ◌^◌, length, codes, option_map};
 ghost use Rattle.std.specs.Str.{IsUtf8, IsValidUpTo};
-ghost use Rattle.toml.specs.View.{table_view};
+ghost use Rattle.toml.specs.Data.{get_member};
+ghost use Rattle.toml.specs.View.{table_view, view};
 ghost use Rattle.job_file.specs.Documents.{table_of, job_of_bytes};
 ghost use Rattle.job_tables.specs.Refused.{IsToml};
 ghost use Rattle.job_text.specs.Places.{IsTextPlace};
@@ -17,13 +18,20 @@ use job_file::{Job, JobError};
 use job_tables::refused_line;
 use job_text::{TextPlace, text_lines, text_place};
 use std::alloc::Global;
-use toml::Table;
+use toml::{Table, Value};
+
+/// The value at `version`.
+fn version_at(table: &Table) -> Option<&Value>
+    ensures { option_map (λ v. view v.now) result ≡ get_member (codes "version") (table_view table.now) }
+{
+    table.get("version")
+}
 
 /// `version` is the whole number 3.
 fn is_own(table: &Table) -> bool
     ensures { result ≡ is_own (table_view table.now) }
 {
-    match table.get("version") {
+    match version_at(table) {
         Some(value) => value.as_integer() == Some(3),
         None => false,
     }
