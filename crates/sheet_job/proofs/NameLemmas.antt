@@ -3,7 +3,8 @@ use Rattle.std.proofs.Common.{◌≡◌, ℕ, ◌+◌, ◌<◌, zero, suc, false
 use Rattle.std.proofs.lemmas.Bool.{false≢true}
 use Rattle.std.proofs.lemmas.List.{at_drop_more, map-append}
 use Rattle.std.proofs.lemmas.Bool.Decides.{nat_tests}
-use Rattle.std.specs.List.{list_any}
+use Rattle.std.proofs.lemmas.List.Elements.{All-push}
+use Rattle.std.specs.List.{All, list_any}
 use Rattle.job_file.specs.ViewKeys.{is_named}
 use Rattle.job_file.specs.Views.{AreNamedApart}
 use Rattle.job_file.specs.declared.view.Principal.{Principal}
@@ -49,3 +50,10 @@ views_after-more earlier tables i table v h is said =
     ∙ sym (at_drop_more (λ xs. sheet_views_after (map sheet_view_seen earlier) (map table_seen xs)) tables i table h
     ∙ ap (λ x. sheet_view_of (map sheet_view_seen earlier) (table_seen x) >>= rest) (sym is)
     ∙ ap (λ r. r >>= rest) said)
+
+-- ---- three of them
+none_at_all : {X : Type 0} (P : X → Type 0) → All P []
+none_at_all P = λ k d h. absurd (omega (arith, h))
+
+pub all_three : {X : Type 0} (P : X → Type 0) (a b c : X) → P a → P b → P c → All P (a ∷ b ∷ c ∷ [])
+all_three P a b c pa pb pc = All-push P (a ∷ b ∷ []) c (All-push P (a ∷ []) b (All-push P [] a (none_at_all P) pa) pb) pc

@@ -53,7 +53,10 @@ any_length p (x ∷ xs) h = omega arith
 no_digit : (byte : ℕ) → (byte == 46) ≡ true → is_ascii_digit byte ≡ false
 no_digit byte e = grind (arith, nat_tests)
 
-abbrev parts : (text : List ℕ) → has_point_form text ≡ true → PointParts text
+digits_more : (byte : ℕ) (digits : List ℕ) → is_ascii_digit byte ≡ true → AreDigits digits → AreDigits (byte ∷ digits)
+digits_more byte digits h more = rw h more
+
+parts : (text : List ℕ) → has_point_form text ≡ true → PointParts text
 parts [] h = record { whole = []; behind = []; fraction = []; whole_digits = refl; fraction_digits = refl; is_fraction = inl (refl, refl); all = refl; some = λ d. absurd (cc) }
 parts (byte ∷ rest) h =
     elim (cases_Bool (byte == 46)) [
@@ -77,7 +80,7 @@ parts (byte ∷ rest) h =
             whole = byte ∷ p.whole;
             behind = p.behind;
             fraction = p.fraction;
-            whole_digits = rw both.0 p.whole_digits;
+            whole_digits = digits_more byte p.whole both.0 p.whole_digits;
             fraction_digits = p.fraction_digits;
             is_fraction = p.is_fraction;
             all = ap (λ (xs : List ℕ). byte ∷ xs) p.all;
