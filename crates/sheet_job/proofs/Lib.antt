@@ -1,3 +1,5 @@
 pub mod EntryLemmas
 pub mod NumberLemmas
 pub mod NameLemmas
+pub mod JobAtLemmas
+pub mod AnyLemmas

@@ -1,5 +1,5 @@
 // A job of version 3 at a number of decimals.
-ghost use Rattle.std.specs.Prelude.{◌≤◌, ◌^◌, IsTrue, unsigned_abs, IfOk, IfErr, IfSome, MatchOption, MatchResult, length, map};
+ghost use Rattle.std.specs.Prelude.{◌≡◌, ◌≤◌, ◌^◌, IsTrue, unsigned_abs, IfOk, IfErr, IfSome, MatchOption, MatchResult, length, map};
 ghost use Rattle.std.specs.List.{AllZip};
 ghost use Rattle.lattice.specs.Cuts.{plane_of};
 ghost use Rattle.job_file.specs.Seen.{job_seen, shown, view_seen};
@@ -19,7 +19,7 @@ use dec_text::{Length, Name, NumberFault, fixed};
 use exact_frac::OutOfMemory;
 use job_file::{Job, JobView};
 use job_text::TextPlace;
-use lattice::{Cut, CutFault, ViewSpec};
+use lattice::{Axis, Cut, CutFault, ViewSpec};
 use std::alloc::Global;
 
 /// Why there is no job at a number of decimals.
@@ -46,16 +46,26 @@ fn units_at(word: &[u8], decimals: u8, unit: Length) -> Option<i32>
     }
 }
 
+/// The cut at so many units.
+fn plane_at(axis: Axis, units: i32, from_high: bool) -> Cut
+    requires { unsigned_abs units ≤ 2 ^ 20 }
+    ensures { plane_of result ≡ record { axis = axis; at = units; from_high = from_high } }
+{
+    match Cut::new(axis, i64::from(units), from_high) {
+        Ok(plane) => plane,
+        Err(CutFault::CutRange) => unreachable!(),
+    }
+}
+
 /// The cut at this number of decimals, if it isn't too far away.
 fn cut_at(cut: &SheetCut, decimals: u8, unit: Length) -> Option<Cut>
     requires { decimals ≤ 6 }
     ensures value { MatchOption result (IsNumberTooFar decimals unit cut.now.at.items) (λ c. StandsAt decimals unit cut.now.axis cut.now.at.items cut.now.from_high (behind (plane_of c))) }
     ensures near { IfSome result (λ c. ¬ IsNumberTooFar decimals unit cut.now.at.items) }
 {
-    let units = units_at(&cut.at, decimals, unit)?;
-    match Cut::new(cut.axis, i64::from(units), cut.from_high) {
-        Ok(plane) => Some(plane),
-        Err(CutFault::CutRange) => unreachable!(),
+    match units_at(&cut.at, decimals, unit) {
+        Some(units) => Some(plane_at(cut.axis, units, cut.from_high)),
+        None => None,
     }
 }
 

@@ -1,5 +1,6 @@
 -- The views of a job at a number of decimals.
-use Rattle.std.specs.Prelude.{ℕ, List, map, Vec, Result, Ok, Err, Global}
+use Rattle.std.specs.Prelude.{ℕ, List, map, Vec, Result, Ok, Err}
+use Rattle.std.specs.declared.alloc.Global.{Global}
 use Rattle.std.specs.List.{AllZip}
 use Rattle.dec_text.specs.declared.number.Length.{Length}
 use Rattle.job_file.specs.Seen.{view_seen}
