@@ -1,5 +1,5 @@
 -- Views at a number of decimals.
-use Rattle.std.proofs.Common.{◌≡◌, ℕ, ◌+◌, ◌<◌, ◌≤◌, zero, suc, List, [], ◌∷◌, ◌++◌, length, get_or, take, drop, map, refl, sym, ap, subst, ◌∙◌, arith}
+use Rattle.std.proofs.Common.{◌≡◌, ℕ, ℤ, Err, ◌+◌, ◌<◌, ◌≤◌, zero, suc, List, [], ◌∷◌, ◌++◌, length, get_or, take, drop, map, refl, sym, ap, subst, ◌∙◌, arith}
 use Rattle.std.proofs.lemmas.List.{at_drop_more, take_more, take-append-drop, map-append}
 use Rattle.std.specs.List.{All, AllPairs, AllZip}
 use Rattle.dec_text.specs.declared.number.Length.{Length}
@@ -7,12 +7,15 @@ use Rattle.job_file.specs.Seen.{view_seen}
 use Rattle.job_file.specs.ViewValues.{ViewValues}
 use Rattle.job_file.specs.Views.{AreNamedApart}
 use Rattle.job_file.specs.declared.view.JobView.{JobView}
-use Rattle.sheet_job.specs.JobsAt.{IsViewAt, IsFirstTooFar, IsTooFarIn}
+use Rattle.sheet_job.specs.JobsAt.{IsUnitsAt, IsNumberTooFar, IsViewAt, IsFirstTooFar, IsTooFarIn, GivesJobAt}
 use Rattle.sheet_job.specs.SheetSeen.{sheet_job_seen, sheet_view_seen}
 use Rattle.sheet_job.specs.SheetViews.{SheetViewValues}
 use Rattle.sheet_job.specs.declared.flaw.PlacedFlaw.{PlacedFlaw}
 use Rattle.sheet_job.specs.declared.job.SheetJob.{SheetJob}
+use Rattle.sheet_job.specs.declared.job_at.AtError.{AtError}
+use Rattle.sheet_job.specs.declared.job_at.AtError.TheVariants.{Range, Memory}
 use Rattle.sheet_job.specs.declared.view.SheetView.{SheetView}
+use Rattle.sheet_job.specs.inner.ViewsAt.{GivesViewsAt}
 
 -- ---- lists
 pub take_one_more : {X : Type 0} (xs : List X) (k : ℕ) (x : X) → k < length xs → x ≡ get_or xs k x → take (k + 1) xs ≡ take k xs ++ x ∷ []
@@ -72,3 +75,17 @@ too_far_in d job placed f = record {
   all = ap (map sheet_view_seen) f.all ∙ map-append sheet_view_seen f.before (f.view ∷ f.after);
   too_far = f.too_far;
 }
+
+-- the same error of views is one of the job
+pub error_is : (d : ℕ) (title : List ℕ) (job : SheetJob) (vs : List SheetView) (e : AtError) → vs ≡ job.views.items → GivesViewsAt d job.unit vs (Err e) → GivesJobAt d title job (Err e)
+error_is d title job vs (Range placed) same h =
+    let first : IsFirstTooFar d job.unit job.views.items placed = subst (λ (xs : List SheetView). IsFirstTooFar d job.unit xs placed) same h in
+    (first, too_far_in d job placed first)
+error_is d title job vs (Memory m) same h = tt
+
+-- ---- one word for another
+pub units_moved : (d : ℕ) (u : Length) (a b : List ℕ) (z : ℤ) → a ≡ b → IsUnitsAt d u a z → IsUnitsAt d u b z
+units_moved d u a b z e h = subst (λ (w : List ℕ). IsUnitsAt d u w z) e h
+
+pub far_moved : (d : ℕ) (u : Length) (a b : List ℕ) → a ≡ b → IsNumberTooFar d u a → IsNumberTooFar d u b
+far_moved d u a b e h = subst (λ (w : List ℕ). IsNumberTooFar d u w) e h
