@@ -1,9 +1,8 @@
 -- Tables without faults, in their places.
-use Rattle.std.proofs.Common.{◌≡◌, ◌∙◌, ℕ, ◌+◌, ◌<◌, ◌≤◌, Bool, true, false, List, [], ◌∷◌, ◌++◌, Option, Some, None, map, length, String, Global, string_bytes, refl, sym, subst, ap, inl, inr, arith}
+use Rattle.std.proofs.Common.{◌≡◌, ◌∙◌, ℕ, ◌<◌, ◌≤◌, Bool, true, false, List, [], ◌∷◌, ◌++◌, Option, Some, None, map, length, String, Global, string_bytes, refl, sym, subst, ap, inl, inr, arith}
 use Rattle.std.specs.Prelude.{All, if◌then◌else◌, nat_lt, codes}
 use Rattle.std.proofs.lemmas.Bool.{cases_Bool, false≢true}
 use Rattle.std.proofs.lemmas.Bool.Decides.{nat_tests}
-use Rattle.std.proofs.lemmas.Grind.{common_steps}
 use Rattle.std.proofs.lemmas.List.{length-map, map-append, length-append, append_assoc}
 use Rattle.std.proofs.lemmas.List.Elements.{All-push, filter-append}
 use Rattle.std.proofs.lemmas.List.Folds.{find-append}
@@ -15,15 +14,15 @@ use Rattle.job_tables.specs.declared.flaw.TableStop.{TableStop}
 use Rattle.job_tables.specs.declared.flaw.TableStop.TheVariants.{At, Memory}
 use Rattle.job_tables.specs.declared.table.JobTable.{JobTable}
 use Rattle.job_tables.specs.declared.table.TableKind.TheVariants.{Job, Block, View}
-use Rattle.job_tables.specs.Faults.{Fault, single_view, double_block, second_block, too_many_views, empty_block, unknown_table, block_fault, view_fault, header_fault, key_fault, kind_of, table_fault, fault_after, first_fault, unless, checked}
+use Rattle.job_tables.specs.Faults.{Fault, single_view, double_block, second_block, too_many_views, unknown_table, block_fault, view_fault, header_fault, key_fault, kind_of, table_fault, fault_after, first_fault, unless, tables_or_fault}
 use Rattle.job_tables.specs.Known.{HasKnownKeys}
 use Rattle.job_tables.specs.Seen.{table_seen, StopsTables}
-use Rattle.job_tables.specs.Tables.{Entry, Table, Header, single, double, Headed, is_block, is_view, tables_of}
-use Rattle.job_tables.specs.declared.split.Header.{Header as CodeHeader}
-use Rattle.job_tables.specs.declared.split.Header.TheVariants.{Single, Double}
-use Rattle.job_tables.specs.declared.split.Headed.{Headed as CodeHeaded}
+use Rattle.job_tables.specs.Tables.{Entry, Table, single, double, Headed, is_block, is_view, tables_of}
+use Rattle.job_tables.specs.declared.headers.Header.{Header as CodeHeader}
+use Rattle.job_tables.specs.declared.headers.Header.TheVariants.{Single, Double}
+use Rattle.job_tables.specs.declared.headers.Headed.{Headed as CodeHeaded}
 use Rattle.job_tables.specs.inner.Headed.{header_seen, headed_seen}
-use Rattle.job_tables.specs.inner.Passes.{IsStop}
+use Rattle.job_tables.specs.inner.SaysFault.{IsStop}
 use Rattle.job_tables.proofs.Lists.{is_some-find}
 
 abbrev pub has_block : Headed → Bool
@@ -174,7 +173,7 @@ double_placed before block views h key is placed =
 -- a fault of the next table is the first one
 pub stop_at : (entries : List Entry) (all before : List Headed) (block : Option JobTable) (views : List JobTable) (h : CodeHeaded) (now left : List CodeHeaded) (b : Bool) (n : ℕ) (stop : TableStop)
     → now ≡ h ∷ left → key_fault Job entries ≡ None → AreLeft all before now → ArePlaced before block views → b ≡ is_some block → n ≡ length views → IsStop stop (table_fault b n (headed_seen h))
-    → StopsTables stop (checked (entries, all))
+    → StopsTables stop (tables_or_fault (entries, all))
 stop_at entries all before block views h now left b n stop is known are placed b_is n_is said =
     let here : AreLeft all before (h ∷ left) = subst (AreLeft all before) is are in
     let found = at_counts (IsStop stop) (headed_seen h) b (is_some block) n (length views) b_is n_is said in

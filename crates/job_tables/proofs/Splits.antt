@@ -1,5 +1,5 @@
 -- Tables with keys that are known, and headers without faults.
-use Rattle.std.proofs.Common.{◌≡◌, ◌∙◌, ℕ, ◌<◌, Bool, true, false, List, [], ◌∷◌, ◌++◌, Option, Some, None, map, length, string_bytes, refl, sym, subst, ap, inl, inr, arith}
+use Rattle.std.proofs.Common.{◌≡◌, List, [], ◌∷◌, Option, Some, None, map, string_bytes, sym, subst, ap, inl, inr, arith}
 use Rattle.std.specs.Option.{ForSome, IfSome, unwrap_or}
 use Rattle.std.specs.Prelude.{All, IsTrue}
 use Rattle.std.proofs.lemmas.Bool.{cases_Bool}
@@ -7,7 +7,7 @@ use Rattle.std.proofs.lemmas.List.Elements.{All-cons}
 use Rattle.std.proofs.lemmas.Option.{none-some}
 use Rattle.job_tables.specs.declared.table.TableEntry.{TableEntry}
 use Rattle.job_tables.specs.declared.table.TableKind.{TableKind}
-use Rattle.job_tables.specs.Faults.{Fault, key_fault}
+use Rattle.job_tables.specs.Faults.{key_fault}
 use Rattle.job_tables.specs.Keys.{is_known}
 use Rattle.job_tables.specs.Seen.{entry_seen}
 

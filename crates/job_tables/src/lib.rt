@@ -11,7 +11,7 @@ mod flaw;
 mod hints;
 mod keys;
 mod refused;
-mod split;
+mod headers;
 mod table;
 mod tables;
 

@@ -1,9 +1,8 @@
-use Rattle.std.proofs.Common.{◌≡◌, ◌∙◌, map, ℕ, List, Bool, Bor, sym, ap, rules, tests}
+use Rattle.std.proofs.Common.{◌≡◌, ◌∙◌, ℕ, List, Bor, sym, ap, rules, tests}
 use Rattle.std.proofs.lemmas.Iterator.{YieldsList-from_slice}
 use Rattle.std.proofs.lemmas.Iterator.Search.{any_from_yields_List}
 use Rattle.std.specs.List.{list_any}
 use Rattle.std.specs.Str.{bytes_eq}
-use Rattle.job_tables.specs.Keys.{known_keys, is_known}
 use Rattle.job_tables.proofs.Lists.{list_any-map}
 use Rattle.job_tables.proofs.keys.is_known.Goals as goal
 

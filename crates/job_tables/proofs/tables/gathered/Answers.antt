@@ -1,13 +1,13 @@
 use Rattle.std.proofs.Common.{◌≡◌, ◌∙◌, List, [], map, Vec, Global, ap}
 use Rattle.std.specs.Vec.Iter.{into_iter_items}
-use Rattle.job_tables.specs.declared.split.Headed.{Headed}
+use Rattle.job_tables.specs.declared.headers.Headed.{Headed}
 use Rattle.job_tables.specs.declared.table.JobTable.{JobTable}
 use Rattle.job_tables.specs.Faults.{fault_after}
 use Rattle.job_tables.specs.Seen.{entry_seen}
 use Rattle.job_tables.specs.inner.Headed.{headed_seen}
 use Rattle.job_tables.proofs.Placed.{none_placed, stop_at, turn_single, turn_double}
-use Rattle.job_tables.proofs.tables.placed.Goals as goal
-use Rattle.job_tables.proofs.tables.placed.Goals.{in-Single, in-Double+in_ok-push-in-Double}
+use Rattle.job_tables.proofs.tables.gathered.Goals as goal
+use Rattle.job_tables.proofs.tables.gathered.Goals.{in-Single, in-Double+in_ok-push-in-Double}
 
 pub loop-headed-init : goal.loop-headed-init
 loop-headed-init c =
