@@ -59,7 +59,7 @@ fault_next : (before : List Headed) (block : Option JobTable) (views : List JobT
     → fault_after before (t ∷ rest) ≡ option_or (table_fault (is_some block) (length views) t) (fault_after (before ++ t ∷ []) rest)
 fault_next before block views t rest placed =
     ap (λ b. option_or (table_fault b (length (filter has_view before)) t) (fault_after (before ++ t ∷ []) rest)) (blocks_before before block views placed)
-        ∙ ap (λ n. option_or (table_fault (is_some block) n t) (fault_after (before ++ t ∷ []) rest)) (views_before before block views placed)
+    ∙ ap (λ n. option_or (table_fault (is_some block) n t) (fault_after (before ++ t ∷ []) rest)) (views_before before block views placed)
 
 no_fault_next : (before : List Headed) (block : Option JobTable) (views : List JobTable) (t : Headed) (rest : List Headed) → ArePlaced before block views
     → table_fault (is_some block) (length views) t ≡ None → fault_after before (t ∷ rest) ≡ fault_after (before ++ t ∷ []) rest
@@ -137,7 +137,7 @@ view_placed before block views key table placed none known =
     let found : find has_block (before ++ t ∷ []) ≡ find has_block before = find-append has_block before (t ∷ []) ∙ or_nothing (find has_block before) in
     let views_are : filter has_view (before ++ t ∷ []) ≡ filter has_view before ++ t ∷ [] = filter-append has_view before (t ∷ []) ∙ ap (λ b. filter has_view before ++ (if b then t ∷ [] else [])) is.0 in
     let mapped : map table_seen (views ++ table ∷ []) ≡ map table_in (filter has_view (before ++ t ∷ [])) =
-        map-append table_seen views (table ∷ []) ∙ ap (λ ts. ts ++ table_seen table ∷ []) placed.1 ∙ sym (map-append table_in (filter has_view before) (t ∷ [])) ∙ ap (map table_in) (sym views_are) in
+    map-append table_seen views (table ∷ []) ∙ ap (λ ts. ts ++ table_seen table ∷ []) placed.1 ∙ sym (map-append table_in (filter has_view before) (t ∷ [])) ∙ ap (map table_in) (sym views_are) in
     (placed.0 ∙ ap (option_map table_in) (sym found), mapped, omega (arith, is.1, length-append views (table ∷ [])), placed.3, All-push (HasKnownKeys View) views table placed.4 known)
 
 pub none_placed : (views : List JobTable) → views ≡ [] → ArePlaced [] None views
@@ -162,13 +162,13 @@ pub single_placed : (before : List Headed) (block : Option JobTable) (views : Li
     → table_fault (is_some block) (length views) (headed_seen h) ≡ None → HasKnownKeys (kind_of (header_seen h.header)) h.table → ArePlaced (before ++ headed_seen h ∷ []) (Some h.table) views
 single_placed before block views h key is placed =
     subst (λ (hd : CodeHeader). table_fault (is_some block) (length views) (record { header = header_seen hd; table = table_seen h.table }) ≡ None → HasKnownKeys (kind_of (header_seen hd)) h.table
-        → ArePlaced (before ++ record { header = header_seen hd; table = table_seen h.table } ∷ []) (Some h.table) views) (sym is) (block_placed before block views (string_bytes key) h.table placed)
+    → ArePlaced (before ++ record { header = header_seen hd; table = table_seen h.table } ∷ []) (Some h.table) views) (sym is) (block_placed before block views (string_bytes key) h.table placed)
 
 pub double_placed : (before : List Headed) (block : Option JobTable) (views : List JobTable) (h : CodeHeaded) (key : String Global) → h.header ≡ Double key → ArePlaced before block views
     → table_fault (is_some block) (length views) (headed_seen h) ≡ None → HasKnownKeys (kind_of (header_seen h.header)) h.table → ArePlaced (before ++ headed_seen h ∷ []) block (views ++ h.table ∷ [])
 double_placed before block views h key is placed =
     subst (λ (hd : CodeHeader). table_fault (is_some block) (length views) (record { header = header_seen hd; table = table_seen h.table }) ≡ None → HasKnownKeys (kind_of (header_seen hd)) h.table
-        → ArePlaced (before ++ record { header = header_seen hd; table = table_seen h.table } ∷ []) block (views ++ h.table ∷ [])) (sym is) (view_placed before block views (string_bytes key) h.table placed)
+    → ArePlaced (before ++ record { header = header_seen hd; table = table_seen h.table } ∷ []) block (views ++ h.table ∷ [])) (sym is) (view_placed before block views (string_bytes key) h.table placed)
 
 -- a fault of the next table is the first one
 pub stop_at : (entries : List Entry) (all before : List Headed) (block : Option JobTable) (views : List JobTable) (h : CodeHeaded) (now left : List CodeHeaded) (b : Bool) (n : ℕ) (stop : TableStop)
@@ -178,7 +178,7 @@ stop_at entries all before block views h now left b n stop is known are placed b
     let here : AreLeft all before (h ∷ left) = subst (AreLeft all before) is are in
     let found = at_counts (IsStop stop) (headed_seen h) b (is_some block) n (length views) b_is n_is said in
     let first : first_fault (entries, all) ≡ option_or (table_fault (is_some block) (length views) (headed_seen h)) (fault_after (before ++ headed_seen h ∷ []) (map headed_seen left)) =
-        ap (λ o. option_or o (fault_after [] all)) known ∙ sym here.1 ∙ fault_next before block views (headed_seen h) (map headed_seen left) placed in
+    ap (λ o. option_or o (fault_after [] all)) known ∙ sym here.1 ∙ fault_next before block views (headed_seen h) (map headed_seen left) placed in
     subst (λ o. StopsTables stop (unless o (tables_of (entries, all)))) (sym first) (stop_next stop _ _ (tables_of (entries, all)) found)
 
 pub turn_single : (all before : List Headed) (block : Option JobTable) (views : List JobTable) (h : CodeHeaded) (now left : List CodeHeaded) (key : String Global) (b : Bool) (n : ℕ)

@@ -7,9 +7,9 @@ ghost use Rattle.job_tables.specs.inner.Headed.{header_seen, headed_seen};
 ghost use Rattle.job_tables.specs.inner.SaysFault.{IsFlaw, SaysFault};
 
 use crate::flaw::{TableFlaw, TableStop};
+use crate::headers::{Headed, Header};
 use crate::hints::{key_hint, nearest_table};
 use crate::keys::is_known;
-use crate::headers::{Headed, Header};
 use crate::table::{JobTable, TableEntry, TableKind};
 use dec_text::Name;
 use exact_frac::OutOfMemory;

@@ -47,7 +47,10 @@ fn with_header(at: usize, header: Header, mut backwards: Vec<TableEntry>) -> Hea
 }
 
 /// The lines at their headers. It goes from the last line back, so that each header finds its entries.
-pub(crate) fn by_header(alloc: Global, mut lines: Vec<TextLine>) -> Result<LinesByHeader, OutOfMemory>
+pub(crate) fn by_header(
+    alloc: Global,
+    mut lines: Vec<TextLine>,
+) -> Result<LinesByHeader, OutOfMemory>
     ensures { IfOk result (λ s. lines_seen s ≡ by_header (map line_seen lines.items)) }
 {
     let mut first = Vec::new(alloc);

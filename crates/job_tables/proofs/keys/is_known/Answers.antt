@@ -11,5 +11,5 @@ returns c =
     let keys = c.known_keys.result.now in
     let key = c.args.key.now in
     let found : c.any.result ≡ list_any (λ (k : Bor (List ℕ)). bytes_eq key k.now) keys =
-        any_from_yields_List (λ (k : Bor (List ℕ)). bytes_eq key k.now) _ _ c.any.result c.any.ensures.ran (YieldsList-from_slice keys cc) (λ x b q k. search (rules, tests)) in
+    any_from_yields_List (λ (k : Bor (List ℕ)). bytes_eq key k.now) _ _ c.any.result c.any.ensures.ran (YieldsList-from_slice keys cc) (λ x b q k. search (rules, tests)) in
     found ∙ sym (list_any-map (λ (k : Bor (List ℕ)). k.now) (bytes_eq key) keys) ∙ ap (list_any (bytes_eq key)) c.known_keys.ensures
