@@ -1,9 +1,8 @@
 -- Tables without faults, in their places.
-use Rattle.std.proofs.Common.{◌≡◌, ◌∙◌, ℕ, ◌+◌, ◌<◌, ◌≤◌, Bool, true, false, List, [], ◌∷◌, ◌++◌, Option, Some, None, map, length, String, Global, string_bytes, refl, sym, subst, ap, inl, inr, arith}
+use Rattle.std.proofs.Common.{◌≡◌, ◌∙◌, ℕ, ◌<◌, ◌≤◌, Bool, true, false, List, [], ◌∷◌, ◌++◌, Option, Some, None, map, length, String, Global, string_bytes, refl, sym, subst, ap, inl, inr, arith}
 use Rattle.std.specs.Prelude.{All, if◌then◌else◌, nat_lt, codes}
 use Rattle.std.proofs.lemmas.Bool.{cases_Bool, false≢true}
 use Rattle.std.proofs.lemmas.Bool.Decides.{nat_tests}
-use Rattle.std.proofs.lemmas.Grind.{common_steps}
 use Rattle.std.proofs.lemmas.List.{length-map, map-append, length-append, append_assoc}
 use Rattle.std.proofs.lemmas.List.Elements.{All-push, filter-append}
 use Rattle.std.proofs.lemmas.List.Folds.{find-append}
@@ -15,15 +14,15 @@ use Rattle.job_tables.specs.declared.flaw.TableStop.{TableStop}
 use Rattle.job_tables.specs.declared.flaw.TableStop.TheVariants.{At, Memory}
 use Rattle.job_tables.specs.declared.table.JobTable.{JobTable}
 use Rattle.job_tables.specs.declared.table.TableKind.TheVariants.{Job, Block, View}
-use Rattle.job_tables.specs.Faults.{Fault, single_view, double_block, second_block, too_many_views, empty_block, unknown_table, block_fault, view_fault, header_fault, key_fault, kind_of, table_fault, fault_after, first_fault, unless, checked}
+use Rattle.job_tables.specs.Faults.{Fault, single_view, double_block, second_block, too_many_views, unknown_table, block_fault, view_fault, header_fault, key_fault, kind_of, table_fault, fault_after, first_fault, unless, tables_or_fault}
 use Rattle.job_tables.specs.Known.{HasKnownKeys}
 use Rattle.job_tables.specs.Seen.{table_seen, StopsTables}
-use Rattle.job_tables.specs.Tables.{Entry, Table, Header, single, double, Headed, is_block, is_view, tables_of}
-use Rattle.job_tables.specs.declared.split.Header.{Header as CodeHeader}
-use Rattle.job_tables.specs.declared.split.Header.TheVariants.{Single, Double}
-use Rattle.job_tables.specs.declared.split.Headed.{Headed as CodeHeaded}
+use Rattle.job_tables.specs.Tables.{Entry, Table, single, double, Headed, is_block, is_view, tables_of}
+use Rattle.job_tables.specs.declared.headers.Header.{Header as CodeHeader}
+use Rattle.job_tables.specs.declared.headers.Header.TheVariants.{Single, Double}
+use Rattle.job_tables.specs.declared.headers.Headed.{Headed as CodeHeaded}
 use Rattle.job_tables.specs.inner.Headed.{header_seen, headed_seen}
-use Rattle.job_tables.specs.inner.Passes.{IsStop}
+use Rattle.job_tables.specs.inner.SaysFault.{IsStop}
 use Rattle.job_tables.proofs.Lists.{is_some-find}
 
 abbrev pub has_block : Headed → Bool
@@ -60,7 +59,7 @@ fault_next : (before : List Headed) (block : Option JobTable) (views : List JobT
     → fault_after before (t ∷ rest) ≡ option_or (table_fault (is_some block) (length views) t) (fault_after (before ++ t ∷ []) rest)
 fault_next before block views t rest placed =
     ap (λ b. option_or (table_fault b (length (filter has_view before)) t) (fault_after (before ++ t ∷ []) rest)) (blocks_before before block views placed)
-        ∙ ap (λ n. option_or (table_fault (is_some block) n t) (fault_after (before ++ t ∷ []) rest)) (views_before before block views placed)
+    ∙ ap (λ n. option_or (table_fault (is_some block) n t) (fault_after (before ++ t ∷ []) rest)) (views_before before block views placed)
 
 no_fault_next : (before : List Headed) (block : Option JobTable) (views : List JobTable) (t : Headed) (rest : List Headed) → ArePlaced before block views
     → table_fault (is_some block) (length views) t ≡ None → fault_after before (t ∷ rest) ≡ fault_after (before ++ t ∷ []) rest
@@ -138,7 +137,7 @@ view_placed before block views key table placed none known =
     let found : find has_block (before ++ t ∷ []) ≡ find has_block before = find-append has_block before (t ∷ []) ∙ or_nothing (find has_block before) in
     let views_are : filter has_view (before ++ t ∷ []) ≡ filter has_view before ++ t ∷ [] = filter-append has_view before (t ∷ []) ∙ ap (λ b. filter has_view before ++ (if b then t ∷ [] else [])) is.0 in
     let mapped : map table_seen (views ++ table ∷ []) ≡ map table_in (filter has_view (before ++ t ∷ [])) =
-        map-append table_seen views (table ∷ []) ∙ ap (λ ts. ts ++ table_seen table ∷ []) placed.1 ∙ sym (map-append table_in (filter has_view before) (t ∷ [])) ∙ ap (map table_in) (sym views_are) in
+    map-append table_seen views (table ∷ []) ∙ ap (λ ts. ts ++ table_seen table ∷ []) placed.1 ∙ sym (map-append table_in (filter has_view before) (t ∷ [])) ∙ ap (map table_in) (sym views_are) in
     (placed.0 ∙ ap (option_map table_in) (sym found), mapped, omega (arith, is.1, length-append views (table ∷ [])), placed.3, All-push (HasKnownKeys View) views table placed.4 known)
 
 pub none_placed : (views : List JobTable) → views ≡ [] → ArePlaced [] None views
@@ -163,23 +162,23 @@ pub single_placed : (before : List Headed) (block : Option JobTable) (views : Li
     → table_fault (is_some block) (length views) (headed_seen h) ≡ None → HasKnownKeys (kind_of (header_seen h.header)) h.table → ArePlaced (before ++ headed_seen h ∷ []) (Some h.table) views
 single_placed before block views h key is placed =
     subst (λ (hd : CodeHeader). table_fault (is_some block) (length views) (record { header = header_seen hd; table = table_seen h.table }) ≡ None → HasKnownKeys (kind_of (header_seen hd)) h.table
-        → ArePlaced (before ++ record { header = header_seen hd; table = table_seen h.table } ∷ []) (Some h.table) views) (sym is) (block_placed before block views (string_bytes key) h.table placed)
+    → ArePlaced (before ++ record { header = header_seen hd; table = table_seen h.table } ∷ []) (Some h.table) views) (sym is) (block_placed before block views (string_bytes key) h.table placed)
 
 pub double_placed : (before : List Headed) (block : Option JobTable) (views : List JobTable) (h : CodeHeaded) (key : String Global) → h.header ≡ Double key → ArePlaced before block views
     → table_fault (is_some block) (length views) (headed_seen h) ≡ None → HasKnownKeys (kind_of (header_seen h.header)) h.table → ArePlaced (before ++ headed_seen h ∷ []) block (views ++ h.table ∷ [])
 double_placed before block views h key is placed =
     subst (λ (hd : CodeHeader). table_fault (is_some block) (length views) (record { header = header_seen hd; table = table_seen h.table }) ≡ None → HasKnownKeys (kind_of (header_seen hd)) h.table
-        → ArePlaced (before ++ record { header = header_seen hd; table = table_seen h.table } ∷ []) block (views ++ h.table ∷ [])) (sym is) (view_placed before block views (string_bytes key) h.table placed)
+    → ArePlaced (before ++ record { header = header_seen hd; table = table_seen h.table } ∷ []) block (views ++ h.table ∷ [])) (sym is) (view_placed before block views (string_bytes key) h.table placed)
 
 -- a fault of the next table is the first one
 pub stop_at : (entries : List Entry) (all before : List Headed) (block : Option JobTable) (views : List JobTable) (h : CodeHeaded) (now left : List CodeHeaded) (b : Bool) (n : ℕ) (stop : TableStop)
     → now ≡ h ∷ left → key_fault Job entries ≡ None → AreLeft all before now → ArePlaced before block views → b ≡ is_some block → n ≡ length views → IsStop stop (table_fault b n (headed_seen h))
-    → StopsTables stop (checked (entries, all))
+    → StopsTables stop (tables_or_fault (entries, all))
 stop_at entries all before block views h now left b n stop is known are placed b_is n_is said =
     let here : AreLeft all before (h ∷ left) = subst (AreLeft all before) is are in
     let found = at_counts (IsStop stop) (headed_seen h) b (is_some block) n (length views) b_is n_is said in
     let first : first_fault (entries, all) ≡ option_or (table_fault (is_some block) (length views) (headed_seen h)) (fault_after (before ++ headed_seen h ∷ []) (map headed_seen left)) =
-        ap (λ o. option_or o (fault_after [] all)) known ∙ sym here.1 ∙ fault_next before block views (headed_seen h) (map headed_seen left) placed in
+    ap (λ o. option_or o (fault_after [] all)) known ∙ sym here.1 ∙ fault_next before block views (headed_seen h) (map headed_seen left) placed in
     subst (λ o. StopsTables stop (unless o (tables_of (entries, all)))) (sym first) (stop_next stop _ _ (tables_of (entries, all)) found)
 
 pub turn_single : (all before : List Headed) (block : Option JobTable) (views : List JobTable) (h : CodeHeaded) (now left : List CodeHeaded) (key : String Global) (b : Bool) (n : ℕ)

@@ -7,7 +7,7 @@ use Rattle.job_text.specs.Lines.{TextLine}
 use Rattle.job_tables.specs.declared.table.TableKind.{TableKind}
 use Rattle.job_tables.specs.declared.table.TableKind.TheVariants.{Job, Block, View}
 use Rattle.job_tables.specs.Keys.{is_known}
-use Rattle.job_tables.specs.Tables.{Entry, Header, single, double, Headed, is_block, is_view, split, Tables, tables_of}
+use Rattle.job_tables.specs.Tables.{Entry, Header, single, double, Headed, is_block, is_view, by_header, Tables, tables_of}
 
 pub data Fault : Type 0 where
   unknown_table : List ℕ → Fault
@@ -72,9 +72,9 @@ unless None value = Ok value
 unless (Some fault) value = Err fault
 
 -- the tables of lines at their headers, or the first fault and the bytes before its place
-abbrev pub checked : List Entry × List Headed → Result Tables (Fault × ℕ)
-checked s = unless (first_fault s) (tables_of s)
+abbrev pub tables_or_fault : List Entry × List Headed → Result Tables (Fault × ℕ)
+tables_or_fault s = unless (first_fault s) (tables_of s)
 
 -- the same of a job's lines
 abbrev pub job_tables : List TextLine → Result Tables (Fault × ℕ)
-job_tables lines = checked (split lines)
+job_tables lines = tables_or_fault (by_header lines)

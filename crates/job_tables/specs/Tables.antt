@@ -28,16 +28,20 @@ pub record Headed : Type 0 where
   pub table : Table
 
 -- ---- lines at their headers
--- a line, before the entries up to the next header and the tables from there on
-abbrev pub placed : ℕ → Meaning → List Entry × List Headed → List Entry × List Headed
-placed at (entry key value value_at) rest = (record { at = at; key = key; value_at = value_at; value = value } ∷ rest.0, rest.1)
-placed at (header key) rest = ([], record { header = single key; table = record { at = at; entries = rest.0 } } ∷ rest.1)
-placed at (list_header key) rest = ([], record { header = double key; table = record { at = at; entries = rest.0 } } ∷ rest.1)
+-- a table begins at its header, and has the entries up to the next one
+abbrev pub begun : ℕ → Header → List Entry × List Headed → List Entry × List Headed
+begun at h rest = ([], record { header = h; table = record { at = at; entries = rest.0 } } ∷ rest.1)
+
+-- a line before the entries up to the next header, and the tables from there on
+abbrev pub with_line : ℕ → Meaning → List Entry × List Headed → List Entry × List Headed
+with_line at (entry key value value_at) rest = (record { at = at; key = key; value_at = value_at; value = value } ∷ rest.0, rest.1)
+with_line at (header key) rest = begun at (single key) rest
+with_line at (list_header key) rest = begun at (double key) rest
 
 -- the entries before the first header, and the tables that headers begin
-abbrev pub split : List TextLine → List Entry × List Headed
-split [] = ([], [])
-split (line ∷ lines) = placed line.at line.meaning (split lines)
+abbrev pub by_header : List TextLine → List Entry × List Headed
+by_header [] = ([], [])
+by_header (line ∷ lines) = with_line line.at line.meaning (by_header lines)
 
 -- ---- the tables of a job
 -- `[block]`

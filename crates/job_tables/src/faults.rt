@@ -4,12 +4,12 @@ ghost use Rattle.job_tables.specs.Faults.{unknown_table, block_fault, view_fault
 ghost use Rattle.job_tables.specs.Known.{HasKnownKeys};
 ghost use Rattle.job_tables.specs.Seen.{entry_seen};
 ghost use Rattle.job_tables.specs.inner.Headed.{header_seen, headed_seen};
-ghost use Rattle.job_tables.specs.inner.Passes.{IsFlaw, Passes};
+ghost use Rattle.job_tables.specs.inner.SaysFault.{IsFlaw, SaysFault};
 
 use crate::flaw::{TableFlaw, TableStop};
+use crate::headers::{Headed, Header};
 use crate::hints::{key_hint, nearest_table};
 use crate::keys::is_known;
-use crate::split::{Headed, Header};
 use crate::table::{JobTable, TableEntry, TableKind};
 use dec_text::Name;
 use exact_frac::OutOfMemory;
@@ -73,7 +73,7 @@ fn header_flaw(
 
 /// Looks for the first key that isn't one of its table.
 pub(crate) fn check_keys(alloc: Global, kind: TableKind, table: &JobTable) -> Result<(), TableStop>
-    ensures value { Passes result (key_fault kind (map entry_seen table.now.entries.items)) }
+    ensures value { SaysFault result (key_fault kind (map entry_seen table.now.entries.items)) }
     ensures known { OnOk result (HasKnownKeys kind table.now) }
 {
     for entry in &table.entries {
@@ -104,18 +104,13 @@ pub(crate) fn check_table(
     views: usize,
     headed: &Headed,
 ) -> Result<(), TableStop>
-    ensures value { Passes result (table_fault has_block views (headed_seen headed.now)) }
+    ensures value { SaysFault result (table_fault has_block views (headed_seen headed.now)) }
     ensures known { OnOk result (HasKnownKeys (kind_of (header_seen headed.now.header)) headed.now.table) }
 {
-    let flaw = header_flaw(
-        alloc,
-        has_block,
-        views,
-        &headed.header,
-        &headed.table.entries,
-    )?;
+    let Headed { header, table } = headed;
+    let flaw = header_flaw(alloc, has_block, views, header, &table.entries)?;
     match flaw {
-        Some(flaw) => Err(TableStop::At(flaw, headed.table.at)),
-        None => check_keys(alloc, kind_of(&headed.header), &headed.table),
+        Some(flaw) => Err(TableStop::At(flaw, table.at)),
+        None => check_keys(alloc, kind_of(header), table),
     }
 }

@@ -8,15 +8,15 @@
 
 mod faults;
 mod flaw;
+mod headers;
 mod hints;
 mod keys;
 mod refused;
-mod split;
 mod table;
 mod tables;
 
 pub use flaw::{KeyHint, TableFlaw, TableStop};
 pub use keys::known_keys;
-pub use refused::refused_line;
+pub use refused::{is_toml, refused_line};
 pub use table::{JobTable, JobTables, TableEntry, TableKind, entry_at};
 pub use tables::job_tables;

@@ -8,8 +8,8 @@ use exact_frac::OutOfMemory;
 use job_text::{TextLine, lines_are_toml};
 use std::alloc::Global;
 
-/// TOML accepts these bytes.
-fn is_toml(alloc: Global, bytes: &[u8]) -> Result<bool, OutOfMemory>
+/// TOML accepts these bytes: they are a text of it. The time is that of reading them.
+pub fn is_toml(alloc: Global, bytes: &[u8]) -> Result<bool, OutOfMemory>
     ensures { IfOk result (λ accepted. IsTrue accepted ↔ IsToml bytes.now) }
 {
     match toml::table_from_slice(alloc, bytes) {
@@ -19,7 +19,7 @@ fn is_toml(alloc: Global, bytes: &[u8]) -> Result<bool, OutOfMemory>
     }
 }
 
-/// The text up to the line of this index; nothing before the first line, and all of it behind the last one.
+/// The text up to the line of this index; nothing before the first line, and all of it after the last one.
 fn before_line<'a>(text: &'a str, lines: &[TextLine], index: usize) -> &'a [u8]
     ensures { result.now ≡ before_line text.now (map line_seen lines.now) index }
 {

@@ -1,21 +1,21 @@
 // The tables of a job's lines.
 ghost use Rattle.std.specs.Prelude.{◌≡◌, map};
 ghost use Rattle.job_text.specs.Seen.{line_seen};
-ghost use Rattle.job_tables.specs.Faults.{checked, job_tables};
+ghost use Rattle.job_tables.specs.Faults.{tables_or_fault, job_tables};
 ghost use Rattle.job_tables.specs.Seen.{tables_seen, SaysTables};
 ghost use Rattle.job_tables.specs.inner.Headed.{lines_seen};
 
 use crate::faults::{check_keys, check_table};
 use crate::flaw::TableStop;
-use crate::split::{Header, LinesByHeader, split};
+use crate::headers::{Header, LinesByHeader, by_header};
 use crate::table::{JobTable, JobTables, TableKind};
 use exact_frac::OutOfMemory;
 use job_text::TextLine;
 use std::alloc::Global;
 
 /// The tables of lines at their headers, or the first fault.
-fn placed(alloc: Global, lines: LinesByHeader) -> Result<JobTables, TableStop>
-    ensures { SaysTables tables_seen result (checked (lines_seen lines)) }
+fn gathered(alloc: Global, lines: LinesByHeader) -> Result<JobTables, TableStop>
+    ensures { SaysTables tables_seen result (tables_or_fault (lines_seen lines)) }
 {
     let job = JobTable {
         at: 0,
@@ -43,5 +43,5 @@ fn placed(alloc: Global, lines: LinesByHeader) -> Result<JobTables, TableStop>
 pub fn job_tables(alloc: Global, lines: Vec<TextLine>) -> Result<JobTables, TableStop>
     ensures { SaysTables tables_seen result (job_tables (map line_seen lines.items)) }
 {
-    placed(alloc, split(alloc, lines)?)
+    gathered(alloc, by_header(alloc, lines)?)
 }

@@ -1,9 +1,9 @@
 -- What contracts see of tables with their headers.
 use Rattle.std.specs.Prelude.{List, map, string_bytes}
-use Rattle.job_tables.specs.declared.split.Header.{Header}
-use Rattle.job_tables.specs.declared.split.Header.TheVariants.{Single, Double}
-use Rattle.job_tables.specs.declared.split.Headed.{Headed}
-use Rattle.job_tables.specs.declared.split.LinesByHeader.{LinesByHeader}
+use Rattle.job_tables.specs.declared.headers.Header.{Header}
+use Rattle.job_tables.specs.declared.headers.Header.TheVariants.{Single, Double}
+use Rattle.job_tables.specs.declared.headers.Headed.{Headed}
+use Rattle.job_tables.specs.declared.headers.LinesByHeader.{LinesByHeader}
 use Rattle.job_tables.specs.Seen.{entry_seen, table_seen}
 use Rattle.job_tables.specs.Tables as tables
 

@@ -2,7 +2,7 @@ use Rattle.std.proofs.Common.{◌≡◌, None, map, arith}
 use Rattle.std.proofs.lemmas.Grind.{common_steps}
 use Rattle.job_tables.specs.Faults.{key_fault}
 use Rattle.job_tables.specs.Seen.{entry_seen}
-use Rattle.job_tables.proofs.Splits.{known_of_none}
+use Rattle.job_tables.proofs.KnownKeys.{known_of_none}
 use Rattle.job_tables.proofs.faults.check_keys.Goals as goal
 
 pub returns-clause-known : goal.returns-clause-known

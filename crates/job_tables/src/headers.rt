@@ -2,7 +2,7 @@
 ghost use Rattle.std.specs.Prelude.{◌≡◌, map, reverse, IfOk};
 ghost use Rattle.job_text.specs.Seen.{line_seen};
 ghost use Rattle.job_tables.specs.Seen.{entry_seen};
-ghost use Rattle.job_tables.specs.Tables.{split};
+ghost use Rattle.job_tables.specs.Tables.{by_header};
 ghost use Rattle.job_tables.specs.inner.Headed.{header_seen, headed_seen, lines_seen};
 
 use crate::table::{JobTable, TableEntry};
@@ -47,8 +47,11 @@ fn with_header(at: usize, header: Header, mut backwards: Vec<TableEntry>) -> Hea
 }
 
 /// The lines at their headers. It goes from the last line back, so that each header finds its entries.
-pub(crate) fn split(alloc: Global, mut lines: Vec<TextLine>) -> Result<LinesByHeader, OutOfMemory>
-    ensures { IfOk result (λ s. lines_seen s ≡ split (map line_seen lines.items)) }
+pub(crate) fn by_header(
+    alloc: Global,
+    mut lines: Vec<TextLine>,
+) -> Result<LinesByHeader, OutOfMemory>
+    ensures { IfOk result (λ s. lines_seen s ≡ by_header (map line_seen lines.items)) }
 {
     let mut first = Vec::new(alloc);
     let mut tables = Vec::new(alloc);

@@ -3,7 +3,7 @@ use Rattle.std.specs.Vec.Iter.{into_iter_items}
 use Rattle.job_tables.specs.Tables.{Headed}
 use Rattle.job_tables.specs.inner.Headed.{headed_seen}
 use Rattle.job_tables.proofs.Placed.{AreLeft, ArePlaced}
-use Rattle.job_tables.proofs.tables.placed.Given as goal
+use Rattle.job_tables.proofs.tables.gathered.Given as goal
 
 -- the tables so far are without faults, and in their places
 abbrev pub invariant-loop-headed : goal.invariant-loop-headed

@@ -1,13 +1,13 @@
 use Rattle.std.proofs.Common.{◌≡◌, ◌∙◌, List, [], map, Vec, Global, ap}
 use Rattle.std.specs.Vec.Iter.{into_iter_items}
-use Rattle.job_tables.specs.declared.split.Headed.{Headed}
+use Rattle.job_tables.specs.declared.headers.Headed.{Headed}
 use Rattle.job_tables.specs.declared.table.JobTable.{JobTable}
 use Rattle.job_tables.specs.Faults.{fault_after}
 use Rattle.job_tables.specs.Seen.{entry_seen}
 use Rattle.job_tables.specs.inner.Headed.{headed_seen}
 use Rattle.job_tables.proofs.Placed.{none_placed, stop_at, turn_single, turn_double}
-use Rattle.job_tables.proofs.tables.placed.Goals as goal
-use Rattle.job_tables.proofs.tables.placed.Goals.{in-Single, in-Double+in_ok-push-in-Double}
+use Rattle.job_tables.proofs.tables.gathered.Goals as goal
+use Rattle.job_tables.proofs.tables.gathered.Goals.{in-Single, in-Double+in_ok-push-in-Double}
 
 pub loop-headed-init : goal.loop-headed-init
 loop-headed-init c =
@@ -19,8 +19,8 @@ returns-in-Err c =
     let inv = c.loop-headed.invariant in
     let counted = c.len.ensures ∙ c.loop-headed.views.ok.0 in
     stop_at (map entry_seen c.args.lines.first.items) (map headed_seen c.args.lines.tables.items) inv.0 c.loop-headed.block c.loop-headed.views.items c.in-Some.headed
-        (into_iter_items c.loop-headed.headed-iterator) (into_iter_items c.next.new.self) c.is_some.result c.len.result c.in-Err.stop c.in-Some.ensures.steps.0 c.in_ok-check_keys.ensures.value inv.1 inv.2
-        c.is_some.ensures counted c.in-Err.ensures.value
+    (into_iter_items c.loop-headed.headed-iterator) (into_iter_items c.next.new.self) c.is_some.result c.len.result c.in-Err.stop c.in-Some.ensures.steps.0 c.in_ok-check_keys.ensures.value inv.1 inv.2
+    c.is_some.ensures counted c.in-Err.ensures.value
 
 items_of : (v w : Vec JobTable Global) → v ≡ w → v.items ≡ w.items
 items_of v w is = ap (λ (u : Vec JobTable Global). u.items) is

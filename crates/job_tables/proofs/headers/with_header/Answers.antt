@@ -3,7 +3,7 @@ use Rattle.job_tables.specs.Seen.{entry_seen}
 use Rattle.job_tables.specs.Tables.{Entry, Headed}
 use Rattle.job_tables.specs.inner.Headed.{header_seen}
 use Rattle.job_tables.proofs.Lists.{map-reverse}
-use Rattle.job_tables.proofs.split.with_header.Goals as goal
+use Rattle.job_tables.proofs.headers.with_header.Goals as goal
 
 pub returns : goal.returns
 returns c =

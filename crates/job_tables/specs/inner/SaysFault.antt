@@ -17,6 +17,6 @@ IsStop (At flaw at) said = (said ≡ Some (fault_seen flaw, at)) × IsHinted fla
 IsStop (Memory e) said = Unit {0}
 
 -- nothing is wrong, or this is, unless memory ran out
-abbrev pub Passes : {A : Type 0} → Result A TableStop → Option (Fault × ℕ) → Type 0
-Passes (Ok x) said = said ≡ None
-Passes (Err stop) said = IsStop stop said
+abbrev pub SaysFault : {A : Type 0} → Result A TableStop → Option (Fault × ℕ) → Type 0
+SaysFault (Ok x) said = said ≡ None
+SaysFault (Err stop) said = IsStop stop said
