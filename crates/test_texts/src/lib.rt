@@ -1,9 +1,11 @@
-//! Tests of what is read and of what is written: numbers, tokens and the texts of parts; lines of jobs; where views stand on a sheet,
+//! Tests of what is read and of what is written: numbers, tokens and the texts of parts; lines and tables of jobs; where views stand on a sheet,
 //! strokes and their paths, dashes, pages, and plotters.
 #![tactic(auto)]
 
 #[cfg(test)]
 mod job_lines;
+#[cfg(test)]
+mod job_tables;
 #[cfg(test)]
 mod numbers;
 #[cfg(test)]

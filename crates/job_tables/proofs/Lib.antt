@@ -1,0 +1,4 @@
+mod KnownKeys
+mod Lists
+mod Placed
+mod Places

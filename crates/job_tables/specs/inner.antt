@@ -1,0 +1,3 @@
+-- What only this crate's own functions cite.
+pub mod Headed
+pub mod SaysFault
