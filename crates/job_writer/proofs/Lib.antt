@@ -1,2 +1,9 @@
 pub mod Lines
 pub mod Values
+pub mod Words
+pub mod Title
+pub mod Nodes
+pub mod Proper
+pub mod Taken
+pub mod Written
+pub mod Reading

@@ -1,5 +1,5 @@
 // The keys of a job that aren't those of a view.
-ghost use Rattle.std.specs.Prelude.{◌≡◌, ◌++◌, take, drop, string_bytes, IfOk, OnOk};
+ghost use Rattle.std.specs.Prelude.{◌≡◌, ◌++◌, take, drop, string_bytes, IfOk, OnOk, IsUtf8};
 ghost use Rattle.std.specs.Fmt.{decimal};
 ghost use Rattle.std.specs.List.{flat_map};
 ghost use Rattle.job_file.specs.Seen.{job_seen};
@@ -40,7 +40,8 @@ fn push_drawing(alloc: Global, text: &mut String, job: &Job) -> Result<(), OutOf
 
 /// Writes the lines of the keys behind the first six.
 fn push_rest(text: &mut String, job: &Job) -> Result<(), OutOfMemory>
-    ensures { OnOk result (string_bytes text.new ≡ string_bytes text.old ++ flat_map key_line (drop 6 (job_pairs (job_seen job.now)))) }
+    ensures text { OnOk result (string_bytes text.new ≡ string_bytes text.old ++ flat_map key_line (drop 6 (job_pairs (job_seen job.now)))) }
+    ensures utf8 { OnOk result (IsUtf8 job.now.title) }
 {
     push_title(text, "title", job.title.as_str())?;
     push_names(text, "outputs", &job.outputs)?;
@@ -50,7 +51,8 @@ fn push_rest(text: &mut String, job: &Job) -> Result<(), OutOfMemory>
 
 /// Writes the lines of a job's keys.
 pub(crate) fn push_settings(alloc: Global, text: &mut String, job: &Job) -> Result<(), OutOfMemory>
-    ensures { OnOk result (string_bytes text.new ≡ string_bytes text.old ++ flat_map key_line (job_pairs (job_seen job.now))) }
+    ensures text { OnOk result (string_bytes text.new ≡ string_bytes text.old ++ flat_map key_line (job_pairs (job_seen job.now))) }
+    ensures utf8 { OnOk result (IsUtf8 job.now.title) }
 {
     push_reading(alloc, text, job)?;
     push_drawing(alloc, text, job)?;

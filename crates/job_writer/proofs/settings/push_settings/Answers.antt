@@ -11,9 +11,9 @@ three_parts text first next last =
     rw (flat_map-append key_line first (next ++ last), flat_map-append key_line next last)
     (append_assoc (text ++ flat_map key_line first) (flat_map key_line next) (flat_map key_line last) ∙ append_assoc text (flat_map key_line first) (flat_map key_line next ++ flat_map key_line last))
 
-pub returns : goal.returns
-returns c =
+pub returns-clause-text : goal.returns-clause-text
+returns-clause-text c =
     let pairs = job_pairs (job_seen c.args.job.now) in
     let behind : List Pair → List ℕ → List ℕ = λ more before. before ++ flat_map key_line more in
-    c.in_ok-push_rest.ensures ∙ ap (behind (drop 6 pairs)) (c.in_ok-push_drawing.ensures ∙ ap (behind (take 3 (drop 3 pairs))) c.in_ok-push_reading.ensures)
+    c.in_ok-push_rest.ensures.text ∙ ap (behind (drop 6 pairs)) (c.in_ok-push_drawing.ensures ∙ ap (behind (take 3 (drop 3 pairs))) c.in_ok-push_reading.ensures)
     ∙ three_parts (string_bytes c.args.text.now) (take 3 pairs) (take 3 (drop 3 pairs)) (drop 6 pairs)
