@@ -1,7 +1,7 @@
 -- Lines that TOML reads one after the other.
-use Rattle.std.proofs.Common.{◌≡◌, ℕ, ◌-◌, ◌<◌, ◌≤◌, Bool, true, false, ◌==◌, List, [], ◌∷◌, ◌++◌, length, Option, Some, None, option_and_then, refl, sym, ap, ◌∙◌, arith, append_assoc}
+use Rattle.std.proofs.Common.{◌≡◌, ℕ, ◌-◌, ◌<◌, true, false, ◌==◌, List, [], ◌∷◌, ◌++◌, length, Option, Some, None, option_and_then, refl, sym, ap, ◌∙◌, arith, append_assoc}
 use Rattle.std.proofs.lemmas.Bool.Decides.{nat_tests}
-use Rattle.toml_parser.specs.Lexical.{first, skip_blank}
+use Rattle.toml_parser.specs.Lexical.{skip_blank}
 use Rattle.toml_parser.proofs.LexicalLemmas.{skip_from-nil}
 use Rattle.toml.specs.Tables.{Document, Expression, define}
 use Rattle.toml.specs.Parse.{line, lines}

@@ -1,5 +1,5 @@
 -- The table that a job's lines define.
-use Rattle.std.proofs.Common.{◌≡◌, ℕ, ℤ, pos, List, [], ◌∷◌, ◌++◌, map, codes, Option, Some, None, option_and_then, refl, sym, ap, ◌∙◌, append_assoc, append-nil}
+use Rattle.std.proofs.Common.{◌≡◌, ℕ, pos, List, [], ◌∷◌, ◌++◌, map, codes, Option, Some, None, option_and_then, refl, sym, ap, ◌∙◌, append_assoc, append-nil}
 use Rattle.std.specs.Fmt.{decimal, signed_decimal}
 use Rattle.std.specs.List.{flat_map}
 use Rattle.job_file.specs.Arrays.{values_in}
@@ -7,7 +7,7 @@ use Rattle.job_file.specs.Documents.{JobValues}
 use Rattle.job_file.specs.Papers.{paper_name}
 use Rattle.job_file.specs.ViewValues.{Shown, ViewValues, whole, behind}
 use Rattle.job_file.specs.declared.view.Principal.{Principal}
-use Rattle.toml.specs.Data.{Data, string, integer, array, table, Items, no_items, item, push_item, Members, no_members, member}
+use Rattle.toml.specs.Data.{Data, string, integer, array, table, Items, no_items, item, push_item, Members}
 use Rattle.toml.specs.Tables.{Nodes, no_nodes, node, value, open_array, close, Expression, Document, key_value, array_table, define, along_header, along_dots, at_key}
 use Rattle.toml.proofs.ReadLines.{run}
 use Rattle.job_writer.specs.Called.{angle_name, scale_name, crease_name, length_name, layout_name, principal_name, axis_name, side_name}
@@ -129,8 +129,7 @@ views_run job (v ∷ vs) done last path tables is =
     let before = push_item done (table (close last)) in
     let now = view_nodes v.named v.shows in
     let held : values_in (push_item before (table (close now))) ≡ tables ++ view_table v ∷ [] = values-push before (view_table v) ∙ ap (λ (ds : List Data). ds ++ view_table v ∷ []) is in
-    let (all, end, at, runs, have) = views_run job vs before now (codes "view" ∷ []) (tables ++ view_table v ∷ []) held in
-    (
+    let (all, end, at, runs, have) = views_run job vs before now (codes "view" ∷ []) (tables ++ view_table v ∷ []) held in (
       all,
       end,
       at,
@@ -150,13 +149,12 @@ all_run : (job : JobValues) (v : ViewValues) (vs : List ViewValues)
     → AreViews job (run (no_nodes, []) (job_entries job ++ (view_expressions v ++ flat_map view_expressions vs))) (view_table v ∷ map view_table vs)
 all_run job v vs =
     let now = view_nodes v.named v.shows in
-    let (done, last, path, runs, have) = views_run job vs no_items now (codes "view" ∷ []) (view_table v ∷ []) refl in
-    (
+    let (done, last, path, runs, have) = views_run job vs no_items now (codes "view" ∷ []) (view_table v ∷ []) refl in (
       done,
       last,
       path,
       run_both (job_entries job) (view_expressions v ++ flat_map view_expressions vs) (no_nodes, []) (job_nodes job no_nodes, []) (job_run job)
-      ∙ run_both (view_expressions v) (flat_map view_expressions vs) (job_nodes job no_nodes, []) (with_views job no_items now, codes "view" ∷ []) (first_run job v.named v.shows) ∙ runs,
+          ∙ run_both (view_expressions v) (flat_map view_expressions vs) (job_nodes job no_nodes, []) (with_views job no_items now, codes "view" ∷ []) (first_run job v.named v.shows) ∙ runs,
       have,
     )
 

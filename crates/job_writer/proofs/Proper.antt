@@ -1,12 +1,11 @@
 -- What each job keeps, as the values that contracts see of it.
-use Rattle.std.proofs.Common.{◌≡◌, ℕ, ◌+◌, ◌^◌, ◌<◌, ◌≤◌, unsigned_abs, Bool, true, false, ◌&&◌, ◌||◌, ◌==◌, List, [], ◌∷◌, ◌++◌, length, get_or, map, suc, if◌then◌else◌, AllPairs, Option, Some, None, option_map, IsUtf8, refl, sym, ap, subst, ◌∙◌, inl, inr, arith, append_assoc, eqb-true, length-append}
-use Rattle.std.proofs.lemmas.Bool.{cases_Bool, false≢true}
+use Rattle.std.proofs.Common.{◌≡◌, ℕ, ◌+◌, ◌^◌, ◌<◌, ◌≤◌, unsigned_abs, true, false, ◌==◌, List, [], ◌∷◌, ◌++◌, length, get_or, map, suc, if◌then◌else◌, AllPairs, Option, Some, None, option_map, IsUtf8, refl, sym, ap, subst, ◌∙◌, inl, inr, arith, append_assoc, eqb-true, length-append}
+use Rattle.std.proofs.lemmas.Bool.{cases_Bool}
 use Rattle.std.proofs.lemmas.List.{get_or_append_left, map-append, length-map}
 use Rattle.std.proofs.lemmas.Option.{none-some, same_Some}
 use Rattle.std.proofs.Math.Seq.{get_or-append_seam}
 use Rattle.std.specs.List.{list_any}
 use Rattle.std.specs.Option.{ForSome}
-use Rattle.lattice.specs.Points.{of_dir}
 use Rattle.lattice.specs.Triple.{Triple}
 use Rattle.lattice.specs.declared.pieces.ViewSpec.{ViewSpec}
 use Rattle.lattice.specs.declared.pieces.ViewSpec.TheVariants.{Plain, Section}
@@ -97,9 +96,9 @@ are_new before [] apart = tt
 are_new before (v ∷ vs) apart =
     let all = before ++ v ∷ vs in
     let here : (i : ℕ) → i < length before → AreNamedApart (get_or before i v).named v.named = λ i inside.
-        let far = apart i (length before) v inside (omega (arith, length-append before (v ∷ vs))) in
-        subst (λ (w : JobView). AreNamedApart w.named v.named) (get_or_append_left before (v ∷ vs) v i inside)
-        (subst (λ (w : JobView). AreNamedApart (get_or all i v).named w.named) (get_or-append_seam before v vs v) far) in
+    let far = apart i (length before) v inside (omega (arith, length-append before (v ∷ vs))) in
+    subst (λ (w : JobView). AreNamedApart w.named v.named) (get_or_append_left before (v ∷ vs) v i inside)
+    (subst (λ (w : JobView). AreNamedApart (get_or all i v).named w.named) (get_or-append_seam before v vs v) far) in
     let more = are_new (before ++ v ∷ []) vs (subst (AllPairs (λ v w. AreNamedApart v.named w.named)) (sym (append_assoc before (v ∷ []) vs)) apart) in
     (is_new before v v.named refl here, subst (λ (earlier : List ViewValues). AreNew earlier (map view_seen vs)) (map-append view_seen before (v ∷ [])) more)
 

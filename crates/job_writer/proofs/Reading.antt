@@ -1,10 +1,10 @@
 -- A job's text is read as that job.
-use Rattle.std.proofs.Common.{◌≡◌, ℕ, ◌≤◌, ◌<◌, true, false, ◌&&◌, ◌==◌, List, [], ◌∷◌, length, Option, Some, Ok, IsUtf8, refl, sym, ap, ◌∙◌, arith, suc}
+use Rattle.std.proofs.Common.{◌≡◌, ℕ, ◌≤◌, false, ◌==◌, List, [], ◌∷◌, length, Some, Ok, IsUtf8, refl, ap, ◌∙◌, arith, suc}
 use Rattle.toml_parser.specs.Lexical.{first}
 use Rattle.toml.specs.Parse.{skip_bom, parse_document}
-use Rattle.toml.specs.Tables.{no_nodes, close}
+use Rattle.toml.specs.Tables.{no_nodes}
 use Rattle.toml.proofs.Turns.{document_some}
-use Rattle.job_file.specs.Documents.{JobValues, job_of, job_of_bytes}
+use Rattle.job_file.specs.Documents.{JobValues, job_of_bytes}
 use Rattle.job_file.specs.ViewValues.{ViewValues}
 use Rattle.job_file.proofs.DocumentLemmas.{document}
 use Rattle.job_writer.specs.PlainJobs.{plain_job}

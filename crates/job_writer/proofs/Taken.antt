@@ -1,5 +1,5 @@
 -- What a job takes from its table.
-use Rattle.std.proofs.Common.{◌≡◌, ℕ, ◌+◌, ◌^◌, ◌<◌, ◌≤◌, ℤ, pos, negsuc, zero, suc, unsigned_abs, Bool, true, false, not, cond, ◌&&◌, ◌||◌, ◌==◌, nat_le, nat_lt, List, [], ◌∷◌, ◌++◌, length, map, codes, Option, Some, None, option_and_then, option_map, is_some, Result, Ok, Err, refl, sym, ap, subst, ◌∙◌, inl, inr, arith, append_assoc, append-nil, eqb-true}
+use Rattle.std.proofs.Common.{◌≡◌, ℕ, ◌^◌, ◌≤◌, ℤ, pos, negsuc, zero, suc, unsigned_abs, Bool, true, false, cond, ◌&&◌, ◌==◌, nat_le, nat_lt, List, [], ◌∷◌, ◌++◌, length, map, codes, Option, Some, None, option_and_then, Ok, Err, refl, sym, ap, subst, ◌∙◌, inl, inr, arith, append_assoc, append-nil, eqb-true}
 use Rattle.std.proofs.lemmas.List.{length-map}
 use Rattle.std.proofs.lemmas.Bool.{cases_Bool, and_parts, false≢true}
 use Rattle.std.proofs.lemmas.Bool.Decides.{nat_tests}
@@ -15,25 +15,25 @@ use Rattle.lattice.specs.declared.pieces.Crease.{Crease}
 use Rattle.lattice.specs.declared.pieces.Crease.TheVariants.{Fine, Normal, Coarse}
 use Rattle.lattice.specs.declared.points.Axis.{Axis}
 use Rattle.lattice.specs.declared.points.Axis.TheVariants.{X, Y, Z}
-use Rattle.toml.specs.Data.{Data, string, integer, array, table, Items, Members, get_member, as_str, as_integer, as_array}
+use Rattle.toml.specs.Data.{Data, string, integer, array, table, Items, Members, get_member, as_integer}
 use Rattle.toml.specs.Tables.{close}
 use Rattle.toml.specs.View.{items_of}
 use Rattle.job_file.specs.Arrays.{values_in}
 use Rattle.job_file.specs.CutKeys.{axes, sides, plane_at, cut_view}
 use Rattle.job_file.specs.Documents.{JobValues, version_at, decimals_of, choice, angles, creases, lengths, layouts, fits, title_of, texts_of, proper_outputs, outputs_of, is_table, views_of, views_at, job_of}
 use Rattle.job_file.specs.Keys.{unknown_key}
-use Rattle.job_file.specs.Names.{principals, direction_of}
+use Rattle.job_file.specs.Names.{principals}
 use Rattle.job_file.specs.Papers.{papers, paper_name}
 use Rattle.job_file.specs.Scales.{scales, is_scale}
 use Rattle.job_file.specs.Steps.{◌>>=◌, or_wrong, value_or, look_up}
 use Rattle.job_file.specs.Texts.{is_title, are_outputs}
-use Rattle.job_file.specs.ViewKeys.{is_named, view_named, named_view, numbers_of, is_zero, is_outside, direction_at, toward_view, view_of_table, view_of, views_after}
+use Rattle.job_file.specs.ViewKeys.{is_named, view_named, named_view, is_zero, is_outside, direction_at, toward_view, view_of_table, view_of, views_after}
 use Rattle.job_file.specs.ViewValues.{Shown, ViewValues, whole, behind}
 use Rattle.job_file.specs.declared.fault.JobFault.{JobFault}
 use Rattle.job_file.specs.declared.fault.Key.TheVariants as key
 use Rattle.job_file.specs.declared.job.Paper.{Paper}
 use Rattle.job_file.specs.declared.job.Paper.TheVariants.{A0, A1, A2, A3, A4}
-use Rattle.job_file.specs.declared.table.Kind.TheVariants.{JobTwo, View}
+use Rattle.job_file.specs.declared.table.Kind.TheVariants.{JobTwo}
 use Rattle.job_file.specs.declared.view.Principal.{Principal}
 use Rattle.job_file.specs.declared.view.Principal.TheVariants.{Front, Back, Left, Right, Above, Below}
 use Rattle.job_writer.specs.Called.{angle_name, scale_name, crease_name, length_name, layout_name, principal_name, axis_name, side_name}

@@ -1,5 +1,5 @@
 -- A title in quotes, with its escapes.
-use Rattle.std.proofs.Common.{◌≡◌, ℕ, suc, ◌+◌, ◌/◌, ◌%◌, ◌<◌, ◌≤◌, inl, inr, Bool, true, false, not, cond, ◌&&◌, ◌||◌, ◌==◌, nat_le, ltb, List, [], ◌∷◌, ◌++◌, length, slice_index, Some, IsUtf8, codes, refl, sym, ap, ◌∙◌, arith, append_assoc, encode_utf8, encode_utf8_all}
+use Rattle.std.proofs.Common.{◌≡◌, ℕ, suc, ◌+◌, ◌/◌, ◌%◌, ◌<◌, ◌≤◌, inl, inr, true, false, ◌&&◌, ◌==◌, nat_le, ltb, List, [], ◌∷◌, ◌++◌, length, slice_index, Some, IsUtf8, codes, refl, sym, ap, ◌∙◌, arith, append_assoc, encode_utf8, encode_utf8_all}
 use Rattle.std.proofs.lemmas.Bool.{cases_Bool, cases_eq, cases_lt, and_parts, and_left}
 use Rattle.std.proofs.lemmas.Bool.Decides.{nat_tests}
 use Rattle.std.proofs.lemmas.Str.{encode_ascii, encodes-chars}
@@ -7,12 +7,12 @@ use Rattle.std.specs.List.{flat_map, list_all}
 use Rattle.std.specs.Str.{chars}
 use lib.Utf8.{encode}
 use Rattle.toml_parser.specs.Lexical.{first}
-use Rattle.toml_parser.specs.Strings.{starts_string, body, quoted, one_line}
+use Rattle.toml_parser.specs.Strings.{body, quoted, one_line}
 use Rattle.toml_writer.specs.Text.{needs_escape, quotes_after, escaped}
 use Rattle.toml_writer.proofs.Escapes.{Escaped-needed, quotes_after_other, apart_from_plain, needs_quote}
 use Rattle.toml_writer.proofs.Bodies.{escaped-cons, escaped-nil, body_escaped}
 use Rattle.toml.specs.Data.{string}
-use Rattle.toml.specs.Parse.{atom, val, read_map}
+use Rattle.toml.specs.Parse.{atom, val}
 use Rattle.toml.proofs.Turns.{val_atom}
 use Rattle.job_file.specs.Texts.{is_title_char, is_title}
 use Rattle.job_writer.specs.Pairs.{escaped_char, escaped_title, in_quotes}

@@ -1,12 +1,12 @@
 -- Values that TOML reads up to the end of their lines, and their keys.
-use Rattle.std.proofs.Common.{◌≡◌, ℕ, ◌<◌, ◌≤◌, Bool, true, false, ◌==◌, List, [], ◌∷◌, ◌++◌, length, codes, Some, refl, sym, ap, ◌∙◌, arith, append_assoc, length-append}
+use Rattle.std.proofs.Common.{◌≡◌, ℕ, ◌≤◌, true, false, ◌==◌, List, [], ◌∷◌, ◌++◌, codes, Some, refl, arith, append_assoc, length-append}
 use Rattle.std.proofs.lemmas.Bool.Decides.{nat_tests}
 use Rattle.toml_parser.specs.Lexical.{first, skip_ws}
 use Rattle.toml_parser.proofs.LexicalLemmas.{skip_ws_none}
 use Rattle.toml_writer.specs.Text.{key_text}
-use Rattle.toml_writer.proofs.Strings.{is_key_start, is_key_start-key_text}
+use Rattle.toml_writer.proofs.Strings.{is_key_start-key_text}
 use Rattle.toml.specs.Data.{Data, depth, has_valid_dates}
-use Rattle.toml.specs.Parse.{val, keyval, expression, ends_line, line}
+use Rattle.toml.specs.Parse.{val, expression, ends_line, line}
 use Rattle.toml.specs.Tables.{key_value}
 use Rattle.toml.specs.Text.{IsValueText}
 use Rattle.toml.proofs.Blanks.{starts_value, skip_start}

@@ -1,5 +1,5 @@
 -- Words in quotes, lists of them, and numbers.
-use Rattle.std.proofs.Common.{◌≡◌, ℕ, ◌+◌, ◌^◌, ◌<◌, ◌≤◌, max, ℤ, pos, unsigned_abs, FitsSigned, Bool, true, false, not, ◌&&◌, ◌||◌, ◌==◌, nat_le, nat_lt, List, [], ◌∷◌, ◌++◌, map, codes, decimal, refl, sym, ap, ◌∙◌, arith, append_assoc}
+use Rattle.std.proofs.Common.{◌≡◌, ℕ, ◌^◌, ◌<◌, ◌≤◌, ℤ, pos, unsigned_abs, Bool, true, false, not, ◌&&◌, ◌==◌, nat_le, nat_lt, List, [], ◌∷◌, ◌++◌, map, codes, decimal, refl, sym, arith, append_assoc}
 use Rattle.std.proofs.lemmas.Bool.{and_parts}
 use Rattle.std.proofs.lemmas.Bool.Decides.{nat_tests}
 use Rattle.std.proofs.lemmas.Int.{fits_signed_from_abs}
@@ -8,9 +8,9 @@ use Rattle.std.specs.Int.{w64}
 use Rattle.std.specs.List.{list_all, list_any}
 use Rattle.lattice.specs.Triple.{Triple}
 use Rattle.toml_parser.specs.Lexical.{backslash}
-use Rattle.toml_writer.specs.Text.{is_control, needs_escape, quotes_after, escaped, has, encoding_of, string_text}
+use Rattle.toml_writer.specs.Text.{is_control, needs_escape, escaped, has, encoding_of, string_text}
 use Rattle.toml_writer.proofs.Escapes.{quotes_after_other}
-use Rattle.toml.specs.Data.{Data, string, integer, array, Items, no_items, item, items_depth, items_have_valid_dates}
+use Rattle.toml.specs.Data.{string, integer, array, Items, no_items, item, items_depth, items_have_valid_dates}
 use Rattle.toml.specs.Text.{IsItemsText, breaks_lines}
 use Rattle.toml.specs.View.{items_of}
 use Rattle.job_writer.specs.Pairs.{in_quotes, behind_commas, in_brackets}
@@ -102,8 +102,7 @@ numbers d = item (integer d.x) (item (integer d.y) (item (integer d.z) no_items)
 
 pub direction_read : (d : Triple) → unsigned_abs d.x ≤ 9 → unsigned_abs d.y ≤ 9 → unsigned_abs d.z ≤ 9 → IsReadAs (direction_text d) (array (numbers d))
 direction_read d x y z =
-    printed (direction_text d) (array (numbers d))
-    (
+    printed (direction_text d) (array (numbers d)) (
       _,
       refl,
       (_, _, refl, (refl, fits_signed_from_abs w64 d.x (omega (arith, x))), (_, _, refl, (refl, fits_signed_from_abs w64 d.y (omega (arith, y))), (_, _, refl, (refl, fits_signed_from_abs w64 d.z (omega (arith, z))), refl))),

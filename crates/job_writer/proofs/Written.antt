@@ -1,9 +1,9 @@
 -- The lines of a job's text are those of its keys.
-use Rattle.std.proofs.Common.{◌≡◌, ℕ, ◌+◌, ◌*◌, ◌^◌, ◌<◌, ◌≤◌, ℤ, pos, unsigned_abs, Bool, true, false, not, cond, ◌&&◌, ◌||◌, ◌==◌, nat_le, nat_lt, List, [], ◌∷◌, ◌++◌, length, map, codes, Option, Some, None, refl, sym, ap, subst, ◌∙◌, inl, inr, arith, eqb-true}
-use Rattle.std.proofs.lemmas.Bool.{cases_Bool, and_parts, false≢true}
+use Rattle.std.proofs.Common.{◌≡◌, ℕ, pos, Bool, true, false, not, ◌&&◌, nat_le, nat_lt, List, [], ◌∷◌, length, map, codes, Option, Some, None, refl, subst, arith}
+use Rattle.std.proofs.lemmas.Bool.{and_parts}
 use Rattle.std.proofs.lemmas.Bool.Decides.{nat_tests}
 use Rattle.std.specs.Fmt.{digits}
-use Rattle.std.specs.List.{flat_map, list_all, list_any}
+use Rattle.std.specs.List.{flat_map, list_all}
 use Rattle.std.specs.Option.{ForSome}
 use Rattle.std.specs.Str.{bytes_eq}
 use Rattle.dec_text.specs.declared.number.Length.{Length}
@@ -14,12 +14,11 @@ use Rattle.lattice.specs.declared.points.Axis.{Axis}
 use Rattle.lattice.specs.declared.points.Axis.TheVariants.{X, Y, Z}
 use Rattle.toml_parser.specs.Lexical.{is_bare}
 use Rattle.toml_writer.specs.Text.{key_text}
-use Rattle.toml.specs.Data.{Data, integer}
-use Rattle.toml.specs.Tables.{Expression, array_table}
+use Rattle.toml.specs.Data.{integer}
+use Rattle.toml.specs.Tables.{array_table}
 use Rattle.toml.specs.Text.{IsLineText}
 use Rattle.toml.proofs.ReadLines.{line_turn}
 use Rattle.job_file.specs.Documents.{JobValues}
-use Rattle.job_file.specs.Names.{direction_of}
 use Rattle.job_file.specs.Papers.{paper_name}
 use Rattle.job_file.specs.Scales.{scales, is_scale}
 use Rattle.job_file.specs.Texts.{is_output_byte, is_output, are_different, are_outputs}
@@ -33,7 +32,7 @@ use Rattle.job_writer.specs.Pairs.{Pair, key_line}
 use Rattle.job_writer.specs.PlainJobs.{job_pairs, view_pairs, view_block, plain_job}
 use Rattle.job_writer.proofs.Lines.{IsLine, AreLines, lines-append}
 use Rattle.job_writer.proofs.Nodes.{Row, row_entry, row_pair, word_row, job_rows, view_rows, job_entries, view_entries, view_expressions, job_expressions}
-use Rattle.job_writer.proofs.Proper.{IsDirection, IsShown, AreShown, IsProper}
+use Rattle.job_writer.proofs.Proper.{IsShown, AreShown, IsProper}
 use Rattle.job_writer.proofs.Taken.{AllScales, of_scale}
 use Rattle.job_writer.proofs.Title.{title_read}
 use Rattle.job_writer.proofs.Values.{IsReadAs, key_read}
@@ -192,12 +191,12 @@ header_text = refl
 header_line : IsLine (([], codes "view"), array_table) (codes "\n[[view]]\n")
 header_line rest = line_turn false true ([], codes "view") array_table (codes "\n[[view]]\n") rest header_text (omega arith)
 
-view_lines : (v : ViewValues) → IsShown v.named v.shows → AreLines (view_expressions v) (view_block v)
-view_lines v is = (codes "\n[[view]]\n", flat_map key_line (view_pairs v.named v.shows), refl, header_line, view_keys v.named v.shows is)
+block_lines : (v : ViewValues) → IsShown v.named v.shows → AreLines (view_expressions v) (view_block v)
+block_lines v is = (codes "\n[[view]]\n", flat_map key_line (view_pairs v.named v.shows), refl, header_line, view_keys v.named v.shows is)
 
 views_lines : (views : List ViewValues) → AreShown views → AreLines (flat_map view_expressions views) (flat_map view_block views)
 views_lines [] are = refl
-views_lines (v ∷ vs) (is, are) = lines-append (view_expressions v) (flat_map view_expressions vs) (view_block v) (flat_map view_block vs) (view_lines v is) (views_lines vs are)
+views_lines (v ∷ vs) (is, are) = lines-append (view_expressions v) (flat_map view_expressions vs) (view_block v) (flat_map view_block vs) (block_lines v is) (views_lines vs are)
 
 pub all_lines : (job : JobValues) → IsProper job → AreLines (job_expressions job) (plain_job job)
 all_lines job is = lines-append (job_entries job) (flat_map view_expressions job.views) (flat_map key_line (job_pairs job)) (flat_map view_block job.views) (job_lines job is) (views_lines job.views is.shown)

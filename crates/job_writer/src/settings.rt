@@ -24,7 +24,11 @@ fn push_reading(alloc: Global, text: &mut String, job: &Job) -> Result<(), OutOf
     ensures { OnOk result (string_bytes text.new ≡ string_bytes text.old ++ flat_map key_line (take 3 (job_pairs (job_seen job.now)))) }
 {
     push_line(text, "version", "2")?;
-    push_line(text, "decimals", decimals_text(alloc, job.decimals)?.as_str())?;
+    push_line(
+        text,
+        "decimals",
+        decimals_text(alloc, job.decimals)?.as_str(),
+    )?;
     push_word(text, "angle", angle_name(job.third))?;
     Ok(())
 }

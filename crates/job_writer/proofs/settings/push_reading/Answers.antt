@@ -15,5 +15,5 @@ returns c =
     let behind : List ℕ → List ℕ → List ℕ = λ before value. before ++ key_line (codes "decimals", value) in
     let second = c.in_ok-push_line-2.ensures ∙ ap (λ (before : List ℕ). behind before c.as_str.result.now) c.in_ok-push_line.ensures ∙ ap (behind (text ++ key_line (codes "version", codes "2"))) decimals in
     let third = c.in_ok-push_word.ensures ∙ ap (λ (before : List ℕ). before ++ key_line (codes "angle", in_quotes c.angle_name.result.now)) second
-        ∙ ap (λ (name : List ℕ). text ++ key_line (codes "version", codes "2") ++ key_line (codes "decimals", decimal c.args.job.now.decimals) ++ key_line (codes "angle", in_quotes name)) c.angle_name.ensures in
+    ∙ ap (λ (name : List ℕ). text ++ key_line (codes "version", codes "2") ++ key_line (codes "decimals", decimal c.args.job.now.decimals) ++ key_line (codes "angle", in_quotes name)) c.angle_name.ensures in
     third ∙ three_lines text (codes "version", codes "2") (codes "decimals", decimal c.args.job.now.decimals) (codes "angle", in_quotes (angle_name c.args.job.now.third))

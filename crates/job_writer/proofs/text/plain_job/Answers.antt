@@ -1,9 +1,8 @@
-use Rattle.std.proofs.Common.{◌≡◌, ℕ, List, ◌++◌, Ok, IsUtf8, string_bytes, ap, rules, subst, ◌∙◌}
+use Rattle.std.proofs.Common.{◌≡◌, IsUtf8, string_bytes, ap, rules, subst, ◌∙◌}
 use Rattle.std.proofs.lemmas.Str.{IsUtf8-string_bytes}
-use Rattle.std.specs.List.{flat_map}
 use Rattle.job_file.specs.Documents.{job_of_bytes}
 use Rattle.job_file.specs.Seen.{job_seen}
-use Rattle.job_writer.specs.PlainJobs.{view_block, plain_job}
+use Rattle.job_writer.specs.PlainJobs.{plain_job}
 use Rattle.job_writer.proofs.Proper.{proper}
 use Rattle.job_writer.proofs.Reading.{job_read}
 use Rattle.job_writer.proofs.text.plain_job.Goals as goal
