@@ -7,3 +7,4 @@ pub mod Proper
 pub mod Taken
 pub mod Written
 pub mod Reading
+pub mod Sizes

@@ -1,4 +1,4 @@
-//! Tests of what is read and of what is written: numbers, tokens and the texts of parts; lines of jobs; where views stand on a sheet,
+//! Tests of what is read and of what is written: numbers, tokens and the texts of parts; lines of jobs, and jobs as texts; where views stand on a sheet,
 //! strokes and their paths, dashes, pages, and plotters.
 #![tactic(auto)]
 
@@ -12,6 +12,8 @@ mod pages;
 mod paths;
 #[cfg(test)]
 mod places;
+#[cfg(test)]
+mod plain_jobs;
 #[cfg(test)]
 mod plotters;
 #[cfg(test)]
