@@ -57,7 +57,7 @@ fn fetch_block<D: Desk>(desk: &mut D, name: &str, out: &mut Vec<u8>) -> Result<u
 }
 
 /// Fetches a file of at most `limit` bytes. It ends at the end of the file, at a fault, or once the limit is passed.
-pub(crate) fn fetch_all<D: Desk>(
+pub fn fetch_all<D: Desk>(
     alloc: Global,
     desk: &mut D,
     name: &str,

@@ -15,9 +15,11 @@ mod usual;
 
 pub use answers::steps_have_answers;
 pub use fault::{Fault, Input, Target};
-pub use fetch::FetchFault;
+pub use fetch::{FetchFault, fetch_all};
 pub use job::fetch_job;
 pub use list::fetch_list;
+pub use sample::{sample_size, sample_soup};
 pub use sheets::sheet_of;
 pub use solid::{fetch_solid, fetch_soup};
+pub use soup::soup_of;
 pub use usual::usual_job;

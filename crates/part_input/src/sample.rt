@@ -10,7 +10,7 @@ use sample_part::{SampleError, boxes};
 use std::alloc::Global;
 
 /// What stands behind `sample:`, where a name begins so: the size of a sample.
-pub(crate) fn sample_size(name: &str) -> Option<&str>
+pub fn sample_size(name: &str) -> Option<&str>
     ensures { option_copied result ≡ sample_size name.now }
 {
     name.strip_prefix("sample:")
@@ -27,7 +27,7 @@ fn cubes_along(size: &str) -> Option<u32>
 }
 
 /// The sample of this size.
-pub(crate) fn sample_soup(alloc: Global, size: &str) -> Result<Soup, Fault>
+pub fn sample_soup(alloc: Global, size: &str) -> Result<Soup, Fault>
     ensures answer { GivesInput part_of (MakesSample size.now) result }
     ensures of_size { IfErr result (IsOfSize size.now) }
     ensures some_triangle { IfOk result (λ soup. 0 < length (part_of soup).triangles) }

@@ -43,7 +43,7 @@ fn read_part(alloc: Global, bytes: &[u8], decimals: u8, unit: Length) -> Result<
 }
 
 /// The soup of a part's text in lengths of `unit`, in units of 10^-`decimals` mm.
-pub(crate) fn soup_of(
+pub fn soup_of(
     alloc: Global,
     bytes: &[u8],
     decimals: u8,

@@ -1,11 +1,9 @@
-//! Tests of what is read and of what is written: numbers, tokens and the texts of parts; lines and tables of jobs; where views stand on a sheet,
-//! strokes and their paths, dashes, pages, and plotters.
+//! Tests of what is read and of what is written: numbers, tokens and the texts of parts; lines and tables of jobs, and jobs as texts; where
+//! views stand on a sheet, strokes and their paths, dashes, pages, and plotters.
 #![tactic(auto)]
 
 #[cfg(test)]
 mod job_lines;
-#[cfg(test)]
-mod job_tables;
 #[cfg(test)]
 mod numbers;
 #[cfg(test)]
@@ -15,6 +13,8 @@ mod paths;
 #[cfg(test)]
 mod places;
 #[cfg(test)]
+mod plain_jobs;
+#[cfg(test)]
 mod plotters;
 #[cfg(test)]
 mod readers;
@@ -22,6 +22,8 @@ mod readers;
 mod sheets;
 #[cfg(test)]
 mod stretches;
+#[cfg(test)]
+mod tables_of_jobs;
 #[cfg(test)]
 mod tokens;
 #[cfg(test)]

@@ -1,0 +1,10 @@
+pub mod Lines
+pub mod Values
+pub mod Words
+pub mod Title
+pub mod Nodes
+pub mod Proper
+pub mod Taken
+pub mod Written
+pub mod Reading
+pub mod Sizes
