@@ -5,6 +5,8 @@
 #[cfg(test)]
 mod job_lines;
 #[cfg(test)]
+mod jobs_for_sheets;
+#[cfg(test)]
 mod numbers;
 #[cfg(test)]
 mod pages;
