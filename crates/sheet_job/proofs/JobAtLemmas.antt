@@ -1,15 +1,13 @@
 -- Views at a number of decimals.
-use Rattle.std.proofs.Common.{◌≡◌, ℕ, ℤ, Err, ◌+◌, ◌<◌, ◌≤◌, zero, suc, List, [], ◌∷◌, ◌++◌, length, get_or, take, drop, map, refl, sym, ap, subst, ◌∙◌, arith}
+use Rattle.std.proofs.Common.{◌≡◌, ℕ, ℤ, Err, ◌+◌, ◌<◌, zero, suc, List, [], ◌∷◌, ◌++◌, length, get_or, take, drop, map, refl, sym, ap, subst, ◌∙◌, arith}
 use Rattle.std.proofs.lemmas.List.{at_drop_more, take_more, take-append-drop, map-append}
-use Rattle.std.specs.List.{All, AllPairs, AllZip}
+use Rattle.std.specs.List.{AllPairs, AllZip}
 use Rattle.dec_text.specs.declared.number.Length.{Length}
 use Rattle.job_file.specs.Seen.{view_seen}
-use Rattle.job_file.specs.ViewValues.{ViewValues}
 use Rattle.job_file.specs.Views.{AreNamedApart}
 use Rattle.job_file.specs.declared.view.JobView.{JobView}
 use Rattle.sheet_job.specs.JobsAt.{IsUnitsAt, IsNumberTooFar, IsViewAt, IsFirstTooFar, IsTooFarIn, GivesJobAt}
 use Rattle.sheet_job.specs.SheetSeen.{sheet_job_seen, sheet_view_seen}
-use Rattle.sheet_job.specs.SheetViews.{SheetViewValues}
 use Rattle.sheet_job.specs.declared.flaw.PlacedFlaw.{PlacedFlaw}
 use Rattle.sheet_job.specs.declared.job.SheetJob.{SheetJob}
 use Rattle.sheet_job.specs.declared.job_at.AtError.{AtError}
@@ -62,8 +60,8 @@ apart_there d u [] ws h apart = λ i j y before within. let none : length ws ≡
 apart_there d u (v ∷ vs) ws h apart = λ i j y before within p ip jp.
     let many : length ws ≡ length (v ∷ vs) = as_many d u (v ∷ vs) ws h in
     apart i j v before (omega (arith, many, within)) p
-      (sym (named_there d u (v ∷ vs) ws i v y h (omega (arith, before, within))) ∙ ip)
-      (sym (named_there d u (v ∷ vs) ws j v y h within) ∙ jp)
+    (sym (named_there d u (v ∷ vs) ws i v y h (omega (arith, before, within))) ∙ ip)
+    (sym (named_there d u (v ∷ vs) ws j v y h within) ∙ jp)
 
 -- ---- too far away
 -- some view of the job is

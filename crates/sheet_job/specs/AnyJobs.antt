@@ -1,5 +1,5 @@
 -- What bytes say as a job of any version.
-use Rattle.std.specs.Prelude.{◌≡◌, ◌⊎◌, ℕ, ℤ, pos, ◌-◌, Bool, false, List, [], ◌∷◌, All, length, map, slice_get, Option, Some, None, option_map, option_and_then, Result, Ok, Err, if◌then◌else◌, codes}
+use Rattle.std.specs.Prelude.{◌≡◌, ◌⊎◌, ℕ, ℤ, pos, ◌-◌, Bool, false, List, All, length, slice_get, Option, Some, None, option_map, option_and_then, Result, Ok, Err, if◌then◌else◌, codes}
 use Rattle.std.specs.Ordering.{int_eq}
 use Rattle.std.specs.Str.{IsUtf8, IsValidUpTo}
 use Rattle.job_file.specs.Documents.{JobValues, table_of, job_of}

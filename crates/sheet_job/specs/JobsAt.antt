@@ -1,5 +1,5 @@
 -- A job of version 3 at a number of decimals.
-use Rattle.std.specs.Prelude.{◌≡◌, ℕ, ℤ, ◌<◌, ◌≤◌, Bool, List, [], ◌∷◌, ◌++◌, All, length, map, Result, Ok, Err}
+use Rattle.std.specs.Prelude.{◌≡◌, ℕ, ℤ, ◌<◌, ◌≤◌, Bool, List, [], ◌∷◌, ◌++◌, All, length, Result, Ok, Err}
 use Rattle.std.specs.List.{AllZip}
 use Rattle.dec_text.specs.Numbers.{Number, magnitude_of, units_of}
 use Rattle.dec_text.specs.declared.number.Length.{Length}

@@ -7,9 +7,9 @@ ghost use Rattle.sheet_job.specs.SheetSeen.{sheet_view_seen, IsPlacedIn};
 ghost use Rattle.sheet_job.specs.SheetViews.{placed_at, meaning_at, sheet_cut_view};
 ghost use Rattle.sheet_job.specs.WrittenValues.{choice_in, length_in};
 
+use crate::cut::SheetCut;
 use crate::entries::{hidden_at, length_at, side_at, text_at};
 use crate::flaw::{SheetStop, ViewFlaw, flawed_view};
-use crate::cut::SheetCut;
 use crate::shown::SheetShown;
 use crate::view::SheetView;
 use exact_frac::OutOfMemory;
@@ -36,12 +36,7 @@ pub(crate) fn cut_view(
         return Err(flawed_view(ViewFlaw::WithoutAt, number, entries, table.at));
     };
     let Some(from_high) = side_at(entries) else {
-        return Err(flawed_view(
-            ViewFlaw::WithoutFrom,
-            number,
-            entries,
-            table.at,
-        ));
+        return Err(flawed_view(ViewFlaw::WithoutFrom, number, entries, table.at));
     };
     let at = match Vec::from_slice(alloc, word) {
         Ok(at) => at,

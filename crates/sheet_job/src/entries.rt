@@ -56,7 +56,11 @@ pub(crate) fn no_title(alloc: Global) -> Result<Name, OutOfMemory>
 }
 
 /// The title at a key, or the empty one.
-pub(crate) fn text_at(alloc: Global, entries: &[TableEntry], name: &str) -> Result<Name, OutOfMemory>
+pub(crate) fn text_at(
+    alloc: Global,
+    entries: &[TableEntry],
+    name: &str,
+) -> Result<Name, OutOfMemory>
     ensures value { IfOk result (λ t. t ≡ text_at name.now (map entry_seen entries.now)) }
     ensures proper { IfOk result (λ t. IsTrue (is_title t)) }
 {

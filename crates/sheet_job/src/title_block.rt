@@ -29,7 +29,10 @@ fn texts_in(alloc: Global, entries: &[TableEntry]) -> Result<BlockTexts, OutOfMe
 }
 
 /// The texts of a title block, if there is one.
-pub(crate) fn block_texts(alloc: Global, block: &Option<JobTable>) -> Result<BlockTexts, OutOfMemory>
+pub(crate) fn block_texts(
+    alloc: Global,
+    block: &Option<JobTable>,
+) -> Result<BlockTexts, OutOfMemory>
     ensures { IfOk result (λ b. block_seen b ≡ block_of (entries_in (option_map table_seen block.now))) }
 {
     match block {

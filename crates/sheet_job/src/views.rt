@@ -70,12 +70,7 @@ fn toward_view(
     ensures unnamed { IfOk result (λ v. v.named ≡ None) }
 {
     if let Some((key, at)) = first_cut_key(entries) {
-        return Err(flawed_view(
-            ViewFlaw::WithoutCut(key),
-            number,
-            entries,
-            at,
-        ));
+        return Err(flawed_view(ViewFlaw::WithoutCut(key), number, entries, at));
     }
     match plain_view(alloc, direction, None, hidden_at(entries)) {
         Ok(view) => Ok(view),
@@ -121,12 +116,7 @@ fn named_view(
 {
     let number = earlier.len() as u32;
     if let Some((key, key_at)) = first_cut_key(entries) {
-        return Err(flawed_view(
-            ViewFlaw::WithoutCut(key),
-            number,
-            entries,
-            key_at,
-        ));
+        return Err(flawed_view(ViewFlaw::WithoutCut(key), number, entries, key_at));
     }
     if is_taken(name, earlier) {
         return Err(flawed_view(ViewFlaw::NameTaken, number, entries, at));

@@ -7,7 +7,8 @@ use sheet_job::{
 };
 use std::alloc::Global;
 
-const INCHES: &str = "version = 3\nunit = 'inch'\n[block]\nnumber = 'A-17'\n[[view]]\ncut = 'y'\nat = -0.5\nfrom = 'low'\ntitle = 'wall'\nhidden = true\n";
+const INCHES: &str =
+    "version = 3\nunit = 'inch'\n[block]\nnumber = 'A-17'\n[[view]]\ncut = 'y'\nat = -0.5\nfrom = 'low'\ntitle = 'wall'\nhidden = true\n";
 
 fn is_at(placed: &PlacedFlaw, line: u32, column: u32) -> bool {
     placed.place == TextPlace { line, column }
@@ -24,9 +25,7 @@ fn flaw_of(alloc: Global, bytes: &[u8]) -> Option<PlacedFlaw> {
 /// The plane across y from the low side is at so many units.
 fn is_across_y(spec: ViewSpec, units: i64) -> bool {
     match spec {
-        ViewSpec::Section(cut) => {
-            cut.axis() == Axis::Y && cut.at() == units && !cut.from_high()
-        }
+        ViewSpec::Section(cut) => { cut.axis() == Axis::Y && cut.at() == units && !cut.from_high() }
         ViewSpec::Plain(_) => false,
     }
 }
@@ -57,20 +56,37 @@ fn job_of_inches(rt: HostRuntime) {
 
 #[test]
 fn flaws_of_jobs(rt: HostRuntime) {
-    match flaw_of(rt.alloc(), b"version = 3\ntitle = 'gr\xC3\xB6\xC3\x9Fer' # \xC3\xA9\ndecimals = '3'\n") {
-        Some(placed) => assert!(rt; matches!(placed.flaw, JobFlaw::Wrong(SheetKey::Decimals, true)) && is_at(&placed, 3, 12)),
+    match flaw_of(
+        rt.alloc(),
+        b"version = 3\ntitle = 'gr\xC3\xB6\xC3\x9Fer' # \xC3\xA9\ndecimals = '3'\n",
+    ) {
+        Some(placed) => assert!(rt;
+            matches!(placed.flaw, JobFlaw::Wrong(SheetKey::Decimals, true)) && is_at(&placed, 3, 12)
+        ),
         None => panic!(rt; "no flaw"),
     }
     match flaw_of(rt.alloc(), b"title = '\xC3\xA9\xFF'\n") {
-        Some(placed) => assert!(rt; matches!(placed.flaw, JobFlaw::NotUtf8) && is_at(&placed, 1, 11)),
+        Some(placed) => assert!(rt;
+            matches!(placed.flaw, JobFlaw::NotUtf8) && is_at(&placed, 1, 11)
+        ),
         None => panic!(rt; "no flaw"),
     }
     match flaw_of(rt.alloc(), b"version = 3\n\n version = 3\n") {
-        Some(placed) => assert!(rt; matches!(placed.flaw, JobFlaw::Refused) && is_at(&placed, 3, 2)),
+        Some(placed) => assert!(rt;
+            matches!(placed.flaw, JobFlaw::Refused) && is_at(&placed, 3, 2)
+        ),
         None => panic!(rt; "no flaw"),
     }
-    match flaw_of(rt.alloc(), b"version = 3\n[[view]]\nname = 'left'\n[[view]]\nname = 'left'\n") {
-        Some(placed) => assert!(rt; matches!(placed.flaw, JobFlaw::View(ViewFlaw::NameTaken, 1, Some(Principal::Left))) && is_at(&placed, 5, 8)),
+    match flaw_of(
+        rt.alloc(),
+        b"version = 3\n[[view]]\nname = 'left'\n[[view]]\nname = 'left'\n",
+    ) {
+        Some(placed) => assert!(rt;
+            matches!(
+                placed.flaw,
+                JobFlaw::View(ViewFlaw::NameTaken, 1, Some(Principal::Left))
+            ) && is_at(&placed, 5, 8)
+        ),
         None => panic!(rt; "no flaw"),
     }
 }

@@ -1,4 +1,4 @@
-use Rattle.std.proofs.Common.{◌≡◌, length, arith, refl}
+use Rattle.std.proofs.Common.{◌≡◌, length, arith}
 use Rattle.sheet_job.proofs.JobAtLemmas.{as_many, apart_there}
 use Rattle.sheet_job.proofs.job_at.job_with.Goals as goal
 

@@ -1,4 +1,4 @@
-use Rattle.std.proofs.Common.{◌≡◌, true, false, sym, ◌∙◌, rules}
+use Rattle.std.proofs.Common.{◌≡◌, true, false, rules}
 use Rattle.toml.specs.View.{table_view}
 use Rattle.sheet_job.specs.AnyJobs.{is_own}
 use Rattle.sheet_job.proofs.AnyLemmas.{own_bytes, older_bytes, refused_bytes}
