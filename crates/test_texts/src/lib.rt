@@ -1,7 +1,9 @@
-//! Tests of what is read and of what is written: numbers, tokens and the texts of parts; lines and tables of jobs, and jobs as texts; where
-//! views stand on a sheet, strokes and their paths, dashes, pages, and plotters.
+//! Tests of what is read and of what is written: numbers, tokens and the texts of parts; lines, tables and flaws of jobs, and jobs as texts;
+//! where views stand on a sheet, strokes and their paths, dashes, pages, and plotters.
 #![tactic(auto)]
 
+#[cfg(test)]
+mod flaw_texts;
 #[cfg(test)]
 mod job_lines;
 #[cfg(test)]

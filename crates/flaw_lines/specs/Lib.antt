@@ -1,0 +1,2 @@
+pub mod FlawTexts
+pub mod KeyTexts
