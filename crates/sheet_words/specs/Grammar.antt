@@ -10,6 +10,10 @@ sheet_table = record {
       ∷ listed takes_value (codes "out")
       ∷ listed takes_value (codes "list")
       ∷ listed takes_value (codes "hidden")
+      ∷ listed takes_value (codes "number")
+      ∷ listed takes_value (codes "revision")
+      ∷ listed takes_value (codes "material")
+      ∷ listed takes_value (codes "date")
       ∷ listed (asks_for for_help) (codes "help")
       ∷ listed (asks_for for_version) (codes "version")
       ∷ [];

@@ -4,8 +4,9 @@ use Rattle.std.specs.List.{ends_with}
 use Rattle.std.specs.Str.{bytes_eq}
 use Rattle.command_words.specs.Grammar.{GivenTexts, Reading, all_given, asks, for_help, for_version, is_empty_value, reading_of, refused}
 use Rattle.sheet_words.specs.Grammar.{sheet_table}
-use Rattle.sheet_words.specs.declared.words.Hidden.{Hidden}
-use Rattle.sheet_words.specs.declared.words.Hidden.TheVariants.{All, Plain, Never}
+use Rattle.job_file.specs.Texts.{is_title}
+use Rattle.sheet_job.specs.declared.hidden.Hidden.{Hidden}
+use Rattle.sheet_job.specs.declared.hidden.Hidden.TheVariants.{All, Plain, Never}
 
 -- where a sheet goes: it is said, or it is kept under a name, as SVG or as PDF
 pub data Goal : Type 0 where
@@ -18,13 +19,22 @@ pub data ListGoal : Type 0 where
   list_said : ListGoal
   list_file : List ℕ → ListGoal
 
--- the part and the job by their names, where the sheet goes, and its list if there is one, and in which views hidden lines are drawn
+-- what is said for the title block, as far as it is
+pub record TextsSaid : Type 0 where
+  pub number : Option (List ℕ)
+  pub revision : Option (List ℕ)
+  pub material : Option (List ℕ)
+  pub date : Option (List ℕ)
+
+-- the part and the job by their names, where the sheet goes, its list if there is one, in which views hidden lines are drawn, and what is
+-- said for the title block
 pub record Named : Type 0 where
   pub part : List ℕ
   pub job : Option (List ℕ)
   pub out : Goal
   pub list : Option ListGoal
   pub hidden : Hidden
+  pub said : TextsSaid
 
 -- help, the version, or a sheet
 pub data Asks : Type 0 where
@@ -67,19 +77,41 @@ hidden_named word =
 
 -- without `--hidden` it is `all`
 abbrev pub hidden_of : Option (List ℕ) → Option Hidden
-hidden_of hidden = hidden_named (unwrap_or hidden (codes "all"))
+hidden_of None = Some All
+hidden_of (Some word) = hidden_named word
+
+-- a text that a title may be; it need not be said
+abbrev pub said_by : Option (List ℕ) → Option (Option (List ℕ))
+said_by None = Some None
+said_by (Some text) = if is_title text then Some (Some text) else None
+
+-- all of them, where none is wrong
+abbrev pub said_together : (number revision material date : Option (Option (List ℕ))) → Option TextsSaid
+said_together (Some number) (Some revision) (Some material) (Some date) =
+    Some (record { number = number; revision = revision; material = material; date = date })
+said_together _ _ _ _ = None
+
+abbrev pub said_in : GivenTexts → Option TextsSaid
+said_in given =
+    said_together (said_by (given (codes "number"))) (said_by (given (codes "revision"))) (said_by (given (codes "material"))) (said_by (given (codes "date")))
 
 -- all of them, where none is wrong or missing, and the list doesn't go where the sheet goes
-abbrev pub named_by : Option (List ℕ) → Option (List ℕ) → Option Goal → Option ListGoal → Option Hidden → Option Named
-named_by (Some part) job (Some out) list (Some hidden) =
-    if shares_place list out then None else Some (record { part = part; job = job; out = out; list = list; hidden = hidden })
-named_by _ _ _ _ _ = None
+abbrev pub named_by : Option (List ℕ) → Option (List ℕ) → Option Hidden → Option Goal → Option ListGoal → Option TextsSaid → Option Named
+named_by (Some part) job (Some hidden) (Some out) list (Some texts) =
+    if shares_place list out then None else Some (record { part = part; job = job; out = out; list = list; hidden = hidden; said = texts })
+named_by _ _ _ _ _ _ = None
+
+-- a name of a file is there, and it is empty
+abbrev pub has_empty_name : GivenTexts → Bool
+has_empty_name given =
+    is_empty_value (given (codes "part")) || is_empty_value (given (codes "job")) || is_empty_value (given (codes "list"))
 
 -- there is a part, no name is empty, each value is one of those that its option has, and the list has a place of its own
 abbrev pub named : GivenTexts → Option Named
 named given =
-    if is_empty_value (given (codes "part")) || is_empty_value (given (codes "job")) || is_empty_value (given (codes "list")) then None
-    else named_by (given (codes "part")) (given (codes "job")) (goal_of (given (codes "out"))) (option_map list_named (given (codes "list"))) (hidden_of (given (codes "hidden")))
+    if has_empty_name given then None
+    else named_by (given (codes "part")) (given (codes "job")) (hidden_of (given (codes "hidden"))) (goal_of (given (codes "out")))
+    (option_map list_named (given (codes "list"))) (said_in given)
 
 -- by what the words come to
 abbrev pub asks_of : Reading → Option Asks

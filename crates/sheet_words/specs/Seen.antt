@@ -1,12 +1,13 @@
 -- What contracts see of what words ask for.
 use Rattle.std.specs.Prelude.{option_map}
-use Rattle.sheet_words.specs.Names.{Asks, Goal, ListGoal, Named, help, version, sheet, said, svg_file, pdf_file, list_said, list_file}
+use Rattle.sheet_words.specs.Names.{Asks, Goal, ListGoal, Named, TextsSaid, help, version, sheet, said, svg_file, pdf_file, list_said, list_file}
 use Rattle.sheet_words.specs.declared.words.Asked.{Asked}
 use Rattle.sheet_words.specs.declared.words.Asked.TheVariants.{Help, Version, Sheet}
 use Rattle.sheet_words.specs.declared.words.ListOut.{ListOut}
 use Rattle.sheet_words.specs.declared.words.ListOut.TheVariants as list
 use Rattle.sheet_words.specs.declared.words.Out.{Out}
 use Rattle.sheet_words.specs.declared.words.Out.TheVariants.{Said, Svg, Pdf}
+use Rattle.sheet_words.specs.declared.said.SaidTexts.{SaidTexts}
 use Rattle.sheet_words.specs.declared.words.SheetRequest.{SheetRequest}
 
 -- where the sheet goes
@@ -20,9 +21,20 @@ abbrev pub list_seen : ListOut → ListGoal
 list_seen list.Said = list_said
 list_seen (list.File name) = list_file name
 
+-- what is said for the title block
+abbrev pub said_seen : SaidTexts → TextsSaid
+said_seen s = record { number = s.number; revision = s.revision; material = s.material; date = s.date }
+
 -- what a request names
 abbrev pub named_seen : SheetRequest → Named
-named_seen r = record { part = r.part; job = r.job; out = goal_seen r.out; list = option_map list_seen r.list; hidden = r.hidden }
+named_seen r = record {
+  part = r.part;
+  job = r.job;
+  out = goal_seen r.out;
+  list = option_map list_seen r.list;
+  hidden = r.hidden;
+  said = said_seen r.said;
+}
 
 -- what is asked for
 abbrev pub asked_seen : Asked → Asks

@@ -1,7 +1,9 @@
-//! The words behind the program's name: `PART [--job JOB] [--out OUT] [--list LIST] [--hidden all|plain|none]`, or `--help` or
-//! `--version`.
+//! The words after the program's name: a part, and what `sheet` makes of it; or `--help` or `--version`.
 #![tactic(auto)]
 
+mod said;
+mod said_words;
 mod words;
 
-pub use words::{Asked, Hidden, ListOut, Out, SheetRequest, read_words};
+pub use said::SaidTexts;
+pub use words::{Asked, ListOut, Out, SheetRequest, read_words};

@@ -1,25 +1,17 @@
 // What the words of a run ask for.
-ghost use Rattle.std.specs.Prelude.{◌≡◌, IfOk, IsErrOf, Some, None, option_copied, option_map};
+ghost use Rattle.std.specs.Prelude.{◌≡◌, IfOk, IsErrOf, Some, None, codes, option_copied, option_map};
 ghost use Rattle.command_words.specs.Seen.{given_seen, texts};
-ghost use Rattle.sheet_words.specs.Names.{asked_by, goal_named, shares_place, hidden_named, list_named, named};
+ghost use Rattle.sheet_words.specs.Names.{asked_by, goal_named, goal_of, shares_place, hidden_named, hidden_of, has_empty_name, list_named, named};
 ghost use Rattle.sheet_words.specs.Seen.{asked_seen, goal_seen, list_seen, named_seen};
 
+use crate::said::SaidTexts;
+use crate::said_words::said_in;
 use command_words::{Given, Sentence, WordOption, read};
 use dec_text::Name;
 use draw_words::WordsError;
 use exact_frac::OutOfMemory;
+use sheet_job::Hidden;
 use std::alloc::Global;
-
-/// In which views hidden lines are drawn.
-#[derive(Clone, Copy, PartialEq, Eq, Debug)]
-pub enum Hidden {
-    /// In all.
-    All,
-    /// In plain views, and not in cut ones.
-    Plain,
-    /// In none.
-    Never,
-}
 
 /// Where a sheet goes.
 #[derive(Debug, Drop)]
@@ -41,8 +33,8 @@ pub enum ListOut {
     File(Name),
 }
 
-/// Which part is drawn, by which job if one is named, where it goes, and its list if there is one, and which hidden lines are
-/// drawn.
+/// Which part is drawn, by which job if one is named, where it goes, its list if there is one, which hidden lines are drawn, and what
+/// is said for the title block.
 #[derive(Debug, Drop)]
 pub struct SheetRequest {
     pub part: Name,
@@ -50,6 +42,7 @@ pub struct SheetRequest {
     pub out: Out,
     pub list: Option<ListOut>,
     pub hidden: Hidden,
+    pub said: SaidTexts,
 }
 
 /// What words ask for.
@@ -73,6 +66,17 @@ fn out_named(alloc: Global, name: &str) -> Result<Out, WordsError>
         Ok(Out::Pdf(Name::new(alloc, name)?))
     } else {
         Err(WordsError::Usage)
+    }
+}
+
+/// Where the sheet goes.
+fn goal_of(alloc: Global, given: &Given<'_>) -> Result<Out, WordsError>
+    ensures goal { IfOk result (λ out. goal_of (given_seen given.now (codes "out")) ≡ Some (goal_seen out)) }
+    ensures usage { IsErrOf result WordsError.Usage → goal_of (given_seen given.now (codes "out")) ≡ None }
+{
+    match given.text("out") {
+        None => out_named(alloc, "sheet.svg"),
+        Some(name) => out_named(alloc, name),
     }
 }
 
@@ -110,22 +114,42 @@ fn hidden_named(word: &str) -> Option<Hidden>
     }
 }
 
+/// Which hidden lines are drawn by the text that the words give.
+fn hidden_of(given: &Given<'_>) -> Result<Hidden, WordsError>
+    ensures hidden { IfOk result (λ hidden. hidden_of (given_seen given.now (codes "hidden")) ≡ Some hidden) }
+    ensures usage { IsErrOf result WordsError.Usage → hidden_of (given_seen given.now (codes "hidden")) ≡ None }
+{
+    match given.text("hidden") {
+        None => Ok(Hidden::All),
+        Some(word) => match hidden_named(word) {
+            Some(hidden) => Ok(hidden),
+            None => Err(WordsError::Usage),
+        },
+    }
+}
+
+/// A name of a file is there, and it is empty.
+fn has_empty_name(given: &Given<'_>) -> bool
+    ensures { result ≡ has_empty_name (given_seen given.now) }
+{
+    given.is_empty("part") || given.is_empty("job") || given.is_empty("list")
+}
+
 /// What is asked for by the texts that the words give.
 fn request_of(alloc: Global, given: &Given<'_>) -> Result<SheetRequest, WordsError>
     ensures named { IfOk result (λ r. named (given_seen given.now) ≡ Some (named_seen r)) }
     ensures usage { IsErrOf result WordsError.Usage → named (given_seen given.now) ≡ None }
 {
-    if given.is_empty("part") || given.is_empty("job") || given.is_empty("list") {
+    if has_empty_name(given) {
         return Err(WordsError::Usage);
     }
     let Some(part) = given.text("part") else {
         return Err(WordsError::Usage);
     };
-    let Some(hidden) = hidden_named(given.text("hidden").unwrap_or("all")) else {
-        return Err(WordsError::Usage);
-    };
-    let out = out_named(alloc, given.text("out").unwrap_or("sheet.svg"))?;
+    let hidden = hidden_of(given)?;
+    let out = goal_of(alloc, given)?;
     let list = list_named(alloc, given.text("list"))?;
+    let said = said_in(alloc, given)?;
     if shares_place(&list, &out) {
         return Err(WordsError::Usage);
     }
@@ -135,28 +159,33 @@ fn request_of(alloc: Global, given: &Given<'_>) -> Result<SheetRequest, WordsErr
         out,
         list,
         hidden,
+        said,
     })
 }
 
 /// The options.
-const OPTIONS: [WordOption<'static>; 6] = [
+const OPTIONS: [WordOption<'static>; 10] = [
     WordOption::Value("job"),
     WordOption::Value("out"),
     WordOption::Value("list"),
     WordOption::Value("hidden"),
+    WordOption::Value("number"),
+    WordOption::Value("revision"),
+    WordOption::Value("material"),
+    WordOption::Value("date"),
     WordOption::Help("help"),
     WordOption::Version("version"),
 ];
 
-/// Reads the words behind the program's name, from left to right: `PART`, and `--job JOB`, `--out OUT`, `--list LIST` and
-/// `--hidden all|plain|none`, or these with `=`. PART is the one plain word, and each option is there at most once. A word
+/// Reads the words after the program's name, from left to right: `PART`, and `--job JOB`, `--out OUT`, `--list LIST`,
+/// `--hidden all|plain|none`, `--number TEXT`, `--revision TEXT`, `--material TEXT` and `--date TEXT`, or these with `=`. PART is the one plain word, and each option is there at most once. A word
 /// that begins with `-` and is longer is refused where it isn't one of these; a value in a word of its own doesn't begin so.
-/// Behind the first `--` every word is plain. The first of `--help` and `--version` asks for help, or for the version,
+/// After the first `--` every word is plain. The first of `--help` and `--version` asks for help, or for the version,
 /// whatever follows.
 ///
 /// PART, JOB and LIST aren't empty. OUT is `-`, or ends in `.svg` or `.pdf`; without it the sheet goes to `sheet.svg`. LIST is
 /// `-` or any other name, but not OUT's, to the byte; without it there is no list. Without `--hidden` all hidden lines are
-/// drawn. The time goes with the length of the words.
+/// drawn. Each TEXT is one that a title may be. The time goes with the length of the words.
 pub fn read_words(alloc: Global, words: &[String]) -> Result<Asked, WordsError>
     ensures asked { IfOk result (λ asked. asked_by (texts words.now) ≡ Some (asked_seen asked)) }
     ensures usage { IsErrOf result WordsError.Usage → asked_by (texts words.now) ≡ None }
