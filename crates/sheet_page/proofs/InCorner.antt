@@ -109,14 +109,14 @@ rules_keep : (corner : Point) (cells : List Said) (lines : List Rule) → All (K
 rules_keep corner cells lines = All-map (KeepsToCells corner cells) item.Rule lines (λ k d lt. tt)
 
 symbol_keeps : (corner : Point) (cells : List Said) (third : Bool) → All (KeepsToCells corner cells) (symbol_of corner third)
-symbol_keeps corner cells third = All-from_recursion (KeepsToCells corner cells) (symbol_of corner third) (tt, tt, tt, tt, tt, tt, tt, tt, tt, tt)
+symbol_keeps corner cells third = All-from_recursion (KeepsToCells corner cells) (symbol_of corner third) (search rules)
 
 -- ---- the block
 module _ (sheet : Sheet) (job : Job) (part : List ℕ) (texts : BlockTexts) where
-  corner : Point
+  abbrev corner : Point
   corner = corner_of sheet.width sheet.height
 
-  cells : List Said
+  abbrev cells : List Said
   cells = cells_of sheet.scale job part texts
 
   block_in : AreInCells corner cells → All (IsInCorner sheet.width sheet.height) (block_of sheet job part texts)

@@ -1,5 +1,5 @@
 -- A label in its space is in the cell that the space is in.
-use Rattle.std.proofs.Common.{ℕ, ◌+◌, ◌*◌, ◌≤◌, ◌≡◌, List, Result, Ok, Err, OnOk, arith}
+use Rattle.std.proofs.Common.{ℕ, ◌+◌, ◌*◌, ◌≤◌, ◌≡◌, List, arith}
 use Rattle.std.specs.Prelude.{ℤ, pos, ◌+ℤ◌, ◌-ℤ◌, ◌*ℤ◌, ◌≤ℤ◌}
 use Rattle.std.specs.List.{All}
 use Rattle.std.proofs.lemmas.Int.{ints}
@@ -40,14 +40,9 @@ in_cell corner c s is (item.Label l) inside = record {
 in_cell corner c s is (item.Path path) inside = absurd inside
 
 -- so is what a cell says
-all_in_cell : (corner : Point) (c : Cell) (caption text : List ℕ) → IsCell c → All (IsInSpace corner c.caption) (text_in corner c.caption caption) → All (IsInSpace corner c.text) (text_in corner c.text text)
+pub all_in_cell : (corner : Point) (c : Cell) (caption text : List ℕ) → IsCell c → All (IsInSpace corner c.caption) (text_in corner c.caption caption) → All (IsInSpace corner c.text) (text_in corner c.text text)
     → All (IsInCell corner c) (cell_items corner (says c caption text))
 all_in_cell corner c caption text is first second =
     All-append (IsInCell corner c) (text_in corner c.caption caption) (text_in corner c.text text)
     (All-weaker (IsInSpace corner c.caption) (IsInCell corner c) (in_cell corner c c.caption is.caption) (text_in corner c.caption caption) first)
     (All-weaker (IsInSpace corner c.text) (IsInCell corner c) (in_cell corner c c.text is.text) (text_in corner c.text text) second)
-
-pub told_in_cell : {T E : Type 0} (result : Result T E) (corner : Point) (c : Cell) (caption text : List ℕ) → IsCell c → All (IsInSpace corner c.caption) (text_in corner c.caption caption)
-    → OnOk result (All (IsInSpace corner c.text) (text_in corner c.text text)) → OnOk result (All (IsInCell corner c) (cell_items corner (says c caption text)))
-told_in_cell (Ok done) corner c caption text is first second = all_in_cell corner c caption text is first second
-told_in_cell (Err fault) corner c caption text is first second = second

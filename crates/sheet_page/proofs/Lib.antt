@@ -4,5 +4,6 @@ pub mod Written
 pub mod FittedTexts
 pub mod LabelTexts
 pub mod InSpace
+pub mod AddedCells
 pub mod InCorner
 pub mod PartNames

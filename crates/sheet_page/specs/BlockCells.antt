@@ -24,7 +24,7 @@ left_cells t file =
 -- on the right first what is made, of what, and how exactly
 abbrev pub upper_cells : BlockTexts → List ℕ → List ℕ → List Said
 upper_cells t title scale =
-    says (tall_cell 6000 0 12000 760 450) (codes "title") title
+    says (tall_cell 6000 0 12000 760 420) (codes "title") title
     ∷ says (tall_cell 8200 760 4600 720 350) (codes "material") t.material
     ∷ says (tall_cell 12800 760 3400 720 350) (codes "tolerances") t.tolerances
     ∷ says (tall_cell 16200 760 1800 720 350) (codes "scale") scale

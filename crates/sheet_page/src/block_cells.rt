@@ -1,9 +1,7 @@
 // What the cells of the title block say.
-ghost use Rattle.std.specs.Prelude.{◌≡◌, ◌++◌, OnOk};
-ghost use Rattle.std.specs.List.{flat_map};
+ghost use Rattle.std.specs.Prelude.{OnOk};
 ghost use Rattle.sheet_page.specs.BlockCells.{left_cells, upper_cells, lower_cells, cells_of};
-ghost use Rattle.sheet_page.specs.Labels.{cell_items};
-ghost use Rattle.sheet_page.specs.inner.Spaces.{AreInCells};
+ghost use Rattle.sheet_page.specs.inner.Spaces.{AddsCells};
 
 use crate::block_names::{part_name, scale_text, unit_name};
 use crate::cells::{low_cell, tall_cell};
@@ -24,44 +22,29 @@ fn add_left(
     texts: &BlockTexts,
     file: &str,
 ) -> Result<(), OutOfMemory>
-    ensures items { OnOk result (items.new.items ≡ items.old.items ++ flat_map (cell_items corner.now.at) (left_cells texts.now file.now)) }
-    ensures inside { OnOk result (AreInCells corner.now.at (left_cells texts.now file.now)) }
+    ensures { OnOk result (AddsCells corner.now.at items.old.items (left_cells texts.now file.now) items.new.items) }
 {
-    let company = low_cell(0, 0, 6000, 400, 950);
-    let kind = low_cell(0, 400, 6000, 360, 950);
-    let author = low_cell(0, 760, 3700, 360, 950);
-    let date = low_cell(3700, 760, 2300, 360, 550);
-    let approved = low_cell(0, 1120, 6000, 360, 950);
-    let source = low_cell(0, 1480, 6000, 360, 950);
-    let note = low_cell(0, 1840, 6000, 360, 950);
-    add_cell(
-        alloc,
-        items,
-        corner,
-        company,
-        "company",
-        texts.company.as_str(),
-    )?;
-    add_cell(alloc, items, corner, kind, "type", texts.kind.as_str())?;
-    add_cell(
-        alloc,
-        items,
-        corner,
-        author,
-        "author",
-        texts.author.as_str(),
-    )?;
-    add_cell(alloc, items, corner, date, "date", texts.date.as_str())?;
-    add_cell(
-        alloc,
-        items,
-        corner,
-        approved,
-        "approved",
-        texts.approved.as_str(),
-    )?;
-    add_cell(alloc, items, corner, source, "file", file)?;
-    add_cell(alloc, items, corner, note, "note", texts.note.as_str())
+    let cell = low_cell(0, 0, 6000, 400, 950);
+    let text = texts.company.as_str();
+    add_cell(alloc, items, corner, cell, "company", text)?;
+    let cell = low_cell(0, 400, 6000, 360, 950);
+    let text = texts.kind.as_str();
+    add_cell(alloc, items, corner, cell, "type", text)?;
+    let cell = low_cell(0, 760, 3700, 360, 950);
+    let text = texts.author.as_str();
+    add_cell(alloc, items, corner, cell, "author", text)?;
+    let cell = low_cell(3700, 760, 2300, 360, 550);
+    let text = texts.date.as_str();
+    add_cell(alloc, items, corner, cell, "date", text)?;
+    let cell = low_cell(0, 1120, 6000, 360, 950);
+    let text = texts.approved.as_str();
+    add_cell(alloc, items, corner, cell, "approved", text)?;
+    let cell = low_cell(0, 1480, 6000, 360, 950);
+    add_cell(alloc, items, corner, cell, "file", file)?;
+    let cell = low_cell(0, 1840, 6000, 360, 950);
+    let text = texts.note.as_str();
+    add_cell(alloc, items, corner, cell, "note", text)?;
+    Ok(())
 }
 
 /// Adds what is made, of what, and how exactly.
@@ -73,31 +56,19 @@ fn add_upper(
     title: &str,
     scale: &str,
 ) -> Result<(), OutOfMemory>
-    ensures items { OnOk result (items.new.items ≡ items.old.items ++ flat_map (cell_items corner.now.at) (upper_cells texts.now title.now scale.now)) }
-    ensures inside { OnOk result (AreInCells corner.now.at (upper_cells texts.now title.now scale.now)) }
+    ensures { OnOk result (AddsCells corner.now.at items.old.items (upper_cells texts.now title.now scale.now) items.new.items) }
 {
-    let top = tall_cell(6000, 0, 12_000, 760, 450);
-    let material = tall_cell(8200, 760, 4600, 720, 350);
-    let tolerances = tall_cell(12_800, 760, 3400, 720, 350);
-    let ratio = tall_cell(16_200, 760, 1800, 720, 350);
-    add_cell(alloc, items, corner, top, "title", title)?;
-    add_cell(
-        alloc,
-        items,
-        corner,
-        material,
-        "material",
-        texts.material.as_str(),
-    )?;
-    add_cell(
-        alloc,
-        items,
-        corner,
-        tolerances,
-        "tolerances",
-        texts.tolerances.as_str(),
-    )?;
-    add_cell(alloc, items, corner, ratio, "scale", scale)
+    let cell = tall_cell(6000, 0, 12_000, 760, 420);
+    add_cell(alloc, items, corner, cell, "title", title)?;
+    let cell = tall_cell(8200, 760, 4600, 720, 350);
+    let text = texts.material.as_str();
+    add_cell(alloc, items, corner, cell, "material", text)?;
+    let cell = tall_cell(12_800, 760, 3400, 720, 350);
+    let text = texts.tolerances.as_str();
+    add_cell(alloc, items, corner, cell, "tolerances", text)?;
+    let cell = tall_cell(16_200, 760, 1800, 720, 350);
+    add_cell(alloc, items, corner, cell, "scale", scale)?;
+    Ok(())
 }
 
 /// Adds what sheet this is.
@@ -109,33 +80,21 @@ fn add_lower(
     unit: &str,
     size: &str,
 ) -> Result<(), OutOfMemory>
-    ensures items { OnOk result (items.new.items ≡ items.old.items ++ flat_map (cell_items corner.now.at) (lower_cells texts.now unit.now size.now)) }
-    ensures inside { OnOk result (AreInCells corner.now.at (lower_cells texts.now unit.now size.now)) }
+    ensures { OnOk result (AddsCells corner.now.at items.old.items (lower_cells texts.now unit.now size.now) items.new.items) }
 {
-    let length = tall_cell(8200, 1480, 1600, 720, 350);
-    let paper = tall_cell(9800, 1480, 1500, 720, 350);
-    let count = tall_cell(11_300, 1480, 1500, 720, 350);
-    let number = tall_cell(12_800, 1480, 3400, 720, 350);
-    let revision = tall_cell(16_200, 1480, 1800, 720, 350);
-    add_cell(alloc, items, corner, length, "unit", unit)?;
-    add_cell(alloc, items, corner, paper, "size", size)?;
-    add_cell(alloc, items, corner, count, "sheet", "1/1")?;
-    add_cell(
-        alloc,
-        items,
-        corner,
-        number,
-        "number",
-        texts.number.as_str(),
-    )?;
-    add_cell(
-        alloc,
-        items,
-        corner,
-        revision,
-        "revision",
-        texts.revision.as_str(),
-    )
+    let cell = tall_cell(8200, 1480, 1600, 720, 350);
+    add_cell(alloc, items, corner, cell, "unit", unit)?;
+    let cell = tall_cell(9800, 1480, 1500, 720, 350);
+    add_cell(alloc, items, corner, cell, "size", size)?;
+    let cell = tall_cell(11_300, 1480, 1500, 720, 350);
+    add_cell(alloc, items, corner, cell, "sheet", "1/1")?;
+    let cell = tall_cell(12_800, 1480, 3400, 720, 350);
+    let text = texts.number.as_str();
+    add_cell(alloc, items, corner, cell, "number", text)?;
+    let cell = tall_cell(16_200, 1480, 1800, 720, 350);
+    let text = texts.revision.as_str();
+    add_cell(alloc, items, corner, cell, "revision", text)?;
+    Ok(())
 }
 
 /// Adds what all cells say.
@@ -148,8 +107,7 @@ pub(crate) fn add_cells(
     part: &str,
     texts: &BlockTexts,
 ) -> Result<(), OutOfMemory>
-    ensures items { OnOk result (items.new.items ≡ items.old.items ++ flat_map (cell_items corner.now.at) (cells_of sheet.now.scale job.now part.now texts.now)) }
-    ensures inside { OnOk result (AreInCells corner.now.at (cells_of sheet.now.scale job.now part.now texts.now)) }
+    ensures { OnOk result (AddsCells corner.now.at items.old.items (cells_of sheet.now.scale job.now part.now texts.now) items.new.items) }
 {
     let name = part_name(alloc, part)?;
     let scale = scale_text(alloc, &sheet.scale)?;
@@ -169,5 +127,6 @@ pub(crate) fn add_cells(
         texts,
         unit_name(job.unit),
         job.paper.name(),
-    )
+    )?;
+    Ok(())
 }

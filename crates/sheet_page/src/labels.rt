@@ -1,12 +1,11 @@
 // The labels of the title block.
-ghost use Rattle.std.specs.Prelude.{◌≡◌, ◌++◌, ◌*◌, ◌/◌, ◌≤◌, OnOk};
+ghost use Rattle.std.specs.Prelude.{◌≡◌, [], ◌∷◌, ◌++◌, ◌*◌, ◌/◌, OnOk};
 ghost use Rattle.std.specs.List.{All};
 ghost use Rattle.text_fit.specs.Fits.{Fits};
 ghost use Rattle.text_fit.specs.Widths.{text_width};
 ghost use Rattle.sheet_page.specs.Cells.{IsCell};
-ghost use Rattle.sheet_page.specs.Corners.{IsInCell};
-ghost use Rattle.sheet_page.specs.Labels.{set_width, label_in, text_in, says, cell_items};
-ghost use Rattle.sheet_page.specs.inner.Spaces.{IsInSpace};
+ghost use Rattle.sheet_page.specs.Labels.{set_width, label_in, text_in, says};
+ghost use Rattle.sheet_page.specs.inner.Spaces.{IsInSpace, AddsCells};
 
 use crate::cells::{Cell, Space};
 use crate::page::{Item, Label};
@@ -87,9 +86,9 @@ pub(crate) fn add_cell(
     text: &str,
 ) -> Result<(), OutOfMemory>
     requires { IsCell cell }
-    ensures items { OnOk result (items.new.items ≡ items.old.items ++ cell_items corner.now.at (says cell caption.now text.now)) }
-    ensures inside { OnOk result (All (IsInCell corner.now.at cell) (cell_items corner.now.at (says cell caption.now text.now))) }
+    ensures { OnOk result (AddsCells corner.now.at items.old.items (says cell caption.now text.now ∷ []) items.new.items) }
 {
     add_text(alloc, items, corner, &cell.caption, caption)?;
-    add_text(alloc, items, corner, &cell.text, text)
+    add_text(alloc, items, corner, &cell.text, text)?;
+    Ok(())
 }

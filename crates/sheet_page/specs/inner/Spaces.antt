@@ -1,6 +1,6 @@
 -- Labels in their spaces, and what cells say in them.
-use Rattle.std.specs.Prelude.{◌≡◌, ◌≤◌, List}
-use Rattle.std.specs.List.{All}
+use Rattle.std.specs.Prelude.{◌≡◌, ◌≤◌, List, ◌++◌}
+use Rattle.std.specs.List.{All, flat_map}
 use Rattle.text_fit.specs.Fits.{Fits}
 use Rattle.text_fit.specs.Widths.{text_width}
 use Rattle.stroke_paths.specs.declared.path.Point.{Point}
@@ -34,3 +34,8 @@ pub record SaysInside (corner : Point) (e : Said) : Type 0 where
 
 abbrev pub AreInCells : Point → List Said → Type 0
 AreInCells corner cells = All (SaysInside corner) cells
+
+-- what these cells say is added to some items, and is in them
+pub record AddsCells (corner : Point) (before : List Item) (cells : List Said) (after : List Item) : Type 0 where
+  pub items : after ≡ before ++ flat_map (cell_items corner) cells
+  pub inside : AreInCells corner cells
