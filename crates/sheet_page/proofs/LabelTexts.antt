@@ -1,13 +1,12 @@
 -- The label of a text that was fitted into its space.
-use Rattle.std.proofs.Common.{◌≡◌, ◌≢◌, ℕ, List, [], ◌∷◌, ◌++◌, length, refl, ap, ◌∙◌, sym, subst}
+use Rattle.std.proofs.Common.{◌≡◌, ◌≢◌, ℕ, List, [], ◌∷◌, length, refl, ap, sym}
 use Rattle.std.specs.List.{All}
 use Rattle.std.proofs.lemmas.List.Elements.{All-nil, All-cons, All-same}
 use Rattle.text_fit.specs.Fits.{IsFitted}
 use Rattle.text_fit.specs.declared.fit.Fitted.{Fitted}
 use Rattle.stroke_paths.specs.declared.path.Point.{Point}
 use Rattle.sheet_page.specs.declared.cells.Space.{Space}
-use Rattle.sheet_page.specs.declared.page.Item.{Item}
-use Rattle.sheet_page.specs.Labels.{room_of, fitted_in, label_in, text_in}
+use Rattle.sheet_page.specs.Labels.{room_of, label_in, text_in}
 use Rattle.sheet_page.specs.inner.Spaces.{IsInSpace}
 use Rattle.sheet_page.proofs.FittedTexts.{is_fitted_in, no_larger}
 

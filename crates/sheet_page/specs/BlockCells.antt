@@ -1,6 +1,5 @@
 -- What the cells of a title block say.
 use Rattle.std.specs.Prelude.{List, ℕ, [], ◌∷◌, ◌++◌, codes}
-use Rattle.dec_text.specs.declared.number.Length.{Length}
 use Rattle.job_file.specs.Papers.{paper_name}
 use Rattle.job_file.specs.declared.job.Job.{Job}
 use Rattle.job_file.specs.declared.job.Scale.{Scale}
