@@ -20,7 +20,7 @@ rule_to p a b = item.Rule (record { pen = p; from = record { x = a.x; y = a.y };
 
 -- a text with its middle at this place
 abbrev pub text_at : SheetPoint → ℕ → ℕ → List ℕ → Item
-text_at p width size text = item.Label (record { x = p.x -ℤ pos (half_of width size); y = p.y; size = size; text = text })
+text_at p width size text = item.Label (record { x = p.x -ℤ pos (half_of width size); y = p.y; size = size; width = None; text = text })
 
 -- the heading of a view
 abbrev pub heading_item : Heading → Item

@@ -60,6 +60,7 @@ fn text_at(
         x: less(place.x, half_of(width, size)),
         y: place.y,
         size,
+        width: None,
         text: Name::new(alloc, text)?,
     }))
 }

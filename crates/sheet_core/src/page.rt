@@ -13,6 +13,7 @@ use drawing::{Drawing, strokes_of};
 use exact_frac::OutOfMemory;
 use job_file::JobView;
 use lattice::ViewSpec;
+use sheet_job::BlockTexts;
 use sheet_page::{Frame, Item, Page, title_block};
 use sheet_plan::{Mark, Sheet, Stroke, centred};
 use sheet_words::Hidden;
@@ -106,7 +107,8 @@ fn items_of(
 {
     let mut items = Vec::new(alloc);
     items.push(frame_of(&drawing.sheet))?;
-    let block = title_block(alloc, &drawing.sheet, &drawing.job, part)?;
+    let texts = BlockTexts::none(alloc)?;
+    let block = title_block(alloc, &drawing.sheet, &drawing.job, part, &texts)?;
     add_items(&mut items, block)?;
     add_paths(&mut items, hidden, &drawing.job.views, paths)?;
     add_items(&mut items, mark_items(alloc, marks)?)?;

@@ -1,26 +1,28 @@
--- A title block stands in the corner of its sheet, and is clear of the views.
-use Rattle.std.proofs.Common.{ℕ, ◌+◌, ◌*◌, ◌/◌, ◌≤◌, ◌≡◌, Bool, true, false, List, [], ◌∷◌, ◌++◌, Result, Ok, Err, IfOk, length, map, refl, get_or, sym, subst, arith, rules, mul-le-mul}
-use Rattle.std.specs.Prelude.{nat_le, ℤ, pos, ◌+ℤ◌, ◌-ℤ◌, ◌*ℤ◌, ◌<ℤ◌, ◌≤ℤ◌, max}
-use Rattle.std.specs.List.{All}
+-- A title block stands in the corner of its sheet, its texts in their cells, and it is clear of the views.
+use Rattle.std.proofs.Common.{ℕ, suc, ◌+◌, ◌≤◌, ◌≡◌, Bool, true, false, List, [], ◌∷◌, ◌++◌, Result, Ok, Err, IfOk, map, refl, get_or, sym, subst, arith, rules}
+use Rattle.std.specs.Prelude.{nat_le, ℤ, pos, ◌+ℤ◌, ◌-ℤ◌, ◌*ℤ◌, ◌<ℤ◌, ◌≤ℤ◌}
+use Rattle.std.specs.List.{All, Contains, flat_map}
 use Rattle.std.proofs.lemmas.Bool.{leb-true}
 use Rattle.std.proofs.lemmas.Int.{ints}
-use Rattle.std.proofs.lemmas.List.Elements.{All-nil, All-from_recursion, All-append}
-use Rattle.std.proofs.Math.Nat.{le_refl, div-mul-le_self, min-le_left, min-le_right, le-max_right}
-use Rattle.job_file.specs.Papers.{paper_name}
+use Rattle.std.proofs.lemmas.List.Elements.{All-nil, All-head, All-tail, All-from_recursion, All-append, All-map, All-weaker}
 use Rattle.job_file.specs.declared.job.Job.{Job}
-use Rattle.job_file.specs.declared.job.Scale.{Scale}
+use Rattle.sheet_job.specs.declared.block.BlockTexts.{BlockTexts}
+use Rattle.stroke_paths.specs.declared.path.Point.{Point}
+use Rattle.sheet_page.specs.declared.cells.Cell.{Cell}
 use Rattle.sheet_page.specs.declared.page.Item.{Item}
 use Rattle.sheet_page.specs.declared.page.Item.TheVariants as item
 use Rattle.sheet_page.specs.declared.page.Pen.{Pen}
+use Rattle.sheet_page.specs.declared.page.Rule.{Rule}
 use Rattle.sheet_plan.specs.Boxes.{Box, IsWithinMargins}
 use Rattle.sheet_plan.specs.declared.sheet.Sheet.{Sheet}
+use Rattle.sheet_page.specs.BlockCells.{cells_of}
 use Rattle.sheet_page.specs.Blocks.{block_of}
-use Rattle.sheet_page.specs.Corners.{IsPointInCorner, IsInCorner, IsBelow}
-use Rattle.sheet_page.specs.Labels.{size_in, label_in, title_of, lower_labels, labels_of}
-use Rattle.sheet_page.specs.BlockNames.{part_name, scale_text, unit_name}
+use Rattle.sheet_page.specs.Cells.{IsCell}
+use Rattle.sheet_page.specs.Corners.{IsPointInCorner, IsInCorner, IsInCell, KeepsToCells, IsBelow}
+use Rattle.sheet_page.specs.Labels.{Said, cell_items}
 use Rattle.sheet_page.specs.Rules.{corner_of, point_from, rule_from, rules_of}
 use Rattle.sheet_page.specs.Symbols.{circle_from, symbol_of}
-use Rattle.sheet_page.specs.declared.labels.Space.{Space}
+use Rattle.sheet_page.specs.inner.Spaces.{SaysInside, AreInCells}
 
 -- ---- rules
 point_in : (w h : ℤ) (x y : ℕ) → x ≤ 18000 → y ≤ 2200 → IsPointInCorner w h (point_from (corner_of w h) x y)
@@ -36,10 +38,10 @@ rules_in w h =
     (search (rules, rule_in))
 
 -- ---- the symbol
-circle_in : (w h : ℤ) (x r : ℕ) → nat_le r x ≡ true → nat_le (x + r) 18000 ≡ true → nat_le r 1100 ≡ true → IsInCorner w h (item.Circle (circle_from (corner_of w h) x r))
-circle_in w h x r a b c = by (leb-true r x a) (leb-true (x + r) 18000 b) (leb-true r 1100 c)
+circle_in : (w h : ℤ) (x r : ℕ) → nat_le r x ≡ true → nat_le (x + r) 18000 ≡ true → nat_le r 720 ≡ true → IsInCorner w h (item.Circle (circle_from (corner_of w h) x r))
+circle_in w h x r a b c = by (leb-true r x a) (leb-true (x + r) 18000 b) (leb-true r 720 c)
   where
-    by : r ≤ x → x + r ≤ 18000 → r ≤ 1100 → IsInCorner w h (item.Circle (circle_from (corner_of w h) x r))
+    by : r ≤ x → x + r ≤ 18000 → r ≤ 720 → IsInCorner w h (item.Circle (circle_from (corner_of w h) x r))
     by left right down = record { left = omega (arith, ints); right = omega (arith, ints); top = omega (arith, ints); bottom = omega (arith, ints) }
 
 symbol_in : (w h : ℤ) (third : Bool) → All (IsInCorner w h) (symbol_of (corner_of w h) third)
@@ -51,65 +53,94 @@ symbol_in w h false =
     (search (rules, rule_in, circle_in))
 
 -- ---- labels
-taken : (size n m all : ℕ) → n ≤ m → size * (8 * m) ≤ all → 8 * size * n ≤ all
-taken size n m all fewer h = let p : size * n ≤ size * m = mul-le-mul (le_refl size) fewer in omega (arith, p, h)
+left_in : (w : ℤ) (cell : ℕ) (x : ℤ) → (w -ℤ pos 19000 +ℤ pos cell) ≤ℤ x → (w -ℤ pos 19000) ≤ℤ x
+left_in w cell x h = omega (arith, ints)
 
-fits : (width most n : ℕ) → 8 * size_in width most n * n ≤ width * 10
-fits width most n =
-    let m = 8 * max 1 n in
-    let less : size_in width most n * m ≤ width * 10 / m * m = mul-le-mul (min-le_left (width * 10 / m) most) (le_refl m) in
-    let whole : width * 10 / m * m ≤ width * 10 = div-mul-le_self (width * 10) m in
-    taken (size_in width most n) n (max 1 n) (width * 10) (le-max_right 1 n) (omega (arith, less, whole))
+right_in : (w : ℤ) (cell used : ℕ) (x : ℤ) → cell ≤ 18000 → pos used ≤ℤ (pos 1000 *ℤ (w -ℤ pos 19000 +ℤ pos cell -ℤ x)) → pos used ≤ℤ (pos 1000 *ℤ (w -ℤ pos 1000 -ℤ x))
+right_in w cell used x inside h = omega (arith, ints)
 
-right_fits : (w : ℤ) (x width used : ℕ) → x + width ≤ 18000 → used ≤ width * 10 → pos used ≤ℤ (pos 10 *ℤ (w -ℤ pos 1000 -ℤ (w -ℤ pos 19000 +ℤ pos x)))
-right_fits w x width used a b = omega (arith, ints)
+top_in : (h : ℤ) (cell : ℕ) (y : ℤ) → (h -ℤ pos 3200 +ℤ pos cell) ≤ℤ y → (h -ℤ pos 3200) ≤ℤ y
+top_in h cell y up = omega (arith, ints)
 
-up_fits : (h : ℤ) (y size most : ℕ) → size ≤ most → most ≤ y → (h -ℤ pos 3200) ≤ℤ (h -ℤ pos 3200 +ℤ pos y -ℤ pos size)
-up_fits h y size most a b = omega (arith, ints)
+bottom_in : (h : ℤ) (cell size : ℕ) (y : ℤ) → cell ≤ 2200 → pos size ≤ℤ (pos 4 *ℤ (h -ℤ pos 3200 +ℤ pos cell -ℤ y)) → pos size ≤ℤ (pos 4 *ℤ (h -ℤ pos 1000 -ℤ y))
+bottom_in h cell size y inside down = omega (arith, ints)
 
-down_fits : (h : ℤ) (y size most : ℕ) → size ≤ most → most + 4 * y ≤ 8800 → pos size ≤ℤ (pos 4 *ℤ (h -ℤ pos 1000 -ℤ (h -ℤ pos 3200 +ℤ pos y)))
-down_fits h y size most a b = omega (arith, ints)
+-- what is in a cell is in the corner
+in_corner : (w h : ℤ) (c : Cell) → IsCell c → (one : Item) → IsInCell (corner_of w h) c one → IsInCorner w h one
+in_corner w h c is (item.Frame frame) inside = absurd inside
+in_corner w h c is (item.Rule rule) inside = absurd inside
+in_corner w h c is (item.Circle circle) inside = absurd inside
+in_corner w h c is (item.Label l) inside = record {
+  left = left_in w c.x l.x inside.left;
+  right = right_in w (c.x + c.width) _ l.x is.right inside.right;
+  top = top_in h c.y _ inside.top;
+  bottom = bottom_in h (c.y + c.height) l.size l.y is.bottom inside.bottom;
+}
+in_corner w h c is (item.Path path) inside = absurd inside
 
-label_is_in : (w h : ℤ) (s : Space) (text : List ℕ) → nat_le (s.x + s.width) 18000 ≡ true → nat_le s.most s.y ≡ true → nat_le (s.most + 4 * s.y) 8800 ≡ true → IsInCorner w h (label_in (corner_of w h) s text)
-label_is_in w h s text fits_across fits_up fits_down =
-    let across : s.x + s.width ≤ 18000 = leb-true (s.x + s.width) 18000 fits_across in
-    let up : s.most ≤ s.y = leb-true s.most s.y fits_up in
-    let down : s.most + 4 * s.y ≤ 8800 = leb-true (s.most + 4 * s.y) 8800 fits_down in
-    let size = size_in s.width s.most (length text) in
-    let most : size ≤ s.most = min-le_right (s.width * 10 / (8 * max 1 (length text))) s.most in
-    record {
-      left = (point_in w h s.x 0 (omega (arith, across)) (omega arith)).left;
-      right = right_fits w s.x s.width (8 * size * length text) across (fits s.width s.most (length text));
-      top = up_fits h s.y size s.most most up;
-      bottom = down_fits h s.y size s.most most down;
-    }
+labels_in : (w h : ℤ) (cells : List Said) → AreInCells (corner_of w h) cells → All (IsInCorner w h) (flat_map (cell_items (corner_of w h)) cells)
+labels_in w h [] are = All-nil (IsInCorner w h)
+labels_in w h (e ∷ cells) are =
+    let here = All-head (SaysInside (corner_of w h)) e cells are in
+    All-append (IsInCorner w h) (cell_items (corner_of w h) e) (flat_map (cell_items (corner_of w h)) cells)
+    (All-weaker (IsInCell (corner_of w h) e.cell) (IsInCorner w h) (in_corner w h e.cell here.is_cell) (cell_items (corner_of w h) e) here.inside)
+    (labels_in w h cells (All-tail (SaysInside (corner_of w h)) e cells are))
 
-title_in : (w h : ℤ) (title : List ℕ) → All (IsInCorner w h) (title_of (corner_of w h) title)
-title_in w h [] = All-nil (IsInCorner w h)
-title_in w h (b ∷ title) = All-from_recursion (IsInCorner w h) (title_of (corner_of w h) (b ∷ title)) (label_is_in w h (record { x = 200; y = 750; width = 14000; most = 500 }) (b ∷ title) refl refl refl, tt)
+-- ---- cells
+one_keeps : (corner : Point) (cells : List Said) (e : Said) → Contains cells e → (one : Item) → IsInCell corner e.cell one → KeepsToCells corner cells one
+one_keeps corner cells e at (item.Frame frame) inside = tt
+one_keeps corner cells e at (item.Rule rule) inside = tt
+one_keeps corner cells e at (item.Circle circle) inside = tt
+one_keeps corner cells e at (item.Label l) inside = (e, at, inside)
+one_keeps corner cells e at (item.Path path) inside = tt
 
-lower_in : (w h : ℤ) (name scale paper unit : List ℕ) → All (IsInCorner w h) (lower_labels (corner_of w h) name scale paper unit)
-lower_in w h name scale paper unit =
-    All-from_recursion (IsInCorner w h) (lower_labels (corner_of w h) name scale paper unit)
-    (search (rules, label_is_in))
+-- of some cells what the last ones say
+labels_keep : (corner : Point) (cells last : List Said) → ((e : Said) → Contains last e → Contains cells e) → AreInCells corner last
+    → All (KeepsToCells corner cells) (flat_map (cell_items corner) last)
+labels_keep corner cells [] of are = All-nil (KeepsToCells corner cells)
+labels_keep corner cells (e ∷ last) of are =
+    let here = All-head (SaysInside corner) e last are in
+    let behind = λ (x : Said) (at : Contains last x). of x (suc at.0, omega (arith, at.1), at.2) in
+    All-append (KeepsToCells corner cells) (cell_items corner e) (flat_map (cell_items corner) last)
+    (All-weaker (IsInCell corner e.cell) (KeepsToCells corner cells) (one_keeps corner cells e (of e (0, omega arith, refl))) (cell_items corner e) here.inside)
+    (labels_keep corner cells last behind (All-tail (SaysInside corner) e last are))
 
-labels_in : (w h : ℤ) (scale : Scale) (job : Job) (part : List ℕ) → All (IsInCorner w h) (labels_of (corner_of w h) scale job part)
-labels_in w h scale job part =
-    All-append (IsInCorner w h) (title_of (corner_of w h) job.title) (lower_labels (corner_of w h) (part_name part) (scale_text scale) (paper_name job.paper) (unit_name job.unit))
-    (title_in w h job.title) (lower_in w h (part_name part) (scale_text scale) (paper_name job.paper) (unit_name job.unit))
+rules_keep : (corner : Point) (cells : List Said) (lines : List Rule) → All (KeepsToCells corner cells) (map item.Rule lines)
+rules_keep corner cells lines = All-map (KeepsToCells corner cells) item.Rule lines (λ k d lt. tt)
+
+symbol_keeps : (corner : Point) (cells : List Said) (third : Bool) → All (KeepsToCells corner cells) (symbol_of corner third)
+symbol_keeps corner cells third = All-from_recursion (KeepsToCells corner cells) (symbol_of corner third) (search rules)
 
 -- ---- the block
-pub block_in : (sheet : Sheet) (job : Job) (part : List ℕ) → All (IsInCorner sheet.width sheet.height) (block_of sheet job part)
-block_in sheet job part =
-    let w = sheet.width in
-    let h = sheet.height in
-    All-append (IsInCorner w h) (map item.Rule (rules_of (corner_of w h))) (labels_of (corner_of w h) sheet.scale job part ++ symbol_of (corner_of w h) job.third) (rules_in w h)
-    (All-append (IsInCorner w h) (labels_of (corner_of w h) sheet.scale job part) (symbol_of (corner_of w h) job.third) (labels_in w h sheet.scale job part) (symbol_in w h job.third))
+module _ (sheet : Sheet) (job : Job) (part : List ℕ) (texts : BlockTexts) where
+  abbrev corner : Point
+  corner = corner_of sheet.width sheet.height
 
-pub written_in : {T E : Type 0} (written : T → List Item) (result : Result T E) (sheet : Sheet) (job : Job) (part : List ℕ) → IfOk result (λ items. written items ≡ block_of sheet job part)
-    → IfOk result (λ items. All (IsInCorner sheet.width sheet.height) (written items))
-written_in written (Ok items) sheet job part e = subst (All (IsInCorner sheet.width sheet.height)) (sym e) (block_in sheet job part)
-written_in written (Err fault) sheet job part e = e
+  abbrev cells : List Said
+  cells = cells_of sheet.scale job part texts
+
+  block_in : AreInCells corner cells → All (IsInCorner sheet.width sheet.height) (block_of sheet job part texts)
+  block_in are =
+      let w = sheet.width in
+      let h = sheet.height in
+      All-append (IsInCorner w h) (map item.Rule (rules_of corner)) (flat_map (cell_items corner) cells ++ symbol_of corner job.third) (rules_in w h)
+      (All-append (IsInCorner w h) (flat_map (cell_items corner) cells) (symbol_of corner job.third) (labels_in w h cells are) (symbol_in w h job.third))
+
+  block_keeps : AreInCells corner cells → All (KeepsToCells corner cells) (block_of sheet job part texts)
+  block_keeps are =
+      let P = KeepsToCells corner cells in
+      All-append P (map item.Rule (rules_of corner)) (flat_map (cell_items corner) cells ++ symbol_of corner job.third) (rules_keep corner cells (rules_of corner))
+      (All-append P (flat_map (cell_items corner) cells) (symbol_of corner job.third) (labels_keep corner cells cells (λ e at. at) are) (symbol_keeps corner cells job.third))
+
+  pub written_in : {T E : Type 0} (written : T → List Item) (result : Result T E) → IfOk result (λ items. written items ≡ block_of sheet job part texts) → IfOk result (λ _. AreInCells corner cells)
+      → IfOk result (λ items. All (IsInCorner sheet.width sheet.height) (written items))
+  written_in written (Ok items) e are = subst (All (IsInCorner sheet.width sheet.height)) (sym e) (block_in are)
+  written_in written (Err fault) e are = e
+
+  pub written_keeps : {T E : Type 0} (written : T → List Item) (result : Result T E) → IfOk result (λ items. written items ≡ block_of sheet job part texts) → IfOk result (λ _. AreInCells corner cells)
+      → IfOk result (λ items. All (KeepsToCells corner cells) (written items))
+  written_keeps written (Ok items) e are = subst (All (KeepsToCells corner cells)) (sym e) (block_keeps are)
+  written_keeps written (Err fault) e are = e
 
 -- ---- the views
 above : (bottom h y : ℤ) → bottom ≤ℤ (h -ℤ pos 4000) → (h -ℤ pos 3200) ≤ℤ y → (bottom +ℤ pos 700) <ℤ y

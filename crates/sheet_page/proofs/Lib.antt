@@ -1,5 +1,9 @@
 pub mod PdfFile
 pub mod PdfTexts
 pub mod Written
+pub mod FittedTexts
+pub mod LabelTexts
+pub mod InSpace
+pub mod AddedCells
 pub mod InCorner
 pub mod PartNames

@@ -31,7 +31,7 @@ abbrev pub part_name : List ℕ → List ℕ
 part_name part = shown (behind_slash (chars part))
 
 abbrev pub scale_text : Scale → List ℕ
-scale_text scale = codes "scale " ⊕ decimal scale.num ⊕ codes ":" ⊕ decimal scale.den
+scale_text scale = decimal scale.num ⊕ codes ":" ⊕ decimal scale.den
 
 abbrev pub unit_name : Length → List ℕ
 unit_name Millimetre = codes "mm"

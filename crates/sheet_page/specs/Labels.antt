@@ -1,38 +1,60 @@
 -- The labels of a title block.
-use Rattle.std.specs.Prelude.{ℕ, ◌*◌, ◌/◌, min, max, List, [], ◌∷◌, ◌++◌, length}
-use Rattle.job_file.specs.Papers.{paper_name}
-use Rattle.job_file.specs.declared.job.Job.{Job}
-use Rattle.job_file.specs.declared.job.Scale.{Scale}
+use Rattle.std.specs.Prelude.{ℕ, zero, suc, ◌*◌, ◌/◌, nat_le, nat_lt, if◌then◌else◌, List, [], ◌∷◌, ◌++◌, length, Option, Some, None, encode_utf8_all}
+use Rattle.std.specs.Str.{chars}
+use Rattle.text_fit.specs.Fits.{size_in, least_of, with_points}
+use Rattle.text_fit.specs.Widths.{chars_width, text_width}
+use Rattle.text_fit.specs.declared.fit.Fitted.{Fitted}
+use Rattle.text_fit.specs.declared.fit.Room.{Room}
+use Rattle.sheet_page.specs.declared.cells.Cell.{Cell}
+use Rattle.sheet_page.specs.declared.cells.Space.{Space}
 use Rattle.sheet_page.specs.declared.page.Item.{Item}
 use Rattle.sheet_page.specs.declared.page.Item.TheVariants as item
 use Rattle.stroke_paths.specs.declared.path.Point.{Point}
-use Rattle.sheet_page.specs.BlockNames.{part_name, scale_text, unit_name}
 use Rattle.sheet_page.specs.Rules.{point_from}
-use Rattle.sheet_page.specs.declared.labels.Space.{Space}
 
--- the size of so many letters, no more than the most: all of them fit the width, where each is taken to be 8/10 of its size wide, as few are
-abbrev pub size_in : ℕ → ℕ → ℕ → ℕ
-size_in width most count = min (width * 10 / (8 * max 1 count)) most
+-- the room of a space; no letters are smaller than 1.8 mm
+abbrev pub room_of : Space → Room
+room_of s = record { width = s.width; most = s.most; least = 180 }
 
--- a text in its space
-abbrev pub label_in : Point → Space → List ℕ → Item
-label_in corner s text =
-    item.Label (record { x = (point_from corner s.x s.y).x; y = (point_from corner s.x s.y).y; size = size_in s.width s.most (length text); text = text })
+-- of the first n characters of a text as many as fit with three points behind them, or nothing if not even the points fit
+abbrev pub cut_within : ℕ → ℕ → List ℕ → ℕ → List ℕ
+cut_within room size text zero =
+    if nat_le (chars_width (with_points zero text) * size) (1000 * room) then encode_utf8_all (with_points zero text) else []
+cut_within room size text (suc n) =
+    if nat_le (chars_width (with_points (suc n) text) * size) (1000 * room) then encode_utf8_all (with_points (suc n) text) else cut_within room size text n
 
--- the title in the upper row, if it isn't empty
-abbrev pub title_of : Point → List ℕ → List Item
-title_of corner [] = []
-title_of corner (b ∷ title) = label_in corner (record { x = 200; y = 750; width = 14000; most = 500 }) (b ∷ title) ∷ []
+-- a text in the greatest size in which it fits its room, or cut, in the least
+unfoldable pub fitted_in : Room → List ℕ → Fitted
+fitted_in room text =
+    if nat_le (least_of room) (size_in room.width room.most (text_width text)) then record { size = size_in room.width room.most (text_width text); text = text }
+    else record { size = least_of room; text = cut_within room.width (least_of room) text (length (chars text)) }
 
--- a text in the lower row
-abbrev pub lower_label : Point → ℕ → ℕ → List ℕ → Item
-lower_label corner x width text = label_in corner (record { x = x; y = 1775; width = width; most = 350 }) text
+-- how wide a viewer is to set a text, which may have another font: as wide as it is in Helvetica, if that is over eight tenths of its space
+abbrev pub set_width : ℕ → ℕ → Option ℕ
+set_width room wide = if nat_lt (8 * room) (10 * wide) then Some wide else None
 
--- the part's file, the scale, the paper and the unit
-abbrev pub lower_labels : Point → List ℕ → List ℕ → List ℕ → List ℕ → List Item
-lower_labels corner name scale paper unit =
-    lower_label corner 200 6200 name ∷ lower_label corner 6800 3100 scale ∷ lower_label corner 10200 1800 paper ∷ lower_label corner 12400 1800 unit ∷ []
+abbrev pub label_in : Point → Space → Fitted → Item
+label_in corner s f = item.Label (record {
+  x = (point_from corner s.x s.y).x;
+  y = (point_from corner s.x s.y).y;
+  size = f.size;
+  width = set_width s.width (text_width f.text * f.size / 1000);
+  text = f.text;
+})
 
-abbrev pub labels_of : Point → Scale → Job → List ℕ → List Item
-labels_of corner scale job part =
-    title_of corner job.title ++ lower_labels corner (part_name part) (scale_text scale) (paper_name job.paper) (unit_name job.unit)
+-- a text in its space; an empty one is left out
+abbrev pub text_in : Point → Space → List ℕ → List Item
+text_in corner s [] = []
+text_in corner s (b ∷ text) = label_in corner s (fitted_in (room_of s) (b ∷ text)) ∷ []
+
+-- what a cell says: its caption, and its text
+pub record Said : Type 0 where
+  pub cell : Cell
+  pub caption : List ℕ
+  pub text : List ℕ
+
+abbrev pub says : Cell → List ℕ → List ℕ → Said
+says cell caption text = record { cell = cell; caption = caption; text = text }
+
+abbrev pub cell_items : Point → Said → List Item
+cell_items corner said = text_in corner said.cell.caption said.caption ++ text_in corner said.cell.text said.text

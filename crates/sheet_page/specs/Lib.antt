@@ -5,7 +5,9 @@ pub mod Pdf
 pub mod PdfContent
 pub mod PdfWords
 pub mod Svg
+pub mod BlockCells
 pub mod Blocks
+pub mod Cells
 pub mod Corners
 pub mod Labels
 pub mod BlockNames

@@ -15,14 +15,23 @@ point_from corner across down = record { x = corner.x +ℤ pos across; y = corne
 abbrev pub rule_from : Point → Pen → ℕ → ℕ → ℕ → ℕ → Rule
 rule_from corner pen x1 y1 x2 y2 = record { pen = pen; from = point_from corner x1 y1; to = point_from corner x2 y2 }
 
--- the block's upper and left lines, where its other two are the frame's; then a line between its two rows, and one before each cell
+-- The block's upper and left lines, where its other two are the frame's, and the line to the right of its left cells; then the level lines
+-- between cells, and the upright ones.
 abbrev pub rules_of : Point → List Rule
 rules_of corner =
     rule_from corner Strong 0 0 18000 0
     ∷ rule_from corner Strong 0 0 0 2200
-    ∷ rule_from corner Thin 0 1100 14400 1100
-    ∷ rule_from corner Thin 6600 1100 6600 2200
-    ∷ rule_from corner Thin 10000 1100 10000 2200
-    ∷ rule_from corner Thin 12200 1100 12200 2200
-    ∷ rule_from corner Thin 14400 0 14400 2200
+    ∷ rule_from corner Strong 6000 0 6000 2200
+    ∷ rule_from corner Thin 0 400 6000 400
+    ∷ rule_from corner Thin 0 760 18000 760
+    ∷ rule_from corner Thin 0 1120 6000 1120
+    ∷ rule_from corner Thin 0 1480 6000 1480
+    ∷ rule_from corner Thin 8200 1480 18000 1480
+    ∷ rule_from corner Thin 0 1840 6000 1840
+    ∷ rule_from corner Thin 3700 760 3700 1120
+    ∷ rule_from corner Thin 8200 760 8200 2200
+    ∷ rule_from corner Thin 9800 1480 9800 2200
+    ∷ rule_from corner Thin 11300 1480 11300 2200
+    ∷ rule_from corner Thin 12800 760 12800 2200
+    ∷ rule_from corner Thin 16200 760 16200 2200
     ∷ []

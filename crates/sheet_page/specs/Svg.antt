@@ -87,14 +87,19 @@ abbrev pub circle_line : Circle → List ℕ
 circle_line c =
     codes "<circle class=\"" ⊕ (rule_look pen.Strong).class ⊕ codes "\" cx=\"" ⊕ signed_decimal c.x ⊕ codes "\" cy=\"" ⊕ signed_decimal c.y ⊕ codes "\" r=\"" ⊕ decimal c.radius ⊕ codes "\"/>\n"
 
--- what stands before a text in its line
-abbrev pub before_text : Label → List ℕ
-before_text l =
-    codes "<text x=\"" ⊕ signed_decimal l.x ⊕ codes "\" y=\"" ⊕ signed_decimal l.y ⊕ codes "\" font-size=\"" ⊕ decimal l.size ⊕ codes "\">"
+-- where a text begins, and how large its letters are
+abbrev pub text_start : Label → List ℕ
+text_start l =
+    codes "<text x=\"" ⊕ signed_decimal l.x ⊕ codes "\" y=\"" ⊕ signed_decimal l.y ⊕ codes "\" font-size=\"" ⊕ decimal l.size ⊕ codes "\""
 
--- the line of a text, each byte by its name where it has one in XML
+-- how wide a viewer is to set a text, if that is told
+abbrev pub text_length : Option ℕ → List ℕ
+text_length None = []
+text_length (Some width) = codes " textLength=\"" ⊕ decimal width ⊕ codes "\" lengthAdjust=\"spacingAndGlyphs\""
+
+-- the line of a text, each byte by its name if it has one in XML
 abbrev pub label_line : Label → List ℕ
-label_line l = before_text l ++ flat_map escaped l.text ++ codes "</text>\n"
+label_line l = text_start l ++ text_length l.width ++ codes ">" ++ flat_map escaped l.text ++ codes "</text>\n"
 
 -- whatever isn't a path, which stands in the group of its view
 abbrev pub standing : Item → List ℕ

@@ -50,10 +50,10 @@ pub(crate) fn unit_name(unit: Length) -> &'static str
     }
 }
 
-/// A scale, as it is written on a sheet.
+/// A scale, as it is written on a sheet: `1:2`.
 pub(crate) fn scale_text(alloc: Global, scale: &Scale) -> Result<String, AllocError>
     ensures { IfOk result (λ text. string_bytes text ≡ scale_text scale.now) }
 {
     let (num, den) = (scale.num, scale.den);
-    format!(in alloc; "scale {num}:{den}")
+    format!(in alloc; "{num}:{den}")
 }

@@ -1,111 +1,94 @@
 // The labels of the title block.
-ghost use Rattle.std.specs.Prelude.{◌≡◌, ◌∷◌, [], ◌++◌, OnOk};
-ghost use Rattle.sheet_page.specs.Labels.{size_in, label_in, lower_label, title_of, labels_of};
+ghost use Rattle.std.specs.Prelude.{◌≡◌, [], ◌∷◌, ◌++◌, ◌*◌, ◌/◌, OnOk};
+ghost use Rattle.std.specs.List.{All};
+ghost use Rattle.text_fit.specs.Fits.{Fits};
+ghost use Rattle.text_fit.specs.Widths.{text_width};
+ghost use Rattle.sheet_page.specs.Cells.{IsCell};
+ghost use Rattle.sheet_page.specs.Labels.{set_width, label_in, text_in, says};
+ghost use Rattle.sheet_page.specs.inner.Spaces.{IsInSpace, AddsCells};
 
-use crate::block_names::{part_name, scale_text, unit_name};
+use crate::cells::{Cell, Space};
 use crate::page::{Item, Label};
 use crate::rules::Corner;
-use dec_text::Name;
 use exact_frac::OutOfMemory;
-use job_file::Job;
-use sheet_plan::Sheet;
 use std::alloc::Global;
+use text_fit::{Fitted, Room, fit_text, text_width};
 
-/// Where a text stands in the block: where its base line begins, how wide it may be, and the most that its letters' size may be.
-#[derive(Clone, Copy)]
-pub(crate) struct Space {
-    pub x: u32,
-    pub y: u32,
-    pub width: u32,
-    pub most: u32,
-}
+/// No letters of the block are smaller.
+const LEAST: u32 = 180;
 
-/// The size of letters at which so many of them fit the width.
-fn size_in(width: u32, most: u32, count: usize) -> u32
-    ensures { result ≡ size_in width most count }
+/// How wide a text is in its size.
+fn wide(fitted: &Fitted, room: u32) -> u32
+    requires { Fits room fitted.now.size (text_width fitted.now.text) }
+    ensures { result ≡ text_width fitted.now.text * fitted.now.size / 1000 }
 {
-    let least = 8 * (count as u128).max(1);
-    (u128::from(width) * 10 / least).min(u128::from(most)) as u32
+    (text_width(fitted.text.as_str()) * u128::from(fitted.size) / 1000) as u32
 }
 
-/// Adds a text.
-fn add_label(
+/// How wide a viewer is to set a text that is so wide, if that is told.
+fn set_width(room: u32, wide: u32) -> Option<u32>
+    ensures { result ≡ set_width room wide }
+{
+    if 8 * u64::from(room) < 10 * u64::from(wide) {
+        Some(wide)
+    } else {
+        None
+    }
+}
+
+/// The label of a text that was fitted into its space.
+fn label_in(corner: &Corner, space: &Space, fitted: Fitted) -> Item
+    requires { Fits space.now.width fitted.size (text_width fitted.text) }
+    ensures { result ≡ label_in corner.now.at space.now fitted }
+{
+    let at = corner.point(space.x, space.y);
+    let wide = wide(&fitted, space.width);
+    Item::Label(Label {
+        x: at.x,
+        y: at.y,
+        size: fitted.size,
+        width: set_width(space.width, wide),
+        text: fitted.text,
+    })
+}
+
+/// Adds a text, if it isn't empty.
+fn add_text(
     alloc: Global,
     items: &mut Vec<Item>,
     corner: &Corner,
-    space: Space,
+    space: &Space,
     text: &str,
 ) -> Result<(), OutOfMemory>
-    ensures { OnOk result (items.new.items ≡ items.old.items ++ label_in corner.now.at space text.now ∷ []) }
+    ensures items { OnOk result (items.new.items ≡ items.old.items ++ text_in corner.now.at space.now text.now) }
+    ensures inside { OnOk result (All (IsInSpace corner.now.at space.now) (text_in corner.now.at space.now text.now)) }
 {
-    let at = corner.point(space.x, space.y);
-    items.push(Item::Label(Label {
-        x: at.x,
-        y: at.y,
-        size: size_in(space.width, space.most, text.len()),
-        text: Name::new(alloc, text)?,
-    }))?;
+    if text.is_empty() {
+        return Ok(());
+    }
+    let room = Room {
+        width: space.width,
+        most: space.most,
+        least: LEAST,
+    };
+    let fitted = fit_text(alloc, text, room)?;
+    items.push(label_in(corner, space, fitted))?;
     Ok(())
 }
 
-/// Adds the title, if it isn't empty.
-fn add_title(
+/// Adds what a cell says: its caption and its text.
+pub(crate) fn add_cell(
     alloc: Global,
     items: &mut Vec<Item>,
     corner: &Corner,
-    title: &str,
-) -> Result<(), OutOfMemory>
-    ensures { OnOk result (items.new.items ≡ items.old.items ++ title_of corner.now.at title.now) }
-{
-    if title.is_empty() {
-        return Ok(());
-    }
-    let space = Space {
-        x: 200,
-        y: 750,
-        width: 14_000,
-        most: 500,
-    };
-    add_label(alloc, items, corner, space, title)
-}
-
-/// Adds a text of the lower cells.
-fn add_lower(
-    alloc: Global,
-    items: &mut Vec<Item>,
-    corner: &Corner,
-    x: u32,
-    width: u32,
+    cell: Cell,
+    caption: &str,
     text: &str,
 ) -> Result<(), OutOfMemory>
-    ensures { OnOk result (items.new.items ≡ items.old.items ++ lower_label corner.now.at x width text.now ∷ []) }
+    requires { IsCell cell }
+    ensures { OnOk result (AddsCells corner.now.at items.old.items (says cell caption.now text.now ∷ []) items.new.items) }
 {
-    let space = Space {
-        x,
-        y: 1775,
-        width,
-        most: 350,
-    };
-    add_label(alloc, items, corner, space, text)
-}
-
-/// Adds all labels.
-pub(crate) fn add_labels(
-    alloc: Global,
-    items: &mut Vec<Item>,
-    corner: &Corner,
-    sheet: &Sheet,
-    job: &Job,
-    part: &str,
-) -> Result<(), OutOfMemory>
-    ensures { OnOk result (items.new.items ≡ items.old.items ++ labels_of corner.now.at sheet.now.scale job.now part.now) }
-{
-    let name = part_name(alloc, part)?;
-    let scale = scale_text(alloc, &sheet.scale)?;
-    add_title(alloc, items, corner, job.title.as_str())?;
-    add_lower(alloc, items, corner, 200, 6200, name.as_str())?;
-    add_lower(alloc, items, corner, 6800, 3100, scale.as_str())?;
-    add_lower(alloc, items, corner, 10_200, 1800, job.paper.name())?;
-    add_lower(alloc, items, corner, 12_400, 1800, unit_name(job.unit))?;
+    add_text(alloc, items, corner, &cell.caption, caption)?;
+    add_text(alloc, items, corner, &cell.text, text)?;
     Ok(())
 }

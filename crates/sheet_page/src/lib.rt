@@ -1,12 +1,15 @@
 //! A page: what stands on a sheet of paper, its title block among it, and its text as SVG and as PDF.
 //!
-//! Lengths are in hundredths of a millimetre; x goes to the right and y goes down, from the upper left corner. The title block stands
-//! in the lower right corner of the sheet's frame, 180 mm wide and 22 mm high. Nothing of it is outside, and no view comes near to it,
-//! not even with the marks of cuts, which reach 7 mm beyond a view (lemma `clear_of_views`).
+//! Lengths are in hundredths of a millimetre; x goes to the right and y goes down, from the upper left corner. The title block has the
+//! fields of ISO 7200. It is in the lower right corner of the sheet's frame, 180 mm wide and 22 mm high. Nothing of it is outside, no
+//! text leaves its cell, and no view comes near to the block, not even with the marks of cuts, which reach 7 mm beyond a view (lemma
+//! `clear_of_views`).
 #![tactic(auto)]
 
 mod block;
+mod block_cells;
 mod block_names;
+mod cells;
 mod chains;
 mod dashes;
 mod labels;

@@ -13,12 +13,14 @@ pub struct Frame {
     pub height: i64,
 }
 
-/// A text that begins at a point, on its base line. `size` is that of its letters.
+/// A text that begins at a point, on its base line. `size` is that of its letters. A viewer of SVG is to set it as wide as `width` says,
+/// if that is told, whatever font it has.
 #[derive(Debug, Drop)]
 pub struct Label {
     pub x: i64,
     pub y: i64,
     pub size: u32,
+    pub width: Option<u32>,
     pub text: Name,
 }
 

@@ -52,17 +52,25 @@ impl Corner {
 }
 
 /// The lines around the cells.
-pub(crate) fn rules_of(corner: &Corner) -> [Rule; 7]
+pub(crate) fn rules_of(corner: &Corner) -> [Rule; 15]
     ensures { result ≡ rules_of corner.now.at }
 {
     [
         corner.rule(Pen::Strong, 0, 0, 18_000, 0),
         corner.rule(Pen::Strong, 0, 0, 0, 2200),
-        corner.rule(Pen::Thin, 0, 1100, 14_400, 1100),
-        corner.rule(Pen::Thin, 6600, 1100, 6600, 2200),
-        corner.rule(Pen::Thin, 10_000, 1100, 10_000, 2200),
-        corner.rule(Pen::Thin, 12_200, 1100, 12_200, 2200),
-        corner.rule(Pen::Thin, 14_400, 0, 14_400, 2200),
+        corner.rule(Pen::Strong, 6000, 0, 6000, 2200),
+        corner.rule(Pen::Thin, 0, 400, 6000, 400),
+        corner.rule(Pen::Thin, 0, 760, 18_000, 760),
+        corner.rule(Pen::Thin, 0, 1120, 6000, 1120),
+        corner.rule(Pen::Thin, 0, 1480, 6000, 1480),
+        corner.rule(Pen::Thin, 8200, 1480, 18_000, 1480),
+        corner.rule(Pen::Thin, 0, 1840, 6000, 1840),
+        corner.rule(Pen::Thin, 3700, 760, 3700, 1120),
+        corner.rule(Pen::Thin, 8200, 760, 8200, 2200),
+        corner.rule(Pen::Thin, 9800, 1480, 9800, 2200),
+        corner.rule(Pen::Thin, 11_300, 1480, 11_300, 2200),
+        corner.rule(Pen::Thin, 12_800, 760, 12_800, 2200),
+        corner.rule(Pen::Thin, 16_200, 760, 16_200, 2200),
     ]
 }
 

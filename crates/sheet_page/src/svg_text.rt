@@ -5,7 +5,7 @@ ghost use Rattle.sheet_page.specs.Chains.{phase_between, phase_of};
 ghost use Rattle.sheet_page.specs.Dashes.{own_dashes};
 ghost use Rattle.sheet_page.specs.Pages.{IsInView};
 ghost use Rattle.sheet_page.specs.RuleLooks.{rule_look};
-ghost use Rattle.sheet_page.specs.Svg.{classes, paper, ground, head, frame_line, dash_offset, rule_offset, rule_start, rule_line, circle_line, before_text, label_line, standing, dash_array, own_offset, to_point, route, path_line, drawn_in, group, group_start, path_start, svg_of};
+ghost use Rattle.sheet_page.specs.Svg.{classes, paper, ground, head, frame_line, dash_offset, rule_offset, rule_start, rule_line, circle_line, text_start, text_length, label_line, standing, dash_array, own_offset, to_point, route, path_line, drawn_in, group, group_start, path_start, svg_of};
 
 use crate::chains::{phase_between, phase_of};
 use crate::dashes::{Dashes, dashes_of, with_decimals};
@@ -171,18 +171,32 @@ fn circle_line(alloc: Global, circle: &Circle) -> Result<String, AllocError>
 fn add_label(alloc: Global, text: &mut Vec<u8>, label: &Label) -> Result<(), OutOfMemory>
     ensures { OnOk result (text.new.items ≡ text.old.items ++ label_line label.now) }
 {
-    text.extend_from_slice(before_text(alloc, label)?.as_bytes())?;
+    text.extend_from_slice(text_start(alloc, label)?.as_bytes())?;
+    text.extend_from_slice(text_length(alloc, label.width)?.as_bytes())?;
+    text.extend_from_slice(">".as_bytes())?;
     add_escaped(text, label.text.as_str())?;
     text.extend_from_slice("</text>\n".as_bytes())?;
     Ok(())
 }
 
-/// What stands before a text in its line.
-fn before_text(alloc: Global, label: &Label) -> Result<String, AllocError>
-    ensures { IfOk result (λ text. string_bytes text ≡ before_text label.now) }
+/// Where a text begins, and how large its letters are.
+fn text_start(alloc: Global, label: &Label) -> Result<String, AllocError>
+    ensures { IfOk result (λ text. string_bytes text ≡ text_start label.now) }
 {
     let (x, y, size) = (label.x, label.y, label.size);
-    format!(in alloc; "<text x=\"{x}\" y=\"{y}\" font-size=\"{size}\">")
+    format!(in alloc; "<text x=\"{x}\" y=\"{y}\" font-size=\"{size}\"")
+}
+
+/// How wide a viewer is to set a text, if that is told.
+fn text_length(alloc: Global, width: Option<u32>) -> Result<String, AllocError>
+    ensures { IfOk result (λ text. string_bytes text ≡ text_length width) }
+{
+    match width {
+        Some(width) => {
+            format!(in alloc; " textLength=\"{width}\" lengthAdjust=\"spacingAndGlyphs\"")
+        }
+        None => Ok(String::new(alloc)),
+    }
 }
 
 /// Adds the group of a view.

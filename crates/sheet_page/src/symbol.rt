@@ -13,11 +13,11 @@ fn frustum_of(corner: &Corner, x: u32) -> [Rule; 5]
     ensures { result ≡ frustum_of corner.now.at x }
 {
     [
-        corner.rule(Pen::Strong, x, 900, x, 1300),
-        corner.rule(Pen::Strong, x + 1000, 700, x + 1000, 1500),
-        corner.rule(Pen::Strong, x, 900, x + 1000, 700),
-        corner.rule(Pen::Strong, x, 1300, x + 1000, 1500),
-        corner.rule(Pen::Thin, x - 150, 1100, x + 1150, 1100),
+        corner.rule(Pen::Strong, x, 1330, x, 1630),
+        corner.rule(Pen::Strong, x + 750, 1180, x + 750, 1780),
+        corner.rule(Pen::Strong, x, 1330, x + 750, 1180),
+        corner.rule(Pen::Strong, x, 1630, x + 750, 1780),
+        corner.rule(Pen::Thin, x - 120, 1480, x + 870, 1480),
     ]
 }
 
@@ -28,8 +28,8 @@ fn centre_lines(corner: &Corner, x: u32) -> [Rule; 2]
     ensures { result ≡ centre_lines corner.now.at x }
 {
     [
-        corner.rule(Pen::Thin, x - 550, 1100, x + 550, 1100),
-        corner.rule(Pen::Thin, x, 550, x, 1650),
+        corner.rule(Pen::Thin, x - 420, 1480, x + 420, 1480),
+        corner.rule(Pen::Thin, x, 1060, x, 1900),
     ]
 }
 
@@ -37,7 +37,7 @@ fn centre_lines(corner: &Corner, x: u32) -> [Rule; 2]
 fn circle(corner: &Corner, x: u32, radius: u32) -> Circle
     ensures { result ≡ circle_from corner.now.at x radius }
 {
-    let middle = corner.point(x, 1100);
+    let middle = corner.point(x, 1480);
     Circle {
         x: middle.x,
         y: middle.y,
@@ -51,7 +51,7 @@ fn frustum_left(third: bool) -> u32
     ensures least { 1000 ≤ result }
     ensures most { result ≤ 17000 }
 {
-    if third { 16_350 } else { 15_050 }
+    if third { 7200 } else { 6250 }
 }
 
 /// The middle of the circles.
@@ -60,7 +60,7 @@ fn circles_middle(third: bool) -> u32
     ensures least { 1000 ≤ result }
     ensures most { result ≤ 17000 }
 {
-    if third { 15_450 } else { 16_950 }
+    if third { 6550 } else { 7650 }
 }
 
 /// Adds the symbol of third-angle projection, or of first-angle projection.
@@ -74,7 +74,7 @@ pub(crate) fn add_symbol(
     let middle = circles_middle(third);
     add_rules(items, &frustum_of(corner, frustum_left(third)))?;
     add_rules(items, &centre_lines(corner, middle))?;
-    items.push(Item::Circle(circle(corner, middle, 200)))?;
-    items.push(Item::Circle(circle(corner, middle, 400)))?;
+    items.push(Item::Circle(circle(corner, middle, 150)))?;
+    items.push(Item::Circle(circle(corner, middle, 300)))?;
     Ok(())
 }
