@@ -1,11 +1,11 @@
 -- The sheet and its list have two names, so that at the end each of them holds its text.
 use Rattle.std.proofs.Common.{◌≡◌, ◌≢◌, ℕ, List, [], ◌∷◌, Option, Some, None, Bool, true, false, true≢false, refl, sym, subst, ap, ◌∙◌}
-use Rattle.std.specs.Prelude.{IfNone, IfSome, codes, if◌then◌else◌, ◌||◌, option_map}
+use Rattle.std.specs.Prelude.{IfNone, IfSome, codes, if◌then◌else◌, option_map}
 use Rattle.std.specs.Str.{bytes_eq}
 use Rattle.std.proofs.lemmas.List.Elements.{All-cons, All-nil}
 use Rattle.std.proofs.lemmas.Option.{none-some, same_Some}
 use Rattle.std.proofs.lemmas.Slice.Eq.{bytes_eq-Decides}
-use Rattle.command_words.specs.Grammar.{GivenTexts, Reading, all_given, asks, for_help, for_version, is_empty_value, reading_of, refused}
+use Rattle.command_words.specs.Grammar.{GivenTexts, Reading, all_given, asks, for_help, for_version, reading_of, refused}
 use Rattle.desk.specs.Files.{DeskState, Files}
 use Rattle.drawing.specs.declared.drawn.Drawing.{Drawing}
 use Rattle.part_input.specs.declared.fault.Fault.TheVariants.{WriteFault}
@@ -17,8 +17,8 @@ use Rattle.sheet_core.specs.Writing.{Writes, WritesAsked, list_way, summary_way,
 use Rattle.sheet_core.specs.declared.fault.SheetFault.{SheetFault}
 use Rattle.sheet_core.specs.declared.fault.SheetFault.TheVariants.{Common, WriteList}
 use Rattle.sheet_words.specs.Grammar.{sheet_table}
-use Rattle.sheet_words.specs.Names.{Asks, Goal, ListGoal, Named, sheet, said, svg_file, pdf_file, list_said, list_file, asked_by, asks_of, goal_of, hidden_of, list_named, named, named_by, shares_place}
-use Rattle.sheet_words.specs.declared.words.Hidden.{Hidden}
+use Rattle.sheet_words.specs.Names.{Asks, Goal, ListGoal, Named, sheet, said, svg_file, pdf_file, list_said, list_file, TextsSaid, asked_by, asks_of, goal_of, has_empty_name, hidden_of, list_named, named, named_by, said_in, shares_place}
+use Rattle.sheet_job.specs.declared.hidden.Hidden.{Hidden}
 
 -- ---- two ways
 -- no name is that of both
@@ -94,16 +94,17 @@ module _ (n : Named) where
   abbrev IsApart : Type 0
   IsApart = shares_place n.list n.out ≡ false
 
-  module _ (part : List ℕ) (job : Option (List ℕ)) (out : Goal) (list : Option ListGoal) (hidden : Hidden) where
-    by_places : (b : Bool) → shares_place list out ≡ b → (if b then None else Some (record { part = part; job = job; out = out; list = list; hidden = hidden })) ≡ Some n → IsApart
+  module _ (part : List ℕ) (job : Option (List ℕ)) (out : Goal) (list : Option ListGoal) (hidden : Hidden) (texts : TextsSaid) where
+    by_places : (b : Bool) → shares_place list out ≡ b → (if b then None else Some (record { part = part; job = job; out = out; list = list; hidden = hidden; said = texts })) ≡ Some n → IsApart
     by_places true e is = absurd (none-some n is)
-    by_places false e is = subst (λ (m : Named). shares_place m.list m.out ≡ false) (same_Some (record { part = part; job = job; out = out; list = list; hidden = hidden }) n is) e
+    by_places false e is = subst (λ (m : Named). shares_place m.list m.out ≡ false) (same_Some (record { part = part; job = job; out = out; list = list; hidden = hidden; said = texts }) n is) e
 
-  by_texts : (part job : Option (List ℕ)) (out : Option Goal) (list : Option ListGoal) (hidden : Option Hidden) → named_by part job out list hidden ≡ Some n → IsApart
-  by_texts (Some part) job (Some out) list (Some hidden) is = by_places part job out list hidden (shares_place list out) refl is
-  by_texts (Some part) job (Some out) list None is = absurd (none-some n is)
-  by_texts (Some part) job None list hidden is = absurd (none-some n is)
-  by_texts None job out list hidden is = absurd (none-some n is)
+  by_texts : (part job : Option (List ℕ)) (hidden : Option Hidden) (out : Option Goal) (list : Option ListGoal) (texts : Option TextsSaid) → named_by part job hidden out list texts ≡ Some n → IsApart
+  by_texts (Some part) job (Some hidden) (Some out) list (Some texts) is = by_places part job out list hidden texts (shares_place list out) refl is
+  by_texts (Some part) job (Some hidden) (Some out) list None is = absurd (none-some n is)
+  by_texts (Some part) job (Some hidden) None list texts is = absurd (none-some n is)
+  by_texts (Some part) job None out list texts is = absurd (none-some n is)
+  by_texts None job hidden out list texts is = absurd (none-some n is)
 
   unless_empty : (b : Bool) (o : Option Named) → (o ≡ Some n → IsApart) → (if b then None else o) ≡ Some n → IsApart
   unless_empty true o next is = absurd (none-some n is)
@@ -111,8 +112,8 @@ module _ (n : Named) where
 
   by_given : (given : GivenTexts) → named given ≡ Some n → IsApart
   by_given given is =
-      unless_empty (is_empty_value (given (codes "part")) || is_empty_value (given (codes "job")) || is_empty_value (given (codes "list"))) _
-      (by_texts (given (codes "part")) (given (codes "job")) (goal_of (given (codes "out"))) (option_map list_named (given (codes "list"))) (hidden_of (given (codes "hidden")))) is
+      unless_empty (has_empty_name given) _
+      (by_texts (given (codes "part")) (given (codes "job")) (hidden_of (given (codes "hidden"))) (goal_of (given (codes "out"))) (option_map list_named (given (codes "list"))) (said_in given)) is
 
   same_sheet : (m : Named) → Some (sheet m) ≡ Some (sheet n) → m ≡ n
   same_sheet m e = cc

@@ -21,7 +21,7 @@ use Rattle.sheet_page.specs.Pages.{IsInView}
 use Rattle.sheet_page.specs.declared.page.Item.{Item}
 use Rattle.sheet_page.specs.declared.page.Item.TheVariants as item
 use Rattle.sheet_page.specs.declared.page.Pen.TheVariants as pen
-use Rattle.sheet_words.specs.declared.words.Hidden.{Hidden}
+use Rattle.sheet_job.specs.declared.hidden.Hidden.{Hidden}
 use Rattle.stroke_paths.specs.declared.path.Path.{Path}
 use Rattle.sheet_core.specs.Pages.{is_shown, frame_of, shown_paths}
 

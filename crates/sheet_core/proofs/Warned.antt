@@ -68,6 +68,8 @@ module _ (named : Named) (old between new : DeskState) (same : OnlyReads old bet
         on = w.on;
         strokes = w.strokes;
         marks = w.marks;
+        block = w.block;
+        says = w.says;
         shows = w.shows;
         texts = w.texts;
         are_texts = w.are_texts;

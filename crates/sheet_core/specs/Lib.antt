@@ -1,3 +1,4 @@
+pub mod BlockWords
 pub mod Faults
 pub mod Lines
 pub mod Moved

@@ -28,8 +28,9 @@ use Rattle.sheet_page.specs.declared.page.Page.{Page}
 use Rattle.sheet_core.specs.Moved.{AreMovedTogether}
 use Rattle.solid_mesh.specs.Solids.{solid_part}
 use Rattle.sheet_page.specs.Blocks.{block_of}
-use Rattle.sheet_words.specs.declared.words.Hidden.{Hidden}
-use Rattle.sheet_words.specs.declared.words.Hidden.TheVariants as hide
+use Rattle.sheet_job.specs.declared.block.BlockTexts.{BlockTexts}
+use Rattle.sheet_job.specs.declared.hidden.Hidden.{Hidden}
+use Rattle.sheet_job.specs.declared.hidden.Hidden.TheVariants as hide
 
 -- ---- hidden lines
 abbrev pub is_cut : ViewSpec → Bool
@@ -55,9 +56,9 @@ abbrev pub frame_of : ℤ → ℤ → Item
 frame_of width height = item.Frame (record { x = pos 1000; y = pos 1000; width = width -ℤ pos 2000; height = height -ℤ pos 2000 })
 
 -- what stands on the page: the frame, the title block, the paths that are drawn, and what tells the cuts
-abbrev pub items_of : Hidden → List ℕ → Drawing → List Path → List ViewMarks → List Item
-items_of hidden part d paths marks =
-    (frame_of d.sheet.width d.sheet.height ∷ block_of d.sheet d.job part)
+abbrev pub items_of : Hidden → List ℕ → BlockTexts → Drawing → List Path → List ViewMarks → List Item
+items_of hidden part texts d paths marks =
+    (frame_of d.sheet.width d.sheet.height ∷ block_of d.sheet d.job part texts)
     ++ map item.Path (shown_paths hidden d.job.views.items paths)
     ++ items_of_marks marks
 
@@ -65,11 +66,11 @@ items_of hidden part d paths marks =
 abbrev pub shown_strokes : Hidden → List JobView → List Stroke → List Stroke
 shown_strokes hidden views strokes = filter (λ s. is_shown hidden views s.view s.mark) strokes
 
--- The page shows the drawing of the part with this name: its frame and its title block, and, on the sheet with its views in the middle of
+-- The page shows the drawing of the part with this name: its frame and its title block with these texts, and, on the sheet with its views in the middle of
 -- their room, the paths of its strokes that are drawn, in their order, and the marks and the headings of its cuts. All views and strokes are
 -- moved by one shift; the views stay within the margins and apart; each mark and heading ends within 7 mm of its view, and no two marks of
 -- a view touch.
-pub record IsPageWith (hidden : Hidden) (part : List ℕ) (d : Drawing) (page : Page) (sheet : Sheet) (strokes : List Stroke) (marks : List ViewMarks) : Type 0 where
+pub record IsPageWith (hidden : Hidden) (part : List ℕ) (texts : BlockTexts) (d : Drawing) (page : Page) (sheet : Sheet) (strokes : List Stroke) (marks : List ViewMarks) : Type 0 where
   pub centred : IsCentred d.sheet (solid_part d.solid).corners sheet
   pub within : ViewsStayWithin (solid_part d.solid).corners sheet
   pub apart : ViewsStayApart (solid_part d.solid).corners sheet
@@ -84,8 +85,8 @@ pub record IsPageWith (hidden : Hidden) (part : List ℕ) (d : Drawing) (page : 
   pub height : page.height ≡ d.sheet.height
   pub title : page.title ≡ d.job.title
   pub views : page.views ≡ length d.sheet.places.items
-  pub items : page.items.items ≡ items_of hidden part d paths marks
+  pub items : page.items.items ≡ items_of hidden part texts d paths marks
 
 -- on some such sheet
-abbrev pub IsPageOf : Hidden → List ℕ → Drawing → Page → Type 0
-IsPageOf hidden part d page = (sheet : Sheet) × (strokes : List Stroke) × (marks : List ViewMarks) × IsPageWith hidden part d page sheet strokes marks
+abbrev pub IsPageOf : Hidden → List ℕ → BlockTexts → Drawing → Page → Type 0
+IsPageOf hidden part texts d page = (sheet : Sheet) × (strokes : List Stroke) × (marks : List ViewMarks) × IsPageWith hidden part texts d page sheet strokes marks

@@ -38,7 +38,7 @@ allowed key.View = codes "1 to 12 tables, each with exactly one of name, toward 
 allowed key.Name = codes "\"front\", \"back\", \"left\", \"right\", \"above\" or \"below\", each at most once"
 allowed key.Toward = codes "three whole numbers from -9 to 9, not all 0"
 allowed key.Cut = codes "\"x\", \"y\" or \"z\", with at and from beside it"
-allowed key.At = codes "a whole number from -1048576 to 1048576"
+allowed key.At = codes "a whole number of units from -1048576 to 1048576; with 3 decimals a unit is 0.001 mm, and 22.5 mm is 22500"
 allowed key.From = codes "\"high\" or \"low\""
 
 -- what is wrong with a job
@@ -136,7 +136,7 @@ target_line named other = said_line
 
 -- the line of a fault that `draw` has too; that of a surface tells the place, if one is given
 abbrev pub common_line : Option Named → Option FaultPlace → Fault → List ℕ
-common_line named place Usage = codes "sheet: usage: sheet PART [--job JOB] [--out OUT] [--list LIST] [--hidden all|plain|none]; sheet --help tells more\n"
+common_line named place Usage = codes "sheet: usage: sheet PART [--job JOB] [--out OUT] [--list LIST] [--hidden all|plain|none] [--number TEXT] [--revision TEXT] [--material TEXT] [--date TEXT]; sheet --help tells more\n"
 common_line named place (ReadFault input.Job) = about (job_in named) (codes "cannot be read")
 common_line named place JobTooLong = about (job_in named) (codes "more than 65536 bytes")
 common_line named place (Job fault) = about (job_in named) (job_text fault)

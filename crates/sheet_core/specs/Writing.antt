@@ -10,6 +10,8 @@ use Rattle.put_texts.specs.Desks.{HearsAll}
 use Rattle.put_texts.specs.Noting.{IsQuiet, Notes, NotesWhole, unless_said}
 use Rattle.put_texts.specs.Order.{Way, Text, nowhere, aloud, under, SaysAlone, HoldTexts, KeepsTexts, SaysTexts, SparesFiles, SparesSaid}
 use Rattle.sheet_core.specs.Faults.{sheet_faults}
+use Rattle.sheet_core.specs.BlockWords.{IsBlockOf}
+use Rattle.sheet_job.specs.declared.block.BlockTexts.{BlockTexts}
 use Rattle.sheet_core.specs.Pages.{IsPageWith, shown_strokes}
 use Rattle.sheet_core.specs.Summary.{summary_of}
 use Rattle.sheet_core.specs.declared.fault.SheetFault.{SheetFault}
@@ -66,7 +68,9 @@ pub record Writes (named : Named) (fault : Option SheetFault) (old new : DeskSta
   pub on : Sheet
   pub strokes : List Stroke
   pub marks : List ViewMarks
-  pub shows : IsPageWith named.hidden named.part d page on strokes marks
+  pub block : BlockTexts
+  pub says : IsBlockOf named.said block
+  pub shows : IsPageWith named.hidden named.part block d page on strokes marks
   pub texts : List (Text SheetFault)
   pub are_texts : texts ≡ texts_for named (page_text named.out page) (listed named.list (list_text d.job on (shown_strokes named.hidden d.job.views.items strokes))) (summary_of d page marks)
   pub files : old.tells ≡ true → KeepsTexts sheet_faults fault texts old.files new.files

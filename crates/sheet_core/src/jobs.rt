@@ -36,7 +36,9 @@ fn allowed(key: &Key) -> &'static str
         }
         Key::Toward => "three whole numbers from -9 to 9, not all 0",
         Key::Cut => "\"x\", \"y\" or \"z\", with at and from beside it",
-        Key::At => "a whole number from -1048576 to 1048576",
+        Key::At => {
+            "a whole number of units from -1048576 to 1048576; with 3 decimals a unit is 0.001 mm, and 22.5 mm is 22500"
+        }
         Key::From => "\"high\" or \"low\"",
     }
 }

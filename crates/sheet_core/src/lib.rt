@@ -5,6 +5,7 @@
 #![tactic(auto)]
 
 mod answers;
+mod block;
 mod end;
 mod fault;
 mod jobs;

@@ -1,8 +1,8 @@
 // What the program tells of itself.
 
 /// What `--help` says.
-pub const HELP: &str =
-    "sheet PART [--job JOB] [--out OUT] [--list LIST] [--hidden all|plain|none]\n\n\
+pub const HELP: &str = "sheet PART [--job JOB] [--out OUT] [--list LIST] [--hidden all|plain|none]\n\
+    \x20     [--number TEXT] [--revision TEXT] [--material TEXT] [--date TEXT]\n\n\
     Draws a part on a sheet for paper and screen, hidden lines dashed.\n\n\
     PART      the part: a file in OFF or ASCII STL, or sample:N, N from 1 to 8\n\
     --job     the job, in TOML: views, sheet, scale, title; without it the front\n\
@@ -13,6 +13,8 @@ pub const HELP: &str =
     \x20         the standard output; without it there is none\n\
     --hidden  where hidden lines are drawn: all, in every view (without it);\n\
     \x20         plain, in no cut view; none, nowhere\n\
+    --number, --revision, --material, --date\n\
+    \x20         texts of the title block, at most 120 bytes each\n\
     --help    this text\n\
     --version the version\n";
 

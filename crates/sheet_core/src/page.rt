@@ -13,10 +13,9 @@ use drawing::{Drawing, strokes_of};
 use exact_frac::OutOfMemory;
 use job_file::JobView;
 use lattice::ViewSpec;
-use sheet_job::BlockTexts;
+use sheet_job::{BlockTexts, Hidden};
 use sheet_page::{Frame, Item, Page, title_block};
 use sheet_plan::{Mark, Sheet, Stroke, centred};
-use sheet_words::Hidden;
 use std::alloc::Global;
 use stroke_paths::{Path, paths};
 
@@ -98,17 +97,17 @@ fn items_of(
     alloc: Global,
     hidden: Hidden,
     part: &str,
+    texts: &BlockTexts,
     drawing: &Drawing,
     paths: Vec<Path>,
     marks: &[ViewMarks],
 ) -> Result<Vec<Item>, OutOfMemory>
-    ensures items { IfOk result (λ items. items.items ≡ items_of hidden part.now drawing.now paths.items marks.now) }
-    ensures of_block { IfOk result (λ _. (n : ℕ) → All (IsInView n) (block_of drawing.now.sheet drawing.now.job part.now)) }
+    ensures items { IfOk result (λ items. items.items ≡ items_of hidden part.now texts.now drawing.now paths.items marks.now) }
+    ensures of_block { IfOk result (λ _. (n : ℕ) → All (IsInView n) (block_of drawing.now.sheet drawing.now.job part.now texts.now)) }
 {
     let mut items = Vec::new(alloc);
     items.push(frame_of(&drawing.sheet))?;
-    let texts = BlockTexts::none(alloc)?;
-    let block = title_block(alloc, &drawing.sheet, &drawing.job, part, &texts)?;
+    let block = title_block(alloc, &drawing.sheet, &drawing.job, part, texts)?;
     add_items(&mut items, block)?;
     add_paths(&mut items, hidden, &drawing.job.views, paths)?;
     add_items(&mut items, mark_items(alloc, marks)?)?;
@@ -148,10 +147,11 @@ pub(crate) fn show(
     alloc: Global,
     hidden: Hidden,
     part: &str,
+    texts: &BlockTexts,
     drawing: &Drawing,
 ) -> Result<Shown, OutOfMemory>
     requires { IsPlannedDrawing drawing.now }
-    ensures shows { IfOk result (λ shown. IsPageWith hidden part.now drawing.now shown.page shown.on shown.strokes.items shown.marks.items) }
+    ensures shows { IfOk result (λ shown. IsPageWith hidden part.now texts.now drawing.now shown.page shown.on shown.strokes.items shown.marks.items) }
     ensures in_views { IfOk result (λ shown. All (IsInView shown.page.views) shown.page.items.items) }
     ensures placed { IfOk result (λ shown. length drawing.now.job.views.items ≤ length shown.on.places.items) }
 {
@@ -159,7 +159,7 @@ pub(crate) fn show(
     let strokes = strokes_of(alloc, &on, &drawing.views)?;
     let paths = paths(alloc, &strokes)?;
     let marks = marks(alloc, &drawing.solid, &on, &drawing.job.views)?;
-    let items = items_of(alloc, hidden, part, drawing, paths, &marks)?;
+    let items = items_of(alloc, hidden, part, texts, drawing, paths, &marks)?;
     let page = Page {
         width: drawing.sheet.width,
         height: drawing.sheet.height,
@@ -175,7 +175,7 @@ pub(crate) fn show(
     })
 }
 
-/// The page of a drawing of the part with this name: the sheet's frame and its title block, and, with the views in the middle of their
+/// The page of a drawing of the part with this name: the sheet's frame and its title block with these texts, and, with the views in the middle of their
 /// room, the paths of its strokes, but for hidden lines where they aren't asked for, and the marks and headings of its cuts.
 ///
 /// The time goes with the number of strokes, and for each view and cut a few passes are made over the corners.
@@ -183,12 +183,13 @@ pub fn page_of(
     alloc: Global,
     hidden: Hidden,
     part: &str,
+    texts: &BlockTexts,
     drawing: &Drawing,
 ) -> Result<Page, OutOfMemory>
     requires { IsPlannedDrawing drawing.now }
-    ensures page { IfOk result (IsPageOf hidden part.now drawing.now) }
+    ensures page { IfOk result (IsPageOf hidden part.now texts.now drawing.now) }
     ensures in_views { IfOk result (λ page. All (IsInView page.views) page.items.items) }
 {
-    let shown = show(alloc, hidden, part, drawing)?;
+    let shown = show(alloc, hidden, part, texts, drawing)?;
     Ok(shown.page)
 }

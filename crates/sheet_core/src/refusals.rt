@@ -18,7 +18,7 @@ use weld::PartFault;
 
 /// The line of words that are refused.
 pub const USAGE_LINE: &str =
-    "sheet: usage: sheet PART [--job JOB] [--out OUT] [--list LIST] [--hidden all|plain|none]; sheet --help tells more\n";
+    "sheet: usage: sheet PART [--job JOB] [--out OUT] [--list LIST] [--hidden all|plain|none] [--number TEXT] [--revision TEXT] [--material TEXT] [--date TEXT]; sheet --help tells more\n";
 
 /// The line of want of memory.
 pub const MEMORY_LINE: &str = "sheet: out of memory\n";

@@ -8,8 +8,10 @@ pub returns : goal.returns
 returns c =
     let shown = c.in_ok-shown.shown in
     record {
+      block = c.in_ok-block.block;
+      said = c.in_ok-block.ensures;
       shown = shown;
-      shows = subst (λ (part : List ℕ). IsPageWith c.args.request.now.hidden part c.args.drawing.now shown.page shown.on shown.strokes.items shown.marks.items) c.as_str.ensures.same c.in_ok-shown.ensures.shows;
+      shows = subst (λ (part : List ℕ). IsPageWith c.args.request.now.hidden part c.in_ok-block.block c.args.drawing.now shown.page shown.on shown.strokes.items shown.marks.items) c.as_str.ensures.same c.in_ok-shown.ensures.shows;
       text = c.in_ok-page.ensures;
       list = c.in_ok-list.ensures;
       summary = c.in_ok-summary.ensures ∙ ap (λ (marks : List ViewMarks). summary_of c.args.drawing.now shown.page marks) c.deref.ensures.value;
