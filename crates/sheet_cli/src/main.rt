@@ -1,4 +1,4 @@
-//! Draws one part on a sheet for paper and screen: `sheet PART [--job JOB] [--out OUT] [--list LIST] [--hidden all|plain|none]`.
+//! Draws one part on a sheet for paper and screen: `sheet PART [--job JOB] [--out OUT] [--list LIST] [--hidden all|plain|none]` and texts of the title block.
 #![tactic(auto)]
 
 use desk::Desk;
