@@ -1,5 +1,7 @@
 // Jobs of any version, the places of faults, and cuts at a number of decimals.
-use job_file::{JobFault, Principal};
+ghost use Rattle.std.specs.Prelude.{◌<◌, ◌^◌, length};
+
+use job_file::{JobFault, Principal, is_title};
 use job_text::TextPlace;
 use lattice::{Axis, ViewSpec};
 use sheet_job::{
@@ -15,7 +17,9 @@ fn is_at(placed: &PlacedFlaw, line: u32, column: u32) -> bool {
 }
 
 /// The flaw of bytes that are no job of version 3.
-fn flaw_of(alloc: Global, bytes: &[u8]) -> Option<PlacedFlaw> {
+fn flaw_of(alloc: Global, bytes: &[u8]) -> Option<PlacedFlaw>
+    requires { length bytes.now < 2 ^ 31 }
+{
     match read_any_job(alloc, bytes) {
         Err(AnyJobError::Own(placed)) => Some(placed),
         _ => None,
@@ -39,14 +43,18 @@ fn job_of_inches(rt: HostRuntime) {
     assert!(rt; job.block.number.as_str() == "A-17" && job.block.note.as_str() == "");
     assert!(rt; job.views.len() == 1 && job.views[0].title.as_str() == "wall");
     assert!(rt; job.views[0].hidden == Some(true));
-    match job.job_at(rt.alloc(), 3, "lid") {
+    let title = "lid";
+    if !is_title(title) {
+        panic!(rt; "no title");
+    }
+    match job.job_at(rt.alloc(), 3, title) {
         Ok(made) => {
             assert!(rt; made.decimals == 3 && made.title.as_str() == "lid");
             assert!(rt; made.views.len() == 1 && is_across_y(made.views[0].spec, -12700));
         }
         Err(_) => panic!(rt; "no job at 3 decimals"),
     }
-    match job.job_at(rt.alloc(), 5, "lid") {
+    match job.job_at(rt.alloc(), 5, title) {
         Err(AtError::Range(placed)) => {
             assert!(rt; matches!(placed.flaw, JobFlaw::AtRange(0)) && is_at(&placed, 7, 6));
         }
