@@ -1,5 +1,5 @@
 // The line of a text at which TOML refuses it.
-ghost use Rattle.std.specs.Prelude.{◌≡◌, ◌≤◌, ◌<◌, Ok, map, length, IfOk, IsTrue, IsFalse, ◌↔◌};
+ghost use Rattle.std.specs.Prelude.{◌≡◌, ◌↔◌, Ok, map, IfOk, IsTrue};
 ghost use Rattle.job_text.specs.Lines.{text_lines};
 ghost use Rattle.job_text.specs.Seen.{line_seen};
 ghost use Rattle.job_tables.specs.Refused.{IsToml, before_line, IsRefusedLine};

@@ -1,5 +1,5 @@
 // The tables of a job, with their entries.
-ghost use Rattle.std.specs.Prelude.{◌≡◌, ◌≤◌, length, option_map, map, All, string_bytes};
+ghost use Rattle.std.specs.Prelude.{◌≡◌, ◌≤◌, length, option_map, All, string_bytes};
 ghost use Rattle.std.specs.List.{find};
 ghost use Rattle.std.specs.Option.{ForSome};
 ghost use Rattle.std.specs.Str.{bytes_eq};
