@@ -6,7 +6,8 @@ use job_tables::{
 use job_text::{TextItem, Written, text_lines};
 use std::alloc::Global;
 
-const JOB: &str = "version = 3\n[block]\nnumber = 'A'\n[[view]]\nname = 'front'\n[[view]]\ncut = 'x'\nat = 1\n";
+const JOB: &str =
+    "version = 3\n[block]\nnumber = 'A'\n[[view]]\nname = 'front'\n[[view]]\ncut = 'x'\nat = 1\n";
 
 /// The tables of a text, or what is wrong with them.
 fn tables_of(alloc: Global, text: &str) -> Option<Result<JobTables, TableStop>> {
@@ -18,12 +19,14 @@ fn tables_of(alloc: Global, text: &str) -> Option<Result<JobTables, TableStop>> 
 
 fn has_text(entry: Option<&TableEntry>, at: usize, value_at: usize, text: &str) -> bool {
     match entry {
-        Some(TableEntry {
-            at: found,
-            key: _,
-            value_at: value_found,
-            value: Written::One(TextItem::Text(content)),
-        }) => *found == at && *value_found == value_at && content.as_str() == text,
+        Some(
+            TableEntry {
+                at: found,
+                key: _,
+                value_at: value_found,
+                value: Written::One(TextItem::Text(content)),
+            },
+        ) => *found == at && *value_found == value_at && content.as_str() == text,
         _ => false,
     }
 }
@@ -32,19 +35,26 @@ fn is_table(table: &JobTable, at: usize, entries: usize) -> bool {
     table.at == at && table.entries.len() == entries
 }
 
+fn is_block(block: &Option<JobTable>) -> bool {
+    match block {
+        Some(table) => {
+            is_table(table, 12, 1) && has_text(entry_at(&table.entries, "number"), 20, 29, "A")
+        }
+        None => false,
+    }
+}
+
 #[test]
 fn tables_of_a_job(rt: HostRuntime) {
     match tables_of(rt.alloc(), JOB) {
-        Some(Ok(JobTables {
-            job,
-            block: Some(block),
-            views,
-        })) => {
-            assert!(rt; is_table(&job, 0, 1));
-            assert!(rt; entry_at(&job.entries, "version").is_some());
-            assert!(rt; is_table(&block, 12, 1));
-            assert!(rt; has_text(entry_at(&block.entries, "number"), 20, 29, "A"));
-            assert!(rt; views.len() == 2 && is_table(&views[0], 33, 1) && is_table(&views[1], 57, 2));
+        Some(Ok(tables)) => {
+            let views = &tables.views;
+            assert!(rt; is_table(&tables.job, 0, 1));
+            assert!(rt; entry_at(&tables.job.entries, "version").is_some());
+            assert!(rt; is_block(&tables.block));
+            assert!(rt;
+                views.len() == 2 && is_table(&views[0], 33, 1) && is_table(&views[1], 57, 2)
+            );
             assert!(rt; has_text(entry_at(&views[0].entries, "name"), 42, 49, "front"));
             assert!(rt; has_text(entry_at(&views[1].entries, "cut"), 66, 72, "x"));
             assert!(rt; entry_at(&views[1].entries, "from").is_none());
@@ -69,16 +79,36 @@ fn told(flaw: &TableFlaw) -> (&'static str, Option<KeyHint>) {
 
 // A text, the place of its first fault, what it is, and its hint.
 const FAULTS: [(&str, usize, &str, Option<KeyHint>); 18] = [
-    ("version = 3\nnumber = 1", 12, "key", Some(KeyHint::In(TableKind::Block))),
-    ("[block]\ntitle = 1", 8, "key", Some(KeyHint::In(TableKind::Job))),
+    (
+        "version = 3\nnumber = 1",
+        12,
+        "key",
+        Some(KeyHint::In(TableKind::Block)),
+    ),
+    (
+        "[block]\ntitle = 1",
+        8,
+        "key",
+        Some(KeyHint::In(TableKind::Job)),
+    ),
     ("outputs = []", 0, "key", Some(KeyHint::Older)),
     ("block = 1", 0, "key", Some(KeyHint::Header)),
     ("titel = 'a'", 0, "key", Some(KeyHint::Near("title"))),
     ("quux = 1", 0, "key", Some(KeyHint::Unlike)),
-    ("[[view]]\nform = 'low'", 9, "key", Some(KeyHint::Near("from"))),
+    (
+        "[[view]]\nform = 'low'",
+        9,
+        "key",
+        Some(KeyHint::Near("from")),
+    ),
     ("[[view]]\na = 1", 9, "key", Some(KeyHint::Near("at"))),
     ("[[view]]\nx = 1\n[viw]", 9, "key", Some(KeyHint::Unlike)),
-    ("[block]\nnumber = 1\ndat = 1", 19, "key", Some(KeyHint::Near("date"))),
+    (
+        "[block]\nnumber = 1\ndat = 1",
+        19,
+        "key",
+        Some(KeyHint::Near("date")),
+    ),
     ("[viw]\nx = 1", 0, "table", Some(KeyHint::Near("view"))),
     ("[[blocks]]", 0, "table", Some(KeyHint::Near("block"))),
     ("title = 1\n[parts]", 10, "table", Some(KeyHint::Unlike)),
@@ -122,8 +152,14 @@ fn refused_at(alloc: Global, text: &str) -> Option<usize> {
 #[test]
 fn lines_that_toml_refuses(rt: HostRuntime) {
     let alloc = rt.alloc();
-    assert_eq!(rt; refused_at(alloc, "a = 1\nb = 1\n\na = 2\nc = 3\nd = 4"), Some(2));
-    assert_eq!(rt; refused_at(alloc, "# one\n[block]\nx = 1\n[block]\nx = 1"), Some(2));
+    assert_eq!(rt;
+        refused_at(alloc, "a = 1\nb = 1\n\na = 2\nc = 3\nd = 4"),
+        Some(2)
+    );
+    assert_eq!(rt;
+        refused_at(alloc, "# one\n[block]\nx = 1\n[block]\nx = 1"),
+        Some(2)
+    );
     assert_eq!(rt; refused_at(alloc, "view = []\n[[view]]"), Some(1));
     assert_eq!(rt; refused_at(alloc, "a = 1\nb = 2"), None);
 }
