@@ -35,22 +35,23 @@ fn is_table(table: &JobTable, at: usize, entries: usize) -> bool {
     table.at == at && table.entries.len() == entries
 }
 
+fn is_block(block: &Option<JobTable>) -> bool {
+    match block {
+        Some(table) => {
+            is_table(table, 12, 1) && has_text(entry_at(&table.entries, "number"), 20, 29, "A")
+        }
+        None => false,
+    }
+}
+
 #[test]
 fn tables_of_a_job(rt: HostRuntime) {
     match tables_of(rt.alloc(), JOB) {
-        Some(
-            Ok(
-                JobTables {
-                    job,
-                    block: Some(block),
-                    views,
-                },
-            ),
-        ) => {
-            assert!(rt; is_table(&job, 0, 1));
-            assert!(rt; entry_at(&job.entries, "version").is_some());
-            assert!(rt; is_table(&block, 12, 1));
-            assert!(rt; has_text(entry_at(&block.entries, "number"), 20, 29, "A"));
+        Some(Ok(tables)) => {
+            let views = &tables.views;
+            assert!(rt; is_table(&tables.job, 0, 1));
+            assert!(rt; entry_at(&tables.job.entries, "version").is_some());
+            assert!(rt; is_block(&tables.block));
             assert!(rt;
                 views.len() == 2 && is_table(&views[0], 33, 1) && is_table(&views[1], 57, 2)
             );
