@@ -1,5 +1,5 @@
 // The texts of the title block that the words say.
-ghost use Rattle.std.specs.Prelude.{◌≡◌, [], IfOk, IsTrue, unwrap_or};
+ghost use Rattle.std.specs.Prelude.{◌≡◌, IfOk, IsTrue, unwrap_or};
 ghost use Rattle.job_file.specs.Texts.{is_title};
 ghost use Rattle.sheet_core.specs.BlockWords.{IsBlockOf};
 ghost use Rattle.sheet_words.specs.Seen.{said_seen};
@@ -11,31 +11,32 @@ use sheet_job::BlockTexts;
 use sheet_words::SaidTexts;
 use std::alloc::Global;
 
-/// The text that is said, or else none.
-fn text_of(alloc: Global, said: &Option<Name>) -> Result<Name, OutOfMemory>
-    requires { IsProper said.now }
-    ensures value { IfOk result (λ text. text ≡ unwrap_or said.now []) }
-    ensures proper { IfOk result (λ text. IsTrue (is_title text)) }
+/// The text that is said, or else this one.
+fn said_or(alloc: Global, said: &Option<Name>, text: Name) -> Result<Name, OutOfMemory>
+    requires said { IsProper said.now }
+    requires text { IsTrue (is_title text) }
+    ensures value { IfOk result (λ it. it ≡ unwrap_or said.now text) }
+    ensures proper { IfOk result (λ it. IsTrue (is_title it)) }
 {
     match said {
         Some(said) => Name::new(alloc, said.as_str()),
-        None => Name::new(alloc, ""),
+        None => Ok(text),
     }
 }
 
 /// The texts of the title block that the words say; the others are empty.
-pub(crate) fn block_of(alloc: Global, said: &SaidTexts) -> Result<BlockTexts, OutOfMemory>
+pub(crate) fn said_block(alloc: Global, said: &SaidTexts) -> Result<BlockTexts, OutOfMemory>
     ensures { IfOk result (IsBlockOf (said_seen said.now)) }
 {
     let none = BlockTexts::none(alloc)?;
     Ok(BlockTexts {
-        number: text_of(alloc, &said.number)?,
+        number: said_or(alloc, &said.number, none.number)?,
         kind: none.kind,
-        material: text_of(alloc, &said.material)?,
+        material: said_or(alloc, &said.material, none.material)?,
         author: none.author,
         approved: none.approved,
-        date: text_of(alloc, &said.date)?,
-        revision: text_of(alloc, &said.revision)?,
+        date: said_or(alloc, &said.date, none.date)?,
+        revision: said_or(alloc, &said.revision, none.revision)?,
         company: none.company,
         tolerances: none.tolerances,
         note: none.note,

@@ -1,7 +1,8 @@
 // What the program tells of itself.
 
 /// What `--help` says.
-pub const HELP: &str = "sheet PART [--job JOB] [--out OUT] [--list LIST] [--hidden all|plain|none]\n\
+pub const HELP: &str =
+    "sheet PART [--job JOB] [--out OUT] [--list LIST] [--hidden all|plain|none]\n\
     \x20     [--number TEXT] [--revision TEXT] [--material TEXT] [--date TEXT]\n\n\
     Draws a part on a sheet for paper and screen, hidden lines dashed.\n\n\
     PART      the part: a file in OFF or ASCII STL, or sample:N, N from 1 to 8\n\

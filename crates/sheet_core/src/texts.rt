@@ -9,7 +9,7 @@ ghost use Rattle.sheet_list.specs.Lists.{list_text};
 ghost use Rattle.sheet_page.specs.Pages.{IsInView};
 ghost use Rattle.sheet_words.specs.Seen.{goal_seen, named_seen};
 
-use crate::block::block_of;
+use crate::block::said_block;
 use crate::page::{Shown, show, shown_strokes};
 use crate::refusals::{list_line, write_line};
 use crate::summary::summary_of;
@@ -72,8 +72,14 @@ pub(crate) fn texts_of(
     requires { IsPlannedDrawing drawing.now }
     ensures { IfOk result (AreTextsOf (named_seen request.now) drawing.now) }
 {
-    let block = block_of(alloc, &request.said)?;
-    let shown = show(alloc, request.hidden, request.part.as_str(), &block, drawing)?;
+    let block = said_block(alloc, &request.said)?;
+    let shown = show(
+        alloc,
+        request.hidden,
+        request.part.as_str(),
+        &block,
+        drawing,
+    )?;
     let page = page_text(alloc, &request.out, &shown.page)?;
     let list = listed(alloc, request, drawing, &shown)?;
     let summary = summary_of(alloc, drawing, &shown.page, &shown.marks)?;
