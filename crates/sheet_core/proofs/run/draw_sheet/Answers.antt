@@ -1,4 +1,4 @@
-use Rattle.std.proofs.Common.{inl, ℕ, List, Option, None, Some, Ok, refl, ap, subst, ◌∙◌, string_bytes}
+use Rattle.std.proofs.Common.{inl, ℕ, List, Option, None, Some, refl, ap, subst, ◌∙◌, string_bytes}
 use Rattle.std.specs.Prelude.{IfNone, IfSome}
 use Rattle.desk.specs.Files.{DeskState}
 use Rattle.drawing.specs.Drawing.{drawn_in}
