@@ -43,12 +43,7 @@ fn read_part(alloc: Global, bytes: &[u8], decimals: u8, unit: Length) -> Result<
 }
 
 /// The soup of a part's text in lengths of `unit`, in units of 10^-`decimals` mm.
-pub fn soup_of(
-    alloc: Global,
-    bytes: &[u8],
-    decimals: u8,
-    unit: Length,
-) -> Result<Soup, Fault>
+pub fn soup_of(alloc: Global, bytes: &[u8], decimals: u8, unit: Length) -> Result<Soup, Fault>
     requires short { length bytes.now ≤ 16777216 }
     requires few { decimals ≤ 6 }
     ensures answer { GivesInput part_of (ReadsPart decimals unit bytes.now) result }
