@@ -3,3 +3,4 @@ pub mod NumberLemmas
 pub mod NameLemmas
 pub mod JobAtLemmas
 pub mod AnyLemmas
+pub mod JobAtOnce
