@@ -84,20 +84,20 @@ value_such Q usual key meaning first each None = given Q usual first
 value_such Q usual key meaning first each (Some d) = record { each = λ y e. each d y ((wrong_such key (meaning d)).each y e) }
 
 -- ---- options
-some_then : {A B : Type 0} (f : A → Option B) (o : Option A) (y : B) → option_and_then f o ≡ Some y → (x : A) × (o ≡ Some x) × (f x ≡ Some y)
+pub some_then : {A B : Type 0} (f : A → Option B) (o : Option A) (y : B) → option_and_then f o ≡ Some y → (x : A) × (o ≡ Some x) × (f x ≡ Some y)
 some_then f None y e = absurd (none-some y e)
 some_then f (Some x) y e = (x, refl, e)
 
-some_if : {A : Type 0} (b : Bool) (x y : A) → (if b then Some x else None) ≡ Some y → (b ≡ true) × (x ≡ y)
+pub some_if : {A : Type 0} (b : Bool) (x y : A) → (if b then Some x else None) ≡ Some y → (b ≡ true) × (x ≡ y)
 some_if true x y e = (refl, same_Some x y e)
 some_if false x y e = absurd (none-some y e)
 
 -- of what stands beside each text
-abbrev ForRows : {A : Type 0} → (A → Type 0) → List (List ℕ × A) → Type 0
+abbrev pub ForRows : {A : Type 0} → (A → Type 0) → List (List ℕ × A) → Type 0
 ForRows P [] = Unit {0}
 ForRows P (row ∷ rows) = P row.1 × ForRows P rows
 
-found_row : {A : Type 0} (P : A → Type 0) (rows : List (List ℕ × A)) (text : List ℕ) (x : A) → ForRows P rows → look_up rows text ≡ Some x → P x
+pub found_row : {A : Type 0} (P : A → Type 0) (rows : List (List ℕ × A)) (text : List ℕ) (x : A) → ForRows P rows → look_up rows text ≡ Some x → P x
 found_row P [] text x each e = absurd (none-some x e)
 found_row P (row ∷ rows) text x (first, others) e = by (bytes_eq text row.0) e (found_row P rows text x others)
   where
@@ -112,10 +112,10 @@ few_decimals (Some (pos k)) n e = let (small, same) = some_if (nat_le k 6) k n e
 few_decimals (Some (negsuc k)) n e = absurd (none-some n e)
 
 -- it is the scale of a job, or none is asked for
-abbrev HasScale : Option (ℕ × ℕ) → Type 0
+abbrev pub HasScale : Option (ℕ × ℕ) → Type 0
 HasScale o = (scale : Option Scale) × (option_map scale_seen scale ≡ o)
 
-scale_rows : ForRows HasScale fits
+pub scale_rows : ForRows HasScale fits
 scale_rows = (
   (None, refl),
   (
@@ -177,7 +177,7 @@ few_outputs outputs h =
 abbrev IsNewView : List JobView → ViewValues → Type 0
 IsNewView ws v = (w : JobView) × (view_seen w ≡ v) × ((k : ℕ) (d : JobView) → k < length ws → AreNamedApart (get_or ws k d).named w.named)
 
-name_direction : (p : Principal) → (d : Dir) × (of_dir d ≡ direction_of p)
+pub name_direction : (p : Principal) → (d : Dir) × (of_dir d ≡ direction_of p)
 name_direction Front = (record { x = pos 0; y = negsuc 0; z = pos 0; x_in_range = omega arith; y_in_range = omega arith; z_in_range = omega arith; not_zero = omega arith }, refl)
 name_direction Back = (record { x = pos 0; y = pos 1; z = pos 0; x_in_range = omega arith; y_in_range = omega arith; z_in_range = omega arith; not_zero = omega arith }, refl)
 name_direction Left = (record { x = negsuc 0; y = pos 0; z = pos 0; x_in_range = omega arith; y_in_range = omega arith; z_in_range = omega arith; not_zero = omega arith }, refl)

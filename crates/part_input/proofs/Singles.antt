@@ -79,7 +79,7 @@ module _ (input : Input) (there : Option (List ℕ)) where
   not_missing : there ≡ None → IsSomeAnd there (λ bytes. limit_of input < length bytes) → ⊥
   not_missing e long = elim (subst (λ (o : Option (List ℕ)). IsSomeAnd o (λ bytes. limit_of input < length bytes)) e long) [ ]
 
-file_single : (input : Input) (files : Files) (name : List ℕ) → IsSingle (TakesFile input files name)
+pub file_single : (input : Input) (files : Files) (name : List ℕ) → IsSingle (TakesFile input files name)
 file_single input files name (Ok x) (Ok y) (e, small) (h, less) = ap Ok (same_some (files name) x y e h)
 file_single input files name (Ok x) (Err d) (e, small) (inl (_, h)) = absurd (none_some (files name) x h e)
 file_single input files name (Ok x) (Err d) (e, small) (inr (_, h)) = absurd (not_longer input (files name) x e small h)
@@ -91,7 +91,7 @@ file_single input files name (Err d) (Err e) (inr (p, long)) (inl (q, none)) = a
 file_single input files name (Err d) (Err e) (inr (p, _)) (inr (q, _)) = ap Err (p ∙ sym q)
 
 -- ---- the job
-job_bytes_single : (files : Files) (name : Option (List ℕ)) → IsSingle (TakesJob files name)
+pub job_bytes_single : (files : Files) (name : Option (List ℕ)) → IsSingle (TakesJob files name)
 job_bytes_single files None (Ok x) (Ok y) e h = ap Ok (e ∙ sym h)
 job_bytes_single files None (Ok x) (Err d) e h = absurd h
 job_bytes_single files None (Err d) s e h = absurd e
@@ -116,13 +116,13 @@ text_one decimals unit bytes r s (tokens, a, p) (others, b, q) =
     reads_as (begins_solid bytes tokens) decimals unit bytes r s p
     (subst (λ (l : List Token). ReadsAs (begins_solid bytes l) decimals unit bytes s) (only_tokens false bytes others tokens b a) q)
 
-text_single : (decimals : ℕ) (unit : Length) (bytes : List ℕ) → IsSingle (ReadsText decimals unit bytes)
+pub text_single : (decimals : ℕ) (unit : Length) (bytes : List ℕ) → IsSingle (ReadsText decimals unit bytes)
 text_single decimals unit bytes (Ok x) (Ok y) p q = ap Ok (same_value x y (text_one decimals unit bytes (Ok x) (Ok y) p q))
 text_single decimals unit bytes (Ok x) (Err d) p (cause, _, q) = absurd (not_both x cause (text_one decimals unit bytes (Ok x) (Err cause) p q))
 text_single decimals unit bytes (Err d) (Ok y) (cause, _, p) q = absurd (not_both y cause (text_one decimals unit bytes (Ok y) (Err cause) q p))
 text_single decimals unit bytes (Err d) (Err e) (cause, a, p) (other, b, q) = ap Err (a ∙ ap PartUnread (same_fault cause other (text_one decimals unit bytes (Err cause) (Err other) p q)) ∙ sym b)
 
-weld_single : (raw : Raw) → IsSingle (WeldsPart raw)
+pub weld_single : (raw : Raw) → IsSingle (WeldsPart raw)
 weld_single raw (Ok x) (Ok y) (w, _) (v, _) =
     let corners = one_corners raw x.corners y.corners x.triangles y.triangles w v in
     let triangles = one_triangles raw x.corners y.corners x.triangles y.triangles w v in
@@ -131,7 +131,7 @@ weld_single raw (Ok x) (Err e) (w, some) (_, none) = absurd (some_proper raw x.c
 weld_single raw (Err d) (Ok y) (_, none) (v, some) = absurd (some_proper raw y.corners y.triangles v some none)
 weld_single raw (Err d) (Err e) (p, _) (q, _) = ap Err (p ∙ sym q)
 
-check_single : (part : Part) → IsSingle (ChecksPart part)
+pub check_single : (part : Part) → IsSingle (ChecksPart part)
 check_single part (Ok x) (Ok y) (e, _) (h, _) = ap Ok (e ∙ sym h)
 check_single part (Ok x) (Err d) (_, sound) (fault, _, h) = absurd (none_sound part fault h sound)
 check_single part (Err d) (Ok y) (fault, _, h) (_, sound) = absurd (none_sound part fault h sound)
@@ -148,7 +148,7 @@ same_sample (Some n) part other p q =
 no_sample : (n : Option ℕ) (part : Part) → IsSomeAnd n (λ n. IsSample n part) → n ≡ None → ⊥
 no_sample n part p e = elim (subst (λ (o : Option ℕ). IsSomeAnd o (λ n. IsSample n part)) e p) [ ]
 
-sample_single : (size : List ℕ) → IsSingle (MakesSample size)
+pub sample_single : (size : List ℕ) → IsSingle (MakesSample size)
 sample_single size (Ok x) (Ok y) p q = ap Ok (same_sample (cubes_along size) x y p q)
 sample_single size (Ok x) (Err d) p (_, none) = absurd (no_sample (cubes_along size) x p none)
 sample_single size (Err d) (Ok y) (_, none) q = absurd (no_sample (cubes_along size) y q none)

@@ -75,7 +75,7 @@ module _ {A B F : Type 0} (P : A → Type 0) (Q : B → Type 0) (first : Result 
 abbrev pub Any : {A : Type 0} → A → Type 0
 Any x = Unit {0}
 
-some_file : (input : Input) (files : Files) (name : List ℕ) → HasAnswerSuch Any (TakesFile input files name)
+pub some_file : (input : Input) (files : Files) (name : List ℕ) → HasAnswerSuch Any (TakesFile input files name)
 some_file input files name = by_option (files name) (λ e. (Err (ReadFault input), (inl (refl, e), tt))) there
   where
     there : (bytes : List ℕ) → files name ≡ Some bytes → HasAnswerSuch Any (TakesFile input files name)
@@ -90,7 +90,7 @@ some_file input files name = by_option (files name) (λ e. (Err (ReadFault input
 abbrev pub AreValues : JobValues → Type 0
 AreValues values = (job : Job) × (job_seen job ≡ values)
 
-some_job_bytes : (files : Files) (name : Option (List ℕ)) → HasAnswerSuch Any (TakesJob files name)
+pub some_job_bytes : (files : Files) (name : Option (List ℕ)) → HasAnswerSuch Any (TakesJob files name)
 some_job_bytes files None = (Ok [], (refl, tt))
 some_job_bytes files (Some name) = some_file TheJob files name
 
@@ -122,14 +122,14 @@ module _ (decimals : ℕ) (unit : Length) (bytes : List ℕ) where
       let (r, reads, such) = some_form (begins_solid bytes tokens) in
       (r, (tokens, are_tokens false bytes, reads), such)
 
-  some_text : HasAnswerSuch HasCornerPlaces (ReadsText decimals unit bytes)
+  pub some_text : HasAnswerSuch HasCornerPlaces (ReadsText decimals unit bytes)
   some_text = by some_part_text
     where
       by : (r : Result Raw PartFault) × ReadsPartText decimals unit bytes r × SaysSuch HasCornerPlaces r → HasAnswerSuch HasCornerPlaces (ReadsText decimals unit bytes)
       by (Ok raw, reads, such) = (Ok raw, (reads, such))
       by (Err cause, reads, such) = (Err (PartUnread cause), ((cause, refl, reads), tt))
 
-some_weld_of : (raw : Raw) → HasCornerPlaces raw → HasAnswerSuch IsProper (WeldsPart raw)
+pub some_weld_of : (raw : Raw) → HasCornerPlaces raw → HasAnswerSuch IsProper (WeldsPart raw)
 some_weld_of raw each = by (some_soup raw each)
   where
     by : ((corners : List Corner) × (triangles : List Tri) × IsWeldOf raw corners triangles × (0 < length triangles)) ⊎ (proper_of raw ≡ []) → HasAnswerSuch IsProper (WeldsPart raw)
@@ -150,7 +150,7 @@ cubes_within [] n e = absurd (none-some n e)
 cubes_within (digit ∷ []) n e = few_cubes (nat_le 49 digit && nat_le digit 56) digit n refl e
 cubes_within (digit ∷ more ∷ rest) n e = absurd (none-some n e)
 
-some_sample_of : (size : List ℕ) → HasAnswerSuch IsProper (MakesSample size)
+pub some_sample_of : (size : List ℕ) → HasAnswerSuch IsProper (MakesSample size)
 some_sample_of size = by_option (cubes_along size) (λ e. (Err SampleRange, ((refl, e), tt))) there
   where
     there : (n : ℕ) → cubes_along size ≡ Some n → HasAnswerSuch IsProper (MakesSample size)
@@ -159,19 +159,19 @@ some_sample_of size = by_option (cubes_along size) (λ e. (Err SampleRange, ((re
         let (part, is) = some_sample n least most in
         (Ok part, (subst (λ (o : Option ℕ). IsSomeAnd o (λ n. IsSample n part)) (sym e) (record { corners = is.corners; triangles = is.triangles }), (is.in_range, is.some)))
 
+pub some_check : (part : Part) → IsProper part → HasAnswerSuch IsProper (ChecksPart part)
+some_check part (in_range, some) = by (some_fault part in_range some)
+  where
+    by : IsSound part ⊎ ((f : MeshFault) × HasFault part f) → HasAnswerSuch IsProper (ChecksPart part)
+    by (inl sound) = (Ok part, ((refl, sound), (in_range, some)))
+    by (inr (fault, has)) = (Err (Mesh fault), ((fault, refl, has), tt))
+
 module _ (files : Files) (name : List ℕ) (decimals : ℕ) (unit : Length) where
   pub some_soup_or : (size : Option (List ℕ)) → HasAnswerSuch IsProper (TakesSoupOr size files name decimals unit)
   some_soup_or (Some size) = some_sample_of size
   some_soup_or None =
       some_and_then Any IsProper (TakesFile ThePart files name) (ReadsPart decimals unit) (some_file ThePart files name)
       (λ bytes _. some_and_then HasCornerPlaces IsProper (ReadsText decimals unit bytes) WeldsPart (some_text decimals unit bytes) some_weld_of)
-
-  some_check : (part : Part) → IsProper part → HasAnswerSuch IsProper (ChecksPart part)
-  some_check part (in_range, some) = by (some_fault part in_range some)
-    where
-      by : IsSound part ⊎ ((f : MeshFault) × HasFault part f) → HasAnswerSuch IsProper (ChecksPart part)
-      by (inl sound) = (Ok part, ((refl, sound), (in_range, some)))
-      by (inr (fault, has)) = (Err (Mesh fault), ((fault, refl, has), tt))
 
   pub some_solid : HasAnswerSuch IsProper (TakesSolid files name decimals unit)
   some_solid = some_and_then IsProper IsProper (TakesSoup files name decimals unit) ChecksPart (some_soup_or (sample_size name)) some_check

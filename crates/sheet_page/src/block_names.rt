@@ -30,7 +30,7 @@ fn add_char(text: &mut String, c: char) -> Result<(), AllocError>
 }
 
 /// The name of a part's file: what stands behind the last slash of its path.
-pub(crate) fn part_name(alloc: Global, part: &str) -> Result<String, AllocError>
+pub fn part_name(alloc: Global, part: &str) -> Result<String, AllocError>
     ensures { IfOk result (λ text. string_bytes text ≡ part_name part.now) }
 {
     let mut text = String::new(alloc);

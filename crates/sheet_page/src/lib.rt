@@ -23,6 +23,7 @@ mod svg_text;
 mod symbol;
 
 pub use block::title_block;
+pub use block_names::part_name;
 pub use dashes::{Dashes, dashes_of};
 pub use page::{Circle, Frame, Item, Label, Page, Pen, Rule};
 pub use pdf_text::pdf;
