@@ -1,7 +1,8 @@
 -- What tells the cuts of a job is in reach of the views' boxes, and far within the range of numbers.
-use Rattle.std.proofs.Common.{◌≡◌, ◌⊎◌, inl, inr, ◌<◌, ◌^◌, ℕ, Bool, List, [], ◌∷◌, ◌++◌, Option, Some, All, IfSome, length, slice_get, unsigned_abs, refl, sym, subst, ◌∙◌, length-append, arith}
+use Rattle.std.proofs.Common.{◌≡◌, ◌⊎◌, inl, inr, ◌<◌, ◌/◌, ◌^◌, ℕ, Bool, List, [], ◌∷◌, ◌++◌, Option, Some, All, IfSome, length, slice_get, unsigned_abs, refl, sym, subst, ◌∙◌, length-append, arith}
 use Rattle.std.specs.Prelude.{ℤ, pos, ◌+ℤ◌, ◌-ℤ◌, ◌*ℤ◌, ◌<ℤ◌, ◌≤ℤ◌}
-use Rattle.std.proofs.lemmas.Int.{ints}
+use Rattle.std.specs.Int.{int_min, int_max}
+use Rattle.std.proofs.lemmas.Int.{ints, clamps}
 use Rattle.std.proofs.lemmas.List.Elements.{All-nil, All-push, All-pop, All-same, All-map, All-weaker}
 use Rattle.integers.specs.Floors.{floor_of}
 use Rattle.integers.proofs.Floors.{floor_of-is}
@@ -13,7 +14,7 @@ use Rattle.lattice.specs.declared.pieces.ViewSpec.TheVariants.{Plain, Section}
 use Rattle.geometry.specs.Parts.{Part}
 use Rattle.sheet_plan.specs.declared.sheet.Sheet.{Sheet}
 use Rattle.sheet_plan.specs.Boxes.{TakesBox, box_of}
-use Rattle.cut_marks.specs.Figures.{marks_in, mark_of, heading_over}
+use Rattle.cut_marks.specs.Figures.{marks_in, mark_of, room_over, heading_over}
 use Rattle.cut_marks.specs.Lanes.{AreLaned}
 use Rattle.cut_marks.specs.Lanes.AreLaned.{none as none_laned, told, untold}
 use Rattle.job_file.specs.ShownCuts.{cuts_in}
@@ -60,11 +61,25 @@ module _ (sheet : Sheet) (s : Part) (view : ℕ) (b : ViewBox) (is_box : TakesBo
 over_middle : (b : ViewBox) (letter : ℕ) (has : Bool) → b.left ≤ℤ b.right → b.top ≤ℤ b.bottom → IsHeadingInReach b (heading_over b letter has)
 over_middle b letter has across down =
     let f = floor_of-is (b.left +ℤ b.right) (pos 2) (omega (arith, ints)) in
-    go (floor_of (b.left +ℤ b.right) (pos 2)) f.at_most f.rest_below
+    go (floor_of (b.left +ℤ b.right) (pos 2)) (room_over b) (no_wider b.left b.right across) f.at_most f.rest_below
   where
-    go : (x : ℤ) → (x *ℤ pos 2) ≤ℤ (b.left +ℤ b.right) → (b.left +ℤ b.right) <ℤ (x *ℤ pos 2 +ℤ pos 2)
-        → IsInReach b (x -ℤ pos 500) (x +ℤ pos 500) (b.top -ℤ pos 200 -ℤ pos 500) (b.top -ℤ pos 200 +ℤ pos 150)
-    go x low high = record { left = omega (arith, ints); right = omega (arith, ints); top = omega (arith, ints); bottom = omega (arith, ints) }
+    no_wider : (l r : ℤ) → l ≤ℤ r → pos (unsigned_abs (int_min (int_max (r -ℤ l +ℤ pos 1400) (pos 0)) (pos 118900))) ≤ℤ (r -ℤ l +ℤ pos 1400)
+    no_wider l r across = omega (arith, ints, clamps)
+
+    start : (l r x : ℤ) (room : ℕ) → pos room ≤ℤ (r -ℤ l +ℤ pos 1400) → (l +ℤ r) <ℤ (x *ℤ pos 2 +ℤ pos 2) → (l -ℤ pos 700) ≤ℤ (x -ℤ pos (room / 2))
+    start l r x room wide high = omega (arith, ints)
+
+    end : (l r x : ℤ) (room : ℕ) → pos room ≤ℤ (r -ℤ l +ℤ pos 1400) → (x *ℤ pos 2) ≤ℤ (l +ℤ r) → (x -ℤ pos (room / 2) +ℤ pos room) ≤ℤ (r +ℤ pos 700)
+    end l r x room wide low = omega (arith, ints)
+
+    go : (x : ℤ) (room : ℕ) → pos room ≤ℤ (b.right -ℤ b.left +ℤ pos 1400) → (x *ℤ pos 2) ≤ℤ (b.left +ℤ b.right) → (b.left +ℤ b.right) <ℤ (x *ℤ pos 2 +ℤ pos 2)
+        → IsInReach b (x -ℤ pos (room / 2)) (x -ℤ pos (room / 2) +ℤ pos room) (b.top -ℤ pos 200 -ℤ pos 500) (b.top -ℤ pos 200 +ℤ pos 150)
+    go x room wide low high = record {
+      left = start b.left b.right x room wide high;
+      right = end b.left b.right x room wide low;
+      top = omega (arith, ints);
+      bottom = omega (arith, ints);
+    }
 
 heading_in_reach : (sheet : Sheet) (s : Part) (view number : ℕ) (c : Cut) (h : Heading) → (is : IsHeaded sheet s view number c h) → IsHeadingInReach is.box h
 heading_in_reach sheet s view number c h is =
@@ -108,12 +123,15 @@ mark_in_range b m h = record { first = end_in_range b m.first h.first; second = 
 
 heading_in_range : (b : ViewBox) (h : Heading) → IsHeadingInReach b h → IsHeadingInRange h
 heading_in_range b h k = record {
-  x = within b.left b.right h.x (pos 500) (pos 500) b.left_in_range b.right_in_range (omega (arith, ints)) (omega (arith, ints)) (omega (arith, ints)) (omega (arith, ints)) k.left k.right;
-  y = within b.top b.bottom h.y (pos 500) (pos 150) b.top_in_range b.bottom_in_range (omega (arith, ints)) (omega (arith, ints)) (omega (arith, ints)) (omega (arith, ints)) k.top k.bottom;
+  x = around b.left b.right h.x h.room b.left_in_range b.right_in_range k.left k.right;
+  y = beneath b.top b.bottom h.y b.top_in_range b.bottom_in_range k.top k.bottom;
 }
   where
-    within : (a b n below above : ℤ) → unsigned_abs a < 2 ^ 61 → unsigned_abs b < 2 ^ 61 → pos 0 ≤ℤ below → below ≤ℤ pos 500 → pos 0 ≤ℤ above → above ≤ℤ pos 500 → (a -ℤ pos 700) ≤ℤ (n -ℤ below) → (n +ℤ above) ≤ℤ (b +ℤ pos 700) → unsigned_abs n < 2 ^ 62
-    within a b n below above f g h i j k l m = omega (arith, ints)
+    around : (a b n : ℤ) (room : ℕ) → unsigned_abs a < 2 ^ 61 → unsigned_abs b < 2 ^ 61 → (a -ℤ pos 700) ≤ℤ (n -ℤ pos (room / 2)) → (n -ℤ pos (room / 2) +ℤ pos room) ≤ℤ (b +ℤ pos 700) → unsigned_abs n < 2 ^ 62
+    around a b n room f g h i = omega (arith, ints)
+
+    beneath : (a b n : ℤ) → unsigned_abs a < 2 ^ 61 → unsigned_abs b < 2 ^ 61 → (a -ℤ pos 700) ≤ℤ (n -ℤ pos 500) → (n +ℤ pos 150) ≤ℤ (b +ℤ pos 700) → unsigned_abs n < 2 ^ 62
+    beneath a b n f g h i = omega (arith, ints)
 
 -- ---- so all marks of a plain view and the heading of a cut view are in range
 pub all_in_range : (b : ViewBox) (marks : List CutMark) → All (IsMarkInReach b) marks → All IsMarkInRange marks

@@ -11,3 +11,6 @@ pub mod Sizes
 pub mod Upright
 pub mod Written
 pub mod Parts
+pub mod HeadingLabels
+pub mod TitledViews
+pub mod UntitledHeadings

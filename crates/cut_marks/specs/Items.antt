@@ -1,8 +1,12 @@
 -- What the marks and headings of cuts are on a page.
-use Rattle.std.specs.Prelude.{ℕ, ℤ, pos, negsuc, int_lt, Bool, ◌+ℤ◌, ◌-ℤ◌, if◌then◌else◌, List, [], ◌∷◌, ◌++◌, Option, None, Some}
+use Rattle.std.specs.Prelude.{◌≡◌, ℕ, ◌*◌, ◌/◌, ◌≤◌, ℤ, pos, negsuc, int_lt, Bool, ◌+ℤ◌, ◌-ℤ◌, ◌≤ℤ◌, if◌then◌else◌, List, [], ◌∷◌, ◌++◌, Option, None, Some, IfSome, slice_get, unwrap_or}
 use Rattle.std.specs.Char.{encode_utf8}
 use Rattle.std.specs.Ordering.{int_eq}
 use Rattle.std.specs.List.{flat_map}
+use Rattle.text_fit.specs.Fits.{Fits}
+use Rattle.text_fit.specs.Widths.{text_width}
+use Rattle.text_fit.specs.declared.fit.Fitted.{Fitted}
+use Rattle.text_fit.specs.declared.fit.Room.{Room}
 use Rattle.cut_marks.specs.declared.figures.Heading.{Heading}
 use Rattle.cut_marks.specs.declared.figures.CutMark.{CutMark}
 use Rattle.cut_marks.specs.declared.figures.MarkEnd.{MarkEnd}
@@ -10,9 +14,12 @@ use Rattle.cut_marks.specs.declared.figures.SheetPoint.{SheetPoint}
 use Rattle.cut_marks.specs.declared.views.ViewMarks.{ViewMarks}
 use Rattle.sheet_page.specs.declared.page.Item.{Item}
 use Rattle.sheet_page.specs.declared.page.Item.TheVariants as item
+use Rattle.sheet_page.specs.declared.page.Label.{Label}
 use Rattle.sheet_page.specs.declared.page.Pen.{Pen}
 use Rattle.sheet_page.specs.declared.page.Pen.TheVariants as pen
-use Rattle.cut_marks.specs.MarkLetters.{half_of, width_of, heading_text, heading_width}
+use Rattle.sheet_page.specs.Labels.{fitted_in, set_width}
+use Rattle.cut_marks.specs.MarkLetters.{half_of, width_of, heading_text}
+use Rattle.cut_marks.specs.Reach.{room_start, room_end}
 
 -- a straight line from one place to another
 abbrev pub rule_to : Pen → SheetPoint → SheetPoint → Item
@@ -22,13 +29,39 @@ rule_to p a b = item.Rule (record { pen = p; from = record { x = a.x; y = a.y };
 abbrev pub text_at : SheetPoint → ℕ → ℕ → List ℕ → Item
 text_at p width size text = item.Label (record { x = p.x -ℤ pos (half_of width size); y = p.y; size = size; width = None; text = text })
 
--- the heading of a view
-abbrev pub heading_item : Heading → Item
-heading_item h = text_at (record { x = h.x; y = h.y }) (heading_width h.letter) 500 (heading_text h.letter)
+-- letters of a heading are of 5 mm, or smaller where the room is too narrow, but of 1.8 mm at least
+abbrev pub room_of : Heading → Room
+room_of h = record { width = h.room; most = 500; least = 180 }
 
-abbrev pub heading_items : Option Heading → List Item
-heading_items None = []
-heading_items (Some h) = heading_item h ∷ []
+abbrev pub wide_of : Fitted → ℕ
+wide_of f = text_width f.text * f.size / 1000
+
+-- a text that was fitted, with its middle at the heading's place
+abbrev pub heading_label : Heading → Fitted → Item
+heading_label h f = item.Label (record { x = h.x -ℤ pos (wide_of f / 2); y = h.y; size = f.size; width = set_width h.room (wide_of f); text = f.text })
+
+-- the heading of a view with this title
+abbrev pub heading_item : Heading → List ℕ → Item
+heading_item h title = heading_label h (fitted_in (room_of h) (heading_text h.letter title))
+
+abbrev pub heading_items : Option Heading → List ℕ → List Item
+heading_items None title = []
+heading_items (Some h) title = heading_item h title ∷ []
+
+-- a heading's label is no wider than the heading's room, and stands there, in letters of 5 mm at most
+pub record IsLabelInRoom (h : Heading) (l : Label) : Type 0 where
+  pub fits : Fits h.room l.size (text_width l.text)
+  pub left : room_start h ≤ℤ l.x
+  pub right : (l.x +ℤ pos (text_width l.text * l.size / 1000)) ≤ℤ room_end h
+  pub base : l.y ≡ h.y
+  pub small : l.size ≤ 500
+
+abbrev pub IsInRoom : Heading → Item → Type 0
+IsInRoom h (item.Frame frame) = ⊥
+IsInRoom h (item.Rule rule) = ⊥
+IsInRoom h (item.Circle circle) = ⊥
+IsInRoom h (item.Label label) = IsLabelInRoom h label
+IsInRoom h (item.Path path) = ⊥
 
 -- behind the tip of an arrow that comes from the tail, as far as its head is long: 1 mm
 abbrev pub behind : ℤ → ℤ → ℤ
@@ -68,9 +101,23 @@ end_items m e = arrow_items e ++ letter_item m.letter e.letter ∷ beside_items 
 abbrev pub items_of_mark : CutMark → List Item
 items_of_mark m = rule_to pen.Chain m.first.tail m.second.tail ∷ (end_items m m.first ++ end_items m m.second)
 
-abbrev pub items_of_view : ViewMarks → List Item
-items_of_view v = heading_items v.heading ++ flat_map items_of_mark v.marks.items
+-- a view with this title
+abbrev pub items_of_view : ViewMarks → List ℕ → List Item
+items_of_view v title = heading_items v.heading title ++ flat_map items_of_mark v.marks.items
 
--- all of them, view by view
-abbrev pub items_of_marks : List ViewMarks → List Item
-items_of_marks views = flat_map items_of_view views
+-- all of them, view by view, each with its title; views behind the last title have none
+abbrev pub items_of_marks : List ViewMarks → List (List ℕ) → List Item
+items_of_marks [] titles = []
+items_of_marks (v ∷ views) [] = items_of_view v [] ++ items_of_marks views []
+items_of_marks (v ∷ views) (title ∷ titles) = items_of_view v title ++ items_of_marks views titles
+
+-- the title of the view with this number
+abbrev pub title_at : List (List ℕ) → ℕ → List ℕ
+title_at titles view = unwrap_or (slice_get titles view) []
+
+-- each heading's label is in its room
+abbrev pub IsHeadedInRoom : ViewMarks → List ℕ → Type 0
+IsHeadedInRoom v title = IfSome v.heading (λ h. IsInRoom h (heading_item h title))
+
+abbrev pub AreInRooms : List ViewMarks → List (List ℕ) → Type 0
+AreInRooms views titles = (view : ℕ) (v : ViewMarks) → slice_get views view ≡ Some v → IsHeadedInRoom v (title_at titles view)

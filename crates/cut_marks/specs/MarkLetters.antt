@@ -1,5 +1,5 @@
--- The texts of marks and headings, and how wide they are in Helvetica.
-use Rattle.std.specs.Prelude.{ℕ, ◌+◌, ◌*◌, ◌/◌, ◌==◌, if◌then◌else◌, List, ◌++◌, codes}
+-- The texts of marks and headings, and how wide letters are in Helvetica.
+use Rattle.std.specs.Prelude.{ℕ, ◌*◌, ◌/◌, ◌==◌, if◌then◌else◌, List, [], ◌∷◌, ◌++◌, codes}
 use Rattle.std.specs.Char.{encode_utf8}
 
 -- the width of a letter, in thousandths of its size
@@ -11,9 +11,11 @@ width_of c =
 abbrev pub half_of : ℕ → ℕ → ℕ
 half_of thousandths size = thousandths * size / 2000
 
--- the text of a heading, as A-A, and its width
-abbrev pub heading_text : ℕ → List ℕ
-heading_text letter = encode_utf8 letter ++ codes "-" ++ encode_utf8 letter
+-- the title of a view behind its letters; an empty one is none
+abbrev pub behind_letters : List ℕ → List ℕ
+behind_letters [] = []
+behind_letters (b ∷ title) = codes " " ++ b ∷ title
 
-abbrev pub heading_width : ℕ → ℕ
-heading_width letter = 2 * width_of letter + 333
+-- the text of a heading, as A-A, or A-A through the bore
+abbrev pub heading_text : ℕ → List ℕ → List ℕ
+heading_text letter title = encode_utf8 letter ++ codes "-" ++ encode_utf8 letter ++ behind_letters title

@@ -1,5 +1,5 @@
 -- How far marks and headings reach outside the box of their view.
-use Rattle.std.specs.Prelude.{◌≡◌, ◌⊎◌, ℕ, ℤ, pos, ◌+ℤ◌, ◌-ℤ◌, ◌<ℤ◌, ◌≤ℤ◌, if◌then◌else◌, List, All, Some, IfSome, slice_get}
+use Rattle.std.specs.Prelude.{◌≡◌, ◌⊎◌, ℕ, ◌/◌, ℤ, pos, ◌+ℤ◌, ◌-ℤ◌, ◌<ℤ◌, ◌≤ℤ◌, if◌then◌else◌, List, All, Some, IfSome, slice_get}
 use Rattle.lattice.specs.declared.points.Corner.{Corner}
 use Rattle.sheet_plan.specs.declared.sheet.Sheet.{Sheet}
 use Rattle.sheet_plan.specs.Boxes.{TakesBox, box_of}
@@ -40,9 +40,16 @@ pub record IsMarkInReach (b : ViewBox) (m : CutMark) : Type 0 where
   pub first : IsEndInReach b m.first
   pub second : IsEndInReach b m.second
 
--- a heading takes 5 mm on both sides of the middle of its base line, 5 mm above it and 1.5 mm beneath
+-- where the room of a heading begins, whose middle is that of the heading's base line
+abbrev pub room_start : Heading → ℤ
+room_start h = h.x -ℤ pos (h.room / 2)
+
+abbrev pub room_end : Heading → ℤ
+room_end h = room_start h +ℤ pos h.room
+
+-- a heading takes its room across, 5 mm above its base line and 1.5 mm beneath
 abbrev pub IsHeadingInReach : ViewBox → Heading → Type 0
-IsHeadingInReach b h = IsInReach b (h.x -ℤ pos 500) (h.x +ℤ pos 500) (h.y -ℤ pos 500) (h.y +ℤ pos 150)
+IsHeadingInReach b h = IsInReach b (room_start h) (room_end h) (h.y -ℤ pos 500) (h.y +ℤ pos 150)
 
 -- what tells the cuts in the view with this number is in reach of its box
 pub record IsViewInReach (sheet : Sheet) (corners : List Corner) (view : ℕ) (m : ViewMarks) : Type 0 where

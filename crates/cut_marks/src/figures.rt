@@ -4,7 +4,7 @@ ghost use Rattle.lattice.specs.Cuts.{plane_of};
 ghost use Rattle.solid_mesh.specs.Solids.{solid_part};
 ghost use Rattle.cut_marks.specs.Letters.{IsLetterOf};
 ghost use Rattle.cut_marks.specs.Traces.{is_upright, is_forward};
-ghost use Rattle.cut_marks.specs.Figures.{ahead, place_at, upright_end, base_beyond, level_end, end_on, other_of, out_of, near_side, far_side, end_of, mark_of, marks_in, heading_over};
+ghost use Rattle.cut_marks.specs.Figures.{ahead, place_at, upright_end, base_beyond, level_end, end_on, other_of, out_of, near_side, far_side, end_of, mark_of, marks_in, room_over, heading_over};
 
 use crate::traces::{is_forward, is_upright};
 use crate::ways::{Lane, Laned};
@@ -42,13 +42,15 @@ pub struct CutMark {
     pub second: MarkEnd,
 }
 
-/// The heading of a cut view, `A-A` with this letter, 5 mm high, with the middle of its base line at x and y. Where the cut's plane
-/// crosses no triangle the view shows no section.
+/// The heading of a cut view, `A-A` with this letter, and the view's title behind it, with the middle of its base line at x and y. It is
+/// 5 mm high, or less where it would be wider than `room`, whose middle is that of the base line. If the cut's plane crosses no triangle,
+/// the view shows no section.
 #[derive(Clone, Copy, Debug)]
 pub struct Heading {
     pub letter: u8,
     pub x: i64,
     pub y: i64,
+    pub room: u32,
     pub has_section: bool,
 }
 
@@ -199,6 +201,14 @@ pub(crate) fn marks_in(
     Ok(marks)
 }
 
+/// The room of the heading over a cut view with this box: as wide as the box and 7 mm on both sides of it, but no wider than the widest
+/// sheet.
+fn room_over(b: &ViewBox) -> u32
+    ensures { result ≡ room_over b.now }
+{
+    (b.right - b.left + 1400).max(0).min(118_900) as u32
+}
+
 /// The heading over a cut view with this box.
 pub(crate) fn heading_over(b: &ViewBox, letter: u8, has_section: bool) -> Heading
     ensures { result ≡ heading_over b.now letter has_section }
@@ -207,6 +217,7 @@ pub(crate) fn heading_over(b: &ViewBox, letter: u8, has_section: bool) -> Headin
         letter,
         x: (b.left + b.right).div_euclid(2),
         y: b.top - 200,
+        room: room_over(b),
         has_section,
     }
 }

@@ -1,12 +1,13 @@
 // The marks and headings of cuts on a page.
 ghost use Rattle.std.specs.Prelude.{◌≡◌, ◌≤◌, ◌<◌, ◌^◌, ◌++◌, ◌∷◌, [], pos, ◌+ℤ◌, ◌-ℤ◌, unsigned_abs, IfOk, OnOk};
 ghost use Rattle.std.specs.List.{flat_map};
-ghost use Rattle.cut_marks.specs.MarkLetters.{half_of, width_of, heading_width};
-ghost use Rattle.cut_marks.specs.Ranges.{IsPlaceInRange, IsEndInRange, IsMarkInRange, IsHeadingInRange};
-ghost use Rattle.cut_marks.specs.Items.{rule_to, text_at, heading_item, heading_items, behind, is_upright, upright_head, level_head, head_at, arrow_items, letter_item, beside_items, end_items, items_of_mark, items_of_view, items_of_marks};
+ghost use Rattle.cut_marks.specs.MarkLetters.{half_of, width_of};
+ghost use Rattle.cut_marks.specs.Ranges.{IsPlaceInRange, IsEndInRange, IsMarkInRange};
+ghost use Rattle.cut_marks.specs.Items.{rule_to, text_at, heading_items, behind, is_upright, upright_head, level_head, head_at, arrow_items, letter_item, beside_items, end_items, items_of_mark, items_of_view, items_of_marks, title_at, IsHeadedInRoom, AreInRooms};
 
-use crate::figures::{CutMark, Heading, MarkEnd, SheetPoint};
-use crate::mark_letters::{half_of, heading_text, heading_width, letter_text, width_of};
+use crate::figures::{CutMark, MarkEnd, SheetPoint};
+use crate::headings::add_heading;
+use crate::mark_letters::{half_of, letter_text, width_of};
 use crate::views::ViewMarks;
 use dec_text::Name;
 use exact_frac::OutOfMemory;
@@ -16,9 +17,6 @@ use stroke_paths::Point;
 
 /// The size of the letters of marks.
 const MARK_SIZE: u32 = 350;
-
-/// And that of headings.
-const HEADING_SIZE: u32 = 500;
 
 /// A straight line from one place to another.
 fn rule_to(pen: Pen, from: &SheetPoint, to: &SheetPoint) -> Item
@@ -37,7 +35,7 @@ fn rule_to(pen: Pen, from: &SheetPoint, to: &SheetPoint) -> Item
 /// The number, less so much.
 fn less(n: i64, by: u32) -> i64
     requires here { unsigned_abs n < 2 ^ 62 }
-    requires near { by ≤ 750 }
+    requires near { by ≤ 250 }
     ensures { result ≡ n -ℤ pos by }
 {
     n - i64::from(by)
@@ -52,7 +50,7 @@ fn text_at(
     text: &str,
 ) -> Result<Item, OutOfMemory>
     requires here { unsigned_abs place.now.x < 2 ^ 62 }
-    requires wide { width ≤ 3000 }
+    requires wide { width ≤ 1000 }
     requires large { size ≤ 500 }
     ensures { IfOk result (λ item. item ≡ text_at place.now width size text.now) }
 {
@@ -63,26 +61,6 @@ fn text_at(
         width: None,
         text: Name::new(alloc, text)?,
     }))
-}
-
-/// Adds the heading of a view.
-fn add_heading(alloc: Global, items: &mut Vec<Item>, heading: &Heading) -> Result<(), OutOfMemory>
-    requires { IsHeadingInRange heading.now }
-    ensures { OnOk result (items.new.items ≡ items.old.items ++ heading_item heading.now ∷ []) }
-{
-    let text = heading_text(alloc, heading)?;
-    let place = SheetPoint {
-        x: heading.x,
-        y: heading.y,
-    };
-    items.push(text_at(
-        alloc,
-        &place,
-        heading_width(heading),
-        HEADING_SIZE,
-        text.as_str(),
-    )?)?;
-    Ok(())
 }
 
 /// Behind the tip of an arrow that comes from the tail, as far as its head is long.
@@ -215,27 +193,63 @@ fn add_mark(alloc: Global, items: &mut Vec<Item>, mark: &CutMark) -> Result<(), 
     Ok(())
 }
 
-/// Adds what tells the cuts in a view.
-fn add_view(alloc: Global, items: &mut Vec<Item>, view: &ViewMarks) -> Result<(), OutOfMemory>
-    ensures { OnOk result (items.new.items ≡ items.old.items ++ items_of_view view.now) }
+/// Adds the heading of a view with this title, if it has one.
+fn add_headings(
+    alloc: Global,
+    items: &mut Vec<Item>,
+    view: &ViewMarks,
+    title: &str,
+) -> Result<(), OutOfMemory>
+    ensures items { OnOk result (items.new.items ≡ items.old.items ++ heading_items view.now.heading title.now) }
+    ensures in_room { OnOk result (IsHeadedInRoom view.now title.now) }
 {
-    if let Some(heading) = &view.heading {
-        add_heading(alloc, items, heading)?;
+    match &view.heading {
+        Some(heading) => add_heading(alloc, items, heading, title),
+        None => Ok(()),
     }
+}
+
+/// Adds what tells the cuts in a view with this title.
+fn add_view(
+    alloc: Global,
+    items: &mut Vec<Item>,
+    view: &ViewMarks,
+    title: &str,
+) -> Result<(), OutOfMemory>
+    ensures items { OnOk result (items.new.items ≡ items.old.items ++ items_of_view view.now title.now) }
+    ensures in_room { OnOk result (IsHeadedInRoom view.now title.now) }
+{
+    add_headings(alloc, items, view, title)?;
     for mark in &view.marks {
         add_mark(alloc, items, mark)?;
     }
     Ok(())
 }
 
+/// The title of the view with this number; it is empty if there is none.
+fn title_at(titles: &[Name], view: usize) -> &str
+    ensures { result.now ≡ title_at titles.now view }
+{
+    match titles.get(view) {
+        Some(title) => title.as_str(),
+        None => "",
+    }
+}
+
 /// What tells the cuts on a page, view by view: for a heading a text, and for a mark a chain line from end to end and at each end an
-/// arrow and a text. No path is among it. The time goes with the number of marks.
-pub fn mark_items(alloc: Global, views: &[ViewMarks]) -> Result<Vec<Item>, OutOfMemory>
-    ensures { IfOk result (λ items. items.items ≡ items_of_marks views.now) }
+/// arrow and a text. No path is among it. `titles` are those of the views, in their order; a view has none if its title is empty or if
+/// there are fewer. The time goes with the number of marks and with the lengths of the titles.
+pub fn mark_items(
+    alloc: Global,
+    views: &[ViewMarks],
+    titles: &[Name],
+) -> Result<Vec<Item>, OutOfMemory>
+    ensures items { IfOk result (λ items. items.items ≡ items_of_marks views.now titles.now) }
+    ensures in_rooms { IfOk result (λ _. AreInRooms views.now titles.now) }
 {
     let mut items = Vec::new(alloc);
-    for view in views {
-        add_view(alloc, &mut items, view)?;
+    for view in 0..views.len() {
+        add_view(alloc, &mut items, &views[view], title_at(titles, view))?;
     }
     Ok(items)
 }

@@ -1,9 +1,8 @@
-// The texts of marks and headings, and how wide they are.
-ghost use Rattle.std.specs.Prelude.{◌≡◌, ◌≤◌, IfOk, string_bytes};
+// The texts of marks and headings, and how wide letters are.
+ghost use Rattle.std.specs.Prelude.{◌≡◌, ◌≤◌, ◌++◌, IfOk, OnOk, string_bytes};
 ghost use Rattle.std.specs.Char.{encode_utf8};
-ghost use Rattle.cut_marks.specs.MarkLetters.{width_of, half_of, heading_text, heading_width};
+ghost use Rattle.cut_marks.specs.MarkLetters.{width_of, half_of, behind_letters, heading_text};
 
-use crate::figures::Heading;
 use std::alloc::{AllocError, Global};
 
 /// The width of a letter, in thousandths of its size.
@@ -26,10 +25,10 @@ pub(crate) fn width_of(letter: u8) -> u32
 
 /// Half of the length of a text that is so many thousandths of its size long.
 pub(crate) fn half_of(thousandths: u32, size: u32) -> u32
-    requires wide { thousandths ≤ 3000 }
+    requires wide { thousandths ≤ 1000 }
     requires large { size ≤ 500 }
     ensures value { result ≡ half_of thousandths size }
-    ensures size { result ≤ 750 }
+    ensures size { result ≤ 250 }
 {
     thousandths * size / 2000
 }
@@ -43,21 +42,26 @@ pub(crate) fn letter_text(alloc: Global, letter: u8) -> Result<String, AllocErro
     Ok(text)
 }
 
-/// The text of a heading.
-pub(crate) fn heading_text(alloc: Global, heading: &Heading) -> Result<String, AllocError>
-    ensures { IfOk result (λ text. string_bytes text ≡ heading_text heading.now.letter) }
+/// Adds the title of a view behind its letters, if it isn't empty.
+fn add_title(text: &mut String, title: &str) -> Result<(), AllocError>
+    ensures { OnOk result (string_bytes text.new ≡ string_bytes text.old ++ behind_letters title.now) }
 {
-    let mut text = String::new(alloc);
-    text.push(heading.letter as char)?;
-    text.push_str("-")?;
-    text.push(heading.letter as char)?;
-    Ok(text)
+    if title.is_empty() {
+        return Ok(());
+    }
+    text.push_str(" ")?;
+    text.push_str(title)?;
+    Ok(())
 }
 
-/// Its width, in thousandths of its size.
-pub(crate) fn heading_width(heading: &Heading) -> u32
-    ensures value { result ≡ heading_width heading.now.letter }
-    ensures size { result ≤ 3000 }
+/// The text of the heading of a view with this title.
+pub(crate) fn heading_text(alloc: Global, letter: u8, title: &str) -> Result<String, AllocError>
+    ensures { IfOk result (λ text. string_bytes text ≡ heading_text letter title.now) }
 {
-    2 * width_of(heading.letter) + 333
+    let mut text = String::new(alloc);
+    text.push(letter as char)?;
+    text.push_str("-")?;
+    text.push(letter as char)?;
+    add_title(&mut text, title)?;
+    Ok(text)
 }

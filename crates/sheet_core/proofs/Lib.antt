@@ -1,13 +1,11 @@
 pub mod Answered
 pub mod Asked
 pub mod Moved
-pub mod OneAnswer
-pub mod Orders
 pub mod PageItems
 pub mod Putting
-pub mod Taking
 pub mod Told
 pub mod Warned
 pub mod Digits
+pub mod SaidTitles
 pub mod SomeRun
 pub mod HeldTexts

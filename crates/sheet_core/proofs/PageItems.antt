@@ -1,5 +1,5 @@
 -- What stands on the page of a drawing is of its views.
-use Rattle.std.proofs.Common.{◌≡◌, ℕ, ◌<◌, List, [], ◌∷◌, ◌++◌, Option, None, Some, map, length}
+use Rattle.std.proofs.Common.{◌≡◌, ℕ, ◌<◌, List, [], ◌∷◌, ◌++◌, Bool, Option, None, Some, map, length}
 use Rattle.std.specs.Prelude.{ℤ, pos, negsuc}
 use Rattle.std.specs.List.{All, flat_map}
 use Rattle.std.proofs.lemmas.List.Elements.{All-nil, All-cons, All-append, All-filter, All-map, All-weaker}
@@ -21,7 +21,6 @@ use Rattle.sheet_page.specs.Pages.{IsInView}
 use Rattle.sheet_page.specs.declared.page.Item.{Item}
 use Rattle.sheet_page.specs.declared.page.Item.TheVariants as item
 use Rattle.sheet_page.specs.declared.page.Pen.TheVariants as pen
-use Rattle.sheet_job.specs.declared.hidden.Hidden.{Hidden}
 use Rattle.stroke_paths.specs.declared.path.Path.{Path}
 use Rattle.sheet_core.specs.Pages.{is_shown, frame_of, shown_paths}
 
@@ -70,22 +69,25 @@ module _ (n : ℕ) where
   of_mark : (m : CutMark) → All (IsInView n) (items_of_mark m)
   of_mark m = All-cons (IsInView n) (rule_to pen.Chain m.first.tail m.second.tail) (end_items m m.first ++ end_items m m.second) tt (All-append (IsInView n) (end_items m m.first) (end_items m m.second) (of_end m m.first) (of_end m m.second))
 
-  of_heading : (h : Option Heading) → All (IsInView n) (heading_items h)
-  of_heading None = All-nil (IsInView n)
-  of_heading (Some h) = one (heading_item h) tt
+  of_heading : (h : Option Heading) (title : List ℕ) → All (IsInView n) (heading_items h title)
+  of_heading None title = All-nil (IsInView n)
+  of_heading (Some h) title = one (heading_item h title) tt
 
-  of_view : (v : ViewMarks) → All (IsInView n) (items_of_view v)
-  of_view v = All-append (IsInView n) (heading_items v.heading) (flat_map items_of_mark v.marks.items) (of_heading v.heading) (all_flat (IsInView n) items_of_mark of_mark v.marks.items)
+  of_view : (v : ViewMarks) (title : List ℕ) → All (IsInView n) (items_of_view v title)
+  of_view v title =
+      All-append (IsInView n) (heading_items v.heading title) (flat_map items_of_mark v.marks.items) (of_heading v.heading title) (all_flat (IsInView n) items_of_mark of_mark v.marks.items)
 
-  pub of_marks : (views : List ViewMarks) → All (IsInView n) (items_of_marks views)
-  of_marks views = all_flat (IsInView n) items_of_view of_view views
+  pub of_marks : (views : List ViewMarks) (titles : List (List ℕ)) → All (IsInView n) (items_of_marks views titles)
+  of_marks [] titles = All-nil (IsInView n)
+  of_marks (v ∷ views) [] = All-append (IsInView n) (items_of_view v []) (items_of_marks views []) (of_view v []) (of_marks views [])
+  of_marks (v ∷ views) (title ∷ titles) = All-append (IsInView n) (items_of_view v title) (items_of_marks views titles) (of_view v title) (of_marks views titles)
 
-pub in_views : (n : ℕ) (hidden : Hidden) (d : Drawing) (block marks : List Item) (paths : List Path) → All (IsInView n) block → All (IsInView n) marks → All (λ p. p.view < n) paths
-    → All (IsInView n) ((frame_of d.sheet.width d.sheet.height ∷ block) ++ map item.Path (shown_paths hidden d.job.views.items paths) ++ marks)
+pub in_views : (n : ℕ) (hidden : List Bool) (d : Drawing) (block marks : List Item) (paths : List Path) → All (IsInView n) block → All (IsInView n) marks → All (λ p. p.view < n) paths
+    → All (IsInView n) ((frame_of d.sheet.width d.sheet.height ∷ block) ++ map item.Path (shown_paths hidden paths) ++ marks)
 in_views n hidden d block marks paths of_block of_marks within =
     let frame = frame_of d.sheet.width d.sheet.height ∷ block in
-    let drawn = map item.Path (shown_paths hidden d.job.views.items paths) in
+    let drawn = map item.Path (shown_paths hidden paths) in
     All-append (IsInView n) (frame ++ drawn) marks
     (All-append (IsInView n) frame drawn
     (All-cons (IsInView n) (frame_of d.sheet.width d.sheet.height) block tt of_block)
-    (All-map (IsInView n) item.Path (shown_paths hidden d.job.views.items paths) (All-filter (λ p. is_shown hidden d.job.views.items p.view p.mark) (λ p. p.view < n) paths within))) of_marks
+    (All-map (IsInView n) item.Path (shown_paths hidden paths) (All-filter (λ p. is_shown hidden p.view p.mark) (λ p. p.view < n) paths within))) of_marks

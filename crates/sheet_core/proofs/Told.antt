@@ -1,21 +1,33 @@
--- A run that is asked for help or the version: what it says.
-use Rattle.std.proofs.Common.{ℕ, List, Option, None, Some, false, Ok, refl}
+-- What the lines of a run tell: of files that can't be read, and where help or the version is asked for.
+use Rattle.std.proofs.Common.{◌≡◌, ℕ, List, Option, None, Some, false, Ok, refl}
 use Rattle.std.specs.Prelude.{IfSome}
 use Rattle.desk.specs.Files.{Files, DeskState}
-use Rattle.part_input.specs.declared.fault.Fault.TheVariants.{WriteFault, Memory}
+use Rattle.part_input.specs.declared.fault.Fault.TheVariants.{ReadFault, WriteFault, Memory}
+use Rattle.part_input.specs.declared.fault.Input.{Input}
+use Rattle.part_input.specs.declared.fault.Input.TheVariants.{Job, Part}
 use Rattle.part_input.specs.declared.fault.Target.TheVariants.{Out}
 use Rattle.put_texts.specs.Order.{aloud}
 use Rattle.put_texts.specs.Puts.{IsOfTexts, one_text, told_by}
 use Rattle.put_texts.proofs.Putting.{by_fault, of_one}
 use Rattle.put_texts.proofs.Runs.{IsPutting}
-use Rattle.sheet_core.specs.Faults.{sheet_faults}
+use Rattle.sheet_input.specs.Faults.{sheet_faults}
 use Rattle.sheet_core.specs.Lines.{IsLineOf, named_in}
 use Rattle.sheet_core.specs.Run.{AnswersSheetWords, HasDrawing, RunsInOrder, RunsSheet, sheet_run}
-use Rattle.sheet_core.specs.declared.fault.SheetFault.{SheetFault}
-use Rattle.sheet_core.specs.declared.fault.SheetFault.TheVariants.{Common}
+use Rattle.sheet_input.specs.declared.fault.SheetFault.{SheetFault}
+use Rattle.sheet_input.specs.declared.fault.SheetFault.TheVariants.{Common}
+use Rattle.sheet_input.specs.declared.refusal.Told.{Told}
+use Rattle.sheet_input.specs.declared.refusal.Told.TheVariants.{Nothing}
+use Rattle.sheet_core.specs.Refusals.{fault_line}
+use Rattle.sheet_core.specs.Unread.{AreUnreadLines, unread_line}
+use Rattle.sheet_core.specs.declared.unread.UnreadLines.{UnreadLines}
 use Rattle.sheet_core.specs.declared.refusals.TheConstants.{MEMORY_LINE, SAID_LINE}
-use Rattle.sheet_core.specs.inner.Shortage.{short_only}
-use Rattle.sheet_words.specs.Names.{Asks, help, version, sheet}
+use Rattle.sheet_input.specs.inner.Shortage.{short_only}
+use Rattle.sheet_words.specs.Names.{Asks, Named, help, version, sheet}
+
+-- the line of a file that can't be read, whatever is told beside it
+pub unread_told : (named : Named) (lines : UnreadLines) → AreUnreadLines named lines → (input : Input) (told : Told) → unread_line lines input ≡ fault_line (Some named) told (Common (ReadFault input))
+unread_told named lines are Job told = are.job
+unread_told named lines are Part told = are.part
 
 -- the words ask for no sheet
 abbrev pub AsksToTell : Asks → Type 0
@@ -49,8 +61,8 @@ module _ (bytes : List ℕ) where
   undrawn (sheet named) is fault = absurd is
 
   lines : (asks : Asks) → AsksToTell asks → (old : DeskState) (f : SheetFault) → IsOfTexts sheet_faults (one_text aloud unsaid bytes) f → IsLineOf (named_in (Some asks)) old f (told_by sheet_faults MEMORY_LINE.now SAID_LINE.now f)
-  lines help is old f of_texts = each_fault bytes (λ (f : SheetFault). IsLineOf None old f (told_by sheet_faults MEMORY_LINE.now SAID_LINE.now f)) (None, refl, refl) (None, refl, refl) f of_texts
-  lines version is old f of_texts = each_fault bytes (λ (f : SheetFault). IsLineOf None old f (told_by sheet_faults MEMORY_LINE.now SAID_LINE.now f)) (None, refl, refl) (None, refl, refl) f of_texts
+  lines help is old f of_texts = each_fault bytes (λ (f : SheetFault). IsLineOf None old f (told_by sheet_faults MEMORY_LINE.now SAID_LINE.now f)) (Nothing, refl, refl) (Nothing, refl, refl) f of_texts
+  lines version is old f of_texts = each_fault bytes (λ (f : SheetFault). IsLineOf None old f (told_by sheet_faults MEMORY_LINE.now SAID_LINE.now f)) (Nothing, refl, refl) (Nothing, refl, refl) f of_texts
   lines (sheet named) is old f of_texts = absurd is
 
   pub telling : (asks : Asks) → AsksToTell asks → (old : DeskState) → IsPutting (sheet_run (Some asks)) (one_text aloud unsaid bytes) (told_by sheet_faults MEMORY_LINE.now SAID_LINE.now) None old

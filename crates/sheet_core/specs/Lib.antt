@@ -1,5 +1,3 @@
-pub mod BlockWords
-pub mod Faults
 pub mod Lines
 pub mod Moved
 pub mod Pages

@@ -2,7 +2,7 @@
 use Rattle.std.specs.Prelude.{ℕ, ◌/◌, ◌%◌, ◌^◌, ℤ, pos, negsuc, List, [], codes}
 use Rattle.std.proofs.Common.{zero, suc}
 use Rattle.std.specs.Fmt.{decimal}
-use Rattle.sheet_core.specs.declared.place.FaultPlace.{FaultPlace}
+use Rattle.sheet_input.specs.declared.place.FaultPlace.{FaultPlace}
 use Rattle.svg_page.specs.Texts.{◌⊕◌}
 
 -- the digits behind a point, without zeros at their end

@@ -1,6 +1,7 @@
 -- The lines that `sheet` tells its faults by: the file, the place there, what is wrong, and what is allowed.
-use Rattle.std.specs.Prelude.{ℕ, ℤ, List, [], Option, Some, None, codes, unwrap_or}
+use Rattle.std.specs.Prelude.{ℕ, ℤ, Bool, true, false, if◌then◌else◌, List, [], Option, Some, None, codes, unwrap_or}
 use Rattle.std.specs.Fmt.{decimal, signed_decimal}
+use Rattle.std.specs.Str.{bytes_eq}
 use Rattle.fault_lines.specs.Lines.{shown, key_text, axis_text, kind_text}
 use Rattle.job_file.specs.declared.fault.JobFault.{JobFault}
 use Rattle.job_file.specs.declared.fault.JobFault.TheVariants.{NotToml, Version, UnknownKey, Wrong, TooManyViews, ZeroDirection, DirectionRange, CutRange}
@@ -12,9 +13,13 @@ use Rattle.part_input.specs.declared.fault.Input.TheVariants as input
 use Rattle.part_input.specs.declared.fault.Target.{Target}
 use Rattle.part_input.specs.declared.fault.Target.TheVariants as target
 use Rattle.sheet_core.specs.Places.{mm_text, point_text}
-use Rattle.sheet_core.specs.declared.fault.SheetFault.{SheetFault}
-use Rattle.sheet_core.specs.declared.fault.SheetFault.TheVariants.{Common, WriteList}
-use Rattle.sheet_core.specs.declared.place.FaultPlace.{FaultPlace}
+use Rattle.sheet_input.specs.declared.fault.SheetFault.{SheetFault}
+use Rattle.sheet_input.specs.declared.fault.SheetFault.TheVariants.{Common, OwnJob, WriteList, WritePlain}
+use Rattle.flaw_lines.specs.FlawTexts.{flaw_text}
+use Rattle.sheet_input.specs.declared.place.FaultPlace.{FaultPlace}
+use Rattle.sheet_input.specs.declared.refusal.Told.{Told}
+use Rattle.sheet_input.specs.declared.refusal.Told.TheVariants as told
+use Rattle.sheet_job.specs.declared.flaw.PlacedFlaw.{PlacedFlaw}
 use Rattle.sheet_words.specs.Names.{Goal, ListGoal, Named, said, svg_file, pdf_file, list_said, list_file}
 use Rattle.solid_mesh.specs.declared.faults.MeshFault.{MeshFault}
 use Rattle.solid_mesh.specs.declared.faults.MeshFault.TheVariants.{Flat, SameWay, Unpaired, Double, Meet}
@@ -24,7 +29,7 @@ use Rattle.weld.specs.declared.fault.PartFault.{PartFault}
 -- ---- a job
 -- what is allowed for a key
 abbrev pub allowed : Key → List ℕ
-allowed key.Version = codes "1 or 2"
+allowed key.Version = codes "1, 2 or 3"
 allowed key.Decimals = codes "0 to 6"
 allowed key.Angle = codes "\"first\" or \"third\""
 allowed key.Sheet = codes "\"A0\", \"A1\", \"A2\", \"A3\" or \"A4\""
@@ -41,11 +46,46 @@ allowed key.Cut = codes "\"x\", \"y\" or \"z\", with at and from beside it"
 allowed key.At = codes "a whole number of units from -1048576 to 1048576; with 3 decimals a unit is 0.001 mm, and 22.5 mm is 22500"
 allowed key.From = codes "\"high\" or \"low\""
 
+-- a key that a job has itself, so that it is unknown in a view
+abbrev pub is_of_job : List ℕ → Bool
+is_of_job name =
+    if bytes_eq name (codes "version") then true else (
+    if bytes_eq name (codes "decimals") then true else (
+    if bytes_eq name (codes "angle") then true else (
+    if bytes_eq name (codes "sheet") then true else (
+    if bytes_eq name (codes "scale") then true else (
+    if bytes_eq name (codes "crease") then true else (
+    if bytes_eq name (codes "title") then true else (
+    if bytes_eq name (codes "outputs") then true else (false))))))))
+
+-- a key that a view has, so that it is unknown before the first view
+abbrev pub is_of_view : List ℕ → Bool
+is_of_view name =
+    if bytes_eq name (codes "name") then true else (
+    if bytes_eq name (codes "toward") then true else (
+    if bytes_eq name (codes "cut") then true else (
+    if bytes_eq name (codes "at") then true else (
+    if bytes_eq name (codes "from") then true else (false)))))
+
+-- a key that an older version doesn't have
+abbrev pub newer_text : List ℕ → List ℕ
+newer_text name =
+    if bytes_eq name (codes "unit") then codes ": versions 2 and 3 have it, before the first [[view]]"
+    else (if bytes_eq name (codes "layout") then codes ": versions 2 and 3 have it, before the first [[view]]"
+    else (if bytes_eq name (codes "hidden") then codes ": version 3 has it"
+    else (if bytes_eq name (codes "block") then codes ": version 3 has it" else codes "")))
+
+-- where a key belongs that is unknown at its place, or which versions have it
+abbrev pub belongs_text : List ℕ → List ℕ
+belongs_text name =
+    if is_of_job name then codes ": it belongs before the first [[view]]"
+    else (if is_of_view name then codes ": it belongs in a [[view]]" else newer_text name)
+
 -- what is wrong with a job
 abbrev pub job_text : JobFault → List ℕ
 job_text NotToml = codes "not TOML"
-job_text (Version n) = codes "version " ⊕ signed_decimal n ⊕ codes ": 1 and 2 are known"
-job_text (UnknownKey name) = codes "unknown key " ⊕ shown name
+job_text (Version n) = codes "version " ⊕ signed_decimal n ⊕ codes ": 1, 2 and 3 are known"
+job_text (UnknownKey name) = codes "unknown key " ⊕ shown name ⊕ belongs_text name
 job_text (Wrong key) = codes "wrong " ⊕ key_text key ⊕ codes ": " ⊕ allowed key
 job_text TooManyViews = codes "more than 12 views"
 job_text (ZeroDirection v) = codes "view " ⊕ decimal v ⊕ codes ": zero direction"
@@ -129,6 +169,11 @@ abbrev pub list_in : Option Named → Option ListGoal
 list_in None = None
 list_in (Some named) = named.list
 
+-- and the plain job
+abbrev pub plain_in : Option Named → Option ListGoal
+plain_in None = None
+plain_in (Some named) = named.plain
+
 -- the line of what couldn't be written: the sheet, or the summary of it and of its list
 abbrev pub target_line : Option Named → Target → List ℕ
 target_line named target.Out = write_line (goal_in named)
@@ -136,7 +181,7 @@ target_line named other = said_line
 
 -- the line of a fault that `draw` has too; that of a surface tells the place, if one is given
 abbrev pub common_line : Option Named → Option FaultPlace → Fault → List ℕ
-common_line named place Usage = codes "sheet: usage: sheet PART [--job JOB] [--out OUT] [--list LIST] [--hidden all|plain|none] [--number TEXT] [--revision TEXT] [--material TEXT] [--date TEXT]; sheet --help tells more\n"
+common_line named place Usage = codes "sheet: usage: sheet PART [--job JOB] [--out OUT] [--list LIST] [--plain-job FILE] [--hidden all|plain|none] [--title TEXT] [--number TEXT] [--revision TEXT] [--material TEXT] [--date TEXT]; sheet --help tells more\n"
 common_line named place (ReadFault input.Job) = about (job_in named) (codes "cannot be read")
 common_line named place JobTooLong = about (job_in named) (codes "more than 65536 bytes")
 common_line named place (Job fault) = about (job_in named) (job_text fault)
@@ -151,7 +196,22 @@ common_line named place (DoesNotFit need_w need_h have_w have_h) = about (part_i
 common_line named place (WriteFault target) = target_line named target
 common_line named place Memory = codes "sheet: out of memory\n"
 
+-- the line of what is wrong with a job, with the place there
+abbrev pub flaw_line : List ℕ → PlacedFlaw → List ℕ
+flaw_line job flaw = codes "sheet: " ⊕ shown job ⊕ codes ":" ⊕ flaw_text flaw ⊕ codes "\n"
+
+abbrev pub own_line : Option Named → Told → List ℕ
+own_line named (told.Job flaw) = flaw_line (job_in named) flaw
+own_line named other = about (job_in named) (codes "no job")
+
+-- the place that is told
+abbrev pub place_told : Told → Option FaultPlace
+place_told (told.Surface place) = Some place
+place_told other = None
+
 -- The line of a fault, with the names that the words give; they give none where they are refused or ask for no sheet.
-abbrev pub fault_line : Option Named → Option FaultPlace → SheetFault → List ℕ
-fault_line named place (Common fault) = common_line named place fault
-fault_line named place WriteList = list_line (list_in named)
+abbrev pub fault_line : Option Named → Told → SheetFault → List ℕ
+fault_line named told (Common fault) = common_line named (place_told told) fault
+fault_line named told OwnJob = own_line named told
+fault_line named told WriteList = list_line (list_in named)
+fault_line named told WritePlain = list_line (plain_in named)

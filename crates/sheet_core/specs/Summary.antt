@@ -1,12 +1,12 @@
 -- What a run says of a sheet that it has drawn.
-use Rattle.std.specs.Prelude.{ℕ, Bool, false, List, length, codes, count_by}
+use Rattle.std.specs.Prelude.{ℕ, Bool, false, List, length, codes, count_by, if◌then◌else◌}
 use Rattle.std.specs.Fmt.{decimal}
 use Rattle.cut_marks.specs.Notes.{notes_of}
 use Rattle.cut_marks.specs.declared.views.ViewMarks.{ViewMarks}
-use Rattle.drawing.specs.declared.drawn.Drawing.{Drawing}
 use Rattle.job_file.specs.Papers.{paper_name}
 use Rattle.job_file.specs.declared.job.Paper.{Paper}
 use Rattle.job_file.specs.declared.job.Scale.{Scale}
+use Rattle.sheet_input.specs.declared.take.SheetInput.{SheetInput}
 use Rattle.sheet_page.specs.declared.page.Item.{Item}
 use Rattle.sheet_page.specs.declared.page.Item.TheVariants as item
 use Rattle.sheet_page.specs.declared.page.Page.{Page}
@@ -34,7 +34,12 @@ abbrev pub paths_text : List Item → List ℕ
 paths_text items =
     codes " visible " ⊕ decimal (paths_of Solid items) ⊕ codes " hidden " ⊕ decimal (paths_of Dashed items) ⊕ codes " hatch " ⊕ decimal (paths_of Hatch items)
 
+-- the number of decimals, where it was left to the program
+abbrev pub fitted_text : SheetInput → List ℕ
+fitted_text input = if input.look.fitted then codes " decimals " ⊕ decimal input.drawing.job.decimals else codes ""
+
 -- what is said of a drawing, its page, and what tells its cuts: a line, and behind it one for each cut that isn't told as usual
-abbrev pub summary_of : Drawing → Page → List ViewMarks → List ℕ
-summary_of d page marks =
-    sheet_text d.job.paper d.sheet.scale (length d.sheet.places.items) ⊕ paths_text page.items.items ⊕ codes "\n" ⊕ notes_of marks
+abbrev pub summary_of : SheetInput → Page → List ViewMarks → List ℕ
+summary_of input page marks =
+    let d = input.drawing in
+    sheet_text d.job.paper d.sheet.scale (length d.sheet.places.items) ⊕ paths_text page.items.items ⊕ fitted_text input ⊕ codes "\n" ⊕ notes_of marks

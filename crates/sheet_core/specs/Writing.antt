@@ -2,21 +2,21 @@
 use Rattle.std.specs.Prelude.{◌≡◌, ℕ, true, List, [], ◌∷◌, Option, Some, None, IfNone}
 use Rattle.desk.specs.Files.{DeskState}
 use Rattle.cut_marks.specs.declared.views.ViewMarks.{ViewMarks}
-use Rattle.drawing.specs.declared.drawn.Drawing.{Drawing}
+use Rattle.job_file.specs.Seen.{job_seen}
+use Rattle.job_writer.specs.PlainJobs.{plain_job}
 use Rattle.part_input.specs.declared.fault.Fault.TheVariants.{WriteFault}
 use Rattle.part_input.specs.declared.fault.Target.{Target}
 use Rattle.part_input.specs.declared.fault.Target.TheVariants.{Out, Plot, Summary}
 use Rattle.put_texts.specs.Desks.{HearsAll}
 use Rattle.put_texts.specs.Noting.{IsQuiet, Notes, NotesWhole, unless_said}
 use Rattle.put_texts.specs.Order.{Way, Text, nowhere, aloud, under, SaysAlone, HoldTexts, KeepsTexts, SaysTexts, SparesFiles, SparesSaid}
-use Rattle.sheet_core.specs.Faults.{sheet_faults}
-use Rattle.sheet_core.specs.BlockWords.{IsBlockOf}
-use Rattle.sheet_job.specs.declared.block.BlockTexts.{BlockTexts}
+use Rattle.sheet_input.specs.Faults.{sheet_faults}
 use Rattle.sheet_core.specs.Pages.{IsPageWith, shown_strokes}
 use Rattle.sheet_core.specs.Summary.{summary_of}
-use Rattle.sheet_core.specs.declared.fault.SheetFault.{SheetFault}
-use Rattle.sheet_core.specs.declared.fault.SheetFault.TheVariants.{Common, WriteList}
+use Rattle.sheet_input.specs.declared.fault.SheetFault.{SheetFault}
+use Rattle.sheet_input.specs.declared.fault.SheetFault.TheVariants.{Common, WriteList, WritePlain}
 use Rattle.sheet_core.specs.declared.lines.TheConstants.{HELP, VERSION}
+use Rattle.sheet_input.specs.declared.take.SheetInput.{SheetInput}
 use Rattle.sheet_list.specs.Lists.{list_text}
 use Rattle.sheet_page.specs.Pdf.{pdf_of}
 use Rattle.sheet_page.specs.Svg.{svg_of}
@@ -32,7 +32,7 @@ page_text said page = svg_of page
 page_text (svg_file name) page = svg_of page
 page_text (pdf_file name) page = pdf_of page
 
--- the text of the list, where one was asked for
+-- the text of the list or of the plain job, where one was asked for
 abbrev pub listed : Option ListGoal → List ℕ → List ℕ
 listed None text = []
 listed (Some goal) text = text
@@ -48,43 +48,42 @@ list_way None = nowhere
 list_way (Some list_said) = aloud
 list_way (Some (list_file name)) = under name
 
--- the summary is said, unless the sheet or the list is
+-- the summary is said, unless the sheet, the list or the plain job is
 abbrev pub summary_way : Named → Way
-summary_way named = unless_said (way_of named.out) (unless_said (list_way named.list) aloud)
+summary_way named = unless_said (way_of named.out) (unless_said (list_way named.list) (unless_said (list_way named.plain) aloud))
 
--- the sheet comes first, then the list, and then the summary
-abbrev pub texts_for : Named → List ℕ → List ℕ → List ℕ → List (Text SheetFault)
-texts_for named page list summary =
+-- the sheet comes first, then the list, then the plain job, and then the summary
+abbrev pub texts_for : Named → List ℕ → List ℕ → List ℕ → List ℕ → List (Text SheetFault)
+texts_for named page list plain summary =
     record { way = way_of named.out; unwritten = Common (WriteFault Out); bytes = page }
     ∷ record { way = list_way named.list; unwritten = WriteList; bytes = list }
+    ∷ record { way = list_way named.plain; unwritten = WritePlain; bytes = plain }
     ∷ record { way = summary_way named; unwritten = Common (WriteFault Summary); bytes = summary }
     ∷ []
 
--- What a run with a drawing writes: the text of one page that shows it, the list of that page's strokes, and the summary of both, put
+-- What a run with a drawing writes: the text of one page that shows it, the list of that page's strokes, the plain job, and the summary, put
 -- in this order, as far as the fault allows; and with no fault the warning in place of a summary that isn't said. On every desk what
 -- isn't kept touches no file, and what isn't said adds nothing to what was said.
-pub record Writes (named : Named) (fault : Option SheetFault) (old new : DeskState) (d : Drawing) : Type 0 where
+pub record Writes (named : Named) (fault : Option SheetFault) (old new : DeskState) (made : SheetInput) : Type 0 where
   pub page : Page
   pub on : Sheet
   pub strokes : List Stroke
   pub marks : List ViewMarks
-  pub block : BlockTexts
-  pub says : IsBlockOf named.said block
-  pub shows : IsPageWith named.hidden named.part block d page on strokes marks
+  pub shows : IsPageWith made.look named.part made.drawing page on strokes marks
   pub texts : List (Text SheetFault)
-  pub are_texts : texts ≡ texts_for named (page_text named.out page) (listed named.list (list_text d.job on (shown_strokes named.hidden d.job.views.items strokes))) (summary_of d page marks)
+  pub are_texts : texts ≡ texts_for named (page_text named.out page) (listed named.list (list_text made.drawing.job on (shown_strokes made.look.hidden.items strokes))) (listed named.plain (plain_job (job_seen made.drawing.job))) (summary_of made page marks)
   pub files : old.tells ≡ true → KeepsTexts sheet_faults fault texts old.files new.files
   pub said : old.tells_said ≡ true → SaysTexts sheet_faults fault texts old.said new.said
   pub spared : SparesFiles sheet_faults fault texts old.files new.files
   pub silent : SparesSaid sheet_faults fault texts old.said new.said
-  pub noted : old.tells_warned ≡ true → IfNone fault (Notes (summary_way named) (summary_of d page marks) old.warned new.warned)
-  pub noted_whole : HearsAll old new → IfNone fault (NotesWhole (summary_way named) (summary_of d page marks) old.warned new.warned)
+  pub noted : old.tells_warned ≡ true → IfNone fault (Notes (summary_way named) (summary_of made page marks) old.warned new.warned)
+  pub noted_whole : HearsAll old new → IfNone fault (NotesWhole (summary_way named) (summary_of made page marks) old.warned new.warned)
 
--- and with no fault each file that is named holds its text at the end, for the list doesn't go where the sheet goes
-abbrev pub WritesHeld : Named → Option SheetFault → DeskState → DeskState → Drawing → Type 0
-WritesHeld named fault old new d = (w : Writes named fault old new d) × (old.tells ≡ true → IfNone fault (HoldTexts w.texts new.files))
+-- and with no fault each file that is named holds its text at the end, for no two texts go to one place
+abbrev pub WritesHeld : Named → Option SheetFault → DeskState → DeskState → SheetInput → Type 0
+WritesHeld named fault old new made = (w : Writes named fault old new made) × (old.tells ≡ true → IfNone fault (HoldTexts w.texts new.files))
 
--- the faults of writing beside that of a list: of the sheet, or of a summary that is said
+-- the faults of writing beside those of a list and of a plain job: of the sheet, or of a summary that is said
 abbrev pub IsOfTarget : Named → Target → Type 0
 IsOfTarget named Out = Unit {0}
 IsOfTarget named (Plot number) = ⊥
@@ -99,8 +98,8 @@ AsksSheetAnd (Some version) P = ⊥
 AsksSheetAnd (Some (sheet named)) P = P named
 
 -- the drawing is written as it was asked for
-abbrev pub WritesAsked : Option Asks → Option SheetFault → DeskState → DeskState → Drawing → Type 0
-WritesAsked asked fault old new d = AsksSheetAnd asked (λ named. WritesHeld named fault old new d)
+abbrev pub WritesAsked : Option Asks → Option SheetFault → DeskState → DeskState → SheetInput → Type 0
+WritesAsked asked fault old new made = AsksSheetAnd asked (λ named. WritesHeld named fault old new made)
 
 -- without a fault no warning fails but beside a text that is said
 abbrev pub IsQuietIfAsked : Option Asks → ℕ → ℕ → Type 0

@@ -1,27 +1,25 @@
 // The ends of runs.
 ghost use Rattle.std.specs.Prelude.{◌≡◌, ◌⊎◌, ◌++◌, true, None, Some, IfSome};
 ghost use Rattle.desk.specs.Files.{AppendsFront, OnlyWarns};
-ghost use Rattle.sheet_core.specs.Faults.{status_of};
+ghost use Rattle.sheet_input.specs.Faults.{status_of};
 ghost use Rattle.put_texts.specs.Desks.{HearsAll};
 ghost use Rattle.sheet_core.specs.inner.Faults.{IsOfReading};
 ghost use Rattle.sheet_core.specs.Refusals.{fault_line};
 ghost use Rattle.sheet_core.specs.Unread.{AreUnreadLines};
 ghost use Rattle.sheet_words.specs.Seen.{named_seen};
 
-use crate::fault::SheetFault;
 use crate::refusals::{MEMORY_LINE, line_of};
-use crate::take::Refusal;
 use crate::unread::UnreadLines;
 use desk::Desk;
-use drawing::Drawing;
 use part_input::Fault;
 use put_texts::{RunEnd, end_by};
+use sheet_input::{Refusal, SheetFault, SheetInput};
 use sheet_words::SheetRequest;
 use std::alloc::Global;
 
 /// How a run ended: with a fault or none, and the drawing that it made, where there is one. That was written, unless the fault is one
 /// of writing.
-pub type SheetOutcome = RunEnd<SheetFault, Drawing>;
+pub type SheetOutcome = RunEnd<SheetFault, SheetInput>;
 
 /// Ends a run of a request with a fault, and warns of it, with its place where it has one. Where its line finds no memory, the fault
 /// is want of memory; the lines of faults of reading are there.
@@ -35,21 +33,21 @@ pub(crate) fn refuse<D: Desk>(
     requires { AreUnreadLines (named_seen request.now) unread.now }
     ensures status { result.status ≡ status_of result.fault }
     ensures none { result.made ≡ None }
-    ensures fault { (result.fault ≡ Some (SheetFault.Common refusal.fault)) ⊎ (result.fault ≡ Some (SheetFault.Common Fault.Memory)) }
-    ensures told { IsOfReading refusal.fault → result.fault ≡ Some (SheetFault.Common refusal.fault) }
+    ensures fault { (result.fault ≡ Some refusal.fault) ⊎ (result.fault ≡ Some (SheetFault.Common Fault.Memory)) }
+    ensures told { IsOfReading refusal.fault → result.fault ≡ Some refusal.fault }
     ensures warned { (D.state desk.old).tells_warned ≡ true →
-        IfSome result.fault (λ f. AppendsFront (D.state desk.old).warned (D.state desk.new).warned (fault_line (Some (named_seen request.now)) refusal.place f)) }
+        IfSome result.fault (λ f. AppendsFront (D.state desk.old).warned (D.state desk.new).warned (fault_line (Some (named_seen request.now)) refusal.told f)) }
     ensures whole { HearsAll (D.state desk.old) (D.state desk.new) →
-        IfSome result.fault (λ f. (D.state desk.new).warned ≡ (D.state desk.old).warned ++ fault_line (Some (named_seen request.now)) refusal.place f) }
+        IfSome result.fault (λ f. (D.state desk.new).warned ≡ (D.state desk.old).warned ++ fault_line (Some (named_seen request.now)) refusal.told f) }
     ensures changes { OnlyWarns (D.state desk.old) (D.state desk.new) }
 {
-    let Refusal { fault, place } = refusal;
-    if let Fault::ReadFault(input) = fault {
+    let Refusal { fault, told } = refusal;
+    if let SheetFault::Common(Fault::ReadFault(input)) = fault {
         let fault = SheetFault::Common(Fault::ReadFault(input));
         return end_by(unread.line(&input), fault, desk);
     }
-    match line_of(alloc, request, &place, &fault) {
-        Ok(line) => end_by(line.as_str(), SheetFault::Common(fault), desk),
+    match line_of(alloc, request, &told, &fault) {
+        Ok(line) => end_by(line.as_str(), fault, desk),
         Err(_) => end_by(MEMORY_LINE, SheetFault::Common(Fault::Memory), desk),
     }
 }

@@ -2,7 +2,7 @@
 ghost use Rattle.std.specs.Prelude.{◌≡◌, IfOk, codes, string_bytes};
 ghost use Rattle.svg_page.specs.Texts.{◌⊕◌};
 ghost use Rattle.fault_lines.specs.Lines.{shown};
-ghost use Rattle.sheet_core.specs.Refusals.{allowed, job_text};
+ghost use Rattle.sheet_core.specs.Refusals.{allowed, belongs_text, is_of_job, is_of_view, job_text, newer_text};
 
 use fault_lines::{axis_text, key_text, shown};
 use job_file::{JobFault, Key};
@@ -14,7 +14,7 @@ fn allowed(key: &Key) -> &'static str
     ensures { result.now ≡ allowed key.now }
 {
     match key {
-        Key::Version => "1 or 2",
+        Key::Version => "1, 2 or 3",
         Key::Decimals => "0 to 6",
         Key::Angle => "\"first\" or \"third\"",
         Key::Sheet => "\"A0\", \"A1\", \"A2\", \"A3\" or \"A4\"",
@@ -53,14 +53,72 @@ fn wrong_text(alloc: Global, key: &Key) -> Result<String, AllocError>
 fn version_text(alloc: Global, n: i64) -> Result<String, AllocError>
     ensures { IfOk result (λ text. string_bytes text ≡ job_text (JobFault.Version n)) }
 {
-    format!(in alloc; "version {n}: 1 and 2 are known")
+    format!(in alloc; "version {n}: 1, 2 and 3 are known")
+}
+
+// It is a key that a job has itself, so it is unknown in a view.
+fn is_of_job(name: &str) -> bool
+    ensures { result ≡ is_of_job name.now }
+{
+    match name {
+        "version" => true,
+        "decimals" => true,
+        "angle" => true,
+        "sheet" => true,
+        "scale" => true,
+        "crease" => true,
+        "title" => true,
+        "outputs" => true,
+        _ => false,
+    }
+}
+
+// It is a key that a view has, so it is unknown before the first view.
+fn is_of_view(name: &str) -> bool
+    ensures { result ≡ is_of_view name.now }
+{
+    match name {
+        "name" => true,
+        "toward" => true,
+        "cut" => true,
+        "at" => true,
+        "from" => true,
+        _ => false,
+    }
+}
+
+// Where a key belongs that is unknown at its place, or which versions have it.
+fn belongs_text(name: &str) -> &'static str
+    ensures { result.now ≡ belongs_text name.now }
+{
+    if is_of_job(name) {
+        return ": it belongs before the first [[view]]";
+    }
+    if is_of_view(name) {
+        return ": it belongs in a [[view]]";
+    }
+    newer_text(name)
+}
+
+// Which versions have a key that older ones don't have.
+fn newer_text(name: &str) -> &'static str
+    ensures { result.now ≡ newer_text name.now }
+{
+    match name {
+        "unit" => ": versions 2 and 3 have it, before the first [[view]]",
+        "layout" => ": versions 2 and 3 have it, before the first [[view]]",
+        "hidden" => ": version 3 has it",
+        "block" => ": version 3 has it",
+        _ => "",
+    }
 }
 
 fn unknown_text(alloc: Global, name: &str) -> Result<String, AllocError>
-    ensures { IfOk result (λ text. string_bytes text ≡ codes "unknown key " ⊕ shown name.now) }
+    ensures { IfOk result (λ text. string_bytes text ≡ codes "unknown key " ⊕ shown name.now ⊕ belongs_text name.now) }
 {
     let key = shown(alloc, name)?;
-    format!(in alloc; "unknown key {key}")
+    let belongs = belongs_text(name);
+    format!(in alloc; "unknown key {key}{belongs}")
 }
 
 // An output without a plotter.

@@ -5,29 +5,25 @@
 #![tactic(auto)]
 
 mod answers;
-mod block;
 mod end;
-mod fault;
 mod jobs;
 mod lines;
 mod millimetres;
 mod page;
 mod parts;
-mod place;
 mod put;
 mod refusals;
 mod run;
 mod summary;
-mod take;
 mod texts;
 mod unread;
 
 pub use answers::runs_have_answers;
 pub use drawing::Drawing;
 pub use end::SheetOutcome;
-pub use fault::{SheetFault, SheetTarget};
 pub use lines::{HELP, VERSION};
 pub use page::page_of;
 pub use part_input::{Fault, Input, Target};
 pub use refusals::MEMORY_LINE;
 pub use run::sheet;
+pub use sheet_input::{SheetFault, SheetInput, SheetTarget};

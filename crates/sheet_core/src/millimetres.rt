@@ -2,7 +2,7 @@
 ghost use Rattle.std.specs.Prelude.{◌≡◌, ◌≤◌, ◌<◌, ◌^◌, IfOk, string_bytes};
 ghost use Rattle.sheet_core.specs.Places.{behind_point, digits, length_text, mm_text, point_text};
 
-use crate::place::FaultPlace;
+use sheet_input::FaultPlace;
 use std::alloc::{AllocError, Global};
 
 // So many zeros behind a one.

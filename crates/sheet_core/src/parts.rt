@@ -3,8 +3,8 @@ ghost use Rattle.std.specs.Prelude.{◌≡◌, IfOk, string_bytes};
 ghost use Rattle.sheet_core.specs.Refusals.{mesh_text, nearness, place_text, placed_text, room_text, size_text, surface_text};
 
 use crate::millimetres::{mm_text, point_text};
-use crate::place::FaultPlace;
 use fault_lines::kind_text;
+use sheet_input::FaultPlace;
 use solid_mesh::MeshFault;
 use std::alloc::{AllocError, Global};
 use weld::PartFault;

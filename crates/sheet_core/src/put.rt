@@ -3,18 +3,18 @@ ghost use Rattle.std.specs.Prelude.{◌≡◌, true, None, Some, IfNone, string_
 ghost use Rattle.put_texts.specs.Desks.{HearsAll, IsUnwarned};
 ghost use Rattle.put_texts.specs.Noting.{IsQuiet, Notes, NotesWhole};
 ghost use Rattle.put_texts.specs.Puts.{IsPut, one_text, way_seen};
-ghost use Rattle.sheet_core.specs.Faults.{sheet_faults, unwritten_of};
+ghost use Rattle.sheet_input.specs.Faults.{sheet_faults, unwritten_of};
 ghost use Rattle.sheet_core.specs.Writing.{list_way, summary_way, texts_for, way_of};
-ghost use Rattle.sheet_core.specs.inner.Puts.{texts_after_sheet};
+ghost use Rattle.sheet_core.specs.inner.Puts.{texts_after_sheet, texts_after_list};
 ghost use Rattle.sheet_core.specs.Refusals.{fault_line, list_line, write_line};
 ghost use Rattle.sheet_words.specs.Seen.{goal_seen, named_seen};
 
-use crate::fault::{SheetFault, SheetTarget};
 use crate::refusals::{MEMORY_LINE, SAID_LINE};
 use crate::texts::Texts;
 use desk::Desk;
 use part_input::{Fault, Target};
 use put_texts::{Way, note, put_text, unless_said};
+use sheet_input::{SheetFault, SheetTarget, Told};
 use sheet_words::{ListOut, Out, SheetRequest};
 
 /// Puts a text of a request where it goes, and tells why it couldn't, of which it warns by a line.
@@ -26,8 +26,8 @@ fn put_asked<D: Desk>(
     target: SheetTarget,
     desk: &mut D,
 ) -> Option<SheetFault>
-    requires { line.now ≡ fault_line (Some (named_seen request.now)) None (unwritten_of target) }
-    ensures put { IsPut sheet_faults (fault_line (Some (named_seen request.now)) None) (one_text (way_seen way.entry) (unwritten_of target) bytes.now) result (D.state desk.old) (D.state desk.new) }
+    requires { line.now ≡ fault_line (Some (named_seen request.now)) Told.Nothing (unwritten_of target) }
+    ensures put { IsPut sheet_faults (fault_line (Some (named_seen request.now)) Told.Nothing) (one_text (way_seen way.entry) (unwritten_of target) bytes.now) result (D.state desk.old) (D.state desk.new) }
     ensures unwarned { IfNone result (IsUnwarned (D.state desk.old) (D.state desk.new)) }
 {
     put_text(way, bytes, target, line, MEMORY_LINE, desk)
@@ -55,17 +55,29 @@ fn list_way(request: &SheetRequest) -> Way<'_>
     }
 }
 
-/// The way of what is told of both.
+/// The way of its plain job.
+fn plain_way(request: &SheetRequest) -> Way<'_>
+    ensures { way_seen result ≡ list_way (named_seen request.now).plain }
+{
+    match &request.plain {
+        None => Way::Nowhere,
+        Some(ListOut::Said) => Way::Aloud,
+        Some(ListOut::File(name)) => Way::Under(name),
+    }
+}
+
+/// The way of what is told of all.
 fn summary_way(request: &SheetRequest) -> Way<'_>
     ensures { way_seen result ≡ summary_way (named_seen request.now) }
 {
-    let list = unless_said(list_way(request), Way::Aloud);
+    let plain = unless_said(plain_way(request), Way::Aloud);
+    let list = unless_said(list_way(request), plain);
     unless_said(way_of(&request.out), list)
 }
 
 /// Says the summary of a request, or warns by it, and tells why it couldn't be said.
 fn put_summary<D: Desk>(request: &SheetRequest, summary: &str, desk: &mut D) -> Option<SheetFault>
-    ensures put { IsPut sheet_faults (fault_line (Some (named_seen request.now)) None) (one_text (summary_way (named_seen request.now)) (SheetFault.Common (Fault.WriteFault Target.Summary)) summary.now) result
+    ensures put { IsPut sheet_faults (fault_line (Some (named_seen request.now)) Told.Nothing) (one_text (summary_way (named_seen request.now)) (SheetFault.Common (Fault.WriteFault Target.Summary)) summary.now) result
         (D.state desk.old) (D.state desk.new) }
     ensures noted { (D.state desk.old).tells_warned ≡ true →
         IfNone result (Notes (summary_way (named_seen request.now)) summary.now (D.state desk.old).warned (D.state desk.new).warned) }
@@ -90,10 +102,36 @@ fn put_summary<D: Desk>(request: &SheetRequest, summary: &str, desk: &mut D) -> 
     }
 }
 
-/// Puts the list and the summary of a request where they go, and tells why it couldn't.
+/// Puts the plain job and the summary of a request where they go, and tells why it couldn't.
+fn put_plain<D: Desk>(request: &SheetRequest, texts: &Texts, desk: &mut D) -> Option<SheetFault>
+    requires { string_bytes texts.now.unplain ≡ list_line (named_seen request.now).plain }
+    ensures put { IsPut sheet_faults (fault_line (Some (named_seen request.now)) Told.Nothing) (texts_after_list (named_seen request.now) texts.now.plain.items (string_bytes texts.now.summary)) result
+        (D.state desk.old) (D.state desk.new) }
+    ensures noted { (D.state desk.old).tells_warned ≡ true →
+        IfNone result (Notes (summary_way (named_seen request.now)) (string_bytes texts.now.summary) (D.state desk.old).warned (D.state desk.new).warned) }
+    ensures noted_whole { HearsAll (D.state desk.old) (D.state desk.new) →
+        IfNone result (NotesWhole (summary_way (named_seen request.now)) (string_bytes texts.now.summary) (D.state desk.old).warned (D.state desk.new).warned) }
+    ensures quiet { IfNone result (IsQuiet (summary_way (named_seen request.now)) (D.state desk.old).warn_faults (D.state desk.new).warn_faults) }
+{
+    let way = plain_way(request);
+    match put_asked(
+        request,
+        way,
+        &texts.plain,
+        texts.unplain.as_str(),
+        SheetTarget::PlainJob,
+        desk,
+    ) {
+        None => put_summary(request, texts.summary.as_str(), desk),
+        Some(fault) => Some(fault),
+    }
+}
+
+/// Puts the list, the plain job and the summary of a request where they go, and tells why it couldn't.
 fn put_list<D: Desk>(request: &SheetRequest, texts: &Texts, desk: &mut D) -> Option<SheetFault>
-    requires { string_bytes texts.now.unlisted ≡ list_line (named_seen request.now).list }
-    ensures put { IsPut sheet_faults (fault_line (Some (named_seen request.now)) None) (texts_after_sheet (named_seen request.now) texts.now.list.items (string_bytes texts.now.summary)) result
+    requires list { string_bytes texts.now.unlisted ≡ list_line (named_seen request.now).list }
+    requires plain { string_bytes texts.now.unplain ≡ list_line (named_seen request.now).plain }
+    ensures put { IsPut sheet_faults (fault_line (Some (named_seen request.now)) Told.Nothing) (texts_after_sheet (named_seen request.now) texts.now.list.items texts.now.plain.items (string_bytes texts.now.summary)) result
         (D.state desk.old) (D.state desk.new) }
     ensures noted { (D.state desk.old).tells_warned ≡ true →
         IfNone result (Notes (summary_way (named_seen request.now)) (string_bytes texts.now.summary) (D.state desk.old).warned (D.state desk.new).warned) }
@@ -110,13 +148,13 @@ fn put_list<D: Desk>(request: &SheetRequest, texts: &Texts, desk: &mut D) -> Opt
         SheetTarget::Listing,
         desk,
     ) {
-        None => put_summary(request, texts.summary.as_str(), desk),
+        None => put_plain(request, texts, desk),
         Some(fault) => Some(fault),
     }
 }
 
-/// Puts the sheet, the list and the summary of a request where they go, one after the other up to the first that can't be written, and
-/// tells why it couldn't. A summary that isn't said is warned by; that it isn't heard is no fault.
+/// Puts the sheet, the list, the plain job and the summary of a request where they go, one after the other up to the first that can't be
+/// written, and tells why it couldn't. A summary that isn't said is warned by; that it isn't heard is no fault.
 pub(crate) fn put<D: Desk>(
     request: &SheetRequest,
     texts: &Texts,
@@ -124,7 +162,8 @@ pub(crate) fn put<D: Desk>(
 ) -> Option<SheetFault>
     requires sheet { string_bytes texts.now.unwritten ≡ write_line (named_seen request.now).out }
     requires list { string_bytes texts.now.unlisted ≡ list_line (named_seen request.now).list }
-    ensures put { IsPut sheet_faults (fault_line (Some (named_seen request.now)) None) (texts_for (named_seen request.now) texts.now.page.items texts.now.list.items (string_bytes texts.now.summary)) result
+    requires plain { string_bytes texts.now.unplain ≡ list_line (named_seen request.now).plain }
+    ensures put { IsPut sheet_faults (fault_line (Some (named_seen request.now)) Told.Nothing) (texts_for (named_seen request.now) texts.now.page.items texts.now.list.items texts.now.plain.items (string_bytes texts.now.summary)) result
         (D.state desk.old) (D.state desk.new) }
     ensures noted { (D.state desk.old).tells_warned ≡ true →
         IfNone result (Notes (summary_way (named_seen request.now)) (string_bytes texts.now.summary) (D.state desk.old).warned (D.state desk.new).warned) }

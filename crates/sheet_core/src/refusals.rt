@@ -2,15 +2,17 @@
 ghost use Rattle.std.specs.Prelude.{◌≡◌, IfOk, None, Some, codes, option_map, string_bytes};
 ghost use Rattle.svg_page.specs.Texts.{◌⊕◌};
 ghost use Rattle.fault_lines.specs.Lines.{shown};
-ghost use Rattle.sheet_core.specs.Refusals.{about, common_line, job_in, job_text, list_line, place_text, room_text, size_text, surface_text, target_line, write_line};
+ghost use Rattle.sheet_core.specs.Refusals.{about, common_line, fault_line, flaw_line, own_line, place_told, job_in, job_text, list_line, place_text, room_text, size_text, surface_text, target_line, write_line};
 ghost use Rattle.sheet_words.specs.Seen.{goal_seen, list_seen, named_seen};
 
 use crate::jobs::{job_text, plotter_text};
 use crate::parts::{Size, place_text, room_text, size_text, surface_text};
-use crate::place::FaultPlace;
 use fault_lines::shown;
+use flaw_lines::flaw_text;
 use job_file::JobFault;
 use part_input::{Fault, Input, Target};
+use sheet_input::{FaultPlace, SheetFault, Told};
+use sheet_job::PlacedFlaw;
 use sheet_words::{ListOut, Out, SheetRequest};
 use solid_mesh::MeshFault;
 use std::alloc::{AllocError, Global};
@@ -18,7 +20,7 @@ use weld::PartFault;
 
 /// The line of words that are refused.
 pub const USAGE_LINE: &str =
-    "sheet: usage: sheet PART [--job JOB] [--out OUT] [--list LIST] [--hidden all|plain|none] [--number TEXT] [--revision TEXT] [--material TEXT] [--date TEXT]; sheet --help tells more\n";
+    "sheet: usage: sheet PART [--job JOB] [--out OUT] [--list LIST] [--plain-job FILE] [--hidden all|plain|none] [--title TEXT] [--number TEXT] [--revision TEXT] [--material TEXT] [--date TEXT]; sheet --help tells more\n";
 
 /// The line of want of memory.
 pub const MEMORY_LINE: &str = "sheet: out of memory\n";
@@ -151,9 +153,55 @@ fn target_line(alloc: Global, request: &SheetRequest, target: &Target) -> Result
     }
 }
 
+// The line of what is wrong with a job, with the place there.
+fn flaw_line(alloc: Global, job: &str, flaw: &PlacedFlaw) -> Result<String, AllocError>
+    ensures { IfOk result (λ line. string_bytes line ≡ flaw_line job.now flaw.now) }
+{
+    let (name, text) = (shown(alloc, job)?, flaw_text(alloc, flaw)?);
+    format!(in alloc; "sheet: {name}:{text}\n")
+}
+
+// The line of a job that is wrong.
+fn own_line(alloc: Global, request: &SheetRequest, told: &Told) -> Result<String, AllocError>
+    ensures { IfOk result (λ line. string_bytes line ≡ own_line (Some (named_seen request.now)) told.now) }
+{
+    let job = job_name(request);
+    match told {
+        Told::Job(flaw) => flaw_line(alloc, job, flaw),
+        Told::Nothing | Told::Surface(_) => about(alloc, job, "no job"),
+    }
+}
+
+// The place that is told.
+fn place_told(told: &Told) -> Option<FaultPlace>
+    ensures { result ≡ place_told told.now }
+{
+    match told {
+        Told::Surface(place) => Some(*place),
+        Told::Nothing | Told::Job(_) => None,
+    }
+}
+
+/// The line of a fault in a run of this request, with what is told beside it.
+pub(crate) fn line_of(
+    alloc: Global,
+    request: &SheetRequest,
+    told: &Told,
+    fault: &SheetFault,
+) -> Result<String, AllocError>
+    ensures { IfOk result (λ line. string_bytes line ≡ fault_line (Some (named_seen request.now)) told.now fault.now) }
+{
+    match fault {
+        SheetFault::Common(fault) => common_line(alloc, request, &place_told(told), fault),
+        SheetFault::OwnJob => own_line(alloc, request, told),
+        SheetFault::WriteList => list_line(alloc, &request.list),
+        SheetFault::WritePlain => list_line(alloc, &request.plain),
+    }
+}
+
 /// The line of a fault that `draw` has too, in a run of this request: the file's name, the place there, what is wrong, and what is allowed. The place of
 /// a surface's fault is looked at where one is given.
-pub fn line_of(
+pub fn common_line(
     alloc: Global,
     request: &SheetRequest,
     place: &Option<FaultPlace>,

@@ -10,24 +10,23 @@ ghost use Rattle.sheet_words.specs.Names.{asked_by, sheet as of_sheet};
 ghost use Rattle.sheet_words.specs.Seen.{named_seen};
 
 use crate::end::{SheetOutcome, refuse};
-use crate::fault::{SheetFault, SheetTarget};
 use crate::lines::{HELP, VERSION};
 use crate::put::put;
 use crate::refusals::{MEMORY_LINE, SAID_LINE, USAGE_LINE};
-use crate::take::take;
 use crate::texts::texts_of;
 use crate::unread::unread_lines;
 use desk::Desk;
 use draw_words::WordsError;
 use part_input::Fault;
 use put_texts::{end_by, ended, tell};
+use sheet_input::{SheetFault, SheetTarget, take_sheet};
 use sheet_words::{Asked, SheetRequest, read_words};
 use std::alloc::Global;
 
-/// Draws what was asked for, writes its sheet and its list where they go, and tells of them.
+/// Draws what was asked for, writes its sheet, its list and its plain job where they go, and tells of them.
 fn draw_sheet<D: Desk>(alloc: Global, request: SheetRequest, desk: &mut D) -> SheetOutcome
     ensures run { IsRun (sheet_run (Some (of_sheet (named_seen request)))) result.status result.fault result.made (D.state desk.old) (D.state desk.new) }
-    ensures shows { IfSome result.made IsPlannedDrawing }
+    ensures shows { IfSome result.made (λ made. IsPlannedDrawing made.drawing) }
     ensures written { IfSome result.made (Writes (named_seen request) result.fault (D.state desk.old) (D.state desk.new)) }
     ensures unsaid { IfNone result.made ((D.state desk.new).said ≡ (D.state desk.old).said) }
     ensures quiet { IfNone result.fault (IsQuiet (summary_way (named_seen request)) (D.state desk.old).warn_faults (D.state desk.new).warn_faults) }
@@ -36,38 +35,38 @@ fn draw_sheet<D: Desk>(alloc: Global, request: SheetRequest, desk: &mut D) -> Sh
         Ok(unread) => unread,
         Err(_) => return end_by(MEMORY_LINE, SheetFault::Common(Fault::Memory), desk),
     };
-    let drawing = match take(alloc, &request, desk) {
-        Ok(drawing) => drawing,
+    let input = match take_sheet(alloc, &request, desk) {
+        Ok(input) => input,
         Err(refusal) => return refuse(alloc, &request, &unread, refusal, desk),
     };
-    let texts = match texts_of(alloc, &request, &drawing) {
+    let texts = match texts_of(alloc, &request, &input) {
         Ok(texts) => texts,
         Err(_) => return end_by(MEMORY_LINE, SheetFault::Common(Fault::Memory), desk),
     };
     let fault = put(&request, &texts, desk);
-    ended(fault, Some(drawing))
+    ended(fault, Some(input))
 }
 
 /// Reads the job and the part that the words name, draws the job's views on their sheet, joins their strokes to paths, and writes the
-/// page, as SVG or as PDF, under the name that the words give, or `sheet.svg`, or says it as SVG; and where the words ask for it the
-/// list of the strokes, which it keeps or says. Hidden lines are left out where the words ask for that. The job is that of `draw`, or
-/// the usual one; its outputs aren't looked at. Words that ask for help or for the version are answered by a text that is said. At the
-/// end it says a summary, a line with the paper, the scale and the numbers of views, of visible and hidden paths and of hatch lines,
-/// and one for each cut that isn't told as usual; where the sheet or the list is said, it warns by that. Of a fault it warns once, by one
-/// line.
+/// page, as SVG or as PDF, under the name that the words give, or `sheet.svg`, or says it as SVG. Where the words ask for it, it also
+/// writes the list of the strokes, and the job as one of version 2; each is kept or said. The job has any version; if none is named it is
+/// the usual one. Its outputs aren't looked at. Hidden lines are drawn where the words, the view or the job say so. Words that ask for
+/// help or for the version are answered by a text that is said. At the end it says a summary: a line with the paper, the scale, the
+/// numbers of views, of visible and hidden paths and of hatch lines, and the number of decimals if the job left it to the program; and
+/// one for each cut that isn't told as usual. If another text is said, it warns by the summary. Of a fault it warns once, by one line.
 ///
-/// The faults are looked for in this order: the words, the job's bytes, its text, a sample's size, the part's bytes, its text,
-/// whether it has a triangle, its surface, whether the views fit the sheet, the writing of the sheet, of its list, of
-/// the summary. Want of memory may be answered at any place; then each file is whole or as before. Time is that of
-/// `draw`, and about linear in the strokes.
+/// The faults are looked for in this order: the words, those of `take_sheet` in their order, the writing of the sheet, of its list, of the
+/// plain job, of the summary. Want of memory may be answered at any place; then each file is whole or as before. Time is that of `draw`,
+/// and about linear in the strokes.
 pub fn sheet<D: Desk>(alloc: Global, words: &[String], desk: &mut D) -> SheetOutcome
     // It is a run of the steps that the words ask for, from the files at entry.
     ensures run { IsRun (sheet_run (asked_by (texts words.now))) result.status result.fault result.made (D.state desk.old) (D.state desk.new) }
 
     // Its drawing shows the part by the job.
-    ensures shows { IfSome result.made IsPlannedDrawing }
+    ensures shows { IfSome result.made (λ made. IsPlannedDrawing made.drawing) }
 
-    // The texts of one page that shows it are put where the words say, one after the other: the sheet, its list, and the summary.
+    // The texts of one page that shows it are put where the words say, one after the other: the sheet, its list, the plain job, and the
+    // summary.
     ensures written { IfSome result.made (WritesAsked (asked_by (texts words.now)) result.fault (D.state desk.old) (D.state desk.new)) }
 
     // Without a drawing nothing is said but what the words ask to be told.

@@ -1,11 +1,11 @@
 // What a run says of a sheet that it has drawn.
-ghost use Rattle.std.specs.Prelude.{◌≡◌, IfOk, count_by, string_bytes};
-ghost use Rattle.sheet_core.specs.Summary.{is_path_of, paths_of, paths_text, sheet_text, summary_of};
+ghost use Rattle.std.specs.Prelude.{◌≡◌, IfOk, string_bytes};
+ghost use Rattle.sheet_core.specs.Summary.{fitted_text, is_path_of, paths_of, paths_text, sheet_text, summary_of};
 
 use cut_marks::{ViewMarks, notes};
-use drawing::Drawing;
 use exact_frac::OutOfMemory;
 use job_file::{Paper, Scale};
+use sheet_input::SheetInput;
 use sheet_page::{Item, Page};
 use sheet_plan::Mark;
 use std::alloc::{AllocError, Global};
@@ -56,18 +56,32 @@ fn paths_text(alloc: Global, items: &[Item]) -> Result<String, AllocError>
     format!(in alloc; " visible {visible} hidden {hidden} hatch {hatch}")
 }
 
+/// The number of decimals, where it was left to the program.
+fn fitted_text(alloc: Global, input: &SheetInput) -> Result<String, AllocError>
+    ensures { IfOk result (λ text. string_bytes text ≡ fitted_text input.now) }
+{
+    let decimals = input.drawing.job.decimals;
+    if input.look.fitted {
+        format!(in alloc; " decimals {decimals}")
+    } else {
+        Ok(String::new(alloc))
+    }
+}
+
 /// What is said of a drawing, its page, and what tells its cuts.
 pub(crate) fn summary_of(
     alloc: Global,
-    drawing: &Drawing,
+    input: &SheetInput,
     page: &Page,
     marks: &[ViewMarks],
 ) -> Result<String, OutOfMemory>
-    ensures { IfOk result (λ text. string_bytes text ≡ summary_of drawing.now page.now marks.now) }
+    ensures { IfOk result (λ text. string_bytes text ≡ summary_of input.now page.now marks.now) }
 {
-    let views = drawing.sheet.places.len();
-    let mut text = sheet_text(alloc, drawing.job.paper, &drawing.sheet.scale, views)?;
+    let views = input.drawing.sheet.places.len();
+    let (paper, scale) = (input.drawing.job.paper, &input.drawing.sheet.scale);
+    let mut text = sheet_text(alloc, paper, scale, views)?;
     text.push_str(&paths_text(alloc, &page.items)?)?;
+    text.push_str(&fitted_text(alloc, input)?)?;
     text.push_str("\n")?;
     text.push_str(&notes(alloc, marks)?)?;
     Ok(text)

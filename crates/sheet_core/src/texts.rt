@@ -3,32 +3,37 @@ ghost use Rattle.std.specs.Prelude.{◌≡◌, ◌≤◌, length, IfOk};
 ghost use Rattle.std.specs.List.{All};
 ghost use Rattle.drawing.specs.Drawing.{IsPlannedDrawing};
 ghost use Rattle.sheet_core.specs.Pages.{shown_strokes};
+ghost use Rattle.job_file.specs.Seen.{job_seen};
+ghost use Rattle.job_writer.specs.PlainJobs.{plain_job};
 ghost use Rattle.sheet_core.specs.Writing.{listed, page_text};
 ghost use Rattle.sheet_core.specs.inner.Texts.{AreTextsOf};
 ghost use Rattle.sheet_list.specs.Lists.{list_text};
 ghost use Rattle.sheet_page.specs.Pages.{IsInView};
 ghost use Rattle.sheet_words.specs.Seen.{goal_seen, named_seen};
 
-use crate::block::said_block;
 use crate::page::{Shown, show, shown_strokes};
 use crate::refusals::{list_line, write_line};
 use crate::summary::summary_of;
-use drawing::Drawing;
 use exact_frac::OutOfMemory;
+use job_file::Job;
+use job_writer::plain_job;
+use sheet_input::SheetInput;
 use sheet_list::list_text;
 use sheet_page::{Page, pdf, svg};
 use sheet_words::{Out, SheetRequest};
 use std::alloc::Global;
 
-/// The text of a drawing's page, the list of its strokes, what is said of it, and the lines that tell that the page or the list couldn't
-/// be written.
+/// The text of a drawing's page, the list of its strokes, its plain job, what is said of it, and the lines that tell that one of the first
+/// three couldn't be written.
 #[derive(Drop)]
 pub(crate) struct Texts {
     pub(crate) page: Vec<u8>,
     pub(crate) list: Vec<u8>,
+    pub(crate) plain: Vec<u8>,
     pub(crate) summary: String,
     pub(crate) unwritten: String,
     pub(crate) unlisted: String,
+    pub(crate) unplain: String,
 }
 
 /// The text of a page, by where it goes.
@@ -46,20 +51,30 @@ fn page_text(alloc: Global, out: &Out, page: &Page) -> Result<Vec<u8>, OutOfMemo
 fn listed(
     alloc: Global,
     request: &SheetRequest,
-    drawing: &Drawing,
+    input: &SheetInput,
     shown: &Shown,
 ) -> Result<Vec<u8>, OutOfMemory>
-    requires drawing { IsPlannedDrawing drawing.now }
-    requires placed { length drawing.now.job.views.items ≤ length shown.now.on.places.items }
+    requires drawing { IsPlannedDrawing input.now.drawing }
+    requires placed { length input.now.drawing.job.views.items ≤ length shown.now.on.places.items }
     ensures { IfOk result (λ text. text.items ≡
-        listed (named_seen request.now).list (list_text drawing.now.job shown.now.on (shown_strokes request.now.hidden drawing.now.job.views.items shown.now.strokes.items))) }
+        listed (named_seen request.now).list (list_text input.now.drawing.job shown.now.on (shown_strokes input.now.look.hidden.items shown.now.strokes.items))) }
 {
     match &request.list {
         None => Ok(Vec::new(alloc)),
         Some(_) => {
-            let strokes = shown_strokes(alloc, request.hidden, &drawing.job.views, &shown.strokes)?;
-            list_text(alloc, &drawing.job, &shown.on, &strokes)
+            let strokes = shown_strokes(alloc, &input.look.hidden, &shown.strokes)?;
+            list_text(alloc, &input.drawing.job, &shown.on, &strokes)
         }
+    }
+}
+
+/// The job of a drawing as one of version 2, where the request asks for it.
+fn plained(alloc: Global, request: &SheetRequest, job: &Job) -> Result<Vec<u8>, OutOfMemory>
+    ensures { IfOk result (λ text. text.items ≡ listed (named_seen request.now).plain (plain_job (job_seen job.now))) }
+{
+    match &request.plain {
+        None => Ok(Vec::new(alloc)),
+        Some(_) => Ok(plain_job(alloc, job)?.into_bytes()),
     }
 }
 
@@ -67,29 +82,26 @@ fn listed(
 pub(crate) fn texts_of(
     alloc: Global,
     request: &SheetRequest,
-    drawing: &Drawing,
+    input: &SheetInput,
 ) -> Result<Texts, OutOfMemory>
-    requires { IsPlannedDrawing drawing.now }
-    ensures { IfOk result (AreTextsOf (named_seen request.now) drawing.now) }
+    requires { IsPlannedDrawing input.now.drawing }
+    ensures { IfOk result (AreTextsOf (named_seen request.now) input.now) }
 {
-    let block = said_block(alloc, &request.said)?;
-    let shown = show(
-        alloc,
-        request.hidden,
-        request.part.as_str(),
-        &block,
-        drawing,
-    )?;
+    let shown = show(alloc, &input.look, request.part.as_str(), &input.drawing)?;
     let page = page_text(alloc, &request.out, &shown.page)?;
-    let list = listed(alloc, request, drawing, &shown)?;
-    let summary = summary_of(alloc, drawing, &shown.page, &shown.marks)?;
+    let list = listed(alloc, request, input, &shown)?;
+    let plain = plained(alloc, request, &input.drawing.job)?;
+    let summary = summary_of(alloc, input, &shown.page, &shown.marks)?;
     let unwritten = write_line(alloc, &request.out)?;
     let unlisted = list_line(alloc, &request.list)?;
+    let unplain = list_line(alloc, &request.plain)?;
     Ok(Texts {
         page,
         list,
+        plain,
         summary,
         unwritten,
         unlisted,
+        unplain,
     })
 }

@@ -23,7 +23,7 @@ list_seen (list.File name) = list_file name
 
 -- what is said for the title block
 abbrev pub said_seen : SaidTexts → TextsSaid
-said_seen s = record { number = s.number; revision = s.revision; material = s.material; date = s.date }
+said_seen s = record { title = s.title; number = s.number; revision = s.revision; material = s.material; date = s.date }
 
 -- what a request names
 abbrev pub named_seen : SheetRequest → Named
@@ -32,6 +32,7 @@ named_seen r = record {
   job = r.job;
   out = goal_seen r.out;
   list = option_map list_seen r.list;
+  plain = option_map list_seen r.plain;
   hidden = r.hidden;
   said = said_seen r.said;
 }

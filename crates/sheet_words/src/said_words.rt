@@ -25,12 +25,13 @@ fn said_by(alloc: Global, given: &Given<'_>, name: &str) -> Result<Option<Name>,
     }
 }
 
-/// What the words say for the title block.
+/// What the words say of the title and of the title block.
 pub(crate) fn said_in(alloc: Global, given: &Given<'_>) -> Result<SaidTexts, WordsError>
     ensures said { IfOk result (λ s. said_in (given_seen given.now) ≡ Some (said_seen s)) }
     ensures usage { IsErrOf result WordsError.Usage → said_in (given_seen given.now) ≡ None }
 {
     Ok(SaidTexts {
+        title: said_by(alloc, given, "title")?,
         number: said_by(alloc, given, "number")?,
         revision: said_by(alloc, given, "revision")?,
         material: said_by(alloc, given, "material")?,

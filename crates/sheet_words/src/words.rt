@@ -1,7 +1,7 @@
 // What the words of a run ask for.
 ghost use Rattle.std.specs.Prelude.{◌≡◌, IfOk, IsErrOf, Some, None, codes, option_copied, option_map};
 ghost use Rattle.command_words.specs.Seen.{given_seen, texts};
-ghost use Rattle.sheet_words.specs.Names.{asked_by, goal_named, goal_of, shares_place, hidden_named, hidden_of, has_empty_name, list_named, named};
+ghost use Rattle.sheet_words.specs.Names.{asked_by, clash, goal_named, goal_of, shares_place, share_place, hidden_named, hidden_by, has_empty_name, list_named, named};
 ghost use Rattle.sheet_words.specs.Seen.{asked_seen, goal_seen, list_seen, named_seen};
 
 use crate::said::SaidTexts;
@@ -24,7 +24,7 @@ pub enum Out {
     Pdf(Name),
 }
 
-/// Where the list of a sheet's strokes goes.
+/// Where a list of strokes or a plain job goes.
 #[derive(Debug, Drop)]
 pub enum ListOut {
     /// It is said.
@@ -33,15 +33,16 @@ pub enum ListOut {
     File(Name),
 }
 
-/// Which part is drawn, by which job if one is named, where it goes, its list if there is one, which hidden lines are drawn, and what
-/// is said for the title block.
+/// Which part is drawn, by which job if one is named, where it goes, its list and its plain job if there are any, in which views hidden
+/// lines are drawn if that is said, and what is said for the title block.
 #[derive(Debug, Drop)]
 pub struct SheetRequest {
     pub part: Name,
     pub job: Option<Name>,
     pub out: Out,
     pub list: Option<ListOut>,
-    pub hidden: Hidden,
+    pub plain: Option<ListOut>,
+    pub hidden: Option<Hidden>,
     pub said: SaidTexts,
 }
 
@@ -102,6 +103,24 @@ fn shares_place(list: &Option<ListOut>, out: &Out) -> bool
     }
 }
 
+/// The two go to one place.
+fn share_place(one: &Option<ListOut>, other: &Option<ListOut>) -> bool
+    ensures { result ≡ share_place (option_map list_seen one.now) (option_map list_seen other.now) }
+{
+    match (one, other) {
+        (Some(ListOut::Said), Some(ListOut::Said)) => true,
+        (Some(ListOut::File(one)), Some(ListOut::File(other))) => one.as_str() == other.as_str(),
+        _ => false,
+    }
+}
+
+/// Two of the texts go to one place.
+fn clash(out: &Out, list: &Option<ListOut>, plain: &Option<ListOut>) -> bool
+    ensures { result ≡ clash (goal_seen out.now) (option_map list_seen list.now) (option_map list_seen plain.now) }
+{
+    shares_place(list, out) || shares_place(plain, out) || share_place(list, plain)
+}
+
 /// Which hidden lines are drawn by a word.
 fn hidden_named(word: &str) -> Option<Hidden>
     ensures { result ≡ hidden_named word.now }
@@ -114,15 +133,15 @@ fn hidden_named(word: &str) -> Option<Hidden>
     }
 }
 
-/// Which hidden lines are drawn by the text that the words give.
-fn hidden_of(given: &Given<'_>) -> Result<Hidden, WordsError>
-    ensures hidden { IfOk result (λ hidden. hidden_of (given_seen given.now (codes "hidden")) ≡ Some hidden) }
-    ensures usage { IsErrOf result WordsError.Usage → hidden_of (given_seen given.now (codes "hidden")) ≡ None }
+/// Which hidden lines are drawn by the text that the words give, if they give one.
+fn hidden_by(given: &Given<'_>) -> Result<Option<Hidden>, WordsError>
+    ensures hidden { IfOk result (λ hidden. hidden_by (given_seen given.now (codes "hidden")) ≡ Some hidden) }
+    ensures usage { IsErrOf result WordsError.Usage → hidden_by (given_seen given.now (codes "hidden")) ≡ None }
 {
     match given.text("hidden") {
-        None => Ok(Hidden::All),
+        None => Ok(None),
         Some(word) => match hidden_named(word) {
-            Some(hidden) => Ok(hidden),
+            Some(hidden) => Ok(Some(hidden)),
             None => Err(WordsError::Usage),
         },
     }
@@ -132,7 +151,10 @@ fn hidden_of(given: &Given<'_>) -> Result<Hidden, WordsError>
 fn has_empty_name(given: &Given<'_>) -> bool
     ensures { result ≡ has_empty_name (given_seen given.now) }
 {
-    given.is_empty("part") || given.is_empty("job") || given.is_empty("list")
+    given.is_empty("part")
+        || given.is_empty("job")
+        || given.is_empty("list")
+        || given.is_empty("plain-job")
 }
 
 /// What is asked for by the texts that the words give.
@@ -146,11 +168,12 @@ fn request_of(alloc: Global, given: &Given<'_>) -> Result<SheetRequest, WordsErr
     let Some(part) = given.text("part") else {
         return Err(WordsError::Usage);
     };
-    let hidden = hidden_of(given)?;
+    let hidden = hidden_by(given)?;
     let out = goal_of(alloc, given)?;
     let list = list_named(alloc, given.text("list"))?;
+    let plain = list_named(alloc, given.text("plain-job"))?;
     let said = said_in(alloc, given)?;
-    if shares_place(&list, &out) {
+    if clash(&out, &list, &plain) {
         return Err(WordsError::Usage);
     }
     Ok(SheetRequest {
@@ -158,17 +181,20 @@ fn request_of(alloc: Global, given: &Given<'_>) -> Result<SheetRequest, WordsErr
         job: given.copied(alloc, "job")?,
         out,
         list,
+        plain,
         hidden,
         said,
     })
 }
 
 /// The options.
-const OPTIONS: [WordOption<'static>; 10] = [
+const OPTIONS: [WordOption<'static>; 12] = [
     WordOption::Value("job"),
     WordOption::Value("out"),
     WordOption::Value("list"),
+    WordOption::Value("plain-job"),
     WordOption::Value("hidden"),
+    WordOption::Value("title"),
     WordOption::Value("number"),
     WordOption::Value("revision"),
     WordOption::Value("material"),
@@ -178,14 +204,15 @@ const OPTIONS: [WordOption<'static>; 10] = [
 ];
 
 /// Reads the words after the program's name, from left to right: `PART`, and `--job JOB`, `--out OUT`, `--list LIST`,
-/// `--hidden all|plain|none`, `--number TEXT`, `--revision TEXT`, `--material TEXT` and `--date TEXT`, or these with `=`. PART is the one plain word, and each option is there at most once. A word
+/// `--plain-job FILE`, `--hidden all|plain|none`, `--title TEXT`, `--number TEXT`, `--revision TEXT`, `--material TEXT` and
+/// `--date TEXT`, or these with `=`. PART is the one plain word, and each option is there at most once. A word
 /// that begins with `-` and is longer is refused where it isn't one of these; a value in a word of its own doesn't begin so.
 /// After the first `--` every word is plain. The first of `--help` and `--version` asks for help, or for the version,
 /// whatever follows.
 ///
-/// PART, JOB and LIST aren't empty. OUT is `-`, or ends in `.svg` or `.pdf`; without it the sheet goes to `sheet.svg`. LIST is
-/// `-` or any other name, but not OUT's, to the byte; without it there is no list. Without `--hidden` all hidden lines are
-/// drawn. Each TEXT is one that a title may be. The time goes with the length of the words.
+/// PART, JOB, LIST and FILE aren't empty. OUT is `-`, or ends in `.svg` or `.pdf`; without it the sheet goes to `sheet.svg`. LIST and
+/// FILE are `-` or any other name, but neither OUT's nor one another's, to the byte; without them there is no list, and no plain job. Each
+/// TEXT is one that a title may be. The time goes with the length of the words.
 pub fn read_words(alloc: Global, words: &[String]) -> Result<Asked, WordsError>
     ensures asked { IfOk result (λ asked. asked_by (texts words.now) ≡ Some (asked_seen asked)) }
     ensures usage { IsErrOf result WordsError.Usage → asked_by (texts words.now) ≡ None }

@@ -15,4 +15,4 @@ returns c =
     let above : FitsSigned w64 (b.top -ℤ pos 200) = omega (arith, ints, b.top_in_range) in
     let middle_fits : FitsSigned w64 c.div_euclid.result = search rules in
     let middle : c.div_euclid.result ≡ floor_of (b.left +ℤ b.right) (pos 2) = simp to_z-of_z at c.div_euclid.ensures in
-    simp to_z-of_z (λ i. record { letter = c.args.letter; x = middle i; y = b.top -ℤ pos 200; has_section = c.args.has_section })
+    simp to_z-of_z (λ i. record { letter = c.args.letter; x = middle i; y = b.top -ℤ pos 200; room = c.room_over.ensures i; has_section = c.args.has_section })

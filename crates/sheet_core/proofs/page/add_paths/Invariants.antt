@@ -7,4 +7,4 @@ use Rattle.sheet_core.proofs.page.add_paths.Given as goal
 -- what is left to be added makes up the whole
 abbrev pub invariant-loop-path : goal.invariant-loop-path
 invariant-loop-path l =
-    l.items.items ++ map Path (shown_paths l.hidden l.views (into_iter_items l.path-iterator)) ≡ l.initial.items.items ++ map Path (shown_paths l.hidden l.views l.fn.paths.items)
+    l.items.items ++ map Path (shown_paths l.hidden (into_iter_items l.path-iterator)) ≡ l.initial.items.items ++ map Path (shown_paths l.hidden l.fn.paths.items)

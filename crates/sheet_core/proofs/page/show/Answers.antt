@@ -76,20 +76,21 @@ returns-clause-shows c =
       height = simp to_z-of_z;
       title = c.in_ok-new.ensures.same ∙ c.as_str.ensures.same;
       views = omega (arith, c.len.ensures, d.sheet.places.ok.0);
-      items = c.in_ok-items.ensures.items ∙ ap (λ (ms : List ViewMarks). items_of c.args.hidden c.args.part.now c.args.texts.now d c.in_ok-paths.paths.items ms) c.deref-4.ensures.value;
+      items = c.in_ok-items.ensures.items ∙ ap (λ (ms : List ViewMarks). items_of c.args.look.now c.args.part.now d c.in_ok-paths.paths.items ms) c.deref-4.ensures.value;
     }
 
 pub returns-clause-in_views : goal.returns-clause-in_views
 returns-clause-in_views c =
     let d = c.args.drawing.now in
     let moved = length c.in_ok-on.on.places.items in
-    let block = block_of d.sheet d.job c.args.part.now c.args.texts.now in
+    let block = block_of d.sheet d.job c.args.part.now c.args.look.now.block in
     let paths = c.in_ok-paths.paths.items in
     let strokes : All (λ (s : Stroke). s.view < moved) c.deref-2.result.now = subst (λ (xs : List Stroke). All (λ (s : Stroke). s.view < moved) xs) (sym c.deref-2.ensures.value) c.in_ok-strokes.ensures.in_range in
     let within = views_within c.deref-2.result.now moved paths strokes c.in_ok-paths.ensures in
     let all : All (IsInView moved) c.in_ok-items.items.items =
     subst (λ (items : List Item). All (IsInView moved) items) (sym c.in_ok-items.ensures.items)
-    (in_views moved c.args.hidden d block (items_of_marks c.deref-4.result.now) paths (c.in_ok-items.ensures.of_block moved) (of_marks moved c.deref-4.result.now) within) in
+    (in_views moved c.args.look.now.hidden.items d block (items_of_marks c.deref-4.result.now c.args.look.now.titles.items) paths (c.in_ok-items.ensures.of_block moved)
+    (of_marks moved c.deref-4.result.now c.args.look.now.titles.items) within) in
     let same : moved ≡ c.len.result = omega (arith, c.len.ensures, d.sheet.places.ok.0, same_places d.sheet (solid_part d.solid).corners c.in_ok-on.on c.in_ok-on.ensures.centred) in
     subst (λ (n : ℕ). All (IsInView n) c.in_ok-items.items.items) same all
 

@@ -1,12 +1,14 @@
 use Rattle.std.proofs.Common.{◌≡◌, ◌∙◌, refl, Option, None, Err, Some, ap, sym, subst}
 use Rattle.draw_words.specs.Seen.{texts}
-use Rattle.sheet_core.specs.Faults.{sheet_faults}
+use Rattle.sheet_input.specs.Faults.{sheet_faults}
+use Rattle.sheet_core.specs.Lines.{named_in}
 use Rattle.sheet_core.specs.Run.{sheet_run, sheet_task}
-use Rattle.sheet_core.specs.declared.fault.SheetFault.TheVariants.{Common}
+use Rattle.sheet_input.specs.declared.fault.SheetFault.TheVariants.{Common}
+use Rattle.sheet_input.specs.declared.refusal.Told.TheVariants.{Nothing}
 use Rattle.sheet_core.specs.declared.lines.TheConstants.{HELP, VERSION}
 use Rattle.sheet_core.specs.declared.refusals.TheConstants.{MEMORY_LINE, SAID_LINE, USAGE_LINE}
 use Rattle.sheet_core.proofs.Answered.{lawful}
-use Rattle.sheet_core.proofs.Asked.{undrawn_short}
+use Rattle.sheet_core.proofs.Asked.{short_told, undrawn_short}
 use Rattle.sheet_core.proofs.HeldTexts.{writes_held}
 use Rattle.sheet_core.proofs.Told.{telling, unsaid}
 use Rattle.sheet_words.specs.Names.{Asks, help, version, sheet, asked_by}
@@ -60,7 +62,7 @@ returns-in-Err-Usage-clause-run g c =
     let asked : Option Asks = None in
     subst (λ (o : Option Asks). IsRun (sheet_run o) end.status end.fault end.made old new) (sym (c.in-Err-Usage.ensures.usage (ap Err c.in-Err-Usage.field-0-is)))
     (ended_run (sheet_run asked) (lawful asked) old old new (Common Usage) (record { refuses = λ told. refl; alone = λ none files. refl; may = refl; order = λ told. tt; reads = refl; missing = λ steady. tt; no_write = tt; read = refl }) did.changes
-    end.fault did.fault USAGE_LINE.now (None, refl, refl) end.status end.made (g.met.D.Desk.steady_tells c.args.desk.now) did.status did.none refl refl did.warned did.whole)
+    end.fault did.fault USAGE_LINE.now (Nothing, refl, refl) end.status end.made (g.met.D.Desk.steady_tells c.args.desk.now) did.status did.none refl refl did.warned did.whole)
 
 pub returns-in-Err-Memory-clause-run : goal.returns-in-Err-Memory-clause-run
 returns-in-Err-Memory-clause-run g c =
@@ -70,7 +72,7 @@ returns-in-Err-Memory-clause-run g c =
     let did = c.end_by-in-Err-Memory.ensures in
     let asked = asked_by (texts c.args.words.now) in
     ended_run (sheet_run asked) (lawful asked) old old new (Common Memory) (short_refusal (sheet_task asked) (lawful asked) old old refl refl) did.changes
-    end.fault did.fault MEMORY_LINE.now (None, refl, refl) end.status end.made (g.met.D.Desk.steady_tells c.args.desk.now) did.status did.none (undrawn_short asked) (undrawn_short asked) did.warned did.whole
+    end.fault did.fault MEMORY_LINE.now (Nothing, short_told (named_in asked) old, refl) end.status end.made (g.met.D.Desk.steady_tells c.args.desk.now) did.status did.none (undrawn_short asked) (undrawn_short asked) did.warned did.whole
 
 -- the list doesn't go where the sheet goes
 pub returns-in-Ok-Sheet-clause-written : goal.returns-in-Ok-Sheet-clause-written

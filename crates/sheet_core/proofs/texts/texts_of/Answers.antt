@@ -7,14 +7,15 @@ use Rattle.sheet_core.proofs.texts.texts_of.Goals as goal
 pub returns : goal.returns
 returns c =
     let shown = c.in_ok-shown.shown in
+    let input = c.args.input.now in
     record {
-      block = c.in_ok-block.block;
-      said = c.in_ok-block.ensures;
       shown = shown;
-      shows = subst (λ (part : List ℕ). IsPageWith c.args.request.now.hidden part c.in_ok-block.block c.args.drawing.now shown.page shown.on shown.strokes.items shown.marks.items) c.as_str.ensures.same c.in_ok-shown.ensures.shows;
+      shows = subst (λ (part : List ℕ). IsPageWith input.look part input.drawing shown.page shown.on shown.strokes.items shown.marks.items) c.as_str.ensures.same c.in_ok-shown.ensures.shows;
       text = c.in_ok-page.ensures;
       list = c.in_ok-list.ensures;
-      summary = c.in_ok-summary.ensures ∙ ap (λ (marks : List ViewMarks). summary_of c.args.drawing.now shown.page marks) c.deref.ensures.value;
+      plain = c.in_ok-plain.ensures;
+      summary = c.in_ok-summary.ensures ∙ ap (λ (marks : List ViewMarks). summary_of input shown.page marks) c.deref.ensures.value;
       unwritten = c.in_ok-unwritten.ensures;
       unlisted = c.in_ok-unlisted.ensures;
+      unplain = c.in_ok-unplain.ensures;
     }

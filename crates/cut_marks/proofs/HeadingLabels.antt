@@ -1,0 +1,58 @@
+-- The label of a heading whose text was fitted is the stated one, and in the heading's room.
+use Rattle.std.proofs.Common.{◌≡◌, ℕ, ◌*◌, ◌/◌, ◌≤◌, List, refl, ap, subst, arith}
+use Rattle.std.specs.Prelude.{ℤ, pos, ◌+ℤ◌, ◌-ℤ◌, ◌≤ℤ◌}
+use Rattle.std.proofs.lemmas.Int.{ints}
+use Rattle.text_fit.specs.Fits.{IsFitted}
+use Rattle.text_fit.specs.Widths.{text_width}
+use Rattle.text_fit.specs.declared.fit.Fitted.{Fitted}
+use Rattle.sheet_plan.specs.declared.boxes.ViewBox.{ViewBox}
+use Rattle.sheet_page.specs.declared.page.Label.{Label}
+use Rattle.sheet_page.proofs.FittedTexts.{is_fitted_in, no_larger}
+use Rattle.cut_marks.specs.Items.{room_of, heading_label, heading_item, IsInRoom, IsLabelInRoom}
+use Rattle.cut_marks.specs.MarkLetters.{heading_text}
+use Rattle.cut_marks.specs.Reach.{room_start, room_end, IsInReach, IsHeadingInReach}
+use Rattle.cut_marks.specs.declared.figures.Heading.{Heading}
+
+pub stated : (h : Heading) (title : List ℕ) (f : Fitted) → IsFitted (room_of h) (heading_text h.letter title) f → heading_label h f ≡ heading_item h title
+stated h title f is = ap (heading_label h) (is_fitted_in (room_of h) (heading_text h.letter title) f is)
+
+no_wider : (used room : ℕ) → used ≤ 1000 * room → used / 1000 ≤ room
+no_wider used room fits = omega (arith, fits)
+
+starts : (x : ℤ) (wide room : ℕ) → wide ≤ room → (x -ℤ pos (room / 2)) ≤ℤ (x -ℤ pos (wide / 2))
+starts x wide room h = omega (arith, ints)
+
+ends : (x : ℤ) (wide room : ℕ) → wide ≤ room → (x -ℤ pos (wide / 2) +ℤ pos wide) ≤ℤ (x -ℤ pos (room / 2) +ℤ pos room)
+ends x wide room h = omega (arith, ints)
+
+pub in_room : (h : Heading) (title : List ℕ) (f : Fitted) → IsFitted (room_of h) (heading_text h.letter title) f → IsInRoom h (heading_item h title)
+in_room h title f is =
+    subst (IsInRoom h) (stated h title f is)
+    (record {
+      fits = is.inside;
+      left = starts h.x (text_width f.text * f.size / 1000) h.room wide;
+      right = ends h.x (text_width f.text * f.size / 1000) h.room wide;
+      base = refl;
+      small = no_larger (room_of h) (heading_text h.letter title) f is;
+    })
+  where
+    wide : text_width f.text * f.size / 1000 ≤ h.room
+    wide = no_wider (text_width f.text * f.size) h.room is.inside
+
+-- ---- what is in a room that is in reach of a box is in reach too
+chained : (a b c : ℤ) → a ≤ℤ b → b ≤ℤ c → a ≤ℤ c
+chained a b c h k = omega (arith, ints)
+
+above : (top y at : ℤ) (size : ℕ) → top ≤ℤ (y -ℤ pos 500) → at ≡ y → size ≤ 500 → top ≤ℤ (at -ℤ pos size)
+above top y at size h same small = omega (arith, ints, same)
+
+beneath : (bottom y at : ℤ) → (y +ℤ pos 150) ≤ℤ bottom → at ≡ y → (at +ℤ pos 150) ≤ℤ bottom
+beneath bottom y at h same = omega (arith, ints, same)
+
+pub label_in_reach : (b : ViewBox) (h : Heading) (l : Label) → IsHeadingInReach b h → IsLabelInRoom h l → IsInReach b l.x (l.x +ℤ pos (text_width l.text * l.size / 1000)) (l.y -ℤ pos l.size) (l.y +ℤ pos 150)
+label_in_reach b h l reach room = record {
+  left = chained (b.left -ℤ pos 700) (room_start h) l.x reach.left room.left;
+  right = chained (l.x +ℤ pos (text_width l.text * l.size / 1000)) (room_end h) (b.right +ℤ pos 700) room.right reach.right;
+  top = above (b.top -ℤ pos 700) h.y l.y l.size reach.top room.base room.small;
+  bottom = beneath (b.bottom +ℤ pos 700) h.y l.y reach.bottom room.base;
+}

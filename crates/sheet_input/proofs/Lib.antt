@@ -1,0 +1,11 @@
+pub mod FitSteps
+pub mod NeverMissing
+pub mod OneDrawing
+pub mod SheetChains
+pub mod SomeDrawing
+pub mod SomeOwnJob
+pub mod TakeSteps
+pub mod TakenSheets
+pub mod TitleChars
+pub mod UsualJob
+pub mod WordsAlone

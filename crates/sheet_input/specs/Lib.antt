@@ -1,0 +1,11 @@
+pub mod Answers
+pub mod Faults
+pub mod Fits
+pub mod Jobs
+pub mod Looks
+pub mod Places
+pub mod Seen
+pub mod Steps
+pub mod Texts
+pub mod Titles
+pub mod inner

@@ -1,0 +1,82 @@
+-- How a sheet looks, by the words and the job.
+use Rattle.std.specs.Prelude.{ℕ, Bool, true, false, not, List, [], map, Option, Some, None, is_some, unwrap_or}
+use Rattle.job_file.specs.ViewValues.{Shown, ViewValues, whole, behind}
+use Rattle.sheet_job.specs.SheetJobs.{BlockValues}
+use Rattle.sheet_job.specs.SheetViews.{SheetShownValues, SheetViewValues, plain, cut}
+use Rattle.sheet_job.specs.declared.hidden.Hidden.{Hidden}
+use Rattle.sheet_job.specs.declared.hidden.Hidden.TheVariants.{All, Plain, Never}
+use Rattle.sheet_words.specs.Names.{Named, TextsSaid}
+use Rattle.sheet_input.specs.Jobs.{AnyValues, older_job, own_job}
+
+-- ---- hidden lines
+abbrev pub is_cut : Shown → Bool
+is_cut (whole direction) = false
+is_cut (behind plane) = true
+
+abbrev pub is_sheet_cut : SheetShownValues → Bool
+is_sheet_cut (plain direction) = false
+is_sheet_cut (cut axis at from_high value_at) = true
+
+-- hidden lines are drawn in a view of this kind, a cut or not
+abbrev pub draws_hidden : Hidden → Bool → Bool
+draws_hidden All section = true
+draws_hidden Plain section = not section
+draws_hidden Never section = false
+
+-- by the words, or else by the view, or else by the job
+abbrev pub hidden_in : Option Hidden → Option Bool → Hidden → Bool → Bool
+hidden_in (Some words) view job section = draws_hidden words section
+hidden_in None (Some view) job section = view
+hidden_in None None job section = draws_hidden job section
+
+-- in which of the job's views hidden lines are drawn; an older job draws all
+abbrev pub hidden_by : Option Hidden → AnyValues → List Bool
+hidden_by words (older_job values) = map (λ (v : ViewValues). hidden_in words None All (is_cut v.shows)) values.views
+hidden_by words (own_job values) = map (λ (v : SheetViewValues). hidden_in words v.hidden values.hidden (is_sheet_cut v.shows)) values.views
+
+-- ---- the title block
+-- the texts of the block that the job has
+abbrev pub job_block : AnyValues → BlockValues
+job_block (older_job values) = record { number = []; kind = []; material = []; author = []; approved = []; date = []; revision = []; company = []; tolerances = []; note = [] }
+job_block (own_job values) = values.block
+
+-- with those of the words in their places
+abbrev pub block_by : TextsSaid → BlockValues → BlockValues
+block_by said block = record {
+  number = unwrap_or said.number block.number;
+  kind = block.kind;
+  material = unwrap_or said.material block.material;
+  author = block.author;
+  approved = block.approved;
+  date = unwrap_or said.date block.date;
+  revision = unwrap_or said.revision block.revision;
+  company = block.company;
+  tolerances = block.tolerances;
+  note = block.note;
+}
+
+-- ---- the titles of views
+-- of a job of version 3 each view has one; an empty one is none
+abbrev pub titles_of : AnyValues → List (List ℕ)
+titles_of (older_job values) = map (λ (v : ViewValues). []) values.views
+titles_of (own_job values) = map (λ (v : SheetViewValues). v.title) values.views
+
+-- ---- all of it
+-- the block, in which views hidden lines are drawn, the titles of the views, and whether the number of decimals was left to the program
+pub record Look : Type 0 where
+  pub block : BlockValues
+  pub hidden : List Bool
+  pub titles : List (List ℕ)
+  pub fitted : Bool
+
+abbrev pub is_fitted : AnyValues → Bool
+is_fitted (older_job values) = false
+is_fitted (own_job values) = not (is_some values.decimals)
+
+abbrev pub look_of : Named → AnyValues → Look
+look_of named values = record {
+  block = block_by named.said (job_block values);
+  hidden = hidden_by named.hidden values;
+  titles = titles_of values;
+  fitted = is_fitted values;
+}

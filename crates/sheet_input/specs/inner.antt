@@ -1,0 +1,3 @@
+-- What only this crate's own functions cite.
+pub mod Shortage
+pub mod Taking
