@@ -1,7 +1,8 @@
 #!/bin/sh
 # Draws the examples again by the built programs, and compares what they write with the kept files:
 # - draw: each sheet that expected/sheets.txt names, and the further files of its job, with those of expected/sheets/
-# - sheet: the list of the bracket's strokes with expected/lists/, and the pillow block's sheet with docs/pillow.svg
+# - sheet: the list of the bracket's strokes with expected/lists/, the pillow block's sheet with docs/pillow.svg, and the sheets of
+#   jobs/version3/, each of the part that the job's first line names, with docs/jobs/
 # - pieces: the pillow block's detail with docs/pillow-detail.svg; it also judges the piece lists of expected/sheets/
 # - mend: the mended bent.off with expected/mended/
 # Usage: examples/check.sh [DRAW [SHEET [PIECES [MEND]]]]; these are the built programs, crates/draw_cli/out/draw_cli,
@@ -70,6 +71,17 @@ else
     echo "pillow.svg: differs from docs/pillow.svg"
     wrong=1
 fi
+for job in jobs/version3/*.toml; do
+    name=$(basename "$job" .toml)
+    part=$(sed -n '1s/.*Part: //p' "$job")
+    "$sheet" "$part" --job "$job" --out "$drawn/job-$name.svg" >/dev/null || wrong=1
+    if cmp -s "$drawn/job-$name.svg" "../docs/jobs/$name.svg"; then
+        echo "jobs/$name.svg: as kept"
+    else
+        echo "jobs/$name.svg: differs from docs/jobs/$name.svg"
+        wrong=1
+    fi
+done
 if [ "$("$mend" parts/bent.off --out "$drawn/bent.off")" = "mended flips 1 moved at most 1.00 units" ] && cmp -s "$drawn/bent.off" expected/mended/bent.off; then
     echo "bent.off: mended as kept"
 else

@@ -154,6 +154,10 @@ def scripts(sheet):
         script(1, b"lengths.py", put(b"list", text))
     for words in ([], [part, part], [folder], [none], [b"/dev/zero"]):
         script(1, b"lengths.py", *words)
+    for text in (b"", b"\xff", none, b"version = 3\n" + none, b"version = 3\nx = " + b"[" * 9000, b"version = 3\nat = " + b"9" * 5000):
+        script(1, b"check_jobs.py", put(b"job", text))
+    for words in ([folder], [none], [b"/dev/zero"]):
+        script(1, b"check_jobs.py", *words)
     killed, text = put(b"killed", b"#!/bin/sh\nkill -9 $$\n", 0o755), put(b"text", b"text", 0o755)
     check(script(0, b"decimals.py", CUBE, sheet).count(b"accepted") == 6, "decimals")
     check(script(0, b"decimals.py", put(b"-" + none, b""), b"repeat").count(b"\n") == 7, "decimals of a refused part")
