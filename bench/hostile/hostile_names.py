@@ -11,9 +11,11 @@ import html.parser
 import os
 import re
 import shlex
+import struct
 import subprocess
 import sys
 import tempfile
+import zipfile
 from urllib.parse import unquote_to_bytes
 
 EXAMPLES = os.fsencode(os.path.join(os.path.dirname(os.path.realpath(__file__)), "..", "..", "examples"))
@@ -169,12 +171,68 @@ def scripts(sheet):
             script(1, *words, preexec_fn=lambda: os.close(1))
 
 
+def zipped(name, text):
+    """A file of an archive with one text."""
+    with zipfile.ZipFile("archive", "w") as archive:
+        archive.writestr(name, text)
+    with open("archive", "rb") as file:
+        return file.read()
+
+
+def of_3mf(inside, head=b""):
+    return zipped("3D/3dmodel.model", head + b'<model unit="millimeter">%s</model>' % inside)
+
+
+def part():
+    """Tries part.py with programs that stand for draw and mend."""
+    draw = put(b"draw", b"#!/bin/sh\necho triangles 12 views 1\n", 0o755)
+    refuse = put(b"refuse", b"#!/bin/sh\necho \"draw: solid: edge 0 meets triangle 1\" >&2\nexit 5\n", 0o755)
+    slow = put(b"slow", b"#!/bin/sh\nsleep 50\n", 0o755)
+    by = (b"--draw", draw, b"--mend", refuse)
+    with open(CUBE, "rb") as file:
+        cube = file.read()
+    os.mkdir(b"in")
+    os.chdir(b"in")
+    by = tuple(os.path.join(b"..", word) if at % 2 else word for at, word in enumerate(by))
+    for name in NAMES:
+        # the names of IN, of OUT and of the job
+        said = script(0, b"part.py", put(name + b".off", cube), name + b"o", b"--job", name + b"t", *by)
+        check(said.count(b"\n") == 1 and said[:-1].decode().isprintable(), "part", name, said)
+        check(os.path.isfile(name + b"o") and os.path.isfile(name + b"t"), "files of a part", name)
+        with open(name + b"t", encoding="utf-8") as job:
+            check(job.read().count("\n") == 12, "job", name)
+    check(not os.path.exists(b"canary"), "a name was run")
+    os.chdir(b"..")
+    by = (b"--draw", draw, b"--mend", refuse)
+    stl = lambda number: b"x" * 80 + struct.pack("<I12fH", 1, *[number] * 12, 0)
+    item = b'<item objectid="1"/>'
+    refused = [b"", b"OFF", b"solid", stl(float("nan")), stl(1e38), b"PK\x03\x04", zipped("a", b""), zipped("Document.xml", b"<a>"), of_3mf(b"<item/>"), of_3mf(item),
+               of_3mf(item, b'<!DOCTYPE a [<!ENTITY b "c">]>'), of_3mf(b'<object id="1"><components><component objectid="1"/><component objectid="1"/></components></object>' + item),
+               of_3mf(b'<object id="1"><mesh><vertex x="0" y="0" z="0"/><triangle v1="-1" v2="0" v3="7"/></mesh></object>' + item), of_3mf(b" " * (1 << 26)),
+               b"ISO-10303-21;\n\xff", b"DBRep_DrawableShape\n", b"ply\nformat ascii 1.0\n", b" " * 72 + b"S      1\n", b"COFF 1 1 1"]
+    for text in refused:
+        script(1, b"part.py", put(b"part", text), b"out", *by)
+    for name, text in ((b"a.scad", b"x"), (b"b.scad", b"cube("), (b"c.scad", b"square(1);"), (b"d.obj", b"f 1 2 3"), (b"e.stl", b"\0" * 90)):
+        script(1, b"part.py", put(name, text), b"out", *by)
+    killed, text = put(b"killed", b"#!/bin/sh\nkill -9 $$\n", 0o755), put(b"text", b"text", 0o755)
+    for words in ([], [CUBE], [CUBE, b""], [CUBE, b"out", b"out"], [CUBE, b"out", b"--job"], [b".", b"out"], [b"none", b"out"], [CUBE, CUBE], [CUBE, b"."], [CUBE, b"none/out"],
+                  [CUBE, b"out", b"--job", b"."], *([CUBE, b"out", b"--seconds", number] for number in (b"0", b"-1", "²".encode(), b"9" * 5000))):
+        script(1, b"part.py", *words, *by)
+    for program in (b".", b"none", text, killed, b"/bin/false", b"/bin/true", refuse):
+        script(1, b"part.py", CUBE, b"out", b"--draw", program, b"--mend", refuse)
+    script(1, b"part.py", CUBE, b"out", b"--seconds", b"1", b"--draw", slow, b"--mend", refuse)
+    with open("/dev/full", "wb") as full:
+        script(1, b"part.py", CUBE, b"out", *by, stdout=full)
+    script(1, b"part.py", CUBE, b"/dev/full", *by)
+
+
 def main(sheet):
     sheet = os.fsencode(os.path.abspath(sheet))
     with tempfile.TemporaryDirectory() as room:
         os.chdir(room)
         catalogue(sheet)
         scripts(sheet)
+        part()
         os.chdir("/")
     print("\n".join(wrong) or "ok")
     return bool(wrong)

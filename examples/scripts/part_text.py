@@ -154,3 +154,12 @@ def triangles(part, decimals):
         for triangle in found:
             if len(set(triangle)) == 3:
                 yield line, triangle
+
+
+def edges(triangles):
+    """The edges in the order of their numbers, each as three times the number of a triangle and one of its sides."""
+    sides = {}
+    for number, (_, corners) in enumerate(triangles):
+        for side in range(3):
+            sides[corners[side], corners[(side + 1) % 3]] = 3 * number + side
+    return sorted(half for (a, b), half in sides.items() if half < sides.get((b, a), -1))

@@ -23,11 +23,7 @@ def main(*words):
     if not pairs or len(words) % 2 or not all(what in ("triangle", "edge") and re.fullmatch("[0-9]{1,9}", number) for what, number in pairs):
         raise one_line.Fault(USAGE)
     triangles = list(part_text.triangles(part, decimals))
-    sides = {}
-    for number, (_, corners) in enumerate(triangles):
-        for side in range(3):
-            sides[corners[side], corners[(side + 1) % 3]] = 3 * number + side
-    edges = sorted(half for (a, b), half in sides.items() if half < sides.get((b, a), -1))
+    edges = part_text.edges(triangles)
     for what, number in ((what, int(number)) for what, number in pairs):
         if number >= len(edges if what == "edge" else triangles):
             raise one_line.Fault("there is no %s %d" % (what, number))
