@@ -63,15 +63,15 @@ def tables(text):
 def texts_of(fault, formats):
     """The texts that a fault may have, by the tables of formats.md; names in braces stand for any."""
     flaws, hints, values = tables(formats[formats.index("### The texts of these faults"):formats.index("## A plain job")])
-    kind, inner = re.fullmatch(r"(\w+)(?:\((.*)\))?", fault).groups()
+    view, kind, inner = re.fullmatch(r"(view \d+: )?(\w+)(?:\((.*)\))?", fault).groups("")
     if kind == "Wrong":
         allowed = [codes(row[1])[0] for row in values if inner in codes(row[0]) or (inner not in str(values) and "title" in codes(row[0]))]
-        return ["wrong %s: %s%s" % (inner, one, more) for one in allowed for more in ("", "; leave the quotes out")]
+        return ["%swrong %s: %s%s" % (view, inner, one, more) for one in allowed for more in ("", "; leave the quotes out")]
     row = next(row for row in flaws if row[0].replace("`", "").split("(")[0] == ROWS.get(kind, kind))
     if kind != "UnknownKey":
         return codes(row[1])
     named = [row for row in hints if row[0].replace("`", "").startswith(HINTS[inner.split(" ")[0]])]
-    return [codes(row[1])[0] + text for hint in named for text in codes(hint[1])]
+    return [view + codes(row[1])[0] + text for hint in named for text in codes(hint[1])]
 
 
 def is_text(text, form):

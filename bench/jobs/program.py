@@ -33,8 +33,8 @@ BEHIND_VIEW = {
 
 def is_fault(said, line):
     """The line begins with the place and the text of this fault."""
-    name = re.match(r"\w+", said).group()
-    told = line.partition(said.rsplit(" ", 1)[1] + ": ")
+    view, name = re.match(r"(view \d+: )?(\w+)", said).groups("")
+    told = line.partition(said.rsplit(" ", 1)[1] + ": " + view)
     if told[0] or not told[1]:
         return False
     if name in BEHIND_VIEW:

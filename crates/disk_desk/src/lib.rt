@@ -5,6 +5,7 @@ mod disk;
 mod identity;
 mod program;
 mod reading;
+mod reasons;
 mod writing;
 
 pub use disk::DiskDesk;

@@ -10,25 +10,33 @@ use std::{fs, io};
 // How many new files that killed runs left beside one are passed over.
 const LEFT_BEHIND: u32 = 10_000;
 
-/// Keeps bytes under a name, unless the file of that name was fetched, or is the one that the standard output goes to. In the second
-/// case the answer is `false`, and nothing was written.
+/// What became of bytes that were to be kept, where the system refused nothing.
+pub(crate) enum Kept {
+    Written,
+    /// Nothing was written: the name is of the file that the standard output goes to.
+    Output,
+    /// Nothing was written: the file was fetched.
+    WasRead,
+}
+
+/// Keeps bytes under a name, unless the file of that name was fetched, or is the one that the standard output goes to.
 pub(crate) fn keep_file<R: Files>(
     alloc: Global,
     rt: &R,
     fetched: &[FileId],
     name: &str,
     bytes: &[u8],
-) -> io::Result<bool> {
+) -> io::Result<Kept> {
     // asked before any file is opened: a file that is opened while the standard output is closed may get its number
     let output = standard_output(rt);
     match OpenOptions::new().write(true).open(rt, name) {
         Ok(file) => keep_over(alloc, rt, fetched, output, name, file, bytes),
         Err(e) if e.kind() == ErrorKind::NotFound => {
             keep_new(alloc, rt, name, bytes)?;
-            Ok(true)
+            Ok(Kept::Written)
         }
         // such a file may be open and yet not be opened by its name: a pipe that another user made
-        Err(_) if leads_to(rt, name, output) => Ok(false),
+        Err(_) if leads_to(rt, name, output) => Ok(Kept::Output),
         Err(e) => Err(e),
     }
 }
@@ -56,20 +64,20 @@ fn keep_over<R: Files>(
     name: &str,
     file: R::File,
     bytes: &[u8],
-) -> io::Result<bool> {
+) -> io::Result<Kept> {
     let old = file.metadata()?;
     let id = id_of(&old);
     if old.is_file() && fetched.contains(&id) {
-        return Err(io::Error::from(ErrorKind::InvalidInput));
+        return Ok(Kept::WasRead);
     }
     if output == Some(id) {
-        return Ok(false);
+        return Ok(Kept::Output);
     }
     if old.is_file() && old.nlink() == 1 && replace_linked(alloc, rt, name, &old, bytes)? {
-        return Ok(true);
+        return Ok(Kept::Written);
     }
     write_over(file, &old, bytes)?;
-    Ok(true)
+    Ok(Kept::Written)
 }
 
 // Keeps bytes under a name that no file has. A link to no file stays one, and its file is made.

@@ -6,4 +6,4 @@ mod line;
 mod lines;
 
 pub use line::Line;
-pub use lines::{axis_text, key_text, kind_text, line_of, shown};
+pub use lines::{axis_text, key_text, kind_text, line_of, shown, shown_bytes};

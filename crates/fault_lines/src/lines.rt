@@ -83,15 +83,22 @@ fn shown_char(byte: u8) -> char
     }
 }
 
-/// A name as it is told: a question mark stands for each byte that isn't printable ASCII.
-pub fn shown(alloc: Global, name: &str) -> Result<String, AllocError>
-    ensures { IfOk result (λ text. string_bytes text ≡ shown name.now) }
+/// Bytes as they are told: a question mark stands for each that isn't printable ASCII.
+pub fn shown_bytes(alloc: Global, bytes: &[u8]) -> Result<String, AllocError>
+    ensures { IfOk result (λ text. string_bytes text ≡ shown bytes.now) }
 {
     let mut text = String::new(alloc);
-    for byte in name.as_bytes() {
+    for byte in bytes {
         text.push(shown_char(*byte))?;
     }
     Ok(text)
+}
+
+/// A name as it is told.
+pub fn shown(alloc: Global, name: &str) -> Result<String, AllocError>
+    ensures { IfOk result (λ text. string_bytes text ≡ shown name.now) }
+{
+    shown_bytes(alloc, name.as_bytes())
 }
 
 fn plotter_line(alloc: Global, program: &str, name: &str) -> Result<String, AllocError>

@@ -1,5 +1,5 @@
 -- What is wrong with a job of version 3, and where, as a line says it.
-use Rattle.std.specs.Prelude.{ℕ, ◌+◌, List, Option, Some, None, if◌then◌else◌, codes}
+use Rattle.std.specs.Prelude.{ℕ, ◌+◌, Bool, List, [], Option, Some, None, if◌then◌else◌, codes}
 use Rattle.std.specs.Borrow.{Bor}
 use Rattle.std.specs.Fmt.{decimal}
 use Rattle.std.specs.Str.{bytes_eq}
@@ -42,6 +42,16 @@ line_flaw_text BrokenList = codes "no comma or ] in the list: a list is on one l
 line_flaw_text More = codes "more text on the line: only a comment may follow"
 line_flaw_text Unprintable = codes "byte order mark or control character: leave it out"
 
+-- ---- in which view
+-- the number of a view, which a line counts from 1
+abbrev pub counted_text : ℕ → List ℕ
+counted_text number = decimal (number + 1)
+
+-- the view with this number, if there is one
+abbrev pub in_view_text : Option ℕ → List ℕ
+in_view_text None = []
+in_view_text (Some number) = codes "view " ⊕ counted_text number ⊕ codes ": "
+
 -- ---- headers and keys
 -- a known word that is spelt nearly so
 abbrev pub meant_text : List ℕ → List ℕ
@@ -74,6 +84,10 @@ hint_text kind name Unlike = keys_text kind
 abbrev pub unknown_key_text : TableKind → List ℕ → KeyHint → List ℕ
 unknown_key_text kind name hint = codes "unknown key " ⊕ shown name ⊕ codes ": " ⊕ hint_text kind name hint
 
+-- and in which view it is
+abbrev pub key_in_text : TableKind → Option ℕ → List ℕ → KeyHint → List ℕ
+key_in_text kind view name hint = in_view_text view ⊕ unknown_key_text kind name hint
+
 -- what an unknown table may have been meant to be
 abbrev pub table_hint_text : Option (Bor (List ℕ)) → List ℕ
 table_hint_text None = codes "[block] and [[view]] are known"
@@ -89,7 +103,7 @@ table_flaw_text DoubleBlock = codes "[[block]]: the title block begins with [blo
 table_flaw_text SecondBlock = codes "[block] is there twice"
 table_flaw_text TooManyViews = codes "more than 12 views"
 table_flaw_text EmptyBlock = codes "[block] has no key: give it one or leave it out"
-table_flaw_text (UnknownKey kind name hint) = unknown_key_text kind name hint
+table_flaw_text (UnknownKey kind view name hint) = key_in_text kind view name hint
 
 -- ---- views
 abbrev pub principal_text : Principal → List ℕ
@@ -99,10 +113,6 @@ principal_text view.Left = codes "left"
 principal_text view.Right = codes "right"
 principal_text view.Above = codes "above"
 principal_text view.Below = codes "below"
-
--- the number of a view, which a line counts from 1
-abbrev pub counted_text : ℕ → List ℕ
-counted_text number = decimal (number + 1)
 
 -- a view by its name, or by its number
 abbrev pub view_label : ℕ → Option Principal → List ℕ
@@ -127,13 +137,17 @@ abbrev pub at_range_text : ℕ → List ℕ
 at_range_text number = codes "view " ⊕ counted_text number ⊕ codes ": at is too far from 0: at most 10485.76 mm with 2 decimals, a tenth of that with each decimal more"
 
 -- ---- all
+-- a value that its key doesn't have, and in which view it is
+abbrev pub wrong_in_text : SheetKey → Bool → Option ℕ → List ℕ
+wrong_in_text key quoted view = in_view_text view ⊕ wrong_value_text key quoted
+
 -- what is wrong
 abbrev pub job_flaw_text : JobFlaw → List ℕ
 job_flaw_text NotUtf8 = codes "not UTF-8: save the job as UTF-8"
 job_flaw_text (Line flaw) = line_flaw_text flaw
 job_flaw_text Refused = codes "this key or table is there already"
 job_flaw_text (Table flaw) = table_flaw_text flaw
-job_flaw_text (Wrong key quoted) = wrong_value_text key quoted
+job_flaw_text (Wrong key quoted view) = wrong_in_text key quoted view
 job_flaw_text (View flaw number name) = placed_view_text flaw number name
 job_flaw_text (AtRange number) = at_range_text number
 

@@ -1,10 +1,11 @@
 // What is wrong with a header or a key.
 ghost use Rattle.std.specs.Prelude.{◌≡◌, IfOk, string_bytes};
-ghost use Rattle.flaw_lines.specs.FlawTexts.{table_hint_text, unknown_table_text, table_flaw_text};
+ghost use Rattle.flaw_lines.specs.FlawTexts.{table_hint_text, unknown_table_text, key_in_text, table_flaw_text};
 
 use crate::key_lines::{meant_text, unknown_key_text};
+use crate::views::in_view_text;
 use fault_lines::shown;
-use job_tables::TableFlaw;
+use job_tables::{KeyHint, TableFlaw, TableKind};
 use std::alloc::{AllocError, Global};
 
 /// What an unknown table may have been meant to be.
@@ -29,6 +30,23 @@ fn unknown_table_text(
     format!(in alloc; "unknown table {table}: {hint}")
 }
 
+/// A key that its table doesn't have, in which view it is.
+fn key_in_text(
+    alloc: Global,
+    kind: TableKind,
+    view: Option<u32>,
+    name: &str,
+    hint: &KeyHint,
+) -> Result<String, AllocError>
+    ensures { IfOk result (λ text. string_bytes text ≡ key_in_text kind view name.now hint.now) }
+{
+    let (place, text) = (
+        in_view_text(alloc, view)?,
+        unknown_key_text(alloc, kind, name, hint)?,
+    );
+    format!(in alloc; "{place}{text}")
+}
+
 /// What is wrong with a header or a key.
 pub(crate) fn table_flaw_text(alloc: Global, flaw: &TableFlaw) -> Result<String, AllocError>
     ensures { IfOk result (λ text. string_bytes text ≡ table_flaw_text flaw.now) }
@@ -44,8 +62,8 @@ pub(crate) fn table_flaw_text(alloc: Global, flaw: &TableFlaw) -> Result<String,
         TableFlaw::EmptyBlock => {
             String::from_str(alloc, "[block] has no key: give it one or leave it out")
         }
-        TableFlaw::UnknownKey(kind, name, hint) => {
-            unknown_key_text(alloc, *kind, name.as_str(), hint)
+        TableFlaw::UnknownKey(kind, view, name, hint) => {
+            key_in_text(alloc, *kind, *view, name.as_str(), hint)
         }
     }
 }

@@ -1,6 +1,6 @@
 // What is wrong with a view.
 ghost use Rattle.std.specs.Prelude.{◌≡◌, IfOk, string_bytes};
-ghost use Rattle.flaw_lines.specs.FlawTexts.{principal_text, counted_text, view_label, without_cut_text, view_flaw_text, placed_view_text, at_range_text};
+ghost use Rattle.flaw_lines.specs.FlawTexts.{principal_text, counted_text, in_view_text, view_label, without_cut_text, view_flaw_text, placed_view_text, at_range_text};
 
 use crate::keys::key_name;
 use job_file::Principal;
@@ -27,6 +27,17 @@ fn counted_text(alloc: Global, number: u32) -> Result<String, AllocError>
 {
     let counted = u64::from(number) + 1;
     format!(in alloc; "{counted}")
+}
+
+/// In which view it is, if in one.
+pub(crate) fn in_view_text(alloc: Global, view: Option<u32>) -> Result<String, AllocError>
+    ensures { IfOk result (λ text. string_bytes text ≡ in_view_text view) }
+{
+    let Some(number) = view else {
+        return Ok(String::new(alloc));
+    };
+    let counted = counted_text(alloc, number)?;
+    format!(in alloc; "view {counted}: ")
 }
 
 /// A view by its name, or by its number.

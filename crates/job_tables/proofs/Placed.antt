@@ -14,7 +14,7 @@ use Rattle.job_tables.specs.declared.flaw.TableStop.{TableStop}
 use Rattle.job_tables.specs.declared.flaw.TableStop.TheVariants.{At, Memory}
 use Rattle.job_tables.specs.declared.table.JobTable.{JobTable}
 use Rattle.job_tables.specs.declared.table.TableKind.TheVariants.{Job, Block, View}
-use Rattle.job_tables.specs.Faults.{Fault, single_view, double_block, second_block, too_many_views, unknown_table, block_fault, view_fault, header_fault, key_fault, kind_of, table_fault, fault_after, first_fault, unless, tables_or_fault}
+use Rattle.job_tables.specs.Faults.{Fault, single_view, double_block, second_block, too_many_views, unknown_table, block_fault, view_fault, header_fault, key_fault, kind_of, view_begun, table_fault, fault_after, first_fault, unless, tables_or_fault}
 use Rattle.job_tables.specs.Known.{HasKnownKeys}
 use Rattle.job_tables.specs.Seen.{table_seen, StopsTables}
 use Rattle.job_tables.specs.Tables.{Entry, Table, single, double, Headed, is_block, is_view, tables_of}
@@ -79,7 +79,7 @@ map_none f None e = refl
 map_none f (Some x) e = absurd (none-some (f x) (sym e))
 
 no_header_fault : (b : Bool) (n : ℕ) (t : Headed) → table_fault b n t ≡ None → header_fault b n t.header t.table.entries ≡ None
-no_header_fault b n t none = map_none (λ fault. (fault, t.table.at)) (header_fault b n t.header t.table.entries) (or_none (option_map (λ fault. (fault, t.table.at)) (header_fault b n t.header t.table.entries)) (key_fault (kind_of t.header) t.table.entries) none)
+no_header_fault b n t none = map_none (λ fault. (fault, t.table.at)) (header_fault b n t.header t.table.entries) (or_none (option_map (λ fault. (fault, t.table.at)) (header_fault b n t.header t.table.entries)) (key_fault (kind_of t.header) (view_begun n t.header) t.table.entries) none)
 
 no_block_fault : (b : Bool) (entries : List Entry) → block_fault b entries ≡ None → b ≡ false
 no_block_fault true entries e = absurd (none-some second_block (sym e))
@@ -172,7 +172,7 @@ double_placed before block views h key is placed =
 
 -- a fault of the next table is the first one
 pub stop_at : (entries : List Entry) (all before : List Headed) (block : Option JobTable) (views : List JobTable) (h : CodeHeaded) (now left : List CodeHeaded) (b : Bool) (n : ℕ) (stop : TableStop)
-    → now ≡ h ∷ left → key_fault Job entries ≡ None → AreLeft all before now → ArePlaced before block views → b ≡ is_some block → n ≡ length views → IsStop stop (table_fault b n (headed_seen h))
+    → now ≡ h ∷ left → key_fault Job None entries ≡ None → AreLeft all before now → ArePlaced before block views → b ≡ is_some block → n ≡ length views → IsStop stop (table_fault b n (headed_seen h))
     → StopsTables stop (tables_or_fault (entries, all))
 stop_at entries all before block views h now left b n stop is known are placed b_is n_is said =
     let here : AreLeft all before (h ∷ left) = subst (AreLeft all before) is are in

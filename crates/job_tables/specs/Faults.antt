@@ -16,7 +16,8 @@ pub data Fault : Type 0 where
   second_block : Fault
   too_many_views : Fault
   empty_block : Fault
-  unknown_key : TableKind → List ℕ → Fault
+  -- of a table, which may be the view with this number
+  unknown_key : TableKind → Option ℕ → List ℕ → Fault
 
 -- ---- headers
 -- of `[block]`, after another one or not. TOML refuses a text with two of them.
@@ -46,15 +47,20 @@ abbrev pub kind_of : Header → TableKind
 kind_of (single key) = Block
 kind_of (double key) = View
 
--- the first key that isn't one of its table, and the bytes before it
-abbrev pub key_fault : TableKind → List Entry → Option (Fault × ℕ)
-key_fault kind entries = option_map (λ e. (unknown_key kind e.key, e.at)) (find (λ e. not (is_known kind e.key)) entries)
+-- the number of the view that a header begins, after so many
+abbrev pub view_begun : ℕ → Header → Option ℕ
+view_begun views (single key) = None
+view_begun views (double key) = Some views
+
+-- the first key that isn't one of its table, which may be the view with this number; and the bytes before it
+abbrev pub key_fault : TableKind → Option ℕ → List Entry → Option (Fault × ℕ)
+key_fault kind view entries = option_map (λ e. (unknown_key kind view e.key, e.at)) (find (λ e. not (is_known kind e.key)) entries)
 
 -- ---- tables
 -- a table's first fault, and the bytes before its place: its header comes before its keys
 abbrev pub table_fault : Bool → ℕ → Headed → Option (Fault × ℕ)
 table_fault has_block views t =
-    option_or (option_map (λ fault. (fault, t.table.at)) (header_fault has_block views t.header t.table.entries)) (key_fault (kind_of t.header) t.table.entries)
+    option_or (option_map (λ fault. (fault, t.table.at)) (header_fault has_block views t.header t.table.entries)) (key_fault (kind_of t.header) (view_begun views t.header) t.table.entries)
 
 -- the first fault of some tables after those before them
 abbrev pub fault_after : List Headed → List Headed → Option (Fault × ℕ)
@@ -64,7 +70,7 @@ fault_after before (t ∷ ts) =
 
 -- the first fault of the entries before the first header, and of the tables that headers begin
 abbrev pub first_fault : List Entry × List Headed → Option (Fault × ℕ)
-first_fault s = option_or (key_fault Job s.0) (fault_after [] s.1)
+first_fault s = option_or (key_fault Job None s.0) (fault_after [] s.1)
 
 -- a fault, if there is one, and else the value
 abbrev pub unless : {A : Type 0} → Option (Fault × ℕ) → A → Result A (Fault × ℕ)

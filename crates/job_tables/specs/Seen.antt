@@ -29,7 +29,7 @@ fault_seen DoubleBlock = double_block
 fault_seen SecondBlock = second_block
 fault_seen TooManyViews = too_many_views
 fault_seen EmptyBlock = empty_block
-fault_seen (UnknownKey kind name hint) = unknown_key kind name
+fault_seen (UnknownKey kind view name hint) = unknown_key kind view name
 
 -- the fault is the one that is said, with its hint, unless memory ran out
 abbrev pub StopsTables : {A : Type 0} → TableStop → Result A (Fault × ℕ) → Type 0

@@ -1,6 +1,6 @@
 // The first header or key that is wrong.
-ghost use Rattle.std.specs.Prelude.{◌≡◌, map, IfOk, OnOk};
-ghost use Rattle.job_tables.specs.Faults.{unknown_table, block_fault, view_fault, header_fault, kind_of, key_fault, table_fault};
+ghost use Rattle.std.specs.Prelude.{◌≡◌, ◌≤◌, map, IfOk, OnOk};
+ghost use Rattle.job_tables.specs.Faults.{unknown_table, block_fault, view_fault, header_fault, kind_of, view_begun, key_fault, table_fault};
 ghost use Rattle.job_tables.specs.Known.{HasKnownKeys};
 ghost use Rattle.job_tables.specs.Seen.{entry_seen};
 ghost use Rattle.job_tables.specs.inner.Headed.{header_seen, headed_seen};
@@ -71,16 +71,21 @@ fn header_flaw(
     }
 }
 
-/// Looks for the first key that isn't one of its table.
-pub(crate) fn check_keys(alloc: Global, kind: TableKind, table: &JobTable) -> Result<(), TableStop>
-    ensures value { SaysFault result (key_fault kind (map entry_seen table.now.entries.items)) }
+/// Looks for the first key that isn't one of its table, which may be the view with this number.
+pub(crate) fn check_keys(
+    alloc: Global,
+    kind: TableKind,
+    view: Option<u32>,
+    table: &JobTable,
+) -> Result<(), TableStop>
+    ensures value { SaysFault result (key_fault kind view (map entry_seen table.now.entries.items)) }
     ensures known { OnOk result (HasKnownKeys kind table.now) }
 {
     for entry in &table.entries {
         let key = entry.key.as_str();
         if !is_known(kind, key) {
             let hint = key_hint(kind, key);
-            let flaw = TableFlaw::UnknownKey(kind, Name::new(alloc, key)?, hint);
+            let flaw = TableFlaw::UnknownKey(kind, view, Name::new(alloc, key)?, hint);
             return Err(TableStop::At(flaw, entry.at));
         }
     }
@@ -97,6 +102,17 @@ fn kind_of(header: &Header) -> TableKind
     }
 }
 
+/// The number of the view that a header begins, after so many.
+fn view_begun(views: usize, header: &Header) -> Option<u32>
+    requires { views ≤ 12 }
+    ensures { result ≡ view_begun views (header_seen header.now) }
+{
+    match header {
+        Header::Single(_) => None,
+        Header::Double(_) => Some(views as u32),
+    }
+}
+
 /// Looks for the first fault of a table, after a `[block]` or not, and after so many views.
 pub(crate) fn check_table(
     alloc: Global,
@@ -104,6 +120,7 @@ pub(crate) fn check_table(
     views: usize,
     headed: &Headed,
 ) -> Result<(), TableStop>
+    requires { views ≤ 12 }
     ensures value { SaysFault result (table_fault has_block views (headed_seen headed.now)) }
     ensures known { OnOk result (HasKnownKeys (kind_of (header_seen headed.now.header)) headed.now.table) }
 {
@@ -111,6 +128,6 @@ pub(crate) fn check_table(
     let flaw = header_flaw(alloc, has_block, views, header, &table.entries)?;
     match flaw {
         Some(flaw) => Err(TableStop::At(flaw, table.at)),
-        None => check_keys(alloc, kind_of(header), table),
+        None => check_keys(alloc, kind_of(header), view_begun(views, header), table),
     }
 }

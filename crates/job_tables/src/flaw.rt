@@ -37,8 +37,8 @@ pub enum TableFlaw {
     TooManyViews,
     /// No entry belongs to `[block]`.
     EmptyBlock,
-    /// The table has no such key.
-    UnknownKey(TableKind, Name, KeyHint),
+    /// The table has no such key. If it is a view's, its number, counted from 0.
+    UnknownKey(TableKind, Option<u32>, Name, KeyHint),
 }
 
 /// Why lines give no tables.

@@ -21,7 +21,7 @@ fn gathered(alloc: Global, lines: LinesByHeader) -> Result<JobTables, TableStop>
         at: 0,
         entries: lines.first,
     };
-    check_keys(alloc, TableKind::Job, &job)?;
+    check_keys(alloc, TableKind::Job, None, &job)?;
     let mut block = None;
     let mut views = Vec::new(alloc);
     for headed in lines.tables {

@@ -1,18 +1,20 @@
 -- Which faults a part with names may have, and what a run with them answers.
-use Rattle.std.proofs.Common.{◌≡◌, ◌⊎◌, inl, inr, ℕ, List, Option, Some, None, IfSome, IsSome, true, false, Result, Ok, Err, refl}
-use Rattle.std.specs.Prelude.{IfErr, codes}
+use Rattle.std.proofs.Common.{◌≡◌, ◌⊎◌, inl, inr, ℕ, List, Option, Some, None, IfSome, IsSome, true, false, Result, Ok, Err, refl, sym, subst}
+use Rattle.std.specs.Prelude.{IfErr}
 use Rattle.std.specs.Result.{result_err}
-use Rattle.fault_lines.specs.Lines.{NamesNothing, fault_line}
 use Rattle.dec_text.specs.declared.number.Length.TheVariants.{Millimetre}
-use Rattle.desk.specs.Files.{Files}
+use Rattle.desk.specs.Files.{Files, DeskState}
 use Rattle.geometry.specs.Parts.{Part}
 use Rattle.geometry.specs.Sound.{IsSound}
+use Rattle.mend_core.specs.Hints.{IsToldFor, IsToldTo}
 use Rattle.mend_core.specs.Lines.{mend_line}
 use Rattle.mend_core.specs.Mending.{Made, Mends, IsOfMending}
 use Rattle.mend_core.specs.Run.{AnswersMendWords, ComesTo, HasMended, IsOfNamed, RunsInOrder, TakesPart}
-use Rattle.mend_core.specs.declared.lines.TheConstants.{USAGE}
+use Rattle.mend_core.specs.declared.lines.TheConstants.{MEMORY_LINE}
 use Rattle.mend_core.specs.declared.made.Mended.{Mended}
-use Rattle.mend_core.specs.inner.Faults.{IsOfWriting}
+use Rattle.mend_core.specs.declared.refusal.Refusal.{Refusal}
+use Rattle.mend_core.specs.inner.Faults.{IsOfReading, IsOfWriting}
+use Rattle.mend_core.specs.inner.Refusals.{faulted}
 use Rattle.mend_words.specs.Names.{Asks, Named, help, version, mend}
 use Rattle.part_input.specs.Causes.{cause_of, common, unread}
 use Rattle.part_input.specs.Faults.{CountsReads}
@@ -21,24 +23,19 @@ use Rattle.part_input.specs.Steps.{GivesInput, IsMissing, Refuses}
 use Rattle.part_input.specs.declared.fault.Input.{Input}
 use Rattle.part_input.specs.declared.fault.Input.TheVariants.{Job as TheJob, Part as ThePart}
 use Rattle.part_input.specs.declared.fault.Fault.{Fault}
-use Rattle.part_input.specs.declared.fault.Fault.TheVariants.{Usage, ReadFault, Nothing, Mesh, WriteFault, Memory}
+use Rattle.part_input.specs.declared.fault.Fault.TheVariants.{Usage, ReadFault, Part as Unread, Nothing, Mesh, WriteFault, Memory}
 use Rattle.part_input.specs.declared.fault.Target.{Target}
 use Rattle.part_input.proofs.Causes.{read_only}
+use Rattle.part_lines.specs.declared.hint.PartHint.TheVariants.{Nothing as NoHint}
 use Rattle.part_input.proofs.SoundSamples.{sample_is_sound}
 use Rattle.put_texts.specs.Faults.{HasNoWriteFault, IsThereOf}
 use Rattle.put_texts.proofs.Counting.{not_there}
 use Rattle.solid_mesh.specs.Solids.{solid_part}
 use Rattle.solid_mesh.proofs.Facts.{sound}
 
--- ---- lines
--- a fault that isn't one of writing is told by the same line, whatever was asked for
-pub line_alike : (asked : Option Asks) (e : Fault) → HasNoWriteFault (Some e) → fault_line (codes "mend") USAGE.now e ≡ mend_line asked e
-line_alike asked (WriteFault target) none = absurd none
-line_alike asked e none = refl
-
 -- a fault of reading is told without more memory
-pub names_nothing : (e : Fault) → cause_of e ≡ unread → NamesNothing e
-names_nothing e is = read_only NamesNothing (λ input. tt) e is
+pub of_reading : (e : Fault) → cause_of e ≡ unread → IsOfReading e
+of_reading e is = read_only IsOfReading (λ input. tt) e is
 
 -- ---- faults of reading and mending a part are none of the words and none of writing
 soup_no_usage : (size : Option (List ℕ)) → IsOfSoupOr size Usage → ⊥
@@ -113,6 +110,29 @@ module _ (named : Named) where
   writing_in_order (WriteFault target) is = tt
   writing_in_order Memory is = tt
   writing_in_order e is = elim is [ ]
+
+-- ---- what is told beside a fault
+-- nothing beside one of mending, or of writing
+mending_told : (named : Named) (old : DeskState) (e : Fault) → IsOfMending e → IsToldFor named old e NoHint
+mending_told named old (Unread fault) h = absurd h
+mending_told named old e h = refl
+
+pub mend_told : {T : Type 0} (named : Named) (old : DeskState) (r : Result T Refusal) → IfErr (faulted r) IsOfMending → IfErr r (λ r. r.hint ≡ NoHint) → IfErr r (λ r. IsToldFor named old r.fault r.hint)
+mend_told named old (Ok x) h none = tt
+mend_told named old (Err refusal) h none = subst (IsToldFor named old refusal.fault) (sym none) (mending_told named old refusal.fault h)
+
+pub writing_told : (named : Named) (old : DeskState) (e : Fault) → IsOfWriting named e → IsToldFor named old e NoHint
+writing_told named old (Unread fault) h = absurd h
+writing_told named old e h = refl
+
+-- nor beside want of memory, whose line is the same in all runs
+pub short_told : (named : Option Named) (old : DeskState) → IsToldTo named old Memory NoHint
+short_told None old = refl
+short_told (Some named) old = refl
+
+pub short_line : (named : Option Named) → MEMORY_LINE.now ≡ mend_line named NoHint None Memory
+short_line None = refl
+short_line (Some named) = refl
 
 -- ---- a sample is sound, so mending has no fault of it
 module _ (named : Named) (part : Part) (made : IsSome (sample_size named.part) → (files : Files) → TakesPart files named (Ok part)) where

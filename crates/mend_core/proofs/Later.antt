@@ -1,33 +1,21 @@
--- What is warned and written from a later state of the desk on, seen from the beginning of a run.
-use Rattle.std.proofs.Common.{◌≡◌, ℕ, ◌++◌, List, Option, None, Some, ap, subst, ◌∙◌}
-use Rattle.std.specs.Prelude.{IfSome, IfNone}
-use Rattle.desk.specs.Files.{Files, DeskState, AppendsFront, OnlyReads}
+-- What is written from a later state of the desk on, seen from the beginning of a run.
+use Rattle.std.proofs.Common.{◌≡◌, ℕ, List, Option, ap, subst, ◌∙◌}
+use Rattle.std.specs.Prelude.{IfNone}
+use Rattle.desk.specs.Files.{Files, DeskState, OnlyReads}
 use Rattle.mend_core.specs.Mending.{Made}
-use Rattle.mend_core.specs.Run.{mend_run}
 use Rattle.mend_core.specs.Telling.{told_text}
 use Rattle.mend_core.specs.Writing.{Writes, summary_way}
-use Rattle.mend_words.specs.Names.{Asks, Named}
+use Rattle.mend_words.specs.Names.{Named}
 use Rattle.part_input.specs.declared.fault.Fault.{Fault}
 use Rattle.part_input.specs.Causes.{common}
 use Rattle.put_texts.specs.Noting.{Notes, NotesWhole}
 use Rattle.put_texts.specs.Order.{InOrder, KeepsText, KeepsTextPart, SaysText, SaysTextPart, SparesFile, SparesWord}
-use Rattle.put_texts.specs.Runs.{WarnsBy, WarnsWholeBy}
 use Rattle.put_texts.proofs.Ends.{heard_later}
 
 module _ (old between new : DeskState) (same : OnlyReads old between) where
   warned_same : between.warned ≡ old.warned
   warned_same = ap (λ (s : DeskState). s.warned) same
 
-  -- ---- warnings
-  pub warns_from : (asked : Option Asks) (fault : Option Fault) → IfSome fault (WarnsBy (mend_run asked).tells between new) → IfSome fault (WarnsBy (mend_run asked).tells old new)
-  warns_from asked None h = tt
-  warns_from asked (Some f) (line, is, front) = (line, is, subst (λ (w : List ℕ). AppendsFront w new.warned line) warned_same front)
-
-  pub warns_whole_from : (asked : Option Asks) (fault : Option Fault) → IfSome fault (WarnsWholeBy (mend_run asked).tells between new) → IfSome fault (WarnsWholeBy (mend_run asked).tells old new)
-  warns_whole_from asked None h = tt
-  warns_whole_from asked (Some f) (line, is, all) = (line, is, subst (λ (w : List ℕ). new.warned ≡ w ++ line) warned_same all)
-
-  -- ---- what is written
   module _ (named : Named) (fault : Option Fault) where
     pub writes_from : (made : Made) → Writes named fault between new made → Writes named fault old new made
     writes_from made w =

@@ -2,9 +2,10 @@
 use Rattle.std.specs.Prelude.{◌≡◌, ◌⊎◌, ℕ, List, Option, Some, None, IfSome, IsSome, Result, Ok, Err, Bool, false}
 use Rattle.dec_text.specs.declared.number.Length.TheVariants.{Millimetre}
 use Rattle.desk.specs.Files.{Files}
+use Rattle.desk_reasons.specs.declared.reason.Reason.{Reason}
 use Rattle.geometry.specs.Parts.{Part}
 use Rattle.geometry.specs.Sound.{IsSound}
-use Rattle.mend_core.specs.Lines.{mend_line}
+use Rattle.mend_core.specs.Hints.{IsLineOf, named_in}
 use Rattle.mend_core.specs.Mending.{Made, Mends, IsOfMending}
 use Rattle.mend_core.specs.Seen.{made_seen}
 use Rattle.mend_core.specs.Writing.{AsksMendAnd, IsOfTarget}
@@ -126,13 +127,13 @@ mend_task asked = record {
   settles = λ files fault. IsAnswerTo (Takes asked files) fault;
 }
 
--- and what is made of that
-abbrev pub mend_run : Option Asks → Run Fault Mended (Option Made)
-mend_run asked = record {
+-- and what is made of that, with the reasons that desks give
+abbrev pub mend_run : {D : Type 0} → (D → Option Reason) → Option Asks → Run Fault Mended (Option Made)
+mend_run of_desk asked = record {
   task = mend_task asked;
   status = status_of;
   makes = HasMended asked;
   given = λ m. Some (made_seen m);
   of_words = λ m. IsOfWords asked (made_seen m);
-  tells = λ old fault line. line ≡ mend_line asked fault;
+  tells = IsLineOf of_desk (named_in asked);
 }

@@ -6,11 +6,14 @@
 
 mod answers;
 mod end;
+mod file_lines;
 mod lines;
 mod lists;
 mod made;
 mod mending;
 mod put;
+mod refusal;
+mod refusals;
 mod run;
 mod take;
 mod texts;

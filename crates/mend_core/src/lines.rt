@@ -21,14 +21,15 @@ pub const VERSION: &str = "mend 0.1.0\n";
 /// What is told of words that are refused.
 pub(crate) const USAGE: &str = "mend PART [--out OUT] [--decimals K] [--limit N]";
 
+/// The line of words that are refused.
+pub(crate) const USAGE_LINE: &str =
+    "mend: usage: mend PART [--out OUT] [--decimals K] [--limit N]\n";
+
 /// The line of want of memory.
 pub const MEMORY_LINE: &str = "mend: out of memory\n";
-
-/// The line of a part that couldn't be written.
-pub(crate) const PART_LINE: &str = "mend: cannot write the part\n";
 
 /// The line of a summary that couldn't be said.
 pub(crate) const SUMMARY_LINE: &str = "mend: cannot write the summary\n";
 
-/// The line of help or a version that couldn't be said.
+/// The line of a part, help or a version that couldn't be said.
 pub(crate) const SAID_LINE: &str = "mend: cannot write the standard output\n";

@@ -12,11 +12,12 @@ ghost use Rattle.put_texts.specs.Runs.{IsRun};
 ghost use Rattle.solid_mesh.specs.Solids.{solid_part};
 
 use crate::end::{MendOutcome, refuse};
-use crate::lines::{HELP, MEMORY_LINE, SAID_LINE, VERSION};
+use crate::file_lines::file_lines;
+use crate::lines::{HELP, MEMORY_LINE, SAID_LINE, USAGE_LINE, VERSION};
 use crate::put::put;
 use crate::take::take;
 use crate::texts::texts_of;
-use desk::Desk;
+use desk_reasons::Reasons;
 use draw_words::WordsError;
 use mend_words::{Asked, MendRequest, read_words};
 use part_input::{Fault, Target};
@@ -24,21 +25,25 @@ use put_texts::{end_by, ended, tell};
 use std::alloc::Global;
 
 /// Mends the part that was named, writes it where it goes, and tells of it.
-fn mend_part<D: Desk>(alloc: Global, request: &MendRequest, desk: &mut D) -> MendOutcome
-    ensures run { IsRun (mend_run (Some (of_mend (named_seen request.now)))) result.status result.fault result.made (D.state desk.old) (D.state desk.new) }
+fn mend_part<D: Reasons>(alloc: Global, request: &MendRequest, desk: &mut D) -> MendOutcome
+    ensures run { IsRun (mend_run D.reason (Some (of_mend (named_seen request.now)))) result.status result.fault result.made (D.state desk.old) (D.state desk.new) }
     ensures written { IfSome result.made (λ m. Writes (named_seen request.now) result.fault (D.state desk.old) (D.state desk.new) (made_seen m)) }
     ensures unsaid { IfNone result.made ((D.state desk.new).said ≡ (D.state desk.old).said) }
     ensures quiet { IfNone result.fault (IsQuiet (summary_way (named_seen request.now).out) (D.state desk.old).warn_faults (D.state desk.new).warn_faults) }
 {
+    let lines = match file_lines(alloc, request) {
+        Ok(lines) => lines,
+        Err(_) => return end_by(MEMORY_LINE, Fault::Memory, desk),
+    };
     let mended = match take(alloc, request, desk) {
         Ok(mended) => mended,
-        Err(fault) => return refuse(alloc, fault, desk),
+        Err(refusal) => return refuse(alloc, request, &lines, refusal, desk),
     };
     let texts = match texts_of(alloc, request.decimals, &mended) {
         Ok(texts) => texts,
         Err(_) => return end_by(MEMORY_LINE, Fault::Memory, desk),
     };
-    let fault = put(request, &texts, desk);
+    let fault = put(alloc, request, &lines, &texts, desk);
     ended(fault, Some(mended))
 }
 
@@ -47,15 +52,17 @@ fn mend_part<D: Desk>(alloc: Global, request: &MendRequest, desk: &mut D) -> Men
 /// corners, turned opposite, and with its slivers flipped, if that makes it sound. No flip moves a point by more than the limit
 /// that the words give. Words that ask for help or for the version are answered by a text that is said. At the end it says a line: that
 /// the part was sound already, or how many flips mended it and how far points moved at most, and, where some were taken out, how many
-/// pairs, which that distance leaves out; where the part is said, it warns by that. Of a fault it warns once, by one line.
+/// pairs, which that distance leaves out; where the part is said, it warns by that. Of a fault it warns once, by one line, with the part's
+/// name, the place in its text and what helps; that of a file which can't be read or written says why, if the desk knows and the line
+/// finds memory.
 ///
 /// The faults are looked for in this order: the words, a sample's size, the part's bytes, its text, whether it has a triangle, whether
 /// one is left without pairs, the surface after flips, the writing of the part, of the line. Want of memory may be answered at any
 /// place; then the file is whole or as before. Nothing is written that isn't sound. Time is that of `draw`'s reading, of two checks and
 /// of the flips.
-pub fn mend<D: Desk>(alloc: Global, words: &[String], desk: &mut D) -> MendOutcome
+pub fn mend<D: Reasons>(alloc: Global, words: &[String], desk: &mut D) -> MendOutcome
     // It is a run of the steps that the words ask for, from the files at entry.
-    ensures run { IsRun (mend_run (asked_by (texts words.now))) result.status result.fault result.made (D.state desk.old) (D.state desk.new) }
+    ensures run { IsRun (mend_run D.reason (asked_by (texts words.now))) result.status result.fault result.made (D.state desk.old) (D.state desk.new) }
 
     // What it makes is sound on every desk.
     ensures sound { IfSome result.made (λ m. IsSound (solid_part m.solid)) }
@@ -76,7 +83,7 @@ pub fn mend<D: Desk>(alloc: Global, words: &[String], desk: &mut D) -> MendOutco
         Ok(Asked::Help) => tell(HELP, Target::Out, SAID_LINE, MEMORY_LINE, desk),
         Ok(Asked::Version) => tell(VERSION, Target::Out, SAID_LINE, MEMORY_LINE, desk),
         Ok(Asked::Mend(request)) => mend_part(alloc, &request, desk),
-        Err(WordsError::Usage) => refuse(alloc, Fault::Usage, desk),
+        Err(WordsError::Usage) => end_by(USAGE_LINE, Fault::Usage, desk),
         Err(WordsError::Memory(_)) => end_by(MEMORY_LINE, Fault::Memory, desk),
     }
 }

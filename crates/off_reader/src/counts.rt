@@ -16,7 +16,7 @@ pub(crate) struct Counted {
 }
 
 /// What a run of digits stands for, held at the greatest `u64`.
-fn count_of(text: &[u8]) -> Option<u64>
+pub fn count_of(text: &[u8]) -> Option<u64>
     ensures { result ≡ count_of text.now }
 {
     if text.is_empty() {

@@ -11,4 +11,5 @@ mod header;
 mod off;
 mod vertices;
 
+pub use counts::count_of;
 pub use off::read_off;

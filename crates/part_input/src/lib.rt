@@ -21,5 +21,5 @@ pub use list::fetch_list;
 pub use sample::{sample_size, sample_soup};
 pub use sheets::sheet_of;
 pub use solid::{fetch_solid, fetch_soup};
-pub use soup::soup_of;
+pub use soup::{is_stl, soup_of};
 pub use usual::usual_job;

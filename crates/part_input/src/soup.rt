@@ -3,6 +3,7 @@ ghost use Rattle.std.specs.Prelude.{◌≡◌, ◌<◌, ◌≤◌, false, List, 
 ghost use Rattle.geometry.specs.Parts.{part_of};
 ghost use Rattle.lex_lines.specs.declared.token.Token.{Token};
 ghost use Rattle.lex_lines.specs.Places.{AreTokens};
+ghost use Rattle.lex_lines.specs.Scan.{tokens_of};
 ghost use Rattle.part_input.specs.Parts.{ReadsPart, IsOfPartText};
 ghost use Rattle.part_input.specs.Reading.{begins_solid};
 ghost use Rattle.part_input.specs.Steps.{GivesInput};
@@ -19,9 +20,10 @@ use stl_reader::read_stl;
 use weld::{PartError, RawPart, WeldError};
 
 /// The text's first token is the word `solid`, in any case of its letters.
-fn is_stl(bytes: &[u8]) -> bool
+pub fn is_stl(bytes: &[u8]) -> bool
     requires { length bytes.now ≤ 16777216 }
-    ensures { (tokens : List Token) × AreTokens false bytes.now tokens × (result ≡ begins_solid bytes.now tokens) }
+    ensures tokens { (tokens : List Token) × AreTokens false bytes.now tokens × (result ≡ begins_solid bytes.now tokens) }
+    ensures pass { result ≡ begins_solid bytes.now (tokens_of false bytes.now) }
 {
     match Tokens::new(bytes, false).next() {
         Some(token) => is_word(bytes_of(bytes, token), b"solid"),

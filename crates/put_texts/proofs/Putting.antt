@@ -1,13 +1,14 @@
 -- Texts that are put one after the other: one, one and then the others, and a warning at the end; and the lines that faults are told by.
 use Rattle.std.proofs.Common.{◌≡◌, inl, inr, ℕ, ◌++◌, List, [], ◌∷◌, Option, None, Some, true, refl, sym, ap, subst, ◌∙◌}
 use Rattle.std.specs.Prelude.{IfSome}
-use Rattle.desk.specs.Files.{Files, DeskState, AppendsFront, OnlyWarns, Rose}
-use Rattle.put_texts.specs.Desks.{HearsAll, IsUnwarned, OnlyWrites, OnlyFilesAndWarned, OnlySaidAndWarned}
+use Rattle.desk.specs.Files.{Files, DeskState, AppendsFront, OnlyKeeps, OnlySays, OnlyWarns, Rose}
+use Rattle.put_texts.specs.Desks.{IsUnwarned, IsWarned, OnlyPuts, OnlyWrites}
 use Rattle.part_input.specs.Causes.{Cause, Faults, unwritten, wanting}
 use Rattle.put_texts.specs.Faults.{CountsWritesOf, HasNoWriteFaultOf}
-use Rattle.put_texts.specs.Order.{Way, Text, nowhere, aloud, under, IsFaultAt, IsFaultBy, IsOfWay, KeepsText, KeepsTextPart, SaysText, SaysTextPart, InOrder, SparesFile, SparesWord}
-use Rattle.put_texts.specs.Puts.{IsOfTexts, IsPut, one_text, told_by, told_cause}
+use Rattle.put_texts.specs.Order.{Way, Text, nowhere, aloud, under, IsFaultAt, IsFaultBy, IsOfWay, KeepsText, KeepsTextPart, KeepsTexts, SaysText, SaysTextPart, SaysTexts, InOrder, SparesFile, SparesFiles, SparesSaid, SparesWord}
+use Rattle.put_texts.specs.Puts.{IsOfTexts, IsPlaced, IsPut, one_text, told_by, told_cause}
 use Rattle.put_texts.specs.inner.Parts.{KeepsBy, SaysBy}
+use Rattle.put_texts.proofs.Ends.{heard_from}
 
 module _ {F : Type 0} (faults : Faults F) where
   never : (f : F) → None ≡ Some f → ⊥
@@ -46,8 +47,8 @@ module _ {F : Type 0} (faults : Faults F) where
 
   -- ---- one text
   -- a text that goes nowhere is put at once
-  pub nothing_put : (line : F → List ℕ) (its : F) (bytes : List ℕ) (state : DeskState) → IsPut faults line (one_text nowhere its bytes) None state state
-  nothing_put line its bytes state = record {
+  pub nothing_placed : (its : F) (bytes : List ℕ) (state : DeskState) → IsPlaced faults (one_text nowhere its bytes) None state state
+  nothing_placed its bytes state = record {
     of_texts = tt;
     files = λ told. (state.files, refl, refl);
     said = λ told. (state.said, refl, refl);
@@ -56,8 +57,6 @@ module _ {F : Type 0} (faults : Faults F) where
     writes = refl;
     steady = λ steady. tt;
     firm = λ firm is. never faults.memory is;
-    warned = λ told. tt;
-    whole = λ hears. tt;
     changes = refl;
   }
 
@@ -109,12 +108,10 @@ module _ {F : Type 0} (faults : Faults F) where
     under_silent name None is still = (new.said, still, refl)
     under_silent name (Some f) is still = inl (is, still)
 
-    module _ (line : F → List ℕ) (fault : Option F) (is : IfSome fault (IsFaultAt faults its)) (writes : CountsWritesOf faults fault old.write_faults new.write_faults) (steady : old.steady ≡ true → HasNoWriteFaultOf faults fault)
-        (firm : old.firm ≡ true → fault ≡ Some faults.memory → ⊥)
-        (warned : old.tells_warned ≡ true → IfSome fault (λ f. AppendsFront old.warned new.warned (line f)))
-        (whole : HearsAll old new → IfSome fault (λ f. new.warned ≡ old.warned ++ line f)) where
-      pub said_put : (old.tells_said ≡ true → SaysBy faults aloud bytes fault old.said new.said) → OnlySaidAndWarned old new → IsPut faults line (one_text aloud its bytes) fault old new
-      said_put spoken changes = record {
+    module _ (fault : Option F) (is : IfSome fault (IsFaultAt faults its)) (writes : CountsWritesOf faults fault old.write_faults new.write_faults) (steady : old.steady ≡ true → HasNoWriteFaultOf faults fault)
+        (firm : old.firm ≡ true → fault ≡ Some faults.memory → ⊥) where
+      pub said_placed : (old.tells_said ≡ true → SaysBy faults aloud bytes fault old.said new.said) → OnlySays old new → IsPlaced faults (one_text aloud its bytes) fault old new
+      said_placed spoken changes = record {
         of_texts = aloud_faults fault is;
         files = λ told. aloud_files fault is (ap (λ (s : DeskState). s.files) changes);
         said = λ told. aloud_said fault is (spoken told);
@@ -123,13 +120,11 @@ module _ {F : Type 0} (faults : Faults F) where
         writes = writes;
         steady = steady;
         firm = firm;
-        warned = warned;
-        whole = whole;
-        changes = changes ∙ ap (λ (f : Files). record old { files = f; said = new.said; warned = new.warned; write_faults = new.write_faults; warn_faults = new.warn_faults }) (sym (ap (λ (s : DeskState). s.files) changes));
+        changes = changes ∙ ap (λ (f : Files). record old { files = f; said = new.said; write_faults = new.write_faults }) (sym (ap (λ (s : DeskState). s.files) changes));
       }
 
-      pub kept_put : (name : List ℕ) → (old.tells ≡ true → KeepsBy faults (under name) bytes fault old.files new.files) → OnlyFilesAndWarned old new → IsPut faults line (one_text (under name) its bytes) fault old new
-      kept_put name files changes = record {
+      pub kept_placed : (name : List ℕ) → (old.tells ≡ true → KeepsBy faults (under name) bytes fault old.files new.files) → OnlyKeeps old new → IsPlaced faults (one_text (under name) its bytes) fault old new
+      kept_placed name files changes = record {
         of_texts = under_faults name fault is;
         files = λ told. under_files name fault is (files told);
         said = λ told. under_said name fault is (ap (λ (s : DeskState). s.said) changes);
@@ -138,9 +133,7 @@ module _ {F : Type 0} (faults : Faults F) where
         writes = writes;
         steady = steady;
         firm = firm;
-        warned = warned;
-        whole = whole;
-        changes = changes ∙ ap (λ (w : List ℕ). record old { files = new.files; said = w; warned = new.warned; write_faults = new.write_faults; warn_faults = new.warn_faults }) (sym (ap (λ (s : DeskState). s.said) changes));
+        changes = changes ∙ ap (λ (w : List ℕ). record old { files = new.files; said = w; write_faults = new.write_faults }) (sym (ap (λ (s : DeskState). s.said) changes));
       }
 
   -- ---- one text, and then others
@@ -218,9 +211,25 @@ module _ {F : Type 0} (faults : Faults F) where
       changes = put.changes;
     }
 
+  -- with no fault the lines don't matter
+  pub put_unfaulted : (line other : F → List ℕ) (texts : List (Text F)) (old new : DeskState) → IsPut faults line texts None old new → IsPut faults other texts None old new
+  put_unfaulted line other texts old new put = record {
+    of_texts = tt;
+    files = put.files;
+    said = put.said;
+    spared = put.spared;
+    silent = put.silent;
+    writes = put.writes;
+    steady = put.steady;
+    firm = put.firm;
+    warned = λ told. tt;
+    whole = λ hears. tt;
+    changes = put.changes;
+  }
+
   -- one text that is put by two lines is put by the lines of all faults, where its own and that of want of memory are these
   module _ (line : F → List ℕ) (its : F) (is_unwritten : faults.cause its ≡ unwritten) (memory text : List ℕ) (wanted : (f : F) → faults.cause f ≡ wanting → memory ≡ line f) (written : text ≡ line its) where
-    told_alike : (f : F) → IsFaultAt faults its f → told_by faults memory text f ≡ line f
+    pub told_alike : (f : F) → IsFaultAt faults its f → told_by faults memory text f ≡ line f
     told_alike f is = by_fault (λ (f : F). told_by faults memory text f ≡ line f) its (ap (told_cause memory text) is_unwritten ∙ written) (λ f want. ap (told_cause memory text) want ∙ wanted f want) f is
 
     pub put_by_lines : (way : Way) (bytes : List ℕ) (fault : Option F) (old new : DeskState) → IsPut faults (told_by faults memory text) (one_text way its bytes) fault old new → IsPut faults line (one_text way its bytes) fault old new
@@ -254,4 +263,50 @@ module _ {F : Type 0} (faults : Faults F) where
         warned = λ told. tt;
         whole = λ hears. tt;
         changes = subst (λ (s : DeskState). new ≡ record s { files = new.files; said = new.said; warned = new.warned; write_faults = new.write_faults; warn_faults = new.warn_faults }) put.changes (whole_change between new warns);
+      }
+
+  -- ---- texts that are placed, and the warning of their fault
+  pub placed_unwarned : (old new : DeskState) → OnlyPuts old new → IsUnwarned old new
+  placed_unwarned old new changes = record { warned = ap (λ (s : DeskState). s.warned) changes; warn_faults = ap (λ (s : DeskState). s.warn_faults) changes }
+
+  -- with no fault they are put, whatever the lines are
+  pub placed_put : (line : F → List ℕ) (texts : List (Text F)) (old new : DeskState) → IsPlaced faults texts None old new → IsPut faults line texts None old new
+  placed_put line texts old new placed =
+      let still = placed_unwarned old new placed.changes in
+      record {
+        of_texts = tt;
+        files = placed.files;
+        said = placed.said;
+        spared = placed.spared;
+        silent = placed.silent;
+        writes = placed.writes;
+        steady = placed.steady;
+        firm = placed.firm;
+        warned = λ told. tt;
+        whole = λ hears. tt;
+        changes = placed.changes
+            ∙ ap (λ (w : List ℕ). record old { files = new.files; said = new.said; warned = w; write_faults = new.write_faults }) (sym still.warned)
+            ∙ ap (λ (n : ℕ). record old { files = new.files; said = new.said; warned = new.warned; write_faults = new.write_faults; warn_faults = n }) (sym still.warn_faults);
+      }
+
+  -- and with one they are put once it is warned of by its line
+  pub warned_put : (line : F → List ℕ) (texts : List (Text F)) (f : F) (old between new : DeskState) → IsPlaced faults texts (Some f) old between → IsWarned (line f) between new → IsPut faults line texts (Some f) old new
+  warned_put line texts f old between new placed warns =
+      let still = placed_unwarned old between placed.changes in
+      let files = sym (ap (λ (s : DeskState). s.files) warns.changes) in
+      let said = sym (ap (λ (s : DeskState). s.said) warns.changes) in
+      record {
+        of_texts = placed.of_texts;
+        files = λ told. subst (λ (files : Files). KeepsTexts faults (Some f) texts old.files files) files (placed.files told);
+        said = λ told. subst (λ (text : List ℕ). SaysTexts faults (Some f) texts old.said text) said (placed.said told);
+        spared = subst (λ (files : Files). SparesFiles faults (Some f) texts old.files files) files placed.spared;
+        silent = subst (λ (text : List ℕ). SparesSaid faults (Some f) texts old.said text) said placed.silent;
+        writes = subst (λ (n : ℕ). CountsWritesOf faults (Some f) old.write_faults n) (sym (ap (λ (s : DeskState). s.write_faults) warns.changes)) placed.writes;
+        steady = placed.steady;
+        firm = placed.firm;
+        warned = λ told. subst (λ (w : List ℕ). AppendsFront w new.warned (line f)) still.warned (warns.front (ap (λ (s : DeskState). s.tells_warned) placed.changes ∙ told));
+        whole = λ hears. subst (λ (w : List ℕ). new.warned ≡ w ++ line f) still.warned
+            (warns.whole (heard_from old between new (ap (λ (s : DeskState). s.tells_warned) placed.changes) (ap (λ (s : DeskState). s.firm) placed.changes) still.warn_faults hears));
+        changes = whole_change between new warns.changes
+            ∙ ap (λ (s : DeskState). record s { files = new.files; said = new.said; warned = new.warned; write_faults = new.write_faults; warn_faults = new.warn_faults }) placed.changes;
       }

@@ -3,5 +3,6 @@ pub mod Faults
 pub mod Noting
 pub mod Order
 pub mod Puts
+pub mod Reasoned
 pub mod Runs
 pub mod inner

@@ -8,5 +8,5 @@ mod warning;
 
 pub use end::{RunEnd, end_by, ended, tell};
 pub use fault::RunFault;
-pub use put::{Way, note, put_text, unless_said};
+pub use put::{PutFault, Way, note, place_text, put_text, unless_said};
 pub use warning::warn;

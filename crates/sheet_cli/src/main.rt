@@ -1,7 +1,7 @@
 //! Draws one part on a sheet for paper and screen: `sheet PART [--job JOB] [--out OUT] [--list LIST] [--hidden all|plain|none]` and texts of the title block.
 #![tactic(auto)]
 
-use desk::Desk;
+use desk_reasons::Reasons;
 use disk_desk::{DiskDesk, without_memory, words_of};
 use sheet_core::{MEMORY_LINE, sheet};
 use std::alloc::Global;
@@ -9,7 +9,7 @@ use std::process::ExitCode;
 use std::rt::{Stderr, Stdout};
 
 // The status of a run.
-fn status_of<D: Desk>(alloc: Global, words: Option<Vec<String>>, desk: &mut D) -> u8 {
+fn status_of<D: Reasons>(alloc: Global, words: Option<Vec<String>>, desk: &mut D) -> u8 {
     match words {
         Some(words) => sheet(alloc, &words, desk).status,
         None => without_memory(MEMORY_LINE, desk),

@@ -5,7 +5,6 @@ pub mod PageItems
 pub mod Putting
 pub mod Told
 pub mod Warned
-pub mod Digits
 pub mod SaidTitles
 pub mod SomeRun
 pub mod HeldTexts

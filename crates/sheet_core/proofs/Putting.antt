@@ -1,16 +1,16 @@
 -- The faults of putting the texts of a request are those of writing them.
-use Rattle.std.proofs.Common.{◌≡◌, inl, inr, ℕ, List, ◌∷◌, Option, None, Some, refl, subst}
+use Rattle.std.proofs.Common.{◌≡◌, inl, inr, ℕ, ◌++◌, true, List, Option, None, Some, refl, subst}
 use Rattle.std.specs.Prelude.{IfSome, IsSome}
 use Rattle.part_input.specs.declared.fault.Fault.TheVariants.{WriteFault, Memory}
 use Rattle.part_input.specs.declared.fault.Target.{Target}
 use Rattle.part_input.specs.declared.fault.Target.TheVariants.{Out, Summary}
 use Rattle.part_input.specs.Causes.{unwritten}
-use Rattle.desk.specs.Files.{DeskState}
-use Rattle.put_texts.specs.Desks.{IsUnwarned}
+use Rattle.desk.specs.Files.{AppendsFront, DeskState, OnlyWarns}
+use Rattle.put_texts.specs.Desks.{HearsAll, IsWarned}
 use Rattle.put_texts.specs.Noting.{unless_said}
-use Rattle.put_texts.specs.Order.{Way, Text, aloud, IsFaultAt, IsOfWay}
-use Rattle.put_texts.specs.Puts.{IsOfTexts, IsPut, one_text}
-use Rattle.put_texts.proofs.Putting.{by_fault, follows, of_way}
+use Rattle.put_texts.specs.Order.{Way, aloud, IsFaultAt, IsOfWay}
+use Rattle.put_texts.specs.Puts.{IsOfTexts}
+use Rattle.put_texts.proofs.Putting.{by_fault, of_way}
 use Rattle.sheet_input.specs.Faults.{cause_of, sheet_faults, unwritten_of}
 use Rattle.sheet_input.specs.declared.fault.SheetFault.{SheetFault}
 use Rattle.sheet_input.specs.declared.fault.SheetFault.TheVariants.{Common, OwnJob, WriteList, WritePlain}
@@ -21,14 +21,14 @@ use Rattle.sheet_core.specs.inner.Faults.{IsOfWriting}
 use Rattle.sheet_input.specs.inner.Shortage.{short_only}
 use Rattle.sheet_words.specs.Names.{Goal, ListGoal, Named, said, svg_file, pdf_file, list_said, list_file}
 
--- a text that goes this way is put, and then the others
-module _ (line : SheetFault → List ℕ) (its : SheetFault) (way its_way : Way) (bytes its_bytes : List ℕ) (same_way : way ≡ its_way) (same_bytes : bytes ≡ its_bytes) (old between : DeskState) where
-  pub put_then : IsPut sheet_faults line (one_text way its bytes) None old between → IsUnwarned old between → (rest : List (Text SheetFault)) (fault : Option SheetFault) (new : DeskState) → IsPut sheet_faults line rest fault between new
-      → IsPut sheet_faults line (record { way = its_way; unwritten = its; bytes = its_bytes } ∷ rest) fault old new
-  put_then put still rest fault new after =
-      let first : IsPut sheet_faults line (one_text its_way its its_bytes) None old between =
-      subst (λ (w : Way). IsPut sheet_faults line (one_text w its its_bytes) None old between) same_way (subst (λ (b : List ℕ). IsPut sheet_faults line (one_text way its b) None old between) same_bytes put) in
-      follows sheet_faults line (record { way = its_way; unwritten = its; bytes = its_bytes }) rest old fault between new first still after
+-- it is warned by a line that is this one
+pub warned_by : (line its : List ℕ) (old new : DeskState) → line ≡ its → (old.tells_warned ≡ true → AppendsFront old.warned new.warned line) → (HearsAll old new → new.warned ≡ old.warned ++ line)
+    → OnlyWarns old new → IsWarned its old new
+warned_by line its old new same front whole changes = record {
+  front = λ told. subst (λ (text : List ℕ). AppendsFront old.warned new.warned text) same (front told);
+  whole = λ hears. subst (λ (text : List ℕ). new.warned ≡ old.warned ++ text) same (whole hears);
+  changes = changes;
+}
 
 -- what holds of a fault of writing each text of a request, and of want of memory, holds of each fault of writing them
 module _ (named : Named) (P : SheetFault → Type 0) (written : (target : Target) → IsOfTarget named target → P (Common (WriteFault target))) (listed : IsSome named.list → P WriteList)

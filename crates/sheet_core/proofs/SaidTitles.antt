@@ -1,11 +1,11 @@
 -- The title that words say is one that a sheet may have.
-use Rattle.std.proofs.Common.{◌≡◌, ℕ, Bool, true, false, IsTrue, if◌then◌else◌, List, Option, Some, None, option_map, refl, ap, subst, ◌∙◌, codes}
+use Rattle.std.proofs.Common.{◌≡◌, ℕ, Bool, true, false, IsTrue, if◌then◌else◌, List, Option, Some, None, option_map, refl, ap, subst, codes}
 use Rattle.std.proofs.lemmas.Option.{none-some, same_Some}
 use Rattle.command_words.specs.Grammar.{GivenTexts, Reading, all_given, asks, for_help, for_version, reading_of, refused}
 use Rattle.job_file.specs.Texts.{is_title}
 use Rattle.sheet_job.specs.declared.hidden.Hidden.{Hidden}
 use Rattle.sheet_words.specs.Grammar.{sheet_table}
-use Rattle.sheet_words.specs.Names.{Asks, Goal, ListGoal, Named, TextsSaid, asked_by, asks_of, clash, goal_of, has_empty_name, hidden_by, list_named, named, named_by, said_by, said_in, said_together, sheet}
+use Rattle.sheet_words.specs.Names.{Goal, ListGoal, Named, TextsSaid, asked_by, asks_of, clash, goal_of, has_empty_name, hidden_by, list_named, named, named_by, said_by, said_in, said_together, sheet}
 use Rattle.sheet_words.specs.Titles.{IsProper}
 
 by_title : (b : Bool) (text : List ℕ) (said : Option (List ℕ)) → is_title text ≡ b → (if b then Some (Some text) else None) ≡ Some said → IsProper said

@@ -2,6 +2,7 @@
 use Rattle.std.proofs.Common.{◌≡◌, ℕ, List, Option, None, Some, false, Ok, refl}
 use Rattle.std.specs.Prelude.{IfSome}
 use Rattle.desk.specs.Files.{Files, DeskState}
+use Rattle.desk_reasons.specs.declared.reason.Reason.{Reason}
 use Rattle.part_input.specs.declared.fault.Fault.TheVariants.{ReadFault, WriteFault, Memory}
 use Rattle.part_input.specs.declared.fault.Input.{Input}
 use Rattle.part_input.specs.declared.fault.Input.TheVariants.{Job, Part}
@@ -24,8 +25,8 @@ use Rattle.sheet_core.specs.declared.refusals.TheConstants.{MEMORY_LINE, SAID_LI
 use Rattle.sheet_input.specs.inner.Shortage.{short_only}
 use Rattle.sheet_words.specs.Names.{Asks, Named, help, version, sheet}
 
--- the line of a file that can't be read, whatever is told beside it
-pub unread_told : (named : Named) (lines : UnreadLines) → AreUnreadLines named lines → (input : Input) (told : Told) → unread_line lines input ≡ fault_line (Some named) told (Common (ReadFault input))
+-- the line of a file that can't be read, without a reason, whatever is told beside it
+pub unread_told : (named : Named) (lines : UnreadLines) → AreUnreadLines named lines → (input : Input) (told : Told) → unread_line lines input ≡ fault_line (Some named) told None (Common (ReadFault input))
 unread_told named lines are Job told = are.job
 unread_told named lines are Part told = are.part
 
@@ -48,7 +49,7 @@ module _ (bytes : List ℕ) (P : SheetFault → Type 0) (written : P unsaid) (wa
   each_fault : (f : SheetFault) → IsOfTexts sheet_faults (one_text aloud unsaid bytes) f → P f
   each_fault f is = by_fault sheet_faults P unsaid written (short_only P want) f (of_one sheet_faults aloud unsaid bytes f is)
 
-module _ (bytes : List ℕ) where
+module _ {D : Type 0} (of_desk : D → Option Reason) (bytes : List ℕ) where
   may : (asks : Asks) → AsksToTell asks → (fault : Option SheetFault) → IfSome fault (IsOfTexts sheet_faults (one_text aloud unsaid bytes)) → AnswersSheetWords (Some asks) fault
   may asks is None of_texts = refl
   may help is (Some f) of_texts = each_fault bytes (λ (f : SheetFault). AnswersSheetWords (Some help) (Some f)) refl tt f of_texts
@@ -60,12 +61,12 @@ module _ (bytes : List ℕ) where
   undrawn version is fault = refl
   undrawn (sheet named) is fault = absurd is
 
-  lines : (asks : Asks) → AsksToTell asks → (old : DeskState) (f : SheetFault) → IsOfTexts sheet_faults (one_text aloud unsaid bytes) f → IsLineOf (named_in (Some asks)) old f (told_by sheet_faults MEMORY_LINE.now SAID_LINE.now f)
-  lines help is old f of_texts = each_fault bytes (λ (f : SheetFault). IsLineOf None old f (told_by sheet_faults MEMORY_LINE.now SAID_LINE.now f)) (Nothing, refl, refl) (Nothing, refl, refl) f of_texts
-  lines version is old f of_texts = each_fault bytes (λ (f : SheetFault). IsLineOf None old f (told_by sheet_faults MEMORY_LINE.now SAID_LINE.now f)) (Nothing, refl, refl) (Nothing, refl, refl) f of_texts
+  lines : (asks : Asks) → AsksToTell asks → (old : DeskState) (f : SheetFault) → IsOfTexts sheet_faults (one_text aloud unsaid bytes) f → IsLineOf of_desk (named_in (Some asks)) old f (told_by sheet_faults MEMORY_LINE.now SAID_LINE.now f)
+  lines help is old f of_texts = each_fault bytes (λ (f : SheetFault). IsLineOf of_desk None old f (told_by sheet_faults MEMORY_LINE.now SAID_LINE.now f)) (Nothing, None, tt, refl, refl) (Nothing, None, tt, refl, refl) f of_texts
+  lines version is old f of_texts = each_fault bytes (λ (f : SheetFault). IsLineOf of_desk None old f (told_by sheet_faults MEMORY_LINE.now SAID_LINE.now f)) (Nothing, None, tt, refl, refl) (Nothing, None, tt, refl, refl) f of_texts
   lines (sheet named) is old f of_texts = absurd is
 
-  pub telling : (asks : Asks) → AsksToTell asks → (old : DeskState) → IsPutting (sheet_run (Some asks)) (one_text aloud unsaid bytes) (told_by sheet_faults MEMORY_LINE.now SAID_LINE.now) None old
+  pub telling : (asks : Asks) → AsksToTell asks → (old : DeskState) → IsPutting (sheet_run of_desk (Some asks)) (one_text aloud unsaid bytes) (told_by sheet_faults MEMORY_LINE.now SAID_LINE.now) None old
   telling asks is old = record {
     gives = λ told. (None, gives asks is old.files);
     alone = λ none files. (None, gives asks is files);

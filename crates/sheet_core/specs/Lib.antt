@@ -2,7 +2,6 @@ pub mod Lines
 pub mod Moved
 pub mod Pages
 pub mod Run
-pub mod Summary
 pub mod Writing
 pub mod inner
 pub mod Refusals

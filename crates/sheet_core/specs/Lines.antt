@@ -1,6 +1,9 @@
 -- The line that tells a fault.
 use Rattle.std.specs.Prelude.{◌≡◌, ℕ, List, Option, Some, None}
 use Rattle.desk.specs.Files.{DeskState}
+use Rattle.desk_reasons.specs.Reasons.{MayGive}
+use Rattle.desk_reasons.specs.declared.reason.Reason.{Reason}
+use Rattle.put_texts.specs.Reasoned.{IsLineWith}
 use Rattle.sheet_core.specs.Refusals.{fault_line}
 use Rattle.sheet_input.specs.Places.{IsToldFor}
 use Rattle.sheet_input.specs.declared.fault.SheetFault.{SheetFault}
@@ -20,6 +23,7 @@ abbrev pub IsToldTo : Option Named → DeskState → SheetFault → Told → Typ
 IsToldTo None old fault told = told ≡ Nothing
 IsToldTo (Some named) old fault told = IsToldFor named old fault told
 
--- the line tells the fault, with what is told beside it
-abbrev pub IsLineOf : Option Named → DeskState → SheetFault → List ℕ → Type 0
-IsLineOf named old fault line = (told : Told) × IsToldTo named old fault told × (line ≡ fault_line named told fault)
+-- The line tells the fault, and what is told beside it. That of a file which couldn't be read or written says a reason that desks of
+-- this kind may give, or none.
+abbrev pub IsLineOf : {D : Type 0} → (D → Option Reason) → Option Named → DeskState → SheetFault → List ℕ → Type 0
+IsLineOf of_desk named = IsLineWith (MayGive of_desk) (IsToldTo named) (fault_line named)

@@ -1,28 +1,8 @@
 -- Where a surface is at fault, as a line tells it.
-use Rattle.std.specs.Prelude.{ℕ, ◌/◌, ◌%◌, ◌^◌, ℤ, pos, negsuc, List, [], codes}
-use Rattle.std.proofs.Common.{zero, suc}
-use Rattle.std.specs.Fmt.{decimal}
+use Rattle.std.specs.Prelude.{ℕ, List, codes}
 use Rattle.sheet_input.specs.declared.place.FaultPlace.{FaultPlace}
+use Rattle.sheet_summary.specs.Lengths.{mm_text}
 use Rattle.svg_page.specs.Texts.{◌⊕◌}
-
--- the digits behind a point, without zeros at their end
-abbrev pub digits : ℕ → ℕ → List ℕ
-digits zero rest = []
-digits (suc count) zero = []
-digits (suc count) (suc less) = decimal (suc less / 10 ^ count) ⊕ digits count (suc less % 10 ^ count)
-
--- and their point, where there is one
-abbrev pub behind_point : ℕ → ℕ → List ℕ
-behind_point count zero = []
-behind_point count (suc less) = codes "." ⊕ digits count (suc less)
-
--- so many units of 10^-decimals mm, in mm
-abbrev pub length_text : ℕ → ℕ → List ℕ
-length_text decimals units = decimal (units / 10 ^ decimals) ⊕ behind_point decimals (units % 10 ^ decimals)
-
-abbrev pub mm_text : ℕ → ℤ → List ℕ
-mm_text decimals (pos n) = length_text decimals n
-mm_text decimals (negsuc n) = codes "-" ⊕ length_text decimals (suc n)
 
 -- a place in mm
 abbrev pub point_text : FaultPlace → List ℕ

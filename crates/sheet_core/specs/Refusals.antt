@@ -2,7 +2,9 @@
 use Rattle.std.specs.Prelude.{ℕ, ℤ, Bool, true, false, if◌then◌else◌, List, [], Option, Some, None, codes, unwrap_or}
 use Rattle.std.specs.Fmt.{decimal, signed_decimal}
 use Rattle.std.specs.Str.{bytes_eq}
-use Rattle.fault_lines.specs.Lines.{shown, key_text, axis_text, kind_text}
+use Rattle.desk_reasons.specs.ReasonTexts.{reason_text}
+use Rattle.desk_reasons.specs.declared.reason.Reason.{Reason}
+use Rattle.fault_lines.specs.Lines.{shown, key_text, axis_text}
 use Rattle.job_file.specs.declared.fault.JobFault.{JobFault}
 use Rattle.job_file.specs.declared.fault.JobFault.TheVariants.{NotToml, Version, UnknownKey, Wrong, TooManyViews, ZeroDirection, DirectionRange, CutRange}
 use Rattle.job_file.specs.declared.fault.Key.{Key}
@@ -12,7 +14,10 @@ use Rattle.part_input.specs.declared.fault.Fault.TheVariants.{Usage, ReadFault, 
 use Rattle.part_input.specs.declared.fault.Input.TheVariants as input
 use Rattle.part_input.specs.declared.fault.Target.{Target}
 use Rattle.part_input.specs.declared.fault.Target.TheVariants as target
-use Rattle.sheet_core.specs.Places.{mm_text, point_text}
+use Rattle.part_lines.specs.PartTexts.{advice_text, mesh_text, part_text}
+use Rattle.part_lines.specs.declared.hint.PartHint.{PartHint}
+use Rattle.part_lines.specs.declared.hint.PartHint.TheVariants as hint
+use Rattle.sheet_core.specs.Places.{point_text}
 use Rattle.sheet_input.specs.declared.fault.SheetFault.{SheetFault}
 use Rattle.sheet_input.specs.declared.fault.SheetFault.TheVariants.{Common, OwnJob, WriteList, WritePlain}
 use Rattle.flaw_lines.specs.FlawTexts.{flaw_text}
@@ -21,10 +26,10 @@ use Rattle.sheet_input.specs.declared.refusal.Told.{Told}
 use Rattle.sheet_input.specs.declared.refusal.Told.TheVariants as told
 use Rattle.sheet_job.specs.declared.flaw.PlacedFlaw.{PlacedFlaw}
 use Rattle.sheet_words.specs.Names.{Goal, ListGoal, Named, said, svg_file, pdf_file, list_said, list_file}
+use Rattle.sheet_summary.specs.Lengths.{mm_text}
 use Rattle.solid_mesh.specs.declared.faults.MeshFault.{MeshFault}
 use Rattle.solid_mesh.specs.declared.faults.MeshFault.TheVariants.{Flat, SameWay, Unpaired, Double, Meet}
 use Rattle.svg_page.specs.Texts.{◌⊕◌}
-use Rattle.weld.specs.declared.fault.PartFault.{PartFault}
 
 -- ---- a job
 -- what is allowed for a key
@@ -93,18 +98,6 @@ job_text (DirectionRange v axis) = codes "view " ⊕ decimal v ⊕ codes ": dire
 job_text (CutRange v) = codes "view " ⊕ decimal v ⊕ codes ": cut outside -1048576 to 1048576"
 
 -- ---- a part
--- the place in a text, and what is wrong there
-abbrev pub place_text : PartFault → List ℕ
-place_text fault = codes "line " ⊕ decimal fault.line ⊕ codes ": " ⊕ kind_text fault.kind
-
--- what is wrong with a surface
-abbrev pub mesh_text : MeshFault → List ℕ
-mesh_text (Flat t) = codes "triangle " ⊕ decimal t ⊕ codes " is flat"
-mesh_text (SameWay a b) = codes "triangles " ⊕ decimal a ⊕ codes " and " ⊕ decimal b ⊕ codes " use a side the same way"
-mesh_text (Unpaired t side) = codes "side " ⊕ decimal side ⊕ codes " of triangle " ⊕ decimal t ⊕ codes " has no partner"
-mesh_text (Double a b) = codes "triangles " ⊕ decimal a ⊕ codes " and " ⊕ decimal b ⊕ codes " have the same corners"
-mesh_text (Meet e t) = codes "edge " ⊕ decimal e ⊕ codes " meets triangle " ⊕ decimal t
-
 -- the place where an edge meets a triangle is in both; the one of another fault is near it
 abbrev pub nearness : MeshFault → List ℕ
 nearness (Flat t) = codes "near"
@@ -113,14 +106,19 @@ nearness (Unpaired t side) = codes "near"
 nearness (Double a b) = codes "near"
 nearness (Meet e t) = codes "at"
 
--- and where, if a place is given
+-- where it is, if a place is given
 abbrev pub placed_text : Option FaultPlace → MeshFault → List ℕ
 placed_text None fault = []
 placed_text (Some place) fault = codes ", " ⊕ nearness fault ⊕ codes " " ⊕ point_text place
 
--- and where the mending is told
+-- more decimals may be tried
+abbrev pub may_try_more : Option FaultPlace → Bool
+may_try_more None = false
+may_try_more (Some place) = place.more
+
+-- what is wrong with a surface, where it is, and what helps
 abbrev pub surface_text : Option FaultPlace → MeshFault → List ℕ
-surface_text place fault = mesh_text fault ⊕ placed_text place fault ⊕ codes ": docs/from-cad.md says how it is mended"
+surface_text place fault = mesh_text fault ⊕ placed_text place fault ⊕ advice_text fault (may_try_more place)
 
 -- what the views need, and what the sheet has, from hundredths of a millimetre
 abbrev pub size_text : ℤ → ℤ → List ℕ
@@ -149,20 +147,25 @@ abbrev pub goal_in : Option Named → Goal
 goal_in None = said
 goal_in (Some named) = named.out
 
--- the line of what couldn't be said, and of a sheet that couldn't be written where it goes
+-- the line of what couldn't be said
 abbrev pub said_line : List ℕ
 said_line = codes "sheet: cannot write the standard output\n"
 
-abbrev pub write_line : Goal → List ℕ
-write_line said = said_line
-write_line (svg_file name) = codes "sheet: cannot write " ⊕ shown name ⊕ codes "\n"
-write_line (pdf_file name) = codes "sheet: cannot write " ⊕ shown name ⊕ codes "\n"
+-- the line of a file that couldn't be written, with the system's reason
+abbrev pub unwritten_line : List ℕ → Option Reason → List ℕ
+unwritten_line name reason = codes "sheet: cannot write " ⊕ shown name ⊕ reason_text reason ⊕ codes "\n"
+
+-- that of a sheet, by where it goes
+abbrev pub write_line : Goal → Option Reason → List ℕ
+write_line said reason = said_line
+write_line (svg_file name) reason = unwritten_line name reason
+write_line (pdf_file name) reason = unwritten_line name reason
 
 -- and of a list
-abbrev pub list_line : Option ListGoal → List ℕ
-list_line None = said_line
-list_line (Some list_said) = said_line
-list_line (Some (list_file name)) = codes "sheet: cannot write " ⊕ shown name ⊕ codes "\n"
+abbrev pub list_line : Option ListGoal → Option Reason → List ℕ
+list_line None reason = said_line
+list_line (Some list_said) reason = said_line
+list_line (Some (list_file name)) reason = unwritten_line name reason
 
 -- where the list was to go
 abbrev pub list_in : Option Named → Option ListGoal
@@ -175,26 +178,39 @@ plain_in None = None
 plain_in (Some named) = named.plain
 
 -- the line of what couldn't be written: the sheet, or the summary of it and of its list
-abbrev pub target_line : Option Named → Target → List ℕ
-target_line named target.Out = write_line (goal_in named)
-target_line named other = said_line
+abbrev pub target_line : Option Named → Option Reason → Target → List ℕ
+target_line named reason target.Out = write_line (goal_in named) reason
+target_line named reason other = said_line
 
--- the line of a fault that `draw` has too; that of a surface tells the place, if one is given
-abbrev pub common_line : Option Named → Option FaultPlace → Fault → List ℕ
-common_line named place Usage = codes "sheet: usage: sheet PART [--job JOB] [--out OUT] [--list LIST] [--plain-job FILE] [--hidden all|plain|none] [--title TEXT] [--number TEXT] [--revision TEXT] [--material TEXT] [--date TEXT]; sheet --help tells more\n"
-common_line named place (ReadFault input.Job) = about (job_in named) (codes "cannot be read")
-common_line named place JobTooLong = about (job_in named) (codes "more than 65536 bytes")
-common_line named place (Job fault) = about (job_in named) (job_text fault)
-common_line named place (NoPlotter name) = about (job_in named) (codes "no plotter " ⊕ shown name)
-common_line named place SampleRange = about (part_in named) (codes "outside sample:1 to sample:8")
-common_line named place (ReadFault input.Part) = about (part_in named) (codes "cannot be read")
-common_line named place PartTooLong = about (part_in named) (codes "more than 16777216 bytes")
-common_line named place (Part fault) = about (part_in named) (place_text fault)
-common_line named place Nothing = about (part_in named) (codes "no triangle")
-common_line named place (Mesh fault) = about (part_in named) (surface_text place fault)
-common_line named place (DoesNotFit need_w need_h have_w have_h) = about (part_in named) (room_text (size_text need_w need_h) (size_text have_w have_h))
-common_line named place (WriteFault target) = target_line named target
-common_line named place Memory = codes "sheet: out of memory\n"
+-- what is wrong with a file that couldn't be read, with the system's reason
+abbrev pub unread_text : Option Reason → List ℕ
+unread_text reason = codes "cannot be read" ⊕ reason_text reason
+
+-- the place and the hint that are told
+abbrev pub place_told : Told → Option FaultPlace
+place_told (told.Surface place) = Some place
+place_told other = None
+
+abbrev pub hint_told : Told → PartHint
+hint_told (told.Text hint) = hint
+hint_told other = hint.Nothing
+
+-- the line of a fault that `draw` has too, with what is told beside it, and of a file the system's reason, if it is known
+abbrev pub common_line : Option Named → Told → Option Reason → Fault → List ℕ
+common_line named told reason Usage = codes "sheet: usage: sheet PART [--job JOB] [--out OUT] [--list LIST] [--plain-job FILE] [--hidden all|plain|none] [--title TEXT] [--number TEXT] [--revision TEXT] [--material TEXT] [--date TEXT]; sheet --help tells more\n"
+common_line named told reason (ReadFault input.Job) = about (job_in named) (unread_text reason)
+common_line named told reason JobTooLong = about (job_in named) (codes "more than 65536 bytes")
+common_line named told reason (Job fault) = about (job_in named) (job_text fault)
+common_line named told reason (NoPlotter name) = about (job_in named) (codes "no plotter " ⊕ shown name)
+common_line named told reason SampleRange = about (part_in named) (codes "outside sample:1 to sample:8")
+common_line named told reason (ReadFault input.Part) = about (part_in named) (unread_text reason)
+common_line named told reason PartTooLong = about (part_in named) (codes "more than 16777216 bytes")
+common_line named told reason (Part fault) = about (part_in named) (part_text fault (hint_told told))
+common_line named told reason Nothing = about (part_in named) (codes "no triangle")
+common_line named told reason (Mesh fault) = about (part_in named) (surface_text (place_told told) fault)
+common_line named told reason (DoesNotFit need_w need_h have_w have_h) = about (part_in named) (room_text (size_text need_w need_h) (size_text have_w have_h))
+common_line named told reason (WriteFault target) = target_line named reason target
+common_line named told reason Memory = codes "sheet: out of memory\n"
 
 -- the line of what is wrong with a job, with the place there
 abbrev pub flaw_line : List ℕ → PlacedFlaw → List ℕ
@@ -204,14 +220,9 @@ abbrev pub own_line : Option Named → Told → List ℕ
 own_line named (told.Job flaw) = flaw_line (job_in named) flaw
 own_line named other = about (job_in named) (codes "no job")
 
--- the place that is told
-abbrev pub place_told : Told → Option FaultPlace
-place_told (told.Surface place) = Some place
-place_told other = None
-
 -- The line of a fault, with the names that the words give; they give none where they are refused or ask for no sheet.
-abbrev pub fault_line : Option Named → Told → SheetFault → List ℕ
-fault_line named told (Common fault) = common_line named (place_told told) fault
-fault_line named told OwnJob = own_line named told
-fault_line named told WriteList = list_line (list_in named)
-fault_line named told WritePlain = list_line (plain_in named)
+abbrev pub fault_line : Option Named → Told → Option Reason → SheetFault → List ℕ
+fault_line named told reason (Common fault) = common_line named told reason fault
+fault_line named told reason OwnJob = own_line named told
+fault_line named told reason WriteList = list_line (list_in named) reason
+fault_line named told reason WritePlain = list_line (plain_in named) reason

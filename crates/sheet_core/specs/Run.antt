@@ -1,6 +1,7 @@
 -- What a run answers, from its words and the files at entry: steps in order, each with what it gives and what it refuses.
 use Rattle.std.specs.Prelude.{◌≡◌, ℕ, List, Option, Some, None, IsSome, Result, Ok, Err, Bool, false}
 use Rattle.desk.specs.Files.{Files}
+use Rattle.desk_reasons.specs.declared.reason.Reason.{Reason}
 use Rattle.part_input.specs.Sheets.{NamesNoFile}
 use Rattle.part_input.specs.Jobs.{HasJobFile}
 use Rattle.part_input.specs.Parts.{sample_size, HasSampleOr}
@@ -84,13 +85,13 @@ sheet_task asked = record {
   settles = λ files. AnswersSteps sheet_faults (RunsSheet asked files);
 }
 
--- and what is made of that
-abbrev pub sheet_run : Option Asks → Run SheetFault SheetInput (Option DrawnSheet)
-sheet_run asked = record {
+-- and what is made of that, and told, with the reasons that desks of this kind give
+abbrev pub sheet_run : {D : Type 0} → (D → Option Reason) → Option Asks → Run SheetFault SheetInput (Option DrawnSheet)
+sheet_run of_desk asked = record {
   task = sheet_task asked;
   status = status_of;
   makes = HasDrawing asked;
   given = λ m. Some (input_seen m);
   of_words = λ m. AsksSheetAnd asked (λ named. IsOfNames named (input_seen m));
-  tells = IsLineOf (named_in asked);
+  tells = IsLineOf of_desk (named_in asked);
 }

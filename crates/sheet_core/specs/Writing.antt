@@ -12,7 +12,7 @@ use Rattle.put_texts.specs.Noting.{IsQuiet, Notes, NotesWhole, unless_said}
 use Rattle.put_texts.specs.Order.{Way, Text, nowhere, aloud, under, SaysAlone, HoldTexts, KeepsTexts, SaysTexts, SparesFiles, SparesSaid}
 use Rattle.sheet_input.specs.Faults.{sheet_faults}
 use Rattle.sheet_core.specs.Pages.{IsPageWith, shown_strokes}
-use Rattle.sheet_core.specs.Summary.{summary_of}
+use Rattle.sheet_summary.specs.Summary.{summary_of}
 use Rattle.sheet_input.specs.declared.fault.SheetFault.{SheetFault}
 use Rattle.sheet_input.specs.declared.fault.SheetFault.TheVariants.{Common, WriteList, WritePlain}
 use Rattle.sheet_core.specs.declared.lines.TheConstants.{HELP, VERSION}
@@ -71,13 +71,13 @@ pub record Writes (named : Named) (fault : Option SheetFault) (old new : DeskSta
   pub marks : List ViewMarks
   pub shows : IsPageWith made.look named.part made.drawing page on strokes marks
   pub texts : List (Text SheetFault)
-  pub are_texts : texts ≡ texts_for named (page_text named.out page) (listed named.list (list_text made.drawing.job on (shown_strokes made.look.hidden.items strokes))) (listed named.plain (plain_job (job_seen made.drawing.job))) (summary_of made page marks)
+  pub are_texts : texts ≡ texts_for named (page_text named.out page) (listed named.list (list_text made.drawing.job on (shown_strokes made.look.hidden.items strokes))) (listed named.plain (plain_job (job_seen made.drawing.job))) (summary_of made.drawing made.look.fitted made.look.in_units page marks)
   pub files : old.tells ≡ true → KeepsTexts sheet_faults fault texts old.files new.files
   pub said : old.tells_said ≡ true → SaysTexts sheet_faults fault texts old.said new.said
   pub spared : SparesFiles sheet_faults fault texts old.files new.files
   pub silent : SparesSaid sheet_faults fault texts old.said new.said
-  pub noted : old.tells_warned ≡ true → IfNone fault (Notes (summary_way named) (summary_of made page marks) old.warned new.warned)
-  pub noted_whole : HearsAll old new → IfNone fault (NotesWhole (summary_way named) (summary_of made page marks) old.warned new.warned)
+  pub noted : old.tells_warned ≡ true → IfNone fault (Notes (summary_way named) (summary_of made.drawing made.look.fitted made.look.in_units page marks) old.warned new.warned)
+  pub noted_whole : HearsAll old new → IfNone fault (NotesWhole (summary_way named) (summary_of made.drawing made.look.fitted made.look.in_units page marks) old.warned new.warned)
 
 -- and with no fault each file that is named holds its text at the end, for no two texts go to one place
 abbrev pub WritesHeld : Named → Option SheetFault → DeskState → DeskState → SheetInput → Type 0

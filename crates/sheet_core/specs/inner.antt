@@ -2,3 +2,4 @@
 pub mod Faults
 pub mod Puts
 pub mod Texts
+pub mod Warnings

@@ -14,7 +14,6 @@ mod parts;
 mod put;
 mod refusals;
 mod run;
-mod summary;
 mod texts;
 mod unread;
 

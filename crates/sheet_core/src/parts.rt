@@ -1,41 +1,13 @@
-// What is wrong with a part.
+// What is wrong with a surface, and with a sheet's room.
 ghost use Rattle.std.specs.Prelude.{◌≡◌, IfOk, string_bytes};
-ghost use Rattle.sheet_core.specs.Refusals.{mesh_text, nearness, place_text, placed_text, room_text, size_text, surface_text};
+ghost use Rattle.sheet_core.specs.Refusals.{may_try_more, nearness, placed_text, room_text, size_text, surface_text};
 
-use crate::millimetres::{mm_text, point_text};
-use fault_lines::kind_text;
+use crate::millimetres::point_text;
+use part_lines::{advice_text, mesh_text};
 use sheet_input::FaultPlace;
+use sheet_summary::mm_text;
 use solid_mesh::MeshFault;
 use std::alloc::{AllocError, Global};
-use weld::PartFault;
-
-// What is wrong with a text, and where.
-pub(crate) fn place_text(alloc: Global, fault: &PartFault) -> Result<String, AllocError>
-    ensures { IfOk result (λ text. string_bytes text ≡ place_text fault.now) }
-{
-    let kind = kind_text(alloc, &fault.kind)?;
-    let line = fault.line;
-    format!(in alloc; "line {line}: {kind}")
-}
-
-// What is wrong with a surface.
-fn mesh_text(alloc: Global, fault: &MeshFault) -> Result<String, AllocError>
-    ensures { IfOk result (λ text. string_bytes text ≡ mesh_text fault.now) }
-{
-    match fault {
-        MeshFault::Flat(t) => format!(in alloc; "triangle {t} is flat"),
-        MeshFault::SameWay(a, b) => {
-            format!(in alloc; "triangles {a} and {b} use a side the same way")
-        }
-        MeshFault::Unpaired(t, side) => {
-            format!(in alloc; "side {side} of triangle {t} has no partner")
-        }
-        MeshFault::Double(a, b) => {
-            format!(in alloc; "triangles {a} and {b} have the same corners")
-        }
-        MeshFault::Meet(edge, t) => format!(in alloc; "edge {edge} meets triangle {t}"),
-    }
-}
 
 // Whether the place of a fault is in it or near it.
 fn nearness(fault: &MeshFault) -> &'static str
@@ -68,7 +40,17 @@ fn placed_text(
     }
 }
 
-// What is wrong with a surface, where it is, and where the mending is told.
+// More decimals may be tried.
+fn may_try_more(place: &Option<FaultPlace>) -> bool
+    ensures { result ≡ may_try_more place.now }
+{
+    match place {
+        Some(place) => place.more,
+        None => false,
+    }
+}
+
+// What is wrong with a surface, where it is, and what helps.
 pub(crate) fn surface_text(
     alloc: Global,
     place: &Option<FaultPlace>,
@@ -78,7 +60,8 @@ pub(crate) fn surface_text(
 {
     let text = mesh_text(alloc, fault)?;
     let placed = placed_text(alloc, place, fault)?;
-    format!(in alloc; "{text}{placed}: docs/from-cad.md says how it is mended")
+    let advice = advice_text(fault, may_try_more(place));
+    format!(in alloc; "{text}{placed}{advice}")
 }
 
 // How wide and how high something is, in 0.01 mm.

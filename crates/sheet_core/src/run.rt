@@ -15,7 +15,7 @@ use crate::put::put;
 use crate::refusals::{MEMORY_LINE, SAID_LINE, USAGE_LINE};
 use crate::texts::texts_of;
 use crate::unread::unread_lines;
-use desk::Desk;
+use desk_reasons::Reasons;
 use draw_words::WordsError;
 use part_input::Fault;
 use put_texts::{end_by, ended, tell};
@@ -24,8 +24,8 @@ use sheet_words::{Asked, SheetRequest, read_words};
 use std::alloc::Global;
 
 /// Draws what was asked for, writes its sheet, its list and its plain job where they go, and tells of them.
-fn draw_sheet<D: Desk>(alloc: Global, request: SheetRequest, desk: &mut D) -> SheetOutcome
-    ensures run { IsRun (sheet_run (Some (of_sheet (named_seen request)))) result.status result.fault result.made (D.state desk.old) (D.state desk.new) }
+fn draw_sheet<D: Reasons>(alloc: Global, request: SheetRequest, desk: &mut D) -> SheetOutcome
+    ensures run { IsRun (sheet_run D.reason (Some (of_sheet (named_seen request)))) result.status result.fault result.made (D.state desk.old) (D.state desk.new) }
     ensures shows { IfSome result.made (λ made. IsPlannedDrawing made.drawing) }
     ensures written { IfSome result.made (Writes (named_seen request) result.fault (D.state desk.old) (D.state desk.new)) }
     ensures unsaid { IfNone result.made ((D.state desk.new).said ≡ (D.state desk.old).said) }
@@ -43,7 +43,7 @@ fn draw_sheet<D: Desk>(alloc: Global, request: SheetRequest, desk: &mut D) -> Sh
         Ok(texts) => texts,
         Err(_) => return end_by(MEMORY_LINE, SheetFault::Common(Fault::Memory), desk),
     };
-    let fault = put(&request, &texts, desk);
+    let fault = put(alloc, &request, &texts, desk);
     ended(fault, Some(input))
 }
 
@@ -53,14 +53,15 @@ fn draw_sheet<D: Desk>(alloc: Global, request: SheetRequest, desk: &mut D) -> Sh
 /// the usual one. Its outputs aren't looked at. Hidden lines are drawn where the words, the view or the job say so. Words that ask for
 /// help or for the version are answered by a text that is said. At the end it says a summary: a line with the paper, the scale, the
 /// numbers of views, of visible and hidden paths and of hatch lines, and the number of decimals if the job left it to the program; and
-/// one for each cut that isn't told as usual. If another text is said, it warns by the summary. Of a fault it warns once, by one line.
+/// one for each cut that isn't told as usual. If another text is said, it warns by the summary. Of a fault it warns once, by one line;
+/// that of a file which can't be read or written says why, if the desk knows and the line finds memory.
 ///
 /// The faults are looked for in this order: the words, those of `take_sheet` in their order, the writing of the sheet, of its list, of the
 /// plain job, of the summary. Want of memory may be answered at any place; then each file is whole or as before. Time is that of `draw`,
 /// and about linear in the strokes.
-pub fn sheet<D: Desk>(alloc: Global, words: &[String], desk: &mut D) -> SheetOutcome
+pub fn sheet<D: Reasons>(alloc: Global, words: &[String], desk: &mut D) -> SheetOutcome
     // It is a run of the steps that the words ask for, from the files at entry.
-    ensures run { IsRun (sheet_run (asked_by (texts words.now))) result.status result.fault result.made (D.state desk.old) (D.state desk.new) }
+    ensures run { IsRun (sheet_run D.reason (asked_by (texts words.now))) result.status result.fault result.made (D.state desk.old) (D.state desk.new) }
 
     // Its drawing shows the part by the job.
     ensures shows { IfSome result.made (λ made. IsPlannedDrawing made.drawing) }

@@ -13,18 +13,18 @@ ghost use Rattle.sheet_words.specs.Seen.{goal_seen, named_seen};
 
 use crate::page::{Shown, show, shown_strokes};
 use crate::refusals::{list_line, write_line};
-use crate::summary::summary_of;
 use exact_frac::OutOfMemory;
 use job_file::Job;
 use job_writer::plain_job;
 use sheet_input::SheetInput;
 use sheet_list::list_text;
 use sheet_page::{Page, pdf, svg};
+use sheet_summary::summary_of;
 use sheet_words::{Out, SheetRequest};
 use std::alloc::Global;
 
 /// The text of a drawing's page, the list of its strokes, its plain job, what is said of it, and the lines that tell that one of the first
-/// three couldn't be written.
+/// three couldn't be written, without a reason.
 #[derive(Drop)]
 pub(crate) struct Texts {
     pub(crate) page: Vec<u8>,
@@ -91,10 +91,12 @@ pub(crate) fn texts_of(
     let page = page_text(alloc, &request.out, &shown.page)?;
     let list = listed(alloc, request, input, &shown)?;
     let plain = plained(alloc, request, &input.drawing.job)?;
-    let summary = summary_of(alloc, input, &shown.page, &shown.marks)?;
-    let unwritten = write_line(alloc, &request.out)?;
-    let unlisted = list_line(alloc, &request.list)?;
-    let unplain = list_line(alloc, &request.plain)?;
+    let SheetInput { drawing, look } = input;
+    let (fitted, in_units) = (look.fitted, look.in_units);
+    let summary = summary_of(alloc, drawing, fitted, in_units, &shown.page, &shown.marks)?;
+    let unwritten = write_line(alloc, &request.out, None)?;
+    let unlisted = list_line(alloc, &request.list, None)?;
+    let unplain = list_line(alloc, &request.plain, None)?;
     Ok(Texts {
         page,
         list,

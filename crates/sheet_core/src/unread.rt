@@ -1,4 +1,4 @@
-// The lines of files that can't be read, made before anything is.
+// The lines of files that can't be read, without a reason, made before anything is.
 ghost use Rattle.std.specs.Prelude.{◌≡◌, IfOk};
 ghost use Rattle.sheet_core.specs.Unread.{AreUnreadLines, unread_line};
 ghost use Rattle.sheet_words.specs.Seen.{named_seen};
@@ -31,7 +31,7 @@ impl UnreadLines {
 pub fn unread_lines(alloc: Global, request: &SheetRequest) -> Result<UnreadLines, AllocError>
     ensures { IfOk result (AreUnreadLines (named_seen request.now)) }
 {
-    let job = unread(alloc, request, &Input::Job)?;
-    let part = unread(alloc, request, &Input::Part)?;
+    let job = unread(alloc, request, None, &Input::Job)?;
+    let part = unread(alloc, request, None, &Input::Part)?;
     Ok(UnreadLines { job, part })
 }

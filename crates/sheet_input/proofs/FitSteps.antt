@@ -1,5 +1,5 @@
 -- What a job and a part's text give at a number of decimals, and at the first number that fits, what they refuse, and what is told beside it.
-use Rattle.std.proofs.Common.{◌≡◌, ◌⊎◌, inl, inr, ℕ, suc, ◌-◌, ◌<◌, ◌≤◌, Bool, true, false, true≢false, List, [], ◌∷◌, length, take, drop, slice_index_or, Option, Some, None, refl, sym, ap, subst, arith}
+use Rattle.std.proofs.Common.{◌≡◌, ◌⊎◌, inl, inr, ℕ, suc, ◌-◌, ◌<◌, ◌≤◌, nat_lt, Bool, true, false, true≢false, List, [], ◌∷◌, length, take, drop, slice_index_or, Option, Some, None, refl, sym, ap, subst, arith}
 use Rattle.std.proofs.lemmas.List.{take_all}
 use Rattle.std.specs.List.{All}
 use Rattle.std.specs.Prelude.{Result, Ok, Err, IfErr}
@@ -12,7 +12,7 @@ use Rattle.job_file.specs.declared.job.Job.{Job}
 use Rattle.part_input.proofs.SoundSamples.{sample_is_sound}
 use Rattle.part_input.specs.Parts.{ChecksPart, IsOfSampleOr}
 use Rattle.part_input.specs.Steps.{RefusesOf}
-use Rattle.part_input.specs.declared.fault.Fault.TheVariants.{ReadFault, Mesh, WriteFault, Memory}
+use Rattle.part_input.specs.declared.fault.Fault.TheVariants.{ReadFault, Part as PartUnread, Mesh, WriteFault, Memory}
 use Rattle.sheet_job.specs.JobsAt.{IsJobAt}
 use Rattle.sheet_job.specs.SheetSeen.{sheet_job_seen}
 use Rattle.sheet_job.specs.declared.any.AnyJob.{AnyJob}
@@ -56,6 +56,7 @@ module _ (title : List ℕ) (any : AnyJob) (text : PartText) where
   -- of a number that is the last one
   pub told_last : (n : ℕ) (e : SheetFault) (told : Told) → RefusesOf sheet_faults (Tries n) e → IsToldAt any text n e told → IsToldFit title any text n [] e told
   told_last n OwnJob told refused h = record { number = n; tells = (refl, refused); there = h }
+  told_last n (Common (PartUnread fault)) told refused h = record { number = n; tells = (refl, refused); there = h }
   told_last n (Common (Mesh fault)) told refused h = record { number = n; tells = (refl, refused); there = h }
   told_last n (Common fault) told refused h = h
   told_last n e told refused h = h
@@ -67,6 +68,7 @@ module _ (title : List ℕ) (any : AnyJob) (text : PartText) where
     -- where this one isn't in range, of a later one
     pub told_later : (e : SheetFault) (told : Told) → is_range here ≡ true → IsToldFit title any text m ns e told → IsToldFit title any text n (m ∷ ns) e told
     told_later OwnJob told range h = record { number = h.number; tells = later_at h.number OwnJob range h.tells; there = h.there }
+    told_later (Common (PartUnread fault)) told range h = record { number = h.number; tells = later_at h.number (Common (PartUnread fault)) range h.tells; there = h.there }
     told_later (Common (Mesh fault)) told range h = record { number = h.number; tells = later_at h.number (Common (Mesh fault)) range h.tells; there = h.there }
     told_later (Common fault) told range h = h
     told_later e told range h = h
@@ -77,6 +79,7 @@ module _ (title : List ℕ) (any : AnyJob) (text : PartText) where
   -- where this one is in range, of it
   pub told_here : (n m : ℕ) (ns : List ℕ) (here : SheetFault) (told : Told) → Tries n (Err here) → is_range here ≡ false → IsToldAt any text n here told → IsToldFit title any text n (m ∷ ns) here told
   told_here n m ns OwnJob told refused within h = record { number = n; tells = here_at n m ns OwnJob refused within; there = h }
+  told_here n m ns (Common (PartUnread fault)) told refused within h = record { number = n; tells = here_at n m ns (Common (PartUnread fault)) refused within; there = h }
   told_here n m ns (Common (Mesh fault)) told refused within h = record { number = n; tells = here_at n m ns (Common (Mesh fault)) refused within; there = h }
   told_here n m ns (Common fault) told refused within h = h
   told_here n m ns e told refused within h = h
@@ -89,14 +92,15 @@ module _ (title : List ℕ) (any : AnyJob) (text : PartText) where
 
 -- of an older job, at its own number
 module _ (title : List ℕ) (j : Job) (made : JobValues) (is : made ≡ titled title (job_seen j)) (text : PartText) where
-  older_at : (e : SheetFault) (told : Told) → IsToldText text j.decimals j.unit e told → IsToldAt (job.Older j) text j.decimals e told
+  older_at : (e : SheetFault) (told : Told) → IsToldText text j.decimals j.unit (nat_lt j.decimals 6) e told → IsToldAt (job.Older j) text j.decimals e told
   older_at OwnJob told h = absurd h
   older_at e told h = h
 
-  pub older_told : (e : SheetFault) (told : Told) → RefusesOf sheet_faults (Attempts title (older_job (job_seen j)) text j.decimals) e → IsToldText text made.decimals made.unit e told
+  pub older_told : (more : Bool) → more ≡ nat_lt made.decimals 6 → (e : SheetFault) (told : Told) → RefusesOf sheet_faults (Attempts title (older_job (job_seen j)) text j.decimals) e → IsToldText text made.decimals made.unit more e told
       → IsToldFit title (job.Older j) text j.decimals [] e told
-  older_told e told refused h =
-      told_last title (job.Older j) text j.decimals e told refused (older_at e told (subst (λ (v : JobValues). IsToldText text v.decimals v.unit e told) is h))
+  older_told more most e told refused h =
+      let at : IsToldText text made.decimals made.unit (nat_lt made.decimals 6) e told = subst (λ (b : Bool). IsToldText text made.decimals made.unit b e told) most h in
+      told_last title (job.Older j) text j.decimals e told refused (older_at e told (subst (λ (v : JobValues). IsToldText text v.decimals v.unit (nat_lt v.decimals 6) e told) is at))
 
 pub none_left : (xs : List ℕ) → length xs < 1 → xs ≡ []
 none_left [] h = refl

@@ -375,7 +375,7 @@ unless_none (Some fault) x y e = absurd (cc)
 few_tables : (s : List Entry × List Headed) (tables : Tables) → unless_table (first_fault s) (tables_of s) ≡ Ok tables → length tables.views ≤ 12
 few_tables s tables e =
     let (none, same) = unless_none (first_fault s) (tables_of s) tables e in
-    let few : length (filter has_view s.1) ≤ 12 = few_headers s.1 [] (omega arith) (both_none (key_fault Job s.0) (fault_after [] s.1) none).1 in
+    let few : length (filter has_view s.1) ≤ 12 = few_headers s.1 [] (omega arith) (both_none (key_fault Job None s.0) (fault_after [] s.1) none).1 in
     let count : length (map (λ (t : Headed). t.table) (filter has_view s.1)) ≡ length (filter has_view s.1) = length-map (filter has_view s.1) (λ (t : Headed). t.table) in
     subst (λ (t : Tables). length t.views ≤ 12) same (omega (arith, few, count))
 

@@ -4,12 +4,13 @@ use Rattle.std.specs.Prelude.{Result, Ok, Err, IfOk, IfErr}
 use Rattle.desk.specs.Files.{Files, DeskState}
 use Rattle.job_file.specs.Documents.{JobValues}
 use Rattle.part_input.proofs.Missing.{no_job}
-use Rattle.part_input.specs.Parts.{IsOfPart, sample_size}
+use Rattle.part_input.specs.Parts.{IsOfPart, IsOfSoup, IsOfSoupOr, sample_size}
 use Rattle.part_input.specs.Sheets.{PlansSheet}
 use Rattle.part_input.specs.Steps.{◌and_then◌, RefusesOf, IsMissingOf}
 use Rattle.part_input.specs.declared.fault.Fault.{Fault}
-use Rattle.part_input.specs.declared.fault.Fault.TheVariants.{ReadFault, Mesh}
+use Rattle.part_input.specs.declared.fault.Fault.TheVariants.{ReadFault, Part as PartUnread, Mesh}
 use Rattle.part_input.specs.declared.fault.Input.TheVariants.{Job as TheJob, Part as ThePart}
+use Rattle.part_lines.specs.declared.hint.PartHint.{PartHint}
 use Rattle.sheet_job.specs.declared.any.AnyJob.{AnyJob}
 use Rattle.sheet_plan.specs.JobSheets.{Drawn}
 use Rattle.sheet_words.specs.Names.{Named}
@@ -20,21 +21,23 @@ use Rattle.sheet_input.specs.Jobs.{AnyValues, Lifted, unit_of}
 use Rattle.sheet_input.specs.Looks.{Look, look_of}
 use Rattle.sheet_input.specs.Seen.{any_seen}
 use Rattle.sheet_input.specs.Steps.{DrawnSheet, DrawsBy, DrawsText}
-use Rattle.sheet_input.specs.Texts.{PartText, ReadsSoup, TakesText, TakesTextOr}
+use Rattle.sheet_input.specs.Texts.{PartText, file, sample, ReadsSoup, TakesText, TakesTextOr}
 use Rattle.sheet_input.specs.Titles.{title_of}
 use Rattle.sheet_input.specs.declared.fault.SheetFault.{SheetFault}
 use Rattle.sheet_input.specs.declared.fault.SheetFault.TheVariants.{Common, OwnJob}
 use Rattle.sheet_input.specs.declared.refusal.Refusal.{Refusal}
 use Rattle.sheet_input.specs.declared.refusal.Told.{Told}
-use Rattle.sheet_input.specs.declared.refusal.Told.TheVariants.{Nothing, Surface}
+use Rattle.sheet_input.specs.declared.refusal.Told.TheVariants.{Nothing, Text, Surface}
 use Rattle.sheet_input.specs.declared.place.FaultPlace.{FaultPlace}
-use Rattle.sheet_input.specs.inner.Taking.{size_in, IsDrawnOf, IsOfOwn, IsOfSheetIn, IsSettledIfRead, IsSurfaceBy, IsToldBy, IsToldIn, IsToldRange}
+use Rattle.sheet_input.specs.inner.Taking.{size_in, IsDrawnOf, IsHintBy, IsHintIn, IsOfNoText, IsOfOwn, IsOfSheetIn, IsSettledIfRead, IsSurfaceBy, IsToldBy, IsToldIn, IsToldRange}
 use Rattle.solid_mesh.specs.declared.faults.MeshFault.{MeshFault}
+use Rattle.weld.specs.declared.fault.PartFault.{PartFault}
 use Rattle.sheet_input.proofs.SheetChains.{gives_next, refused_first, refused_next}
 
 -- ---- a text
 -- nothing is told beside a fault of a sheet
 pub sheet_told : (title : List ℕ) (any : AnyJob) (size : Option (List ℕ)) (text : PartText) (e : SheetFault) (told : Told) → IsOfSheetIn e → told ≡ Nothing → IsToldIn title any size text e told
+sheet_told title any size text (Common (PartUnread fault)) told of nothing = absurd of
 sheet_told title any size text (Common (Mesh fault)) told of nothing = absurd of
 sheet_told title any size text (Common fault) told of nothing = nothing
 sheet_told title any size text e told of nothing = absurd of
@@ -133,6 +136,22 @@ last_is None (Some size) = refl
 last_is None None = refl
 
 -- ---- what is told
+no_mesh : (size : Option (List ℕ)) (fault : MeshFault) → IsOfSoupOr size (Mesh fault) → ⊥
+no_mesh (Some size) fault h = h
+no_mesh None fault h = h
+
+-- nothing is told of a part that can't be taken
+pub untaken_told : (old : DeskState) (named : Named) (any : AnyJob) (e : Fault) → IsOfSoup named.part e → IsOfNoText e → IsToldBy old named any (Common e) Nothing
+untaken_told old named any (PartUnread cause) of other = absurd other
+untaken_told old named any (Mesh fault) of other = absurd (no_mesh (sample_size named.part) fault of)
+untaken_told old named any e of other = refl
+
+hint_told : (old : DeskState) (named : Named) (text : PartText) → (old.tells ≡ true → TakesText old.files named.part (Ok text)) → (values : AnyValues) (fault : PartFault) (hint : PartHint) (number : ℕ)
+    → IsFaultBy (title_of named.said.title values named.part) values (sample_size named.part) text number (Common (PartUnread fault)) → IsHintIn text number (unit_of values) fault hint → IsHintBy old named values fault hint
+hint_told old named (file bytes) taken values fault hint number tells h =
+    record { bytes = bytes; decimals = number; helps = h; of_files = λ told. record { taken = taken told; tells = tells } }
+hint_told old named (sample size) taken values fault hint number tells h = absurd h
+
 module _ (old : DeskState) (named : Named) (text : PartText) (taken : old.tells ≡ true → TakesText old.files named.part (Ok text)) (any : AnyJob)
     (title : List ℕ) (same : title ≡ title_of named.said.title (any_seen any) named.part) where
   abbrev IsTold : SheetFault → Told → Type 0
@@ -151,6 +170,7 @@ module _ (old : DeskState) (named : Named) (text : PartText) (taken : old.tells 
         part = it.part;
         has = it.has;
         there = it.there;
+        may = it.may;
         of_files = λ tells. record {
           text = text;
           taken = taken tells;
@@ -165,6 +185,9 @@ module _ (old : DeskState) (named : Named) (text : PartText) (taken : old.tells 
       let is : h.number ≡ last_by decimals (sample_size named.part) =
       range_last (Attempts title (any_seen any) text) (first_by decimals (sample_size named.part)) (others_by decimals (sample_size named.part)) h.number h.tells ∙ last_is decimals (sample_size named.part) in
       subst (λ (n : ℕ). IsToldRange any n told) is h.there
+  told_by (Common (PartUnread fault)) (Text hint) h =
+      hint_told old named text taken (any_seen any) fault hint h.number (tells_by h.number (Common (PartUnread fault)) h.tells h.number refl) h.there
+  told_by (Common (PartUnread fault)) told h = absurd h.there
   told_by (Common (Mesh fault)) (Surface place) h = surface_told fault place h
   told_by (Common (Mesh fault)) told h = absurd h.there
   told_by (Common fault) told h = h

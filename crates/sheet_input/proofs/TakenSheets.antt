@@ -4,20 +4,20 @@ use Rattle.std.specs.Prelude.{Result, Ok, Err, IfErr}
 use Rattle.desk.specs.Files.{Files, DeskState, OnlyReads}
 use Rattle.part_input.proofs.Missing.{no_job, no_size}
 use Rattle.part_input.specs.Parts.{sample_size}
-use Rattle.part_input.specs.declared.fault.Fault.TheVariants.{ReadFault, Mesh}
+use Rattle.part_input.specs.declared.fault.Fault.TheVariants.{ReadFault, Part as PartUnread, Mesh}
 use Rattle.part_input.specs.declared.fault.Input.TheVariants.{Job as TheJob, Part as ThePart}
 use Rattle.sheet_job.specs.declared.any.AnyJob.{AnyJob}
 use Rattle.sheet_job.specs.declared.any.AnyJob.TheVariants as job
 use Rattle.sheet_words.specs.Names.{Named}
 use Rattle.sheet_input.specs.Answers.{IsOfAnyJob, IsOfFiles, ReadsInOrder}
-use Rattle.sheet_input.specs.Jobs.{AnyValues, TakesAnyJob}
-use Rattle.sheet_input.specs.Places.{IsPartAt, IsToldFor}
+use Rattle.sheet_input.specs.Jobs.{AnyValues, TakesAnyJob, unit_of}
+use Rattle.sheet_input.specs.Places.{IsPartAt, IsTextAt, IsToldFor}
 use Rattle.sheet_input.specs.Seen.{any_seen}
 use Rattle.sheet_input.specs.declared.fault.SheetFault.{SheetFault}
 use Rattle.sheet_input.specs.declared.fault.SheetFault.TheVariants.{Common, OwnJob}
 use Rattle.sheet_input.specs.declared.refusal.Refusal.{Refusal}
 use Rattle.sheet_input.specs.declared.refusal.Told.{Told}
-use Rattle.sheet_input.specs.declared.refusal.Told.TheVariants.{Surface, Job as JobTold}
+use Rattle.sheet_input.specs.declared.refusal.Told.TheVariants.{Text, Surface, Job as JobTold}
 use Rattle.sheet_input.specs.inner.Taking.{IsJobTaken, IsOfDrawn, IsSettledIfRead, IsToldBy, IsToldTaken}
 use Rattle.sheet_input.proofs.UsualJob.{no_files, not_own, usual_read}
 
@@ -98,8 +98,13 @@ any_no_mesh : (name : Option (List ℕ)) (fault : _) → IsOfAnyJob name (Common
 any_no_mesh None fault h = h
 any_no_mesh (Some name) fault h = h
 
+any_no_text : (name : Option (List ℕ)) (fault : _) → IsOfAnyJob name (Common (PartUnread fault)) → ⊥
+any_no_text None fault h = h
+any_no_text (Some name) fault h = h
+
 module _ (old : DeskState) (named : Named) where
   taken_told : (e : SheetFault) (told : Told) → IsOfAnyJob named.job e → IsToldTaken old named.job e told → IsToldFor named old e told
+  taken_told (Common (PartUnread fault)) told of h = absurd (any_no_text named.job fault of)
   taken_told (Common (Mesh fault)) told of h = absurd (any_no_mesh named.job fault of)
   taken_told OwnJob (JobTold flaw) of h = λ tells. let (bytes, took, is) = h tells in (bytes, took, inl is)
   taken_told OwnJob told of h = absurd h
@@ -117,6 +122,18 @@ module _ (old : DeskState) (named : Named) where
         (bytes, took, inr (record { job = j; says = is.reads; placed = is.placed; first = first }))
     told_before (job.Own j) taken OwnJob told h = absurd h
     told_before (job.Older j) taken OwnJob told h = absurd h
+    told_before any taken (Common (PartUnread fault)) (Text hint) h = record {
+      bytes = h.bytes;
+      decimals = h.decimals;
+      unit = unit_of (any_seen any);
+      helps = h.helps;
+      of_files = λ tells.
+          let (bytes, took, is) = taken tells in
+          let at : IsTextAt named old.files (any_seen any) fault h.bytes h.decimals =
+          subst (λ (files : Files). IsTextAt named files (any_seen any) fault h.bytes h.decimals) (same_files old between same) (h.of_files (still_tells old between same tells)) in
+          (any_seen any, (bytes, took, is.reads), at, refl);
+    }
+    told_before any taken (Common (PartUnread fault)) told h = absurd h
     told_before any taken (Common (Mesh fault)) (Surface place) h = record {
       part = h.part;
       has = h.has;
@@ -125,7 +142,7 @@ module _ (old : DeskState) (named : Named) where
           let (bytes, took, is) = taken tells in
           let at : IsPartAt named old.files (any_seen any) fault h.part place.decimals =
           subst (λ (files : Files). IsPartAt named files (any_seen any) fault h.part place.decimals) (same_files old between same) (h.of_files (still_tells old between same tells)) in
-          (any_seen any, (bytes, took, is.reads), at);
+          (any_seen any, (bytes, took, is.reads), at, h.may);
     }
     told_before any taken (Common (Mesh fault)) told h = absurd h
     told_before any taken e told h = h

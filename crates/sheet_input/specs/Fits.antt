@@ -1,5 +1,5 @@
 -- The number of decimals at which a part is accepted.
-use Rattle.std.specs.Prelude.{◌≡◌, ◌⊎◌, ℕ, Bool, true, false, List, [], ◌∷◌, Option, Some, None, Result, Ok, Err}
+use Rattle.std.specs.Prelude.{◌≡◌, ◌⊎◌, ℕ, Bool, true, false, nat_lt, List, [], ◌∷◌, Option, Some, None, Result, Ok, Err}
 use Rattle.geometry.specs.Parts.{Part}
 use Rattle.job_file.specs.Documents.{JobValues}
 use Rattle.part_input.specs.Steps.{◌and_then◌}
@@ -77,6 +77,14 @@ last_by None None = 2
 abbrev pub decimals_of : AnyValues → Option ℕ
 decimals_of (older_job values) = Some values.decimals
 decimals_of (own_job values) = values.decimals
+
+-- a number is named, and a greater one could be
+abbrev pub is_below_most : Option ℕ → Bool
+is_below_most None = false
+is_below_most (Some n) = nat_lt n 6
+
+abbrev pub may_name_more : AnyValues → Bool
+may_name_more values = is_below_most (decimals_of values)
 
 -- the job and a part, a sample of this size or another one, at the number that fits
 abbrev pub FitsBy : List ℕ → AnyValues → Option (List ℕ) → PartText → Result Settled SheetFault → Type 0

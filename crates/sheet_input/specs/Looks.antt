@@ -62,16 +62,23 @@ titles_of (older_job values) = map (λ (v : ViewValues). []) values.views
 titles_of (own_job values) = map (λ (v : SheetViewValues). v.title) values.views
 
 -- ---- all of it
--- the block, in which views hidden lines are drawn, the titles of the views, and whether the number of decimals was left to the program
+-- the block, in which views hidden lines are drawn, the titles of the views, whether the number of decimals was left to the program, and
+-- whether the job says the places of its cuts in units
 pub record Look : Type 0 where
   pub block : BlockValues
   pub hidden : List Bool
   pub titles : List (List ℕ)
   pub fitted : Bool
+  pub in_units : Bool
 
 abbrev pub is_fitted : AnyValues → Bool
 is_fitted (older_job values) = false
 is_fitted (own_job values) = not (is_some values.decimals)
+
+-- an older job says them in units
+abbrev pub is_in_units : AnyValues → Bool
+is_in_units (older_job values) = true
+is_in_units (own_job values) = false
 
 abbrev pub look_of : Named → AnyValues → Look
 look_of named values = record {
@@ -79,4 +86,5 @@ look_of named values = record {
   hidden = hidden_by named.hidden values;
   titles = titles_of values;
   fitted = is_fitted values;
+  in_units = is_in_units values;
 }

@@ -16,7 +16,7 @@ any_seen (job.Older j) = older_job (job_seen j)
 any_seen (job.Own j) = own_job (sheet_job_seen j)
 
 abbrev pub look_seen : SheetLook → Look
-look_seen look = record { block = block_seen look.block; hidden = look.hidden.items; titles = look.titles.items; fitted = look.fitted }
+look_seen look = record { block = block_seen look.block; hidden = look.hidden.items; titles = look.titles.items; fitted = look.fitted; in_units = look.in_units }
 
 abbrev pub input_seen : SheetInput → DrawnSheet
 input_seen input = record { drawn = drawn_in input.drawing; look = look_seen input.look }

@@ -1,5 +1,5 @@
 // The number of decimals at which a part is accepted.
-ghost use Rattle.std.specs.Prelude.{◌≡◌, ◌⊎◌, ◌<◌, ◌≤◌, ◌↔◌, IsTrue, [], length, Ok, IfOk, IfErr, option_copied};
+ghost use Rattle.std.specs.Prelude.{◌≡◌, ◌⊎◌, ◌<◌, ◌≤◌, ◌↔◌, IsTrue, Bool, [], length, Ok, IfOk, IfErr, option_copied};
 ghost use Rattle.std.specs.List.{All};
 ghost use Rattle.std.specs.Option.{ForSome};
 ghost use Rattle.job_file.specs.Documents.{JobValues};
@@ -13,11 +13,11 @@ ghost use Rattle.solid_mesh.specs.Faults.{HasFault};
 ghost use Rattle.solid_mesh.specs.Solids.{solid_part};
 ghost use Rattle.sheet_input.specs.Answers.{GivesSheet};
 ghost use Rattle.sheet_input.specs.Faults.{sheet_faults};
-ghost use Rattle.sheet_input.specs.Fits.{Attempts, Fits, FitsBy, SettlesBy, first_by, is_range, last_by, others_by};
+ghost use Rattle.sheet_input.specs.Fits.{Attempts, Fits, FitsBy, SettlesBy, first_by, is_below_most, is_range, last_by, others_by};
 ghost use Rattle.sheet_input.specs.Jobs.{Lifted, older_job, own_job};
 ghost use Rattle.sheet_input.specs.Texts.{ReadsSolid};
 ghost use Rattle.sheet_input.specs.Seen.{any_seen};
-ghost use Rattle.sheet_input.specs.inner.Taking.{is_short, IsOfFit, IsOfMeshIn, IsOfOwn, IsOfSolidIn, IsToldAt, IsToldFit, IsToldIn, IsToldJob, IsToldOf, IsToldText, settled_seen, text_seen};
+ghost use Rattle.sheet_input.specs.inner.Taking.{is_short, IsOfFit, IsOfMeshIn, IsOfOwn, IsOfSolidIn, IsOfSoupIn, IsToldAt, IsToldFit, IsToldIn, IsToldJob, IsToldOf, IsToldText, settled_seen, text_seen};
 
 use crate::fault::SheetFault;
 use crate::jobs::{settled_at, titled};
@@ -30,10 +30,11 @@ use fault_place::fault_place;
 use job_file::Job;
 use lattice::Soup;
 use part_input::Fault;
+use part_lines::part_hint;
 use sheet_job::{AnyJob, SheetJob};
 use solid_mesh::{MeshError, MeshFault, Solid};
 use std::alloc::Global;
-use weld::PartKind;
+use weld::{PartFault, PartKind};
 
 /// A job and a part, both at one number of decimals.
 #[derive(Drop)]
@@ -43,30 +44,34 @@ pub(crate) struct Settled {
 }
 
 /// The refusal of a surface, with the place of its fault.
-fn at_place(alloc: Global, soup: &Soup, decimals: u8, fault: MeshFault) -> Refusal
+fn at_place(alloc: Global, soup: &Soup, decimals: u8, more: bool, fault: MeshFault) -> Refusal
     requires fault { HasFault (part_of soup.now) fault }
     requires few { decimals ≤ 6 }
     ensures fault { (result.fault ≡ SheetFault.Common (Fault.Mesh fault)) ⊎ (result.fault ≡ SheetFault.Common Fault.Memory) }
-    ensures told { IsToldOf (part_of soup.now) decimals result.fault result.told }
+    ensures told { IsToldOf (part_of soup.now) decimals more result.fault result.told }
 {
     match fault_place(alloc, soup, &fault) {
         Ok(corner) => Refusal {
             fault: SheetFault::Common(Fault::Mesh(fault)),
-            told: Told::Surface(FaultPlace { corner, decimals }),
+            told: Told::Surface(FaultPlace {
+                corner,
+                decimals,
+                more,
+            }),
         },
         Err(_) => short(),
     }
 }
 
 /// The sound solid of a soup, or the place where its surface is at fault. The soup is kept beside the check for that.
-fn sound(alloc: Global, soup: Soup, decimals: u8) -> Result<Solid, Refusal>
+fn sound(alloc: Global, soup: Soup, decimals: u8, more: bool) -> Result<Solid, Refusal>
     requires few { decimals ≤ 6 }
     requires some_triangle { 0 < length (part_of soup).triangles }
     requires few_corners { length (part_of soup).corners ≤ 60000 }
     requires few_triangles { length (part_of soup).triangles ≤ 20000 }
     ensures answer { GivesSheet solid_part (Lifted (ChecksPart (part_of soup))) result }
     ensures of_mesh { IfErr result (λ r. IsOfMeshIn r.fault) }
-    ensures told { IfErr result (λ r. IsToldOf (part_of soup) decimals r.fault r.told) }
+    ensures told { IfErr result (λ r. IsToldOf (part_of soup) decimals more r.fault r.told) }
 {
     let kept = match soup.copy(alloc) {
         Ok(kept) => kept,
@@ -74,21 +79,64 @@ fn sound(alloc: Global, soup: Soup, decimals: u8) -> Result<Solid, Refusal>
     };
     match Solid::check(alloc, soup) {
         Ok(solid) => Ok(solid),
-        Err(MeshError::Mesh(fault)) => Err(at_place(alloc, &kept, decimals, fault)),
+        Err(MeshError::Mesh(fault)) => Err(at_place(alloc, &kept, decimals, more, fault)),
         Err(MeshError::Memory(_)) => Err(short()),
     }
 }
 
+/// The refusal of a file's text, with what helps.
+fn with_hint(
+    alloc: Global,
+    text: &PartText,
+    decimals: u8,
+    unit: Length,
+    fault: PartFault,
+) -> Refusal
+    requires few { decimals ≤ 6 }
+    requires of_file { IsOfSoupIn (text_seen text.now) (Fault.Part fault) }
+    ensures fault { (result.fault ≡ SheetFault.Common (Fault.Part fault)) ⊎ (result.fault ≡ SheetFault.Common Fault.Memory) }
+    ensures told { (more : Bool) → IsToldText (text_seen text.now) decimals unit more result.fault result.told }
+{
+    let hint = match text {
+        PartText::Sample(_) => return short(),
+        PartText::Bytes(file) => part_hint(alloc, &file.bytes, &fault, decimals, unit),
+    };
+    match hint {
+        Ok(hint) => Refusal {
+            fault: SheetFault::Common(Fault::Part(fault)),
+            told: Told::Text(hint),
+        },
+        Err(_) => short(),
+    }
+}
+
 /// The sound part that a text says at a number of decimals, in lengths of this unit.
-fn solid_in(alloc: Global, text: &PartText, decimals: u8, unit: Length) -> Result<Solid, Refusal>
+fn solid_in(
+    alloc: Global,
+    text: &PartText,
+    decimals: u8,
+    unit: Length,
+    more: bool,
+) -> Result<Solid, Refusal>
     requires few { decimals ≤ 6 }
     ensures answer { GivesSheet solid_part (Lifted (ReadsSolid (text_seen text.now) decimals unit)) result }
     ensures of_solid { IfErr result (λ r. IsOfSolidIn (text_seen text.now) r.fault) }
-    ensures told { IfErr result (λ r. IsToldText (text_seen text.now) decimals unit r.fault r.told) }
+    ensures told { IfErr result (λ r. IsToldText (text_seen text.now) decimals unit more r.fault r.told) }
 {
     match soup_in(alloc, text, decimals, unit) {
-        Ok(soup) => sound(alloc, soup, decimals),
+        Ok(soup) => sound(alloc, soup, decimals, more),
+        Err(Fault::Part(fault)) => Err(with_hint(alloc, text, decimals, unit, fault)),
         Err(fault) => Err(plain(SheetFault::Common(fault))),
+    }
+}
+
+/// A number of decimals is named, and a greater one could be.
+fn is_below_most(decimals: Option<u8>) -> bool
+    ensures { result ≡ is_below_most decimals }
+{
+    match decimals {
+        Some(decimals) => decimals < 6,
+        None => false,
     }
 }
 
@@ -100,7 +148,8 @@ fn older_settled(alloc: Global, job: Job, title: Name, text: &PartText) -> Resul
     ensures told { IfErr result (λ r. IsToldFit title (AnyJob.Older job) (text_seen text.now) job.decimals [] r.fault r.told) }
 {
     let job = titled(job, title);
-    match solid_in(alloc, text, job.decimals, job.unit) {
+    let more = is_below_most(Some(job.decimals));
+    match solid_in(alloc, text, job.decimals, job.unit, more) {
         Ok(solid) => Ok(Settled { job, solid }),
         Err(refusal) => Err(refusal),
     }
@@ -120,8 +169,9 @@ fn attempt(
     ensures of_fit { IfErr result (λ r. IsOfFit (text_seen text.now) r.fault) }
     ensures told { IfErr result (λ r. IsToldAt (AnyJob.Own job.now) (text_seen text.now) decimals r.fault r.told) }
 {
+    let more = is_below_most(job.decimals);
     let job = settled_at(alloc, job, decimals, title)?;
-    let solid = solid_in(alloc, text, decimals, job.unit)?;
+    let solid = solid_in(alloc, text, decimals, job.unit, more)?;
     Ok(Settled { job, solid })
 }
 

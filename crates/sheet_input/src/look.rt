@@ -7,7 +7,7 @@ ghost use Rattle.sheet_job.specs.SheetSeen.{block_seen, sheet_view_seen, shown_s
 ghost use Rattle.sheet_job.specs.SheetViews.{SheetViewValues};
 ghost use Rattle.sheet_words.specs.Seen.{named_seen, said_seen};
 ghost use Rattle.sheet_words.specs.Titles.{IsProper};
-ghost use Rattle.sheet_input.specs.Looks.{block_by, draws_hidden, hidden_by, hidden_in, is_cut, is_fitted, is_sheet_cut, job_block, look_of, titles_of};
+ghost use Rattle.sheet_input.specs.Looks.{block_by, draws_hidden, hidden_by, hidden_in, is_cut, is_fitted, is_in_units, is_sheet_cut, job_block, look_of, titles_of};
 ghost use Rattle.sheet_input.specs.Seen.{any_seen, look_seen};
 
 use dec_text::Name;
@@ -19,13 +19,14 @@ use sheet_words::{SaidTexts, SheetRequest};
 use std::alloc::Global;
 
 /// How a sheet looks: the texts of its block, in which views hidden lines are drawn, the titles of the views, of which an empty one is
-/// none, and whether the number of decimals was left to the program.
+/// none, whether the number of decimals was left to the program, and whether the job says the places of its cuts in units.
 #[derive(Drop)]
 pub struct SheetLook {
     pub block: BlockTexts,
     pub hidden: Vec<bool>,
     pub titles: Vec<Name>,
     pub fitted: bool,
+    pub in_units: bool,
 }
 
 /// Hidden lines are drawn in a view of this kind, a cut or not.
@@ -194,6 +195,16 @@ fn is_fitted(job: &AnyJob) -> bool
     }
 }
 
+/// The job says the places of its cuts in units: it is an older one.
+fn is_in_units(job: &AnyJob) -> bool
+    ensures { result ≡ is_in_units (any_seen job.now) }
+{
+    match job {
+        AnyJob::Older(_) => true,
+        AnyJob::Own(_) => false,
+    }
+}
+
 /// How the sheet of a request looks.
 pub(crate) fn look_of(
     alloc: Global,
@@ -207,5 +218,6 @@ pub(crate) fn look_of(
         hidden: hidden_by(alloc, request.hidden, job)?,
         titles: titles_of(alloc, job)?,
         fitted: is_fitted(job),
+        in_units: is_in_units(job),
     })
 }

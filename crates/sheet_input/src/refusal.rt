@@ -4,12 +4,15 @@ ghost use Rattle.std.specs.Prelude.{◌≡◌};
 use crate::fault::SheetFault;
 use crate::place::FaultPlace;
 use part_input::Fault;
+use part_lines::PartHint;
 use sheet_job::PlacedFlaw;
 
 /// What the line of a fault tells beside it.
 #[derive(Debug, Drop)]
 pub enum Told {
     Nothing,
+    /// What helps with the part's text.
+    Text(PartHint),
     /// Where the surface is at fault.
     Surface(FaultPlace),
     /// What is wrong with the job, and where.

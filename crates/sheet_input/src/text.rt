@@ -7,7 +7,7 @@ ghost use Rattle.part_input.specs.Faults.{CountsReads};
 ghost use Rattle.part_input.specs.Parts.{IsOfPartText, IsOfSoup, sample_size};
 ghost use Rattle.part_input.specs.Steps.{GivesInput};
 ghost use Rattle.sheet_input.specs.Texts.{ReadsSoup, TakesText, TakesTextOr};
-ghost use Rattle.sheet_input.specs.inner.Taking.{IsOfNoRead, IsOfSoupIn, size_in, text_seen};
+ghost use Rattle.sheet_input.specs.inner.Taking.{IsOfNoRead, IsOfNoText, IsOfSoupIn, size_in, text_seen};
 
 use crate::taken_text::{PartBytes, PartText};
 use dec_text::{Length, Name};
@@ -23,6 +23,7 @@ const PART_LIMIT: usize = 16_777_216;
 fn take_bytes<D: Desk>(alloc: Global, name: &Name, desk: &mut D) -> Result<PartText, Fault>
     ensures answer { (D.state desk.old).tells ≡ true → GivesInput text_seen (TakesTextOr None (D.state desk.old).files name.now) result }
     ensures of_file { IfErr result IsOfPartText }
+    ensures no_text { IfErr result IsOfNoText }
     ensures of_bytes { IfOk result (λ text. size_in (text_seen text) ≡ None) }
     ensures reads { CountsReads (result_err result) (D.state desk.old).read_faults (D.state desk.new).read_faults }
     ensures missing { (D.state desk.old).steady ≡ true →
@@ -46,6 +47,7 @@ pub(crate) fn take_text<D: Desk>(
     ensures answer { (D.state desk.old).tells ≡ true → GivesInput text_seen (TakesText (D.state desk.old).files name.now) result }
     ensures sample { IsSome (sample_size name.now) → (files : Files) → GivesInput text_seen (TakesText files name.now) result }
     ensures of_part { IfErr result (IsOfSoup name.now) }
+    ensures no_text { IfErr result IsOfNoText }
     ensures of_size { IfOk result (λ text. size_in (text_seen text) ≡ sample_size name.now) }
     ensures reads { CountsReads (result_err result) (D.state desk.old).read_faults (D.state desk.new).read_faults }
     ensures missing { (D.state desk.old).steady ≡ true →

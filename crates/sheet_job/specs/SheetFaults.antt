@@ -21,8 +21,8 @@ pub data OwnFault : Type 0 where
   refused : OwnFault
   -- in the tables and keys
   in_tables : Fault → OwnFault
-  -- the key doesn't have such a value; it may have it without quotes
-  wrong : SheetKey → Bool → OwnFault
+  -- the key doesn't have such a value; it may have it without quotes; it may be in the view with this number
+  wrong : SheetKey → Bool → Option ℕ → OwnFault
   -- in the view with this number, which may have this name
   in_view : ViewFlaw → ℕ → Option Principal → OwnFault
   -- the cut of the view with this number is too far away
@@ -45,7 +45,7 @@ flaw_seen NotUtf8 = not_utf8
 flaw_seen (Line flaw) = in_line flaw
 flaw_seen Refused = refused
 flaw_seen (Table flaw) = in_tables (fault_seen flaw)
-flaw_seen (Wrong key quoted) = wrong key quoted
+flaw_seen (Wrong key quoted view) = wrong key quoted view
 flaw_seen (View flaw number name) = in_view flaw number name
 flaw_seen (AtRange number) = out_of_range number
 

@@ -1,5 +1,5 @@
 -- What a job of version 3 says, or its first fault.
-use Rattle.std.specs.Prelude.{ℕ, ◌-◌, Bool, false, List, [], ◌∷◌, length, Option, Some, None, Result, Ok, Err, if◌then◌else◌, codes}
+use Rattle.std.specs.Prelude.{ℕ, ◌+◌, ◌-◌, Bool, false, List, [], ◌∷◌, length, Option, Some, None, Result, Ok, Err, if◌then◌else◌, codes}
 use Rattle.std.specs.Option.{option_or}
 use Rattle.dec_text.specs.declared.number.Length.{Length}
 use Rattle.dec_text.specs.declared.number.Length.TheVariants.{Millimetre}
@@ -24,19 +24,20 @@ use Rattle.sheet_job.specs.declared.hidden.Hidden.TheVariants as hidden
 use Rattle.sheet_job.specs.declared.keys.SheetKey.{SheetKey}
 
 -- ---- wrong values
--- a value that its key doesn't have, and how many bytes are before it
-abbrev pub wrong_value : Option SheetKey → Entry → Option (OwnFault × ℕ)
-wrong_value None e = None
-wrong_value (Some key) e = if is_right key e.value then None else Some (wrong key (is_quoted key e.value), e.value_at)
+-- a value that its key doesn't have, in the view with this number or in none; and how many bytes are before it
+abbrev pub wrong_value : Option ℕ → Option SheetKey → Entry → Option (OwnFault × ℕ)
+wrong_value view None e = None
+wrong_value view (Some key) e = if is_right key e.value then None else Some (wrong key (is_quoted key e.value) view, e.value_at)
 
--- the first one of some entries of such a table
-abbrev pub first_wrong : TableKind → List Entry → Option (OwnFault × ℕ)
-first_wrong kind [] = None
-first_wrong kind (e ∷ es) = option_or (wrong_value (key_named kind e.key) e) (first_wrong kind es)
+-- the first one of some entries of such a table, which may be the view with this number
+abbrev pub first_wrong : TableKind → Option ℕ → List Entry → Option (OwnFault × ℕ)
+first_wrong kind view [] = None
+first_wrong kind view (e ∷ es) = option_or (wrong_value view (key_named kind e.key) e) (first_wrong kind view es)
 
-abbrev pub wrong_in_views : List Table → Option (OwnFault × ℕ)
-wrong_in_views [] = None
-wrong_in_views (t ∷ ts) = option_or (first_wrong table.View t.entries) (wrong_in_views ts)
+-- the first one of views, which are counted from this number on
+abbrev pub wrong_in_views : ℕ → List Table → Option (OwnFault × ℕ)
+wrong_in_views number [] = None
+wrong_in_views number (t ∷ ts) = option_or (first_wrong table.View (Some number) t.entries) (wrong_in_views (number + 1) ts)
 
 -- no block is one without entries
 abbrev pub entries_in : Option Table → List Entry
@@ -45,7 +46,7 @@ entries_in (Some t) = t.entries
 
 -- the first one of all: of the job, then of the block, then of the views
 abbrev pub wrong_in : Tables → Option (OwnFault × ℕ)
-wrong_in t = option_or (first_wrong table.Job t.job.entries) (option_or (first_wrong table.Block (entries_in t.block)) (wrong_in_views t.views))
+wrong_in t = option_or (first_wrong table.Job None t.job.entries) (option_or (first_wrong table.Block None (entries_in t.block)) (wrong_in_views 0 t.views))
 
 -- ---- values
 -- the texts of a title block, each at its key; empty where there is none

@@ -35,8 +35,8 @@ pub enum JobFlaw {
     /// TOML refuses the text with this line, as for a key that is there twice.
     Refused,
     Table(TableFlaw),
-    /// The key doesn't have such a value. It is a text that the key may have without quotes, or not.
-    Wrong(SheetKey, bool),
+    /// The key doesn't have such a value. It is a text that the key may have without quotes, or not. If the key is in a view, its number.
+    Wrong(SheetKey, bool, Option<u32>),
     /// In this view, and the view's name if it has one.
     View(ViewFlaw, u32, Option<Principal>),
     /// The cut of this view is at more than 1,048,576 units.

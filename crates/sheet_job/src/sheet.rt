@@ -55,7 +55,8 @@ fn sheet_job_of(alloc: Global, text: &str, tables: &JobTables) -> Result<SheetJo
     ensures placed { IfOk result (λ job. All (IsPlacedIn text.now) job.views.items) }
 {
     if let Some(wrong) = wrong_in(tables) {
-        return Err(SheetStop::At(JobFlaw::Wrong(wrong.key, wrong.quoted), wrong.at));
+        let flaw = JobFlaw::Wrong(wrong.key, wrong.quoted, wrong.view);
+        return Err(SheetStop::At(flaw, wrong.at));
     }
     let views = match views_of(alloc, text, &tables.views) {
         Ok(views) => views,

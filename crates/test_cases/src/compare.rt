@@ -5,6 +5,7 @@ use crate::case::{Case, Program};
 use crate::judge;
 use dec_text::Name;
 use desk::{Desk, MemoryDesk, RoomDesk};
+use desk_reasons::Reasons;
 use draw_core::draw;
 use mend_core::mend;
 use plot_rack::{DxfPlotter, HpglPlotter, ListPlotter, Plotter};
@@ -23,7 +24,7 @@ fn end_of(name: &str, bytes: &[u8], cut: Option<(&str, usize)>) -> usize
 }
 
 // A desk that shows what it holds.
-pub(crate) trait Shown: Desk {
+pub(crate) trait Shown: Reasons {
     fn file_shown(&self, name: &str) -> Option<&[u8]>;
 
     // Its files; of a desk with rooms none, for it has no others than those that the case gives and the slots.
@@ -123,7 +124,7 @@ fn run_draw<D: Desk>(alloc: Global, words: &[String], desk: &mut D) -> io::Resul
 }
 
 // Runs the case's program by its words over the desk, and answers the status.
-fn run<D: Desk>(alloc: Global, case: &Case, desk: &mut D) -> io::Result<u8> {
+fn run<D: Reasons>(alloc: Global, case: &Case, desk: &mut D) -> io::Result<u8> {
     match case.program {
         Program::Draw => run_draw(alloc, &case.words, desk),
         Program::Sheet => Ok(sheet(alloc, &case.words, desk).status),

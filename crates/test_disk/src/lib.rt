@@ -1,5 +1,5 @@
-//! Tests of the desk of real files: files, a pipe, texts that are said and warned, and what a desk doesn't overwrite. And a desk that
-//! says what a fetch does to it.
+//! Tests of the desk of real files: files, a pipe, texts that are said and warned, what a desk doesn't overwrite, and why a call
+//! failed. And a desk that says what a fetch does to it.
 #![tactic(auto)]
 
 mod counted;
@@ -9,6 +9,8 @@ mod files;
 mod folders;
 #[cfg(test)]
 mod names;
+#[cfg(test)]
+mod reasons;
 #[cfg(test)]
 mod words;
 

@@ -16,12 +16,16 @@ fn has_text(alloc: Global, flaw: JobFlaw, text: &str) -> bool {
     }
 }
 
-/// The unknown key with this hint has this text.
+/// The unknown key with this hint has this text. One of a view is one of the second view.
 fn key_has_text(alloc: Global, kind: TableKind, name: &str, hint: KeyHint, text: &str) -> bool {
+    let view = match kind {
+        TableKind::View => Some(1),
+        _ => None,
+    };
     match Name::new(alloc, name) {
         Ok(name) => has_text(
             alloc,
-            JobFlaw::Table(TableFlaw::UnknownKey(kind, name, hint)),
+            JobFlaw::Table(TableFlaw::UnknownKey(kind, view, name, hint)),
             text,
         ),
         Err(_) => false,
@@ -47,9 +51,21 @@ fn flaws_of_lines_and_values(rt: HostRuntime) {
         "3:8: broken text: close its quote on this line, write \\\\ for \\, and leave control characters out";
     assert!(rt; has_text(alloc, JobFlaw::Line(Flaw::BrokenText), broken));
     let decimals = "3:8: wrong decimals: \"fit\", or 0 to 6; leave the quotes out";
-    assert!(rt; has_text(alloc, JobFlaw::Wrong(SheetKey::Decimals, true), decimals));
-    let hidden = "3:8: wrong hidden: true or false";
-    assert!(rt; has_text(alloc, JobFlaw::Wrong(SheetKey::HiddenHere, false), hidden));
+    assert!(rt;
+        has_text(
+            alloc,
+            JobFlaw::Wrong(SheetKey::Decimals, true, None),
+            decimals
+        )
+    );
+    let hidden = "3:8: view 12: wrong hidden: true or false";
+    assert!(rt;
+        has_text(
+            alloc,
+            JobFlaw::Wrong(SheetKey::HiddenHere, false, Some(11)),
+            hidden
+        )
+    );
     let form = "3:8: view 3: exactly one of name, toward and cut is wanted";
     assert!(rt; has_text(alloc, JobFlaw::View(ViewFlaw::Form, 2, None), form));
     let without = JobFlaw::View(
@@ -80,7 +96,7 @@ fn flaws_of_tables_and_keys(rt: HostRuntime) {
             title
         )
     );
-    let scale = "3:8: unknown key scale: it belongs before the first [block] or [[view]]";
+    let scale = "3:8: view 2: unknown key scale: it belongs before the first [block] or [[view]]";
     assert!(rt;
         key_has_text(
             alloc,
@@ -92,6 +108,7 @@ fn flaws_of_tables_and_keys(rt: HostRuntime) {
     );
     let block = "3:8: unknown key block: [block] begins the title block";
     assert!(rt; key_has_text(alloc, TableKind::Job, "block", KeyHint::Header, block));
-    let keys = "3:8: unknown key colour: a view has name, toward, cut, at, from, title and hidden";
+    let keys =
+        "3:8: view 2: unknown key colour: a view has name, toward, cut, at, from, title and hidden";
     assert!(rt; key_has_text(alloc, TableKind::View, "colour", KeyHint::Unlike, keys));
 }

@@ -69,7 +69,8 @@ fn flaws_of_jobs(rt: HostRuntime) {
         b"version = 3\ntitle = 'gr\xC3\xB6\xC3\x9Fer' # \xC3\xA9\ndecimals = '3'\n",
     ) {
         Some(placed) => assert!(rt;
-            matches!(placed.flaw, JobFlaw::Wrong(SheetKey::Decimals, true)) && is_at(&placed, 3, 12)
+            matches!(placed.flaw, JobFlaw::Wrong(SheetKey::Decimals, true, None))
+                && is_at(&placed, 3, 12)
         ),
         None => panic!(rt; "no flaw"),
     }

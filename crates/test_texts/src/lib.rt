@@ -1,4 +1,4 @@
-//! Tests of what is read and of what is written: numbers, tokens and the texts of parts; lines, tables and flaws of jobs, and jobs as texts;
+//! Tests of what is read and of what is written: numbers, tokens, the texts of parts and what a line says of them; lines, tables and flaws of jobs, and jobs as texts;
 //! where views stand on a sheet, strokes and their paths, dashes, pages, and plotters.
 #![tactic(auto)]
 
@@ -12,6 +12,8 @@ mod jobs_for_sheets;
 mod numbers;
 #[cfg(test)]
 mod pages;
+#[cfg(test)]
+mod part_texts;
 #[cfg(test)]
 mod paths;
 #[cfg(test)]

@@ -63,7 +63,7 @@ fn tables_of_a_job(rt: HostRuntime) {
     }
 }
 
-/// What is wrong, and a hint, if there may be one.
+/// What is wrong, with the number of the view whose key it is, if it is one's; and a hint, if there may be one.
 fn told(flaw: &TableFlaw) -> (&'static str, Option<KeyHint>) {
     match flaw {
         TableFlaw::UnknownTable(_, Some(near)) => ("table", Some(KeyHint::Near(*near))),
@@ -73,7 +73,9 @@ fn told(flaw: &TableFlaw) -> (&'static str, Option<KeyHint>) {
         TableFlaw::SecondBlock => ("second", None),
         TableFlaw::TooManyViews => ("many", None),
         TableFlaw::EmptyBlock => ("empty", None),
-        TableFlaw::UnknownKey(_, _, hint) => ("key", Some(*hint)),
+        TableFlaw::UnknownKey(_, None, _, hint) => ("key", Some(*hint)),
+        TableFlaw::UnknownKey(_, Some(0), _, hint) => ("key 1", Some(*hint)),
+        TableFlaw::UnknownKey(_, Some(_), _, hint) => ("key 2", Some(*hint)),
     }
 }
 
@@ -98,11 +100,16 @@ const FAULTS: [(&str, usize, &str, Option<KeyHint>); 18] = [
     (
         "[[view]]\nform = 'low'",
         9,
-        "key",
+        "key 1",
         Some(KeyHint::Near("from")),
     ),
-    ("[[view]]\na = 1", 9, "key", Some(KeyHint::Near("at"))),
-    ("[[view]]\nx = 1\n[viw]", 9, "key", Some(KeyHint::Unlike)),
+    (
+        "[[view]]\n[block]\ndate = 1\n[[view]]\na = 1",
+        35,
+        "key 2",
+        Some(KeyHint::Near("at")),
+    ),
+    ("[[view]]\nx = 1\n[viw]", 9, "key 1", Some(KeyHint::Unlike)),
     (
         "[block]\nnumber = 1\ndat = 1",
         19,

@@ -7,8 +7,10 @@ use Rattle.desk.specs.Files.{DeskState}
 use Rattle.part_input.specs.Jobs.{TakesJob}
 use Rattle.part_input.specs.Parts.{IsOfPart, IsOfSoupOr, IsOfSampleOr, sample_size}
 use Rattle.part_input.specs.declared.fault.Fault.{Fault}
-use Rattle.part_input.specs.declared.fault.Fault.TheVariants.{ReadFault, Mesh, WriteFault, Memory}
+use Rattle.part_input.specs.declared.fault.Fault.TheVariants.{ReadFault, Part as PartUnread, Mesh, WriteFault, Memory}
 use Rattle.part_input.specs.Sheets.{IsOfSheet}
+use Rattle.part_lines.specs.Hints.{IsPartHint}
+use Rattle.part_lines.specs.declared.hint.PartHint.{PartHint}
 use Rattle.part_input.specs.inner.Texts.{IsOfMesh}
 use Rattle.job_file.specs.Documents.{JobValues}
 use Rattle.job_file.specs.Seen.{job_seen}
@@ -21,9 +23,9 @@ use Rattle.sheet_job.specs.SheetSeen.{IsPlacedIn}
 use Rattle.sheet_job.specs.declared.job.SheetJob.{SheetJob}
 use Rattle.sheet_job.specs.declared.any.AnyJob.{AnyJob}
 use Rattle.sheet_job.specs.declared.any.AnyJob.TheVariants as job
-use Rattle.sheet_input.specs.Fits.{Attempts, IsFaultAt, Settled as SettledValues, SettlesBy, decimals_of, first_by, last_by, others_by}
+use Rattle.sheet_input.specs.Fits.{Attempts, IsFaultAt, Settled as SettledValues, SettlesBy, decimals_of, first_by, last_by, may_name_more, others_by}
 use Rattle.sheet_input.specs.Jobs.{AnyValues, ReadsAnyJob, unit_of}
-use Rattle.sheet_input.specs.Places.{IsPartAt}
+use Rattle.sheet_input.specs.Places.{IsPartAt, IsTextAt}
 use Rattle.sheet_words.specs.Names.{Named}
 use Rattle.sheet_input.specs.Seen.{any_seen}
 use Rattle.sheet_input.specs.Steps.{DrawnSheet, DrawsText}
@@ -34,9 +36,10 @@ use Rattle.sheet_input.specs.declared.fault.SheetFault.TheVariants.{Common, OwnJ
 use Rattle.sheet_input.specs.declared.fit.Settled.{Settled}
 use Rattle.sheet_input.specs.declared.place.FaultPlace.{FaultPlace}
 use Rattle.sheet_input.specs.declared.refusal.Told.{Told}
-use Rattle.sheet_input.specs.declared.refusal.Told.TheVariants.{Nothing, Surface, Job}
+use Rattle.sheet_input.specs.declared.refusal.Told.TheVariants.{Nothing, Text, Surface, Job}
 use Rattle.sheet_input.specs.declared.taken_text.PartText.{PartText}
 use Rattle.sheet_input.specs.declared.taken_text.PartText.TheVariants.{Sample, Bytes}
+use Rattle.weld.specs.declared.fault.PartFault.{PartFault}
 
 -- ---- what is seen
 abbrev pub text_seen : PartText → of.PartText
@@ -66,6 +69,11 @@ IsOfNoRead (ReadFault input) = ⊥
 IsOfNoRead (WriteFault target) = ⊥
 IsOfNoRead fault = Unit {0}
 
+-- it is none of a text
+abbrev pub IsOfNoText : Fault → Type 0
+IsOfNoText (PartUnread cause) = ⊥
+IsOfNoText fault = Unit {0}
+
 abbrev pub IsOfMeshIn : SheetFault → Type 0
 IsOfMeshIn (Common fault) = IsOfMesh fault
 IsOfMeshIn fault = ⊥
@@ -86,30 +94,41 @@ IsOfOwn fault = ⊥
 
 -- ---- what is told beside them
 -- the part has the fault at this place
-pub record IsFaultOf (part : Part) (decimals : ℕ) (fault : MeshFault) (place : FaultPlace) : Type 0 where
+pub record IsFaultOf (part : Part) (decimals : ℕ) (more : Bool) (fault : MeshFault) (place : FaultPlace) : Type 0 where
   pub has : HasFault part fault
   pub there : IsPlaceOf part fault place.corner
   pub same : place.decimals ≡ decimals
+  pub may : place.more ≡ more
 
-abbrev pub IsToldOf : Part → ℕ → SheetFault → Told → Type 0
-IsToldOf part decimals (Common (Mesh fault)) (Surface place) = IsFaultOf part decimals fault place
-IsToldOf part decimals (Common (Mesh fault)) told = ⊥
-IsToldOf part decimals OwnJob told = ⊥
-IsToldOf part decimals fault told = told ≡ Nothing
+-- of a surface, and with `more` more decimals may be tried
+abbrev pub IsToldOf : Part → ℕ → Bool → SheetFault → Told → Type 0
+IsToldOf part decimals more (Common (Mesh fault)) (Surface place) = IsFaultOf part decimals more fault place
+IsToldOf part decimals more (Common (Mesh fault)) told = ⊥
+IsToldOf part decimals more (Common (PartUnread fault)) told = ⊥
+IsToldOf part decimals more OwnJob told = ⊥
+IsToldOf part decimals more fault told = told ≡ Nothing
+
+-- the text is that of a file, and has the hint
+abbrev pub IsHintIn : of.PartText → ℕ → Length → PartFault → PartHint → Type 0
+IsHintIn (of.file bytes) decimals unit fault hint = IsPartHint bytes fault decimals unit hint
+IsHintIn (of.sample size) decimals unit fault hint = ⊥
 
 -- so has the part that a text says at this number of decimals, in lengths of this unit
-pub record IsSurfaceIn (text : of.PartText) (decimals : ℕ) (unit : Length) (fault : MeshFault) (place : FaultPlace) : Type 0 where
+pub record IsSurfaceIn (text : of.PartText) (decimals : ℕ) (unit : Length) (more : Bool) (fault : MeshFault) (place : FaultPlace) : Type 0 where
   pub part : Part
   pub reads : of.ReadsSoup text decimals unit (Ok part)
   pub has : HasFault part fault
   pub there : IsPlaceOf part fault place.corner
   pub same : place.decimals ≡ decimals
+  pub may : place.more ≡ more
 
-abbrev pub IsToldText : of.PartText → ℕ → Length → SheetFault → Told → Type 0
-IsToldText text decimals unit (Common (Mesh fault)) (Surface place) = IsSurfaceIn text decimals unit fault place
-IsToldText text decimals unit (Common (Mesh fault)) told = ⊥
-IsToldText text decimals unit OwnJob told = ⊥
-IsToldText text decimals unit fault told = told ≡ Nothing
+abbrev pub IsToldText : of.PartText → ℕ → Length → Bool → SheetFault → Told → Type 0
+IsToldText text decimals unit more (Common (PartUnread fault)) (Text hint) = IsHintIn text decimals unit fault hint
+IsToldText text decimals unit more (Common (PartUnread fault)) told = ⊥
+IsToldText text decimals unit more (Common (Mesh fault)) (Surface place) = IsSurfaceIn text decimals unit more fault place
+IsToldText text decimals unit more (Common (Mesh fault)) told = ⊥
+IsToldText text decimals unit more OwnJob told = ⊥
+IsToldText text decimals unit more fault told = told ≡ Nothing
 
 -- the flaw is that of the first view of a job of version 3 that is too far away at this number
 abbrev pub IsToldOwn : SheetJob → ℕ → SheetFault → Told → Type 0
@@ -124,7 +143,7 @@ IsToldRange (job.Older j) decimals told = ⊥
 -- of the job or of the text at this number
 abbrev pub IsToldAt : AnyJob → of.PartText → ℕ → SheetFault → Told → Type 0
 IsToldAt any text decimals OwnJob told = IsToldRange any decimals told
-IsToldAt any text decimals fault told = IsToldText text decimals (unit_of (any_seen any)) fault told
+IsToldAt any text decimals fault told = IsToldText text decimals (unit_of (any_seen any)) (may_name_more (any_seen any)) fault told
 
 -- of one of several numbers: of the one whose fault it is
 pub record IsToldThere (title : List ℕ) (any : AnyJob) (text : of.PartText) (first : ℕ) (others : List ℕ) (fault : SheetFault) (told : Told) : Type 0 where
@@ -134,6 +153,7 @@ pub record IsToldThere (title : List ℕ) (any : AnyJob) (text : of.PartText) (f
 
 abbrev pub IsToldFit : List ℕ → AnyJob → of.PartText → ℕ → List ℕ → SheetFault → Told → Type 0
 IsToldFit title any text first others OwnJob told = IsToldThere title any text first others OwnJob told
+IsToldFit title any text first others (Common (PartUnread fault)) told = IsToldThere title any text first others (Common (PartUnread fault)) told
 IsToldFit title any text first others (Common (Mesh fault)) told = IsToldThere title any text first others (Common (Mesh fault)) told
 IsToldFit title any text first others fault told = told ≡ Nothing
 
@@ -205,11 +225,21 @@ pub record IsSurfaceBy (old : DeskState) (named : Named) (values : AnyValues) (f
   pub part : Part
   pub has : HasFault part fault
   pub there : IsPlaceOf part fault place.corner
+  pub may : place.more ≡ may_name_more values
   pub of_files : old.tells ≡ true → IsPartAt named old.files values fault part place.decimals
 
--- the place of a surface of the named part, or the flaw of the job
+-- so has a text the hint
+pub record IsHintBy (old : DeskState) (named : Named) (values : AnyValues) (fault : PartFault) (hint : PartHint) : Type 0 where
+  pub bytes : List ℕ
+  pub decimals : ℕ
+  pub helps : IsPartHint bytes fault decimals (unit_of values) hint
+  pub of_files : old.tells ≡ true → IsTextAt named old.files values fault bytes decimals
+
+-- the hint of the named part's text, the place of its surface, or the flaw of the job
 abbrev pub IsToldBy : DeskState → Named → AnyJob → SheetFault → Told → Type 0
 IsToldBy old named any OwnJob told = IsToldJob any (sample_size named.part) OwnJob told
+IsToldBy old named any (Common (PartUnread fault)) (Text hint) = IsHintBy old named (any_seen any) fault hint
+IsToldBy old named any (Common (PartUnread fault)) told = ⊥
 IsToldBy old named any (Common (Mesh fault)) (Surface place) = IsSurfaceBy old named (any_seen any) fault place
 IsToldBy old named any (Common (Mesh fault)) told = ⊥
 IsToldBy old named any fault told = told ≡ Nothing

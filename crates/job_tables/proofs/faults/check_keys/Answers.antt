@@ -7,5 +7,5 @@ use Rattle.job_tables.proofs.faults.check_keys.Goals as goal
 
 pub returns-clause-known : goal.returns-clause-known
 returns-clause-known c =
-    let none : key_fault c.args.kind (map entry_seen c.args.table.now.entries.items) ≡ None = grind (arith, common_steps) in
-    known_of_none c.args.kind c.args.table.now.entries.items none
+    let none : key_fault c.args.kind c.args.view (map entry_seen c.args.table.now.entries.items) ≡ None = grind (arith, common_steps) in
+    known_of_none c.args.kind c.args.view c.args.table.now.entries.items none

@@ -5,4 +5,4 @@ use Rattle.job_tables.proofs.faults.check_keys.Given as goal
 
 -- the first fault is among the entries that are left
 abbrev pub invariant-loop-entry : goal.invariant-loop-entry
-invariant-loop-entry l = key_fault l.kind (map entry_seen (drop l.entry-index l.entry-items)) ≡ key_fault l.kind (map entry_seen l.table.entries.items)
+invariant-loop-entry l = key_fault l.kind l.view (map entry_seen (drop l.entry-index l.entry-items)) ≡ key_fault l.kind l.view (map entry_seen l.table.entries.items)

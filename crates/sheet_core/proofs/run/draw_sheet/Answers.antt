@@ -1,4 +1,4 @@
-use Rattle.std.proofs.Common.{inl, ℕ, List, Option, Some, refl, ap, subst, ◌∙◌, string_bytes}
+use Rattle.std.proofs.Common.{inl, ℕ, List, Option, None, Some, refl, ap, subst, ◌∙◌, string_bytes}
 use Rattle.std.specs.Prelude.{IfNone, IfSome}
 use Rattle.job_file.specs.Seen.{job_seen}
 use Rattle.job_writer.specs.PlainJobs.{plain_job}
@@ -6,7 +6,7 @@ use Rattle.part_input.specs.declared.fault.Fault.TheVariants.{Memory}
 use Rattle.part_input.proofs.Chains.{missing_more, refuses_more}
 use Rattle.put_texts.specs.Noting.{Notes, NotesWhole}
 use Rattle.put_texts.specs.Runs.{IsRun}
-use Rattle.put_texts.proofs.Ends.{at_end, heard_later}
+use Rattle.put_texts.proofs.Ends.{at_end}
 use Rattle.put_texts.proofs.Runs.{ended_run, made_unwarned, put_run, refused_run, short_refusal}
 use Rattle.sheet_input.specs.Faults.{sheet_faults, status_of}
 use Rattle.sheet_input.specs.Seen.{input_seen}
@@ -23,7 +23,11 @@ use Rattle.sheet_core.specs.Refusals.{fault_line}
 use Rattle.sheet_core.proofs.Answered.{lawful}
 use Rattle.sheet_core.proofs.Asked.{answers_files, in_order, may_of, of_reading, undrawn_files, unwritten_files, writing_in_order, written_of}
 use Rattle.sheet_core.proofs.Putting.{all_of_writing, of_writing}
-use Rattle.sheet_core.proofs.Warned.{warned_told, warns_refused, warns_refused_whole, writes_from, writing_line}
+use Rattle.put_texts.proofs.Reasoned.{warns_refused}
+use Rattle.desk_reasons.proofs.Given.{given}
+use Rattle.desk_reasons.specs.Reasons.{MayGive}
+use Rattle.sheet_core.specs.Lines.{IsToldTo}
+use Rattle.sheet_core.proofs.Warned.{writes_from, writing_line}
 use Rattle.sheet_list.specs.Lists.{list_text}
 use Rattle.sheet_words.specs.Names.{sheet}
 use Rattle.sheet_words.specs.Seen.{named_seen}
@@ -34,10 +38,11 @@ pub returns-in-Err-clause-run : goal.returns-in-Err-clause-run
 returns-in-Err-clause-run g c =
     let old = g.D.Desk.state c.args.desk.now in
     let new = g.D.Desk.state c.end_by.new.desk in
+    let reason = g.D.Reasons.reason in
     let asked = Some (sheet (named_seen c.args.request)) in
     let did = c.end_by.ensures in
-    ended_run (sheet_run asked) (lawful asked) old old new (Common Memory) (short_refusal (sheet_task asked) (lawful asked) old old refl refl) did.changes
-    c.end_by.result.fault did.fault MEMORY_LINE.now (Nothing, refl, refl) c.end_by.result.status c.end_by.result.made (g.met.D.Desk.steady_tells c.args.desk.now) did.status did.none tt tt did.warned did.whole
+    ended_run (sheet_run reason asked) (lawful asked) old old new (Common Memory) (short_refusal (sheet_task asked) (lawful asked) old old refl refl) did.changes
+    c.end_by.result.fault did.fault MEMORY_LINE.now (Nothing, None, tt, refl, refl) c.end_by.result.status c.end_by.result.made (g.met.D.Desk.steady_tells c.args.desk.now) did.status did.none tt tt did.warned did.whole
 
 -- the part is refused
 pub returns-in-Err-take_sheet-clause-run : goal.returns-in-Err-take_sheet-clause-run
@@ -47,6 +52,7 @@ returns-in-Err-take_sheet-clause-run g c =
     let between = state c.take_sheet.new.desk in
     let new = state c.refuse.new.desk in
     let named = named_seen c.args.request in
+    let reason = g.D.Reasons.reason in
     let asked = Some (sheet named) in
     let e = c.in-Err-take_sheet.refusal.fault in
     let told = c.in-Err-take_sheet.refusal.told in
@@ -54,7 +60,10 @@ returns-in-Err-take_sheet-clause-run g c =
     let end = c.refuse.result in
     let did = c.refuse.ensures in
     let steps = DrawsSheet old.files named in
-    refused_run (sheet_run asked) (lawful asked) old between new e (record {
+    let desk = c.take_sheet.new.desk in
+    let (front, whole) = warns_refused (MayGive reason) tt (IsToldTo (Some named)) (fault_line (Some named)) old between new took.changes (reason desk) (given reason desk) e (Common Memory) told Nothing took.told refl (λ reason. refl)
+    end.fault did.fault did.warned in
+    refused_run (sheet_run reason asked) (lawful asked) old between new e (record {
       refuses = λ tells. refuses_more sheet_faults steps (RunsSheet asked old.files) (λ e h. inl h) e (took.answer tells);
       alone = λ none files. refuses_more sheet_faults (DrawsSheet files named) (RunsSheet asked files) (λ e h. inl h) e (took.no_file none files);
       may = answers_files named e took.of_files;
@@ -65,8 +74,7 @@ returns-in-Err-take_sheet-clause-run g c =
       read = took.changes;
     }) did.changes end.fault did.fault (λ unread. did.told (of_reading e unread)) end.status end.made (g.met.D.Desk.steady_tells c.args.desk.now) did.status did.none
     (undrawn_files named.part named.job e took.of_files) tt
-    (λ tells. warns_refused named old between new took.changes e told took.told end.fault did.fault (did.warned (warned_told named old between new took.changes tells)))
-    (λ hears. warns_refused_whole named old between new took.changes e told took.told end.fault did.fault (did.whole (heard_later old between new took.changes hears)))
+    front whole
 
 -- its texts find no memory
 pub returns-in-Err-texts_of-clause-run : goal.returns-in-Err-texts_of-clause-run
@@ -74,11 +82,12 @@ returns-in-Err-texts_of-clause-run g c =
     let old = g.D.Desk.state c.args.desk.now in
     let between = g.D.Desk.state c.take_sheet.new.desk in
     let new = g.D.Desk.state c.end_by-in-Err-texts_of.new.desk in
+    let reason = g.D.Reasons.reason in
     let asked = Some (sheet (named_seen c.args.request)) in
     let took = c.in-Ok-take_sheet.ensures in
     let did = c.end_by-in-Err-texts_of.ensures in
-    ended_run (sheet_run asked) (lawful asked) old between new (Common Memory) (short_refusal (sheet_task asked) (lawful asked) old between took.changes took.reads) did.changes
-    c.end_by-in-Err-texts_of.result.fault did.fault MEMORY_LINE.now (Nothing, refl, refl) c.end_by-in-Err-texts_of.result.status c.end_by-in-Err-texts_of.result.made (g.met.D.Desk.steady_tells c.args.desk.now) did.status did.none tt tt did.warned did.whole
+    ended_run (sheet_run reason asked) (lawful asked) old between new (Common Memory) (short_refusal (sheet_task asked) (lawful asked) old between took.changes took.reads) did.changes
+    c.end_by-in-Err-texts_of.result.fault did.fault MEMORY_LINE.now (Nothing, None, tt, refl, refl) c.end_by-in-Err-texts_of.result.status c.end_by-in-Err-texts_of.result.made (g.met.D.Desk.steady_tells c.args.desk.now) did.status did.none tt tt did.warned did.whole
 
 -- its texts are put
 pub returns-clause-run : goal.returns-clause-run
@@ -88,6 +97,7 @@ returns-clause-run g c =
     let between = state c.take_sheet.new.desk in
     let new = state c.put-fault.new.desk in
     let named = named_seen c.args.request in
+    let reason = g.D.Reasons.reason in
     let asked = Some (sheet named) in
     let input = c.in-Ok-take_sheet.input in
     let took = c.in-Ok-take_sheet.ensures in
@@ -98,8 +108,9 @@ returns-clause-run g c =
     let summary = string_bytes texts.summary in
     let fault = c.put-fault.result in
     let end = c.ended.result in
-    at_end (λ (f : Option SheetFault) (made : Option SheetInput). IsRun (sheet_run asked) end.status f made old new) end.fault fault end.made (Some input) c.ended.ensures.fault c.ended.ensures.made
-    (put_run (sheet_run asked) (lawful asked) old between new took.changes took.reads (texts_for named page list plain summary) (fault_line (Some named) Nothing) (Some input) (record {
+    let (why, may, put) = c.put-fault.ensures.put in
+    at_end (λ (f : Option SheetFault) (made : Option SheetInput). IsRun (sheet_run reason asked) end.status f made old new) end.fault fault end.made (Some input) c.ended.ensures.fault c.ended.ensures.made
+    (put_run (sheet_run reason asked) (lawful asked) old between new took.changes took.reads (texts_for named page list plain summary) (fault_line (Some named) Nothing why) (Some input) (record {
       gives = λ told. (Some (input_seen input), (input_seen input, took.answer told, refl));
       alone = λ none files. (Some (input_seen input), (input_seen input, took.no_file none files, refl));
       words = took.by_words;
@@ -107,9 +118,9 @@ returns-clause-run g c =
       may = λ f is. may_of named f (all_of_writing named page list plain summary f is);
       order = λ f is. writing_in_order named old.files f (of_writing named f page list plain summary is);
       made = λ f is. written_of named f (all_of_writing named page list plain summary f is);
-      tells = λ f is. writing_line named old between new took.changes f (of_writing named f page list plain summary is);
+      tells = λ f is. writing_line named old between new took.changes reason why may f (of_writing named f page list plain summary is);
     }) end.status fault (g.met.D.Desk.steady_tells c.args.desk.now)
-    (c.ended.ensures.status ∙ ap (λ (f : Option SheetFault). status_of f) c.ended.ensures.fault) c.put-fault.ensures.put tt (made_unwarned fault))
+    (c.ended.ensures.status ∙ ap (λ (f : Option SheetFault). status_of f) c.ended.ensures.fault) put tt (made_unwarned fault))
 
 pub returns-clause-written : goal.returns-clause-written
 returns-clause-written g c =
@@ -121,7 +132,7 @@ returns-clause-written g c =
     let old = state c.args.desk.now in
     let between = state c.take_sheet.new.desk in
     let new = state c.put-fault.new.desk in
-    let put = c.put-fault.ensures.put in
+    let (why, may, put) = c.put-fault.ensures.put in
     let fault = c.put-fault.result in
     let input = c.in-Ok-take_sheet.input in
     let list = texts.list.items in

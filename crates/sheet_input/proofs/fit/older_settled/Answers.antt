@@ -14,4 +14,4 @@ returns-in-Err-clause-told c =
     let text = text_seen c.args.text.now in
     let refusal = c.in-Err.refusal in
     let refused : RefusesOf sheet_faults (Attempts c.args.title (older_job (job_seen j)) text j.decimals) refusal.fault = search rules in
-    older_told c.args.title j (job_seen c.titled-job.result) c.titled-job.ensures text refusal.fault refusal.told refused c.in-Err.ensures.told
+    older_told c.args.title j (job_seen c.titled-job.result) c.titled-job.ensures text c.is_below_most-more.result c.is_below_most-more.ensures refusal.fault refusal.told refused c.in-Err.ensures.told

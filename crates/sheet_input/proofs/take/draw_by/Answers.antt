@@ -7,8 +7,8 @@ use Rattle.sheet_input.specs.Faults.{sheet_faults}
 use Rattle.sheet_input.specs.Seen.{any_seen, input_seen}
 use Rattle.sheet_input.specs.Steps.{DrawsBy}
 use Rattle.sheet_input.specs.declared.refusal.Refusal.{Refusal}
-use Rattle.sheet_input.specs.inner.Taking.{text_seen}
-use Rattle.sheet_input.proofs.TakeSteps.{all_settled_if_read, drawn_of_text, drawn_told, settled_as, settled_if_read, sized_as, text_drawn, text_missing, text_refused, titled_as}
+use Rattle.sheet_input.specs.inner.Taking.{IsToldBy, text_seen}
+use Rattle.sheet_input.proofs.TakeSteps.{all_settled_if_read, drawn_of_text, drawn_told, settled_as, settled_if_read, sized_as, text_drawn, text_missing, text_refused, titled_as, untaken_told}
 use Rattle.sheet_input.proofs.take.draw_by.Goals as goal
 
 pub returns-in-Ok-take_text-clause-answer : goal.returns-in-Ok-take_text-clause-answer
@@ -56,6 +56,13 @@ returns-in-Err-take_text-clause-settled g c =
 pub returns-in-Ok-take_text-clause-of_text : goal.returns-in-Ok-take_text-clause-of_text
 returns-in-Ok-take_text-clause-of_text g c =
     drawn_of_text (named_seen c.args.request.now) (any_seen c.args.job) (text_seen c.in-Ok-take_text.text) input_seen c.in-Ok-take_text.ensures.of_size c.draw_text.result c.draw_text.ensures.answer
+
+pub returns-in-Err-take_text-clause-told : goal.returns-in-Err-take_text-clause-told
+returns-in-Err-take_text-clause-told g c =
+    let old = g.D.Desk.state c.args.desk.now in
+    let named = named_seen c.args.request.now in
+    let P : Refusal → Type 0 = λ r. IsToldBy old named c.args.job r.fault r.told in
+    subst P (sym c.plain.ensures) (untaken_told old named c.args.job c.in-Err-take_text.fault c.in-Err-take_text.ensures.of_part c.in-Err-take_text.ensures.no_text)
 
 pub returns-in-Err-take_text-clause-sample : goal.returns-in-Err-take_text-clause-sample
 returns-in-Err-take_text-clause-sample g c = λ sample files.

@@ -5,4 +5,4 @@ use Rattle.sheet_job.proofs.wrong.first_wrong.Given as goal
 
 -- those that are left decide
 abbrev pub invariant-loop-entry : goal.invariant-loop-entry
-invariant-loop-entry l = first_wrong l.kind (map entry_seen (drop l.entry-index l.entries)) ≡ first_wrong l.kind (map entry_seen l.entries)
+invariant-loop-entry l = first_wrong l.kind l.view (map entry_seen (drop l.entry-index l.entries)) ≡ first_wrong l.kind l.view (map entry_seen l.entries)

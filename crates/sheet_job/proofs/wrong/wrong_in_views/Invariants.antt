@@ -4,5 +4,5 @@ use Rattle.sheet_job.specs.SheetJobs.{wrong_in_views}
 use Rattle.sheet_job.proofs.wrong.wrong_in_views.Given as goal
 
 -- those that are left decide
-abbrev pub invariant-loop-table : goal.invariant-loop-table
-invariant-loop-table l = wrong_in_views (map table_seen (drop l.table-index l.views)) ≡ wrong_in_views (map table_seen l.views)
+abbrev pub invariant-loop-number : goal.invariant-loop-number
+invariant-loop-number l = wrong_in_views l.number (map table_seen (drop l.number l.views)) ≡ wrong_in_views 0 (map table_seen l.views)

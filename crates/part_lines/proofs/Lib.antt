@@ -1,0 +1,3 @@
+pub mod FewTokens
+pub mod Numbers
+pub mod Coordinates

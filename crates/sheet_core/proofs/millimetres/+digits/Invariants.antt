@@ -1,4 +1,0 @@
-use Rattle.sheet_core.proofs.millimetres.+digits.Given as goal
-
-abbrev pub decreases-digits : goal.decreases-digits
-decreases-digits l = l.count

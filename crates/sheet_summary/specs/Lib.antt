@@ -1,0 +1,4 @@
+pub mod Lengths
+pub mod Ends
+pub mod CutLines
+pub mod Summary

@@ -1,0 +1,11 @@
+//! What a run of `sheet` says of a sheet that it has drawn: the paper, the numbers of paths and the part's size, the place of each cut,
+//! and what of the cuts isn't told as usual.
+#![tactic(auto)]
+
+mod cuts;
+mod ends;
+mod millimetres;
+mod summary;
+
+pub use millimetres::mm_text;
+pub use summary::summary_of;

@@ -1,0 +1,135 @@
+// What a run says of a sheet that it has drawn.
+ghost use Rattle.std.specs.Prelude.{◌≡◌, ◌≤◌, ◌-ℤ◌, IfOk, string_bytes};
+ghost use Rattle.solid_mesh.specs.Solids.{solid_part};
+ghost use Rattle.sheet_summary.specs.Summary.{first_line, fitted_text, is_path_of, length_along, paths_of, paths_text, sheet_text, size_text, summary_of};
+
+use crate::cuts::cut_lines;
+use crate::ends::ends_along;
+use crate::millimetres::mm_text;
+use cut_marks::{ViewMarks, notes};
+use drawing::Drawing;
+use exact_frac::OutOfMemory;
+use job_file::{Paper, Scale};
+use lattice::Axis;
+use sheet_page::{Item, Page};
+use sheet_plan::Mark;
+use solid_mesh::Solid;
+use std::alloc::{AllocError, Global};
+
+/// It is a path of this mark.
+fn is_path_of(mark: Mark, item: &Item) -> bool
+    ensures { result ≡ is_path_of mark item.now }
+{
+    match item {
+        Item::Path(path) => path.mark == mark,
+        _ => false,
+    }
+}
+
+/// How many paths of a mark there are.
+fn paths_of(mark: Mark, items: &[Item]) -> u64
+    ensures { result ≡ paths_of mark items.now }
+{
+    let mut count = 0;
+    for item in items {
+        if is_path_of(mark, item) {
+            count += 1;
+        }
+    }
+    count
+}
+
+/// The paper, the scale and the number of views of a sheet.
+fn sheet_text(
+    alloc: Global,
+    paper: Paper,
+    scale: &Scale,
+    views: usize,
+) -> Result<String, AllocError>
+    ensures { IfOk result (λ text. string_bytes text ≡ sheet_text paper scale.now views) }
+{
+    let (paper, num, den) = (paper.name(), scale.num, scale.den);
+    format!(in alloc; "sheet {paper} scale {num}:{den} views {views}")
+}
+
+/// How many visible and hidden paths and hatch lines stand on a page.
+fn paths_text(alloc: Global, items: &[Item]) -> Result<String, AllocError>
+    ensures { IfOk result (λ text. string_bytes text ≡ paths_text items.now) }
+{
+    let visible = paths_of(Mark::Solid, items);
+    let hidden = paths_of(Mark::Dashed, items);
+    let hatch = paths_of(Mark::Hatch, items);
+    format!(in alloc; " visible {visible} hidden {hidden} hatch {hatch}")
+}
+
+/// The number of decimals, if it was left to the program.
+fn fitted_text(alloc: Global, fitted: bool, decimals: u8) -> Result<String, AllocError>
+    ensures { IfOk result (λ text. string_bytes text ≡ fitted_text fitted decimals) }
+{
+    if fitted {
+        format!(in alloc; " decimals {decimals}")
+    } else {
+        Ok(String::new(alloc))
+    }
+}
+
+/// How long the part is along an axis, in mm.
+fn length_along(
+    alloc: Global,
+    solid: &Solid,
+    decimals: u8,
+    axis: Axis,
+) -> Result<String, AllocError>
+    requires { decimals ≤ 6 }
+    ensures { IfOk result (λ text. string_bytes text ≡ length_along (solid_part solid.now) decimals axis) }
+{
+    let ends = ends_along(solid, axis);
+    mm_text(alloc, decimals, ends.greatest - ends.least)
+}
+
+/// How long the part is along x, y and z.
+fn size_text(alloc: Global, solid: &Solid, decimals: u8) -> Result<String, AllocError>
+    requires { decimals ≤ 6 }
+    ensures { IfOk result (λ text. string_bytes text ≡ size_text (solid_part solid.now) decimals) }
+{
+    let x = length_along(alloc, solid, decimals, Axis::X)?;
+    let y = length_along(alloc, solid, decimals, Axis::Y)?;
+    let z = length_along(alloc, solid, decimals, Axis::Z)?;
+    format!(in alloc; " part {x} by {y} by {z} mm")
+}
+
+/// The first line, of a drawing and its page.
+fn first_line(
+    alloc: Global,
+    drawing: &Drawing,
+    fitted: bool,
+    page: &Page,
+) -> Result<String, OutOfMemory>
+    ensures { IfOk result (λ text. string_bytes text ≡ first_line drawing.now fitted page.now) }
+{
+    let (solid, job, sheet) = (&drawing.solid, &drawing.job, &drawing.sheet);
+    let mut text = sheet_text(alloc, job.paper, &sheet.scale, sheet.places.len())?;
+    text.push_str(&paths_text(alloc, &page.items)?)?;
+    text.push_str(&fitted_text(alloc, fitted, job.decimals)?)?;
+    text.push_str(&size_text(alloc, solid, job.decimals)?)?;
+    text.push_str("\n")?;
+    Ok(text)
+}
+
+/// What is said of a drawing, its page, and what tells its cuts. `fitted` says that the number of decimals was left to the program, and
+/// `in_units` that the job says the places of its cuts in units. It goes over the corners three times, and once for each cut.
+pub fn summary_of(
+    alloc: Global,
+    drawing: &Drawing,
+    fitted: bool,
+    in_units: bool,
+    page: &Page,
+    marks: &[ViewMarks],
+) -> Result<String, OutOfMemory>
+    ensures { IfOk result (λ text. string_bytes text ≡ summary_of drawing.now fitted in_units page.now marks.now) }
+{
+    let mut text = first_line(alloc, drawing, fitted, page)?;
+    text.push_str(&cut_lines(alloc, drawing, in_units, marks)?)?;
+    text.push_str(&notes(alloc, marks)?)?;
+    Ok(text)
+}
