@@ -1,2 +1,3 @@
+pub mod Chords
 pub mod Hatching
 pub mod inner

@@ -10,7 +10,9 @@ mod filling;
 mod lines;
 mod meetings;
 mod numbers;
+mod pairing;
 mod places;
 mod stretches;
 
 pub use filling::hatch;
+pub use pairing::chords;

@@ -1,0 +1,9 @@
+pub mod Lists
+pub mod LoopPlaces
+pub mod Nested
+pub mod Squares
+pub mod Marks
+pub mod Scaled
+pub mod Filled
+pub mod Chosen
+pub mod StrokeLooks
