@@ -1,6 +1,7 @@
 -- The ends at a place, as one more stroke is noted.
-use Rattle.std.proofs.Common.{◌≡◌, ◌≢◌, ◌⊎◌, inl, inr, ℕ, ◌+◌, ◌&&◌, Bool, true, false, cond, List, [], Option, None, Some, length, slice_get, Result, refl, sym, ap, subst, ◌∙◌, arith, nat_eq}
+use Rattle.std.proofs.Common.{◌≡◌, ◌≢◌, ◌⊎◌, inl, inr, ℕ, zero, suc, ◌+◌, ◌&&◌, ◌++◌, Bool, true, false, cond, List, [], ◌∷◌, Some, length, slice_get, Result, Vec, Global, refl, sym, ap, subst, ◌∙◌, arith, nat_eq}
 use Rattle.std.specs.Bool.{Decides}
+use Rattle.std.specs.Option.{option_map_or}
 use Rattle.std.specs.Ordering.{int_eq}
 use Rattle.std.proofs.lemmas.Bool.{cases_eq, false≢true}
 use Rattle.std.proofs.lemmas.Bool.Decides.{Decides-and, Decides-int_eq, Decides-eqb, Decides-like}
@@ -13,15 +14,13 @@ use Rattle.sheet_plan.proofs.OneKinds.{mark_of_pen}
 use Rattle.sheet_plan.specs.declared.sheet.Mark.{Mark}
 use Rattle.sheet_plan.specs.declared.sheet.Mark.TheVariants.{Hatch}
 use Rattle.sheet_plan.specs.declared.sheet.Stroke.{Stroke}
-use Rattle.stroke_paths.specs.declared.corners.Corner.{Corner}
-use Rattle.stroke_paths.specs.declared.corners.Corner.TheVariants.{One, Two, More}
 use Rattle.stroke_paths.specs.declared.corners.StrokePlace.{StrokePlace}
 use Rattle.stroke_paths.specs.declared.path.End.{End}
 use Rattle.stroke_paths.specs.declared.path.Point.{Point}
 use Rattle.stroke_paths.specs.declared.path.Tip.{Tip}
 use Rattle.stroke_paths.specs.declared.path.Tip.TheVariants.{First, Second}
 use Rattle.stroke_paths.specs.Joints.{IsDot, point_of}
-use Rattle.stroke_paths.specs.inner.Corners.{place_for, place_of, same_place, with_end, Tells, EndsBelow, AreCorners, IsNoted}
+use Rattle.stroke_paths.specs.inner.Corners.{place_for, place_of, same_place, IsListed, AreEnds, EndsBelow, ends_in, AreCorners, IsNoted}
 use Rattle.stroke_paths.specs.inner.Tables.{MayJoin}
 
 -- ---- places
@@ -56,40 +55,47 @@ at_of_same s b view mark p h =
 same_of_at : (s : Stroke) (b : Tip) (view : ℕ) (mark : Mark) (p : Point) → IsAt s b view mark p → same_place (place_of b s) (place_for view mark p) ≡ true
 same_of_at s b view mark p h = (decides_same (place_of b s) (place_for view mark p)).1 (λ i. place_for (h.view_is i) (h.mark_is i) (h.at i))
 
+-- ---- one more end that is listed
+listed_later : (x : End) (xs : List End) (g : End) → IsListed xs g → IsListed (x ∷ xs) g
+listed_later x xs g (k, h) = (suc k, h)
+
+pub none_listed : (g : End) → IsListed [] g → ⊥
+none_listed g (k, h) = cc
+
+listed_before : (xs : List End) (e g : End) → IsListed xs g → IsListed (xs ++ e ∷ []) g
+listed_before [] e g (k, h) = absurd (none_listed g (k, h))
+listed_before (x ∷ xs) e g (zero, h) = (zero, h)
+listed_before (x ∷ xs) e g (suc k, h) = listed_later x (xs ++ e ∷ []) g (listed_before xs e g (k, h))
+
+listed_last : (xs : List End) (e : End) → IsListed (xs ++ e ∷ []) e
+listed_last [] e = (zero, refl)
+listed_last (x ∷ xs) e = listed_later x (xs ++ e ∷ []) e (listed_last xs e)
+
+listed_parts : (xs : List End) (e g : End) → IsListed (xs ++ e ∷ []) g → IsListed xs g ⊎ (g ≡ e)
+listed_parts [] e g (zero, h) = inr (sym (same_Some e g h))
+listed_parts [] e g (suc k, h) = absurd (none_listed g (k, h))
+listed_parts (x ∷ xs) e g (zero, h) = inl (zero, h)
+listed_parts (x ∷ xs) e g (suc k, h) = by (listed_parts xs e g (k, h))
+  where
+    by : IsListed xs g ⊎ (g ≡ e) → IsListed (x ∷ xs) g ⊎ (g ≡ e)
+    by (inl l) = inl (listed_later x xs g l)
+    by (inr q) = inr q
+
 -- ---- one more end that counts, or none
 module _ (P Q : End → Type 0) (more : (g : End) → P g → Q g) where
-  pub tells_same : ((g : End) → Q g → P g) → (o : Option Corner) → Tells P o → Tells Q o
-  tells_same back None h = λ g k. h g (back g k)
-  tells_same back (Some (One e)) h = record { counts = more e h.counts; only = λ g k. h.only g (back g k) }
-  tells_same back (Some (Two e f)) h = record { first = more e h.first; second = more f h.second; two = h.two; only = λ g k. h.only g (back g k) }
-  tells_same back (Some More) h =
-      record { e = h.e; f = h.f; g = h.g; first = more h.e h.first; second = more h.f h.second; third = more h.g h.third; two = h.two; others = h.others }
+  ends_same : ((g : End) → Q g → P g) → (xs : List End) → AreEnds P xs → AreEnds Q xs
+  ends_same back xs h = record { each = λ g l. more g (h.each g l); all = λ g q. h.all g (back g q) }
 
-  pub tells_more : (e : End) → Q e → ((g : End) → P g → g.stroke ≢ e.stroke) → ((g : End) → Q g → P g ⊎ (g ≡ e)) → (o : Option Corner) → Tells P o → Tells Q (Some (with_end o e))
-  tells_more e here new back None h = record { counts = here; only = λ g k. by g (back g k) }
+  ends_more : (e : End) → Q e → ((g : End) → Q g → P g ⊎ (g ≡ e)) → (xs : List End) → AreEnds P xs → AreEnds Q (xs ++ e ∷ [])
+  ends_more e here back xs h = record { each = λ g l. counted g (listed_parts xs e g l); all = λ g q. listed g (back g q) }
     where
-      by : (g : End) → P g ⊎ (g ≡ e) → g ≡ e
-      by g (inl k) = absurd (h g k)
-      by g (inr k) = k
-  tells_more e here new back (Some (One f)) h =
-      record { first = more f h.counts; second = here; two = new f h.counts; only = λ g k. by g (back g k) }
-    where
-      by : (g : End) → P g ⊎ (g ≡ e) → (g ≡ f) ⊎ (g ≡ e)
-      by g (inl k) = inl (h.only g k)
-      by g (inr k) = inr k
-  tells_more e here new back (Some (Two f g)) h =
-      record {
-        e = f;
-        f = g;
-        g = e;
-        first = more f h.first;
-        second = more g h.second;
-        third = here;
-        two = h.two;
-        others = (new f h.first, new g h.second);
-      }
-  tells_more e here new back (Some More) h =
-      record { e = h.e; f = h.f; g = h.g; first = more h.e h.first; second = more h.f h.second; third = more h.g h.third; two = h.two; others = h.others }
+      counted : (g : End) → IsListed xs g ⊎ (g ≡ e) → Q g
+      counted g (inl l) = more g (h.each g l)
+      counted g (inr same) = subst Q (sym same) here
+
+      listed : (g : End) → P g ⊎ (g ≡ e) → IsListed (xs ++ e ∷ []) g
+      listed g (inl q) = listed_before xs e g (h.all g q)
+      listed g (inr same) = subst (IsListed (xs ++ e ∷ [])) (sym same) (listed_last xs e)
 
 -- ---- one more stroke
 module _ (strokes : List Stroke) (i : ℕ) (s : Stroke) (listed : slice_get strokes i ≡ Some s) where
@@ -130,11 +136,11 @@ module _ (strokes : List Stroke) (i : ℕ) (s : Stroke) (listed : slice_get stro
   dot_of : (view : ℕ) (mark : Mark) (p : Point) → IsAt s First view mark p → IsAt s Second view mark p → IsDot s
   dot_of view mark p h k = h.at ∙ sym k.at
 
-  module _ {S : Type 0} (old : IndexMap StrokePlace Corner S) (so_far : AreCorners strokes i old) where
+  module _ {S : Type 0} (old : IndexMap StrokePlace (Vec End Global) S) (so_far : AreCorners strokes i old) where
     -- a stroke that may not be joined leaves the table
     pub none_noted : (MayJoin s → ⊥) → AreCorners strokes (i + 1) old
     none_noted alone view mark p drawn =
-        tells_same (EndsBelow strokes i view mark p) (EndsBelow strokes (i + 1) view mark p) (below_more view mark p) back (get same_place old (place_for view mark p)) (so_far view mark p drawn)
+        ends_same (EndsBelow strokes i view mark p) (EndsBelow strokes (i + 1) view mark p) (below_more view mark p) back (ends_in old (place_for view mark p)) (so_far view mark p drawn)
       where
         back : (g : End) → EndsBelow strokes (i + 1) view mark p g → EndsBelow strokes i view mark p g
         back g h = by (below_parts view mark p g h)
@@ -144,7 +150,7 @@ module _ (strokes : List Stroke) (i : ℕ) (s : Stroke) (listed : slice_get stro
             by (inr k) = absurd (alone (record { no_dot = k.no_dot; no_hatch = λ e. drawn (sym k.at.mark_is ∙ e) }))
 
     -- one that may be is noted at its first end and at its second
-    module _ (no_dot : IsDot s → ⊥) (middle after : IndexMap StrokePlace Corner S) (first : IsNoted old middle (place_of First s) (record { stroke = i; tip = First }))
+    module _ (no_dot : IsDot s → ⊥) (middle after : IndexMap StrokePlace (Vec End Global) S) (first : IsNoted old middle (place_of First s) (record { stroke = i; tip = First }))
         (second : IsNoted middle after (place_of Second s) (record { stroke = i; tip = Second })) where
       module _ (view : ℕ) (mark : Mark) (p : Point) (drawn : mark ≢ Hatch) where
         abbrev Was : End → Type 0
@@ -156,14 +162,14 @@ module _ (strokes : List Stroke) (i : ℕ) (s : Stroke) (listed : slice_get stro
         abbrev q : StrokePlace
         q = place_for view mark p
 
-        told : (o : Option Corner) → o ≡ get same_place old q → Tells Was o
-        told o e = subst (Tells Was) (sym e) (so_far view mark p drawn)
+        told : (xs : List End) → xs ≡ ends_in old q → AreEnds Was xs
+        told xs e = subst (AreEnds Was) (sym e) (so_far view mark p drawn)
 
         -- the end b alone is here
-        one_here : (b : Tip) → IsAt s b view mark p → ((c : Tip) → IsAt s c view mark p → c ≡ b) → (o : Option Corner) → o ≡ get same_place old q
-            → Tells Is (Some (with_end o (record { stroke = i; tip = b })))
-        one_here b at only o e =
-            tells_more Was Is (below_more view mark p) (record { stroke = i; tip = b }) (end_here b view mark p no_dot at) (λ g h k. absurd (omega (arith, h.below, k))) back o (told o e)
+        one_here : (b : Tip) → IsAt s b view mark p → ((c : Tip) → IsAt s c view mark p → c ≡ b) → (xs : List End) → xs ≡ ends_in old q
+            → AreEnds Is (xs ++ record { stroke = i; tip = b } ∷ [])
+        one_here b at only xs e =
+            ends_more Was Is (below_more view mark p) (record { stroke = i; tip = b }) (end_here b view mark p no_dot at) back xs (told xs e)
           where
             back : (g : End) → Is g → Was g ⊎ (g ≡ record { stroke = i; tip = b })
             back g h = by (below_parts view mark p g h)
@@ -172,8 +178,8 @@ module _ (strokes : List Stroke) (i : ℕ) (s : Stroke) (listed : slice_get stro
                 by (inl k) = inl k
                 by (inr k) = inr (λ j. record { stroke = k.here j; tip = (only g.tip k.at) j })
 
-        none_here : ((c : Tip) → IsAt s c view mark p → ⊥) → Tells Is (get same_place old q)
-        none_here none = tells_same Was Is (below_more view mark p) back (get same_place old q) (so_far view mark p drawn)
+        none_here : ((c : Tip) → IsAt s c view mark p → ⊥) → AreEnds Is (ends_in old q)
+        none_here none = ends_same Was Is (below_more view mark p) back (ends_in old q) (so_far view mark p drawn)
           where
             back : (g : End) → Is g → Was g
             back g h = by (below_parts view mark p g h)
@@ -192,16 +198,16 @@ module _ (strokes : List Stroke) (i : ℕ) (s : Stroke) (listed : slice_get stro
             by true e = absurd (no_dot ((at_of_same s First s.view s.mark (point_of Second s) e).at))
             by false e = refl
 
-        at_place : (a b : Bool) → same_place (place_of First s) q ≡ a → same_place (place_of Second s) q ≡ b → Tells Is (get same_place after q)
+        at_place : (a b : Bool) → same_place (place_of First s) q ≡ a → same_place (place_of Second s) q ≡ b → AreEnds Is (ends_in after q)
         at_place a true h k =
             let here = at_of_same s Second view mark p k in
             let is : q ≡ place_of Second s = sym ((decides_same (place_of Second s) q).0 k) in
-            let before : get same_place middle (place_of Second s) ≡ get same_place old q =
-            first (place_of Second s) ∙ ap (λ c. cond c (Some (with_end (get same_place old (place_of First s)) (record { stroke = i; tip = First }))) (get same_place old (place_of Second s))) (other_differs k)
-            ∙ ap (get same_place old) (sym is) in
-            let now : get same_place after q ≡ Some (with_end (get same_place middle (place_of Second s)) (record { stroke = i; tip = Second })) =
-            second q ∙ ap (λ c. cond c (Some (with_end (get same_place middle (place_of Second s)) (record { stroke = i; tip = Second }))) (get same_place middle q)) k in
-            subst (Tells Is) (sym now) (one_here Second here only (get same_place middle (place_of Second s)) before)
+            let before : ends_in middle (place_of Second s) ≡ ends_in old q =
+            first (place_of Second s) ∙ ap (λ c. cond c (ends_in old (place_of First s) ++ record { stroke = i; tip = First } ∷ []) (ends_in old (place_of Second s))) (other_differs k)
+            ∙ ap (ends_in old) (sym is) in
+            let now : ends_in after q ≡ (ends_in middle (place_of Second s) ++ record { stroke = i; tip = Second } ∷ []) =
+            second q ∙ ap (λ c. cond c (ends_in middle (place_of Second s) ++ record { stroke = i; tip = Second } ∷ []) (ends_in middle q)) k in
+            subst (AreEnds Is) (sym now) (one_here Second here only (ends_in middle (place_of Second s)) before)
           where
             only : (c : Tip) → IsAt s c view mark p → c ≡ Second
             only Second h' = refl
@@ -209,19 +215,19 @@ module _ (strokes : List Stroke) (i : ℕ) (s : Stroke) (listed : slice_get stro
         at_place true false h k =
             let here = at_of_same s First view mark p h in
             let is : q ≡ place_of First s = sym ((decides_same (place_of First s) q).0 h) in
-            let now : get same_place after q ≡ Some (with_end (get same_place old (place_of First s)) (record { stroke = i; tip = First })) =
-            second q ∙ ap (λ c. cond c (Some (with_end (get same_place middle (place_of Second s)) (record { stroke = i; tip = Second }))) (get same_place middle q)) k
-            ∙ first q ∙ ap (λ c. cond c (Some (with_end (get same_place old (place_of First s)) (record { stroke = i; tip = First }))) (get same_place old q)) h in
-            subst (Tells Is) (sym now) (one_here First here only (get same_place old (place_of First s)) (ap (get same_place old) (sym is)))
+            let now : ends_in after q ≡ (ends_in old (place_of First s) ++ record { stroke = i; tip = First } ∷ []) =
+            second q ∙ ap (λ c. cond c (ends_in middle (place_of Second s) ++ record { stroke = i; tip = Second } ∷ []) (ends_in middle q)) k
+            ∙ first q ∙ ap (λ c. cond c (ends_in old (place_of First s) ++ record { stroke = i; tip = First } ∷ []) (ends_in old q)) h in
+            subst (AreEnds Is) (sym now) (one_here First here only (ends_in old (place_of First s)) (ap (ends_in old) (sym is)))
           where
             only : (c : Tip) → IsAt s c view mark p → c ≡ First
             only Second h' = absurd (not_at Second k h')
             only First h' = refl
         at_place false false h k =
-            let now : get same_place after q ≡ get same_place old q =
-            second q ∙ ap (λ c. cond c (Some (with_end (get same_place middle (place_of Second s)) (record { stroke = i; tip = Second }))) (get same_place middle q)) k
-            ∙ first q ∙ ap (λ c. cond c (Some (with_end (get same_place old (place_of First s)) (record { stroke = i; tip = First }))) (get same_place old q)) h in
-            subst (Tells Is) (sym now) (none_here none)
+            let now : ends_in after q ≡ ends_in old q =
+            second q ∙ ap (λ c. cond c (ends_in middle (place_of Second s) ++ record { stroke = i; tip = Second } ∷ []) (ends_in middle q)) k
+            ∙ first q ∙ ap (λ c. cond c (ends_in old (place_of First s) ++ record { stroke = i; tip = First } ∷ []) (ends_in old q)) h in
+            subst (AreEnds Is) (sym now) (none_here none)
           where
             none : (c : Tip) → IsAt s c view mark p → ⊥
             none Second = not_at Second k
@@ -231,7 +237,7 @@ module _ (strokes : List Stroke) (i : ℕ) (s : Stroke) (listed : slice_get stro
       both_noted view mark p drawn = at_place view mark p drawn (same_place (place_of First s) (place_for view mark p)) (same_place (place_of Second s) (place_for view mark p)) refl refl
 
 -- the same, by what the two calls say
-pub both_noted_by : {S : Type 0} (strokes : List Stroke) (i : ℕ) (s : Stroke) → slice_get strokes i ≡ Some s → (old : IndexMap StrokePlace Corner S) → AreCorners strokes i old → MayJoin s → (middle after : IndexMap StrokePlace Corner S)
+pub both_noted_by : {S : Type 0} (strokes : List Stroke) (i : ℕ) (s : Stroke) → slice_get strokes i ≡ Some s → (old : IndexMap StrokePlace (Vec End Global) S) → AreCorners strokes i old → MayJoin s → (middle after : IndexMap StrokePlace (Vec End Global) S)
     (p q : StrokePlace) → p ≡ place_of First s → q ≡ place_of Second s → IsNoted old middle p (record { stroke = i; tip = First })
     → {E : Type 0} (r : Result (Unit {0}) E) → OnOk r (IsNoted middle after q (record { stroke = i; tip = Second })) → OnOk r (AreCorners strokes (i + 1) after)
 both_noted_by strokes i s listed old so_far may middle after p q p_is q_is first r second =
@@ -240,9 +246,19 @@ both_noted_by strokes i s listed old so_far may middle after p q p_is q_is first
     both_noted strokes i s listed old so_far may.no_dot middle after (subst (λ (x : StrokePlace). IsNoted old middle x (record { stroke = i; tip = First })) p_is first)
     (subst (λ (x : StrokePlace). IsNoted middle after x (record { stroke = i; tip = Second })) q_is k)) second
 
-pub no_corners : {S : Type 0} (strokes : List Stroke) (corners : IndexMap StrokePlace Corner S) → corners.entries ≡ [] → AreCorners strokes 0 corners
+pub no_corners : {S : Type 0} (strokes : List Stroke) (corners : IndexMap StrokePlace (Vec End Global) S) → corners.entries ≡ [] → AreCorners strokes 0 corners
 no_corners strokes corners empty view mark p drawn =
-    subst (λ (es : List (StrokePlace × Corner)). Tells (EndsBelow strokes 0 view mark p) (lookup (same_place (place_for view mark p)) es)) (sym empty) (λ e h. absurd (omega (arith, h.below)))
+    subst (λ (es : List (StrokePlace × Vec End Global)). AreEnds (EndsBelow strokes 0 view mark p) (option_map_or (λ ends. ends.items) (lookup (same_place (place_for view mark p)) es) [])) (sym empty)
+    (record { each = λ e l. absurd (none_listed e l); all = λ e h. absurd (omega (arith, h.below)) })
 
-pub all_corners : {S : Type 0} (strokes : List Stroke) (i : ℕ) (corners : IndexMap StrokePlace Corner S) → i ≡ length strokes → AreCorners strokes i corners → AreCorners strokes (length strokes) corners
+pub all_corners : {S : Type 0} (strokes : List Stroke) (i : ℕ) (corners : IndexMap StrokePlace (Vec End Global) S) → i ≡ length strokes → AreCorners strokes i corners → AreCorners strokes (length strokes) corners
 all_corners strokes i corners e h = subst (λ (n : ℕ). AreCorners strokes n corners) e h
+
+-- one more end at a place, by what a write of the place's ends says
+pub noted_by : {S : Type 0} (old new : IndexMap StrokePlace (Vec End Global) S) (p : StrokePlace) (e : End) (ends : Vec End Global) → ((q : StrokePlace) → get same_place new q ≡ cond (same_place p q) (Some ends) (get same_place old q))
+    → ends.items ≡ ends_in old p ++ e ∷ [] → IsNoted old new p e
+noted_by old new p e ends written more q = ap (λ o. option_map_or (λ (v : Vec End Global). v.items) o []) (written q) ∙ by (same_place p q)
+  where
+    by : (b : Bool) → option_map_or (λ (v : Vec End Global). v.items) (cond b (Some ends) (get same_place old q)) [] ≡ cond b (ends_in old p ++ e ∷ []) (ends_in old q)
+    by true = more
+    by false = refl

@@ -1,20 +1,30 @@
 -- What the ends at a place say of which are joined.
-use Rattle.std.proofs.Common.{◌≡◌, ◌≢◌, ◌⊎◌, inl, inr, ℕ, ◌<◌, Bool, true, false, cond, List, Option, None, Some, length, slice_get, nat_eq, refl, sym, ap, subst, ◌∙◌}
-use Rattle.std.proofs.lemmas.Bool.{eqb-true, eqb-false}
+use Rattle.std.proofs.Common.{◌≡◌, inl, inr, ℕ, true, false, is_some, List, [], Option, None, Some, length, slice_get, Vec, Global, refl, sym, ap, subst, ◌∙◌}
+use Rattle.std.specs.Option.{option_map_or}
 use Rattle.std.proofs.lemmas.Option.{same_Some, slice_get_within}
-use Rattle.indexmap.specs.IndexMap.{IndexMap, get}
+use Rattle.indexmap.specs.IndexMap.{IndexMap, get, values}
 use Rattle.sheet_plan.specs.declared.sheet.Mark.{Mark}
 use Rattle.sheet_plan.specs.declared.sheet.Stroke.{Stroke}
-use Rattle.stroke_paths.specs.declared.corners.Corner.{Corner}
-use Rattle.stroke_paths.specs.declared.corners.Corner.TheVariants.{One, Two, More}
 use Rattle.stroke_paths.specs.declared.corners.StrokePlace.{StrokePlace}
+use Rattle.stroke_paths.specs.declared.pairs.Pair.{Pair}
 use Rattle.stroke_paths.specs.declared.path.End.{End}
 use Rattle.stroke_paths.specs.declared.path.Point.{Point}
-use Rattle.stroke_paths.specs.declared.path.Tip.{Tip}
-use Rattle.stroke_paths.specs.Joints.{point_of, IsDot, EndsAt, FitsSheet, GoesOn, AreJoined}
+use Rattle.stroke_paths.specs.Joints.{point_of, IsDot, EndsAt, AreSame, AreJoined}
 use Rattle.stroke_paths.specs.Routes.{IsLoose}
-use Rattle.stroke_paths.specs.inner.Corners.{other_end, place_of, same_place, AreOnly, Tells, EndsBelow, AreCorners}
+use Rattle.stroke_paths.specs.inner.Corners.{place_of, same_place, IsListed, AreEnds, EndsBelow, ends_in, AreCorners}
+use Rattle.stroke_paths.specs.inner.Pairs.{TurnsLeast, IsOther, ArePairs}
 use Rattle.stroke_paths.specs.inner.Tables.{MayJoin, IsJoint}
+use Rattle.stroke_paths.proofs.CornerLemmas.{none_listed}
+use Rattle.stroke_paths.proofs.PairLemmas.{least_same, least_one}
+
+-- ---- options
+some_of : {X : Type 0} (o : Option X) → true ≡ is_some o → (x : X) × (o ≡ Some x)
+some_of None h = absurd cc
+some_of (Some x) h = (x, refl)
+
+none_of : {X : Type 0} (o : Option X) → false ≡ is_some o → o ≡ None
+none_of None h = refl
+none_of (Some x) h = absurd cc
 
 -- ---- one stroke at a place
 same_stroke : (strokes : List Stroke) (i : ℕ) (s t : Stroke) → slice_get strokes i ≡ Some s → slice_get strokes i ≡ Some t → s ≡ t
@@ -33,48 +43,6 @@ moved strokes view mark p e f s h listed k =
       mark_is = k.mark_is ∙ sym h.mark_is ∙ ap (λ (t : Stroke). t.mark) same;
       at = k.at ∙ sym h.at ∙ ap (point_of e.tip) same;
     }
-
--- ---- what a corner says of an end that is there
-swap_only : (Counts : End → Type 0) (e f : End) → AreOnly Counts e f → AreOnly Counts f e
-swap_only Counts e f h = record { first = h.second; second = h.first; two = λ q. h.two (sym q); only = λ g k. by (h.only g k) }
-  where
-    by : {A B : Type 0} → A ⊎ B → B ⊎ A
-    by (inl a) = inr a
-    by (inr b) = inl b
-
--- the other end is one of the two that are there
-pub other_found : (Counts : End → Type 0) (o : Option Corner) (e f : End) → Tells Counts o → Counts e → other_end o e.stroke ≡ Some f → AreOnly Counts e f
-other_found Counts None e f h here is = absurd (cc)
-other_found Counts (Some (One x)) e f h here is = absurd (cc)
-other_found Counts (Some More) e f h here is = absurd (cc)
-other_found Counts (Some (Two x y)) e f h here is = by (nat_eq x.stroke e.stroke) refl is (h.only e here)
-  where
-    by : (b : Bool) → nat_eq x.stroke e.stroke ≡ b → cond b (Some y) (Some x) ≡ Some f → (e ≡ x) ⊎ (e ≡ y) → AreOnly Counts e f
-    by true q r (inl k) = subst (λ (z : End). AreOnly Counts z f) (sym k) (subst (λ (z : End). AreOnly Counts x z) (same_Some y f r) h)
-    by true q r (inr k) = absurd (h.two (eqb-true x.stroke e.stroke q ∙ ap (λ (z : End). z.stroke) k))
-    by false q r (inl k) = absurd (eqb-false x.stroke e.stroke q (ap (λ (z : End). z.stroke) (sym k)))
-    by false q r (inr k) =
-        subst (λ (z : End). AreOnly Counts z f) (sym k) (subst (λ (z : End). AreOnly Counts y z) (same_Some x f r) (swap_only Counts x y h))
-
--- there are no two where no other end is found
-pub none_found : (Counts : End → Type 0) (o : Option Corner) (e f : End) → Tells Counts o → Counts e → Counts f → e.stroke ≢ f.stroke
-    → ((g : End) → Counts g → (g.stroke ≡ e.stroke) ⊎ (g.stroke ≡ f.stroke)) → other_end o e.stroke ≡ None → ⊥
-none_found Counts None e f h here there two no_third is = h e here
-none_found Counts (Some (One x)) e f h here there two no_third is = two (ap (λ (z : End). z.stroke) (h.only e here ∙ sym (h.only f there)))
-none_found Counts (Some (Two x y)) e f h here there two no_third is = by (nat_eq x.stroke e.stroke) is
-  where
-    by : (b : Bool) → cond b (Some y) (Some x) ≡ None → ⊥
-    by true q = cc
-    by false q = cc
-none_found Counts (Some More) e f h here there two no_third is = by (no_third h.e h.first) (no_third h.f h.second) (no_third h.g h.third)
-  where
-    by : (h.e.stroke ≡ e.stroke) ⊎ (h.e.stroke ≡ f.stroke) → (h.f.stroke ≡ e.stroke) ⊎ (h.f.stroke ≡ f.stroke) → (h.g.stroke ≡ e.stroke) ⊎ (h.g.stroke ≡ f.stroke) → ⊥
-    by (inl a) (inl b) c = h.two (a ∙ sym b)
-    by (inr a) (inr b) c = h.two (a ∙ sym b)
-    by (inl a) (inr b) (inl c) = h.others.0 (a ∙ sym c)
-    by (inl a) (inr b) (inr c) = h.others.1 (b ∙ sym c)
-    by (inr a) (inl b) (inl c) = h.others.1 (b ∙ sym c)
-    by (inr a) (inl b) (inr c) = h.others.0 (a ∙ sym c)
 
 -- ---- what is told of an end of a stroke
 module _ (strokes : List Stroke) (e : End) (s : Stroke) (listed : slice_get strokes e.stroke ≡ Some s) where
@@ -105,90 +73,81 @@ module _ (strokes : List Stroke) (e : End) (s : Stroke) (listed : slice_get stro
   pub loose_alone : (MayJoin s → ⊥) → IsLoose strokes e
   loose_alone alone f h = alone (record { no_dot = no_dot_of f h; no_hatch = λ q. h.no_hatch (sym h.first.mark_is ∙ ap (λ (t : Stroke). t.mark) (first_is f h) ∙ q) })
 
-  -- the ends at a place tell that an end is loose
-  pub loose_without : (o : Option Corner) → Tells Counts o → other_end o e.stroke ≡ None → IsLoose strokes e
-  loose_without o told none f h =
-      none_found Counts o e f told (counts_self (no_dot_of f h)) (counts_other f h) h.two no_third none
-    where
-      no_third : (g : End) → Counts g → (g.stroke ≡ e.stroke) ⊎ (g.stroke ≡ f.stroke)
-      no_third g k =
-          h.no_third g
-          (record {
-            stroke = k.ends.stroke;
-            listed = k.ends.listed;
-            no_dot = k.ends.no_dot;
-            view_is = k.ends.view_is ∙ ap (λ (t : Stroke). t.view) (sym (first_is f h)) ∙ h.first.view_is;
-            mark_is = k.ends.mark_is ∙ ap (λ (t : Stroke). t.mark) (sym (first_is f h)) ∙ h.first.mark_is;
-            at = k.ends.at ∙ ap (point_of e.tip) (sym (first_is f h)) ∙ h.first.at;
-          })
+  module _ (ends : List End) (told : AreEnds Counts ends) where
+    -- what is joined to this end turns least, of the ends at its place
+    joined_least : (f : End) → AreJoined strokes e f → TurnsLeast strokes ends e f
+    joined_least f h =
+        record {
+          first_listed = told.all e (counts_self (no_dot_of f h));
+          second_listed = told.all f (counts_other f h);
+          goes_on = h.goes_on;
+          least = λ g k g_listed k_listed other. h.least g k (there g g_listed) (there k k_listed) other;
+        }
+      where
+        there : (g : End) → IsListed ends g → EndsAt strokes h.view h.mark h.point g
+        there g listed_too =
+            let k = (told.each g listed_too).ends in
+            record {
+              stroke = k.stroke;
+              listed = k.listed;
+              no_dot = k.no_dot;
+              view_is = k.view_is ∙ ap (λ (t : Stroke). t.view) (sym (first_is f h)) ∙ h.first.view_is;
+              mark_is = k.mark_is ∙ ap (λ (t : Stroke). t.mark) (sym (first_is f h)) ∙ h.first.mark_is;
+              at = k.at ∙ ap (point_of e.tip) (sym (first_is f h)) ∙ h.first.at;
+            }
 
-  module _ (o : Option Corner) (told : Tells Counts o) (may : MayJoin s) (f : End) (t : Stroke) (other_listed : slice_get strokes f.stroke ≡ Some t) (found : other_end o e.stroke ≡ Some f) where
-    both : AreOnly Counts e f
-    both = other_found Counts o e f told (counts_self may.no_dot) found
-
-    other_is : both.second.ends.stroke ≡ t
-    other_is = same_stroke strokes f.stroke both.second.ends.stroke t both.second.ends.listed other_listed
-
-    pub joined_by : FitsSheet s × FitsSheet t × GoesOn e.tip s f.tip t → AreJoined strokes e f
-    joined_by (fits, other_fits, turns) =
+    -- and what turns least is joined
+    least_joined : MayJoin s → (f : End) → TurnsLeast strokes ends e f → AreJoined strokes e f
+    least_joined may f t =
         record {
           view = s.view;
           mark = s.mark;
           point = point_of e.tip s;
-          first = record { stroke = s; listed = listed; no_dot = may.no_dot; view_is = refl; mark_is = refl; at = refl };
-          second = record {
-            stroke = t;
-            listed = other_listed;
-            no_dot = subst (λ (x : Stroke). IsDot x → ⊥) other_is both.second.ends.no_dot;
-            view_is = ap (λ (x : Stroke). x.view) (sym other_is) ∙ both.second.ends.view_is;
-            mark_is = ap (λ (x : Stroke). x.mark) (sym other_is) ∙ both.second.ends.mark_is;
-            at = ap (point_of f.tip) (sym other_is) ∙ both.second.ends.at;
-          };
-          two = both.two;
-          no_third = λ g k. by g (both.only g (record { below = slice_get_within strokes g.stroke k.stroke k.listed; ends = k }));
+          first = (counts_self may.no_dot).ends;
+          second = (told.each f t.second_listed).ends;
           no_hatch = may.no_hatch;
-          first_fits = fits;
-          second_fits = other_fits;
-          turns = turns;
+          goes_on = t.goes_on;
+          least = λ g h at there other. t.least g h (listed_at g at) (listed_at h there) other;
         }
       where
-        by : (g : End) → (g ≡ e) ⊎ (g ≡ f) → (g.stroke ≡ e.stroke) ⊎ (g.stroke ≡ f.stroke)
-        by g (inl q) = inl (ap (λ (z : End). z.stroke) q)
-        by g (inr q) = inr (ap (λ (z : End). z.stroke) q)
+        listed_at : (g : End) → EndsAt strokes s.view s.mark (point_of e.tip s) g → IsListed ends g
+        listed_at g at = told.all g (record { below = slice_get_within strokes g.stroke at.stroke at.listed; ends = at })
 
-    pub loose_by : (FitsSheet s × FitsSheet t × GoesOn e.tip s f.tip t → ⊥) → IsLoose strokes e
-    loose_by sharp g h = by (both.only g (counts_other g h))
+    -- with no pair at its place an end is loose
+    pub loose_without : ((g h : End) → TurnsLeast strokes ends g h → ⊥) → IsLoose strokes e
+    loose_without none f h = none e f (joined_least f h)
+
+    -- with a pair it is joined to the other end of this, or is loose
+    pub joint_by : MayJoin s → (x : Pair) → TurnsLeast strokes ends x.first x.second → (found : Option End) → IsOther x e found → IsJoint strokes e found
+    joint_by may x least (Some f) same = least_joined may f (least_same strokes ends e f x.first x.second same least)
+    joint_by may x least None differs = λ f h. by f (least_one strokes ends e f x.first x.second (joined_least f h) least)
       where
-        by : (g ≡ e) ⊎ (g ≡ f) → ⊥
-        by (inl q) = h.two (ap (λ (z : End). z.stroke) (sym q))
-        by (inr q) =
-            let k : AreJoined strokes e f = subst (AreJoined strokes e) q h in
-            let first : k.first.stroke ≡ s = first_is f k in
-            let second : k.second.stroke ≡ t = same_stroke strokes f.stroke k.second.stroke t k.second.listed other_listed in
-            sharp (
-              subst FitsSheet first k.first_fits,
-              subst FitsSheet second k.second_fits,
-              subst (λ (x : Stroke). GoesOn e.tip x f.tip t) first (subst (λ (x : Stroke). GoesOn e.tip k.first.stroke f.tip x) second k.turns),
-            )
+        by : (f : End) → AreSame e f x.first x.second → ⊥
+        by f (inl (p, q)) = differs.0 (sym p)
+        by f (inr (p, q)) = differs.1 (sym q)
 
 -- ---- the same, by what the calls say
-module _ {S : Type 0} (strokes : List Stroke) (corners : IndexMap StrokePlace Corner S) (all : AreCorners strokes (length strokes) corners) (place : ℕ) (tip : Tip) (s : Stroke)
-    (listed : slice_get strokes place ≡ Some s) (may : MayJoin s) (q : StrokePlace) (is : q ≡ place_of tip s) where
-  abbrev here : End
-  here = record { stroke = place; tip = tip }
+module _ {S : Type 0} (strokes : List Stroke) (corners : IndexMap StrokePlace (Vec End Global) S) (all : AreCorners strokes (length strokes) corners) (pairs : List (Option Pair)) (table : ArePairs strokes corners pairs)
+    (e : End) (s : Stroke) (listed : slice_get strokes e.stroke ≡ Some s) (may : MayJoin s) (q : StrokePlace) (is : q ≡ place_of e.tip s) where
+  told_here : AreEnds (Counts strokes e s listed) (ends_in corners q)
+  told_here = subst (λ (x : StrokePlace). AreEnds (Counts strokes e s listed) (ends_in corners x)) (sym is) (all s.view s.mark (point_of e.tip s) may.no_hatch)
 
-  told_here : Tells (Counts strokes here s listed) (get same_place corners q)
-  told_here = subst (λ (x : StrokePlace). Tells (Counts strokes here s listed) (get same_place corners x)) (sym is) (all s.view s.mark (point_of tip s) may.no_hatch)
+  -- no stroke ends at the place
+  pub loose_nowhere : false ≡ is_some (get same_place corners q) → IsLoose strokes e
+  loose_nowhere none =
+      loose_without strokes e s listed (ends_in corners q) told_here
+      (λ g h t. none_listed g (subst (λ (xs : List End). IsListed xs g) (ap (λ (o : Option (Vec End Global)). option_map_or (λ ends. ends.items) o []) (none_of (get same_place corners q) none)) t.first_listed))
 
-  pub none_by_corner : (r : Option End) → r ≡ None → None ≡ other_end (get same_place corners q) place → IsJoint strokes here r
-  none_by_corner r none found = subst (IsJoint strokes here) (sym none) (loose_without strokes here s listed (get same_place corners q) told_here (sym found))
+  -- the place has a corner: its pair is the one that turns least
+  module _ (n : ℕ) (value : slice_get (values corners) n ≡ get same_place corners q) (found : true ≡ is_some (get same_place corners q)) where
+    there : (ends : Vec End Global) × (get same_place corners q ≡ Some ends)
+    there = some_of (get same_place corners q) found
 
-  pub other_listed : (f : End) → Some f ≡ other_end (get same_place corners q) place → f.stroke < length strokes
-  other_listed f found =
-      (other_found (Counts strokes here s listed) (get same_place corners q) here f told_here (counts_self strokes here s listed may.no_dot) (sym found)).second.below
+    told_ends : AreEnds (Counts strokes e s listed) there.0.items
+    told_ends = subst (AreEnds (Counts strokes e s listed)) (ap (λ (o : Option (Vec End Global)). option_map_or (λ ends. ends.items) o []) there.1) told_here
 
-  pub joined_by_corner : (f : End) (t : Stroke) → Some f ≡ other_end (get same_place corners q) place → slice_get strokes f.stroke ≡ Some t → FitsSheet s × FitsSheet t × GoesOn tip s f.tip t → AreJoined strokes here f
-  joined_by_corner f t found at goes = joined_by strokes here s listed (get same_place corners q) told_here may f t at (sym found) goes
+    pub loose_here : slice_get pairs n ≡ Some None → IsLoose strokes e
+    loose_here none = loose_without strokes e s listed there.0.items told_ends (table.each n there.0 None (value ∙ there.1) none)
 
-  pub loose_by_corner : (f : End) (t : Stroke) → Some f ≡ other_end (get same_place corners q) place → slice_get strokes f.stroke ≡ Some t → (FitsSheet s × FitsSheet t × GoesOn tip s f.tip t → ⊥) → IsLoose strokes here
-  loose_by_corner f t found at sharp = loose_by strokes here s listed (get same_place corners q) told_here may f t at (sym found) sharp
+    pub joint_here : (x : Pair) → slice_get pairs n ≡ Some (Some x) → (found : Option End) → IsOther x e found → IsJoint strokes e found
+    joint_here x is_pair = joint_by strokes e s listed there.0.items told_ends may x (table.each n there.0 (Some x) (value ∙ there.1) is_pair)

@@ -6,6 +6,7 @@ pub mod Members
 pub mod Neighbours
 pub mod Numbers
 pub mod OnePaths
+pub mod PairLemmas
 pub mod PathLemmas
 pub mod RouteLemmas
 pub mod RouteSteps

@@ -66,7 +66,7 @@ module _ (strokes : List Stroke) (joints : List Joint) (h : AreJoints strokes jo
   matched_of =
       record {
         back = λ e f q. back e f (joined_back strokes e f (joined_of e f q)) (partner joints f) refl;
-        two = λ e f q. (joined_of e f q).two;
+        two = λ e f q. (joined_of e f q).goes_on.two;
         within = λ e f q. within e f (joined_of e f q);
       }
     where

@@ -1,5 +1,5 @@
 -- The ends of strokes, and at which of them a path goes on from one stroke to another.
-use Rattle.std.specs.Prelude.{◌≡◌, ◌≢◌, ◌⊎◌, ◌≤◌, ℕ, ℤ, pos, ◌+ℤ◌, ◌-ℤ◌, ◌*ℤ◌, ◌≤ℤ◌, unsigned_abs, List, Some, slice_get}
+use Rattle.std.specs.Prelude.{◌≡◌, ◌≢◌, ◌⊎◌, ◌<◌, ◌≤◌, ◌*◌, ℕ, ℤ, pos, ◌+ℤ◌, ◌-ℤ◌, ◌*ℤ◌, ◌≤ℤ◌, unsigned_abs, List, Some, slice_get}
 use Rattle.sheet_plan.specs.declared.sheet.Mark.{Mark}
 use Rattle.sheet_plan.specs.declared.sheet.Mark.TheVariants.{Hatch}
 use Rattle.sheet_plan.specs.declared.sheet.Stroke.{Stroke}
@@ -7,6 +7,7 @@ use Rattle.stroke_paths.specs.declared.path.End.{End}
 use Rattle.stroke_paths.specs.declared.path.Point.{Point}
 use Rattle.stroke_paths.specs.declared.path.Tip.{Tip}
 use Rattle.stroke_paths.specs.declared.path.Tip.TheVariants.{First, Second}
+use Rattle.stroke_paths.specs.declared.turns.Turn.{Turn}
 
 -- the other end of a stroke
 abbrev pub other_tip : Tip → Tip
@@ -55,21 +56,47 @@ pub record FitsSheet (s : Stroke) : Type 0 where
 abbrev pub TurnsLittle : ℤ → ℤ → ℤ → ℤ → Type 0
 TurnsLittle a b c d = pos (unsigned_abs ((a *ℤ d) -ℤ (b *ℤ c))) ≤ℤ ((a *ℤ c) +ℤ (b *ℤ d))
 
+-- the turn from (a, b) to (c, d): the sizes of the cross product and of the dot product
+abbrev pub turn_along : ℤ → ℤ → ℤ → ℤ → Turn
+turn_along a b c d = record { aside = unsigned_abs ((a *ℤ d) -ℤ (b *ℤ c)); ahead = unsigned_abs ((a *ℤ c) +ℤ (b *ℤ d)) }
+
+-- the one turns less than the other, both by at most 45 degrees: there aside / ahead is the tangent of the angle
+abbrev pub TurnsLess : Turn → Turn → Type 0
+TurnsLess t u = t.aside * u.ahead < u.aside * t.ahead
+
 -- one comes to the end e of a stroke s and goes on from the end f of a stroke t
 abbrev pub GoesOn : Tip → Stroke → Tip → Stroke → Type 0
 GoesOn e s f t = TurnsLittle (across e s) (down e s) (across (other_tip f) t) (down (other_tip f) t)
 
--- a path goes on from one end to the other: they are ends of two strokes of one view and mark, at one point, where no third such stroke
--- ends, and it turns there by at most 45 degrees. Hatch lines and strokes that are longer than a sheet stay alone.
+abbrev pub turn_of : Tip → Stroke → Tip → Stroke → Turn
+turn_of e s f t = turn_along (across e s) (down e s) (across (other_tip f) t) (down (other_tip f) t)
+
+-- ends of two strokes, neither longer than a sheet: from one to the other it turns by at most 45 degrees
+pub record MayGoOn (strokes : List Stroke) (e f : End) : Type 0 where
+  pub first : Stroke
+  pub second : Stroke
+  pub first_listed : slice_get strokes e.stroke ≡ Some first
+  pub second_listed : slice_get strokes f.stroke ≡ Some second
+  pub two : e.stroke ≢ f.stroke
+  pub first_fits : FitsSheet first
+  pub second_fits : FitsSheet second
+  pub turns : GoesOn e.tip first f.tip second
+
+abbrev pub turn_at : {strokes : List Stroke} {e f : End} → MayGoOn strokes e f → Turn
+turn_at {e = e} {f = f} h = turn_of e.tip h.first f.tip h.second
+
+-- the ends g and h are the ends e and f
+abbrev pub AreSame : End → End → End → End → Type 0
+AreSame e f g h = ((g ≡ e) × (h ≡ f)) ⊎ ((g ≡ f) × (h ≡ e))
+
+-- a path goes on from one end to the other: they are ends of strokes of one view and mark, at one point, and it turns there by at most
+-- 45 degrees, and less than between any two other such ends there. Hatch lines and strokes that are longer than a sheet stay alone.
 pub record AreJoined (strokes : List Stroke) (e f : End) : Type 0 where
   pub view : ℕ
   pub mark : Mark
   pub point : Point
   pub first : EndsAt strokes view mark point e
   pub second : EndsAt strokes view mark point f
-  pub two : e.stroke ≢ f.stroke
-  pub no_third : (g : End) → EndsAt strokes view mark point g → (g.stroke ≡ e.stroke) ⊎ (g.stroke ≡ f.stroke)
   pub no_hatch : mark ≢ Hatch
-  pub first_fits : FitsSheet first.stroke
-  pub second_fits : FitsSheet second.stroke
-  pub turns : GoesOn e.tip first.stroke f.tip second.stroke
+  pub goes_on : MayGoOn strokes e f
+  pub least : (g h : End) → EndsAt strokes view mark point g → EndsAt strokes view mark point h → (other : MayGoOn strokes g h) → AreSame e f g h ⊎ TurnsLess (turn_at goes_on) (turn_at other)

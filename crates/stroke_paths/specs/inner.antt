@@ -1,4 +1,5 @@
 pub mod Corners
 pub mod Drawn
+pub mod Pairs
 pub mod Tables
 pub mod Walks

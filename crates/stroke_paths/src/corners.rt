@@ -1,8 +1,7 @@
 // The points of a sheet at which strokes end, and the ends there.
 ghost use Rattle.std.specs.Prelude.{◌≡◌, ◌↔◌, ◌+◌, ◌<◌, IsTrue, IfOk, OnOk, length};
-ghost use Rattle.indexmap.specs.IndexMap.{get};
 ghost use Rattle.stroke_paths.specs.Joints.{point_of, IsDot};
-ghost use Rattle.stroke_paths.specs.inner.Corners.{AreCorners, IsNoted, other_end, place_of, same_place, with_end};
+ghost use Rattle.stroke_paths.specs.inner.Corners.{AreCorners, IsNoted, place_of};
 ghost use Rattle.stroke_paths.specs.inner.Tables.{MayJoin};
 
 use crate::path::{End, Point, Tip};
@@ -19,31 +18,25 @@ pub(crate) struct StrokePlace {
     point: Point,
 }
 
-/// The ends of strokes at a place: one, two, or more than two.
-#[derive(Clone, Copy)]
-pub(crate) enum Corner {
-    One(End),
-    Two(End, End),
-    More,
-}
-
-/// The corners at all places where strokes end that may be joined. Each of their ends is hashed twice.
+/// The ends at all places where strokes end that may be joined, in the order of the strokes. Each end is hashed once, and once more
+/// where it is the first at its place.
 pub(crate) fn corners(
     alloc: Global,
     strokes: &[Stroke],
-) -> Result<IndexMap<StrokePlace, Corner>, OutOfMemory>
+) -> Result<IndexMap<StrokePlace, Vec<End>>, OutOfMemory>
     ensures { IfOk result (λ corners. AreCorners strokes.now (length strokes.now) corners) }
 {
     let mut corners = IndexMap::new(alloc);
     for i in 0..strokes.len() {
-        note_stroke(&mut corners, strokes, i)?;
+        note_stroke(alloc, &mut corners, strokes, i)?;
     }
     Ok(corners)
 }
 
 /// One more stroke, at the places of both its ends, if it may be joined.
 fn note_stroke(
-    corners: &mut IndexMap<StrokePlace, Corner>,
+    alloc: Global,
+    corners: &mut IndexMap<StrokePlace, Vec<End>>,
     strokes: &[Stroke],
     i: usize,
 ) -> Result<(), OutOfMemory>
@@ -63,52 +56,25 @@ fn note_stroke(
         stroke: i,
         tip: Tip::Second,
     };
-    note(corners, place_of(&stroke, Tip::First), first)?;
-    note(corners, place_of(&stroke, Tip::Second), second)
+    note(alloc, corners, place_of(&stroke, Tip::First), first)?;
+    note(alloc, corners, place_of(&stroke, Tip::Second), second)
 }
 
 /// One more end at a place.
 fn note(
-    corners: &mut IndexMap<StrokePlace, Corner>,
+    alloc: Global,
+    corners: &mut IndexMap<StrokePlace, Vec<End>>,
     place: StrokePlace,
     end: End,
 ) -> Result<(), OutOfMemory>
     ensures { OnOk result (IsNoted corners.old corners.new place end) }
 {
-    let corner = with_end(corners.get(&place).copied(), end);
-    corners.insert(place, corner)?;
+    if let Some(ends) = corners.get_mut(&place) {
+        ends.push(end)?;
+        return Ok(());
+    }
+    corners.insert(place, vec![in alloc; end]?)?;
     Ok(())
-}
-
-/// A corner with one more end.
-fn with_end(corner: Option<Corner>, end: End) -> Corner
-    ensures { result ≡ with_end corner end }
-{
-    match corner {
-        None => Corner::One(end),
-        Some(Corner::One(other)) => Corner::Two(other, end),
-        Some(_) => Corner::More,
-    }
-}
-
-/// The end at a place that isn't this stroke's, if there are two.
-pub(crate) fn other_end(
-    corners: &IndexMap<StrokePlace, Corner>,
-    place: StrokePlace,
-    stroke: usize,
-) -> Option<End>
-    ensures { result ≡ other_end (get same_place corners.now place) stroke }
-{
-    match corners.get(&place).copied() {
-        Some(Corner::Two(first, second)) => {
-            if first.stroke == stroke {
-                Some(second)
-            } else {
-                Some(first)
-            }
-        }
-        _ => None,
-    }
 }
 
 /// Where an end of a stroke is, and among which strokes.

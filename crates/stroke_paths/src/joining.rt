@@ -13,7 +13,8 @@ use sheet_plan::Stroke;
 use std::alloc::Global;
 
 /// The strokes, joined to paths, which stand in the order of their least strokes. A stroke that is one point of the sheet is in no
-/// path. Linear in the number of strokes: each of their ends is hashed three times, and each stroke is passed once.
+/// path. Each end of a stroke is hashed at most three times, and each stroke is passed once; where n of them end at one point, n²
+/// pairs of ends are compared.
 pub fn paths(alloc: Global, strokes: &[Stroke]) -> Result<Vec<Path>, OutOfMemory>
     ensures { IfOk result (λ paths. ArePaths strokes.now paths.items) }
 {

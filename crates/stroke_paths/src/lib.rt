@@ -7,6 +7,7 @@
 mod corners;
 mod joining;
 mod joint;
+mod pairs;
 mod path;
 mod turns;
 mod walking;

@@ -1,12 +1,21 @@
-// Where one goes on from a stroke to another without a corner.
+// How a path turns from one stroke to another.
 ghost use Rattle.std.specs.Prelude.{◌≡◌, ◌↔◌, ◌≤◌, ◌^◌, ◌+ℤ◌, ◌-ℤ◌, ◌*ℤ◌, IsTrue, unsigned_abs};
-ghost use Rattle.stroke_paths.specs.Joints.{FitsSheet, GoesOn, TurnsLittle, across, down};
+ghost use Rattle.stroke_paths.specs.Joints.{FitsSheet, GoesOn, TurnsLess, TurnsLittle, across, down, turn_along, turn_of};
+ghost use Rattle.stroke_paths.specs.inner.Pairs.{IsTurn};
 
 use crate::path::Tip;
 use sheet_plan::Stroke;
 
 /// The width of the widest sheet, in hundredths of a millimetre.
 const WIDEST: u64 = 118_900;
+
+/// A turn by at most 45 degrees: the cross product and the dot product of the ways before it and after it, by their sizes. So
+/// `aside / ahead` is the tangent of its angle.
+#[derive(Clone, Copy)]
+pub(crate) struct Turn {
+    aside: u64,
+    ahead: u64,
+}
 
 /// How far one goes to the right and down: no farther than the widest sheet, each way.
 #[derive(Clone, Copy)]
@@ -17,18 +26,26 @@ struct Way {
     ghost down_small: { unsigned_abs down ≤ 118900 },
 }
 
-/// One goes on from an end of a stroke to an end of another, which is at the same point, and turns there by at most 45 degrees.
-/// Both are no longer than the widest sheet.
-pub(crate) fn goes_on(stroke: &Stroke, at: Tip, next: &Stroke, to: Tip) -> bool
-    ensures { IsTrue result ↔ (FitsSheet stroke.now × FitsSheet next.now × GoesOn at stroke.now to next.now) }
+/// The turn of a path that comes to an end of a stroke and goes on from an end of another, which is at the same point. There is none
+/// where one of the two is longer than the widest sheet, or the path would turn by more than 45 degrees.
+pub(crate) fn turn_between(stroke: &Stroke, at: Tip, next: &Stroke, to: Tip) -> Option<Turn>
+    ensures { IsTurn (FitsSheet stroke.now × FitsSheet next.now × GoesOn at stroke.now to next.now) (turn_of at stroke.now to next.now) result }
 {
     if !fits_sheet(stroke) {
-        return false;
+        return None;
     }
     if !fits_sheet(next) {
-        return false;
+        return None;
     }
-    turns_little(way_to(stroke, at), way_to(next, to.other()))
+    turn_along(way_to(stroke, at), way_to(next, to.other()))
+}
+
+/// The angle of the one turn is less than that of the other.
+pub(crate) fn turns_less(first: Turn, second: Turn) -> bool
+    ensures { IsTrue result ↔ TurnsLess first second }
+{
+    u128::from(first.aside) * u128::from(second.ahead)
+        < u128::from(second.aside) * u128::from(first.ahead)
 }
 
 /// The stroke is no longer than the widest sheet, each way.
@@ -66,11 +83,20 @@ fn way_between(x1: i64, y1: i64, x2: i64, y2: i64) -> Way
     }
 }
 
-/// One goes one way and then the other, and turns by at most 45 degrees.
-fn turns_little(first: Way, second: Way) -> bool
-    ensures { IsTrue result ↔ TurnsLittle first.across first.down second.across second.down }
+/// The turn from one way to another, if it is at most 45 degrees.
+fn turn_along(first: Way, second: Way) -> Option<Turn>
+    ensures { IsTurn (TurnsLittle first.across first.down second.across second.down)
+        (turn_along first.across first.down second.across second.down) result }
 {
-    cross(first, second).abs() <= dot(first, second)
+    let aside = cross(first, second);
+    let ahead = dot(first, second);
+    if aside.abs() > ahead {
+        return None;
+    }
+    Some(Turn {
+        aside: aside.unsigned_abs(),
+        ahead: ahead.unsigned_abs(),
+    })
 }
 
 /// The cross product: positive where one turns to the right.

@@ -1,13 +1,13 @@
--- The ends at a place, as the table of corners tells them.
-use Rattle.std.specs.Prelude.{◌≡◌, ◌≢◌, ◌⊎◌, ◌<◌, ◌&&◌, ℕ, Bool, List, Option, None, Some, cond, nat_eq}
+-- The ends at a place, as the table of corners has them.
+use Rattle.std.specs.Prelude.{◌≡◌, ◌≢◌, ◌<◌, ◌&&◌, ◌++◌, [], ◌∷◌, ℕ, Bool, List, Some, Vec, cond, nat_eq, slice_get}
 use Rattle.std.specs.Ordering.{int_eq}
+use Rattle.std.specs.declared.alloc.Global.{Global}
+use Rattle.std.specs.Option.{option_map_or}
 use Rattle.indexmap.specs.IndexMap.{IndexMap, get}
 use Rattle.sheet_plan.specs.LineKinds.{pen_of}
 use Rattle.sheet_plan.specs.declared.sheet.Mark.{Mark}
 use Rattle.sheet_plan.specs.declared.sheet.Mark.TheVariants.{Hatch}
 use Rattle.sheet_plan.specs.declared.sheet.Stroke.{Stroke}
-use Rattle.stroke_paths.specs.declared.corners.Corner.{Corner}
-use Rattle.stroke_paths.specs.declared.corners.Corner.TheVariants.{One, Two, More}
 use Rattle.stroke_paths.specs.declared.corners.StrokePlace.{StrokePlace}
 use Rattle.stroke_paths.specs.declared.path.End.{End}
 use Rattle.stroke_paths.specs.declared.path.Point.{Point}
@@ -26,61 +26,30 @@ place_of tip s = place_for s.view s.mark (point_of tip s)
 abbrev pub same_place : StrokePlace → StrokePlace → Bool
 same_place p q = nat_eq p.view q.view && (nat_eq p.mark q.mark && (int_eq p.point.x q.point.x && int_eq p.point.y q.point.y))
 
--- the corner at a place once it has one more end
-abbrev pub with_end : Option Corner → End → Corner
-with_end None e = One e
-with_end (Some (One f)) e = Two f e
-with_end (Some (Two f g)) e = More
-with_end (Some More) e = More
+-- the end stands in this list of ends
+abbrev pub IsListed : List End → End → Type 0
+IsListed ends e = (k : ℕ) × (slice_get ends k ≡ Some e)
 
--- the end that isn't of the stroke at i, where there are two
-abbrev pub other_end : Option Corner → ℕ → Option End
-other_end None i = None
-other_end (Some (One e)) i = None
-other_end (Some (Two e f)) i = cond (nat_eq e.stroke i) (Some f) (Some e)
-other_end (Some More) i = None
-
--- of the ends that count there is just this one
-pub record IsOnly (Counts : End → Type 0) (e : End) : Type 0 where
-  pub counts : Counts e
-  pub only : (g : End) → Counts g → g ≡ e
-
--- there are just these two, of two strokes
-pub record AreOnly (Counts : End → Type 0) (e f : End) : Type 0 where
-  pub first : Counts e
-  pub second : Counts f
-  pub two : e.stroke ≢ f.stroke
-  pub only : (g : End) → Counts g → (g ≡ e) ⊎ (g ≡ f)
-
--- there are three, of three strokes
-pub record AreThree (Counts : End → Type 0) : Type 0 where
-  pub e : End
-  pub f : End
-  pub g : End
-  pub first : Counts e
-  pub second : Counts f
-  pub third : Counts g
-  pub two : e.stroke ≢ f.stroke
-  pub others : (e.stroke ≢ g.stroke) × (f.stroke ≢ g.stroke)
-
--- a corner tells which ends count
-abbrev pub Tells : (End → Type 0) → Option Corner → Type 0
-Tells Counts None = (e : End) → Counts e → ⊥
-Tells Counts (Some (One e)) = IsOnly Counts e
-Tells Counts (Some (Two e f)) = AreOnly Counts e f
-Tells Counts (Some More) = AreThree Counts
+-- just the ends that count are listed
+pub record AreEnds (Counts : End → Type 0) (ends : List End) : Type 0 where
+  pub each : (e : End) → IsListed ends e → Counts e
+  pub all : (e : End) → Counts e → IsListed ends e
 
 -- an end, at this point, of one of the strokes below i
 pub record EndsBelow (strokes : List Stroke) (i : ℕ) (view : ℕ) (mark : Mark) (p : Point) (e : End) : Type 0 where
   pub below : e.stroke < i
   pub ends : EndsAt strokes view mark p e
 
--- the table tells the ends of the strokes below i, at each point
-abbrev pub AreCorners : {S : Type 0} → List Stroke → ℕ → IndexMap StrokePlace Corner S → Type 0
+-- the ends that a table has at a place
+abbrev pub ends_in : {S : Type 0} → IndexMap StrokePlace (Vec End Global) S → StrokePlace → List End
+ends_in corners q = option_map_or (λ ends. ends.items) (get same_place corners q) []
+
+-- the table has the ends of the strokes below i, at each point
+abbrev pub AreCorners : {S : Type 0} → List Stroke → ℕ → IndexMap StrokePlace (Vec End Global) S → Type 0
 AreCorners strokes i corners =
-    (view : ℕ) (mark : Mark) (p : Point) → mark ≢ Hatch → Tells (EndsBelow strokes i view mark p) (get same_place corners (place_for view mark p))
+    (view : ℕ) (mark : Mark) (p : Point) → mark ≢ Hatch → AreEnds (EndsBelow strokes i view mark p) (ends_in corners (place_for view mark p))
 
 -- one more end is noted at a place
-abbrev pub IsNoted : {S : Type 0} → IndexMap StrokePlace Corner S → IndexMap StrokePlace Corner S → StrokePlace → End → Type 0
+abbrev pub IsNoted : {S : Type 0} → IndexMap StrokePlace (Vec End Global) S → IndexMap StrokePlace (Vec End Global) S → StrokePlace → End → Type 0
 IsNoted before after p e =
-    (q : StrokePlace) → get same_place after q ≡ cond (same_place p q) (Some (with_end (get same_place before p) e)) (get same_place before q)
+    (q : StrokePlace) → ends_in after q ≡ cond (same_place p q) (ends_in before p ++ e ∷ []) (ends_in before q)
