@@ -77,6 +77,7 @@ in_corner w h c is (item.Label l) inside = record {
   bottom = bottom_in h (c.y + c.height) l.size l.y is.bottom inside.bottom;
 }
 in_corner w h c is (item.Path path) inside = absurd inside
+in_corner w h c is (item.Fill fill) inside = absurd inside
 
 labels_in : (w h : ℤ) (cells : List Said) → AreInCells (corner_of w h) cells → All (IsInCorner w h) (flat_map (cell_items (corner_of w h)) cells)
 labels_in w h [] are = All-nil (IsInCorner w h)
@@ -93,6 +94,7 @@ one_keeps corner cells e at (item.Rule rule) inside = tt
 one_keeps corner cells e at (item.Circle circle) inside = tt
 one_keeps corner cells e at (item.Label l) inside = (e, at, inside)
 one_keeps corner cells e at (item.Path path) inside = tt
+one_keeps corner cells e at (item.Fill fill) inside = tt
 
 -- of some cells what the last ones say
 labels_keep : (corner : Point) (cells last : List Said) → ((e : Said) → Contains last e → Contains cells e) → AreInCells corner last
@@ -152,6 +154,7 @@ below_view sheet box (item.Rule rule) within h = (above box.bottom sheet.height 
 below_view sheet box (item.Circle c) within h = above box.bottom sheet.height (c.y -ℤ pos c.radius) within.bottom h.top
 below_view sheet box (item.Label label) within h = above box.bottom sheet.height (label.y -ℤ pos label.size) within.bottom h.top
 below_view sheet box (item.Path path) within h = absurd h
+below_view sheet box (item.Fill fill) within h = absurd h
 
 -- what is in the corner is below each view that is within the sheet's margins, by more than the 7 mm that the marks of cuts reach
 pub clear_of_views : (sheet : Sheet) (box : Box) (items : List Item) → IsWithinMargins sheet box → All (IsInCorner sheet.width sheet.height) items → All (IsBelow (box.bottom +ℤ pos 700)) items

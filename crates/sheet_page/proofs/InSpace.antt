@@ -38,6 +38,7 @@ in_cell corner c s is (item.Label l) inside = record {
   bottom = bottom_of corner.y l.y (c.y + c.height) s.y l.size s.most inside.y is.bottom inside.small;
 }
 in_cell corner c s is (item.Path path) inside = absurd inside
+in_cell corner c s is (item.Fill fill) inside = absurd inside
 
 -- so is what a cell says
 pub all_in_cell : (corner : Point) (c : Cell) (caption text : List ℕ) → IsCell c → All (IsInSpace corner c.caption) (text_in corner c.caption caption) → All (IsInSpace corner c.text) (text_in corner c.text text)

@@ -2,6 +2,7 @@ pub mod PdfFile
 pub mod PdfTexts
 pub mod Written
 pub mod FittedTexts
+pub mod FittedDashes
 pub mod LabelTexts
 pub mod InSpace
 pub mod AddedCells

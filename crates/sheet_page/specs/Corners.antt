@@ -27,13 +27,14 @@ pub record IsLabelWithin (x x_end y y_end : ℤ) (l : Label) : Type 0 where
   pub top : y ≤ℤ (l.y -ℤ pos l.size)
   pub bottom : pos l.size ≤ℤ (pos 4 *ℤ (y_end -ℤ l.y))
 
--- all that an item takes is in the corner; a block has no frame and no path
+-- all that an item takes is in the corner; a block has no frame, no path and no area
 abbrev pub IsInCorner : ℤ → ℤ → Item → Type 0
 IsInCorner width height (item.Frame frame) = ⊥
 IsInCorner width height (item.Rule rule) = IsPointInCorner width height rule.from × IsPointInCorner width height rule.to
 IsInCorner width height (item.Circle c) = IsWithinCorner width height (c.x -ℤ pos c.radius) (c.x +ℤ pos c.radius) (c.y -ℤ pos c.radius) (c.y +ℤ pos c.radius)
 IsInCorner width height (item.Label label) = IsLabelWithin (width -ℤ pos 19000) (width -ℤ pos 1000) (height -ℤ pos 3200) (height -ℤ pos 1000) label
 IsInCorner width height (item.Path path) = ⊥
+IsInCorner width height (item.Fill fill) = ⊥
 
 -- a text is in a cell of the block with this upper left corner
 abbrev pub IsLabelInCell : Point → Cell → Label → Type 0
@@ -46,6 +47,7 @@ IsInCell corner c (item.Rule rule) = ⊥
 IsInCell corner c (item.Circle circle) = ⊥
 IsInCell corner c (item.Label label) = IsLabelInCell corner c label
 IsInCell corner c (item.Path path) = ⊥
+IsInCell corner c (item.Fill fill) = ⊥
 
 -- if an item is a text, it is in one of these cells
 abbrev pub KeepsToCells : Point → List Said → Item → Type 0
@@ -54,6 +56,7 @@ KeepsToCells corner cells (item.Rule rule) = Unit {0}
 KeepsToCells corner cells (item.Circle circle) = Unit {0}
 KeepsToCells corner cells (item.Label label) = (e : Said) × Contains cells e × IsLabelInCell corner e.cell label
 KeepsToCells corner cells (item.Path path) = Unit {0}
+KeepsToCells corner cells (item.Fill fill) = Unit {0}
 
 -- all that an item takes is below this height
 abbrev pub IsBelow : ℤ → Item → Type 0
@@ -62,3 +65,4 @@ IsBelow level (item.Rule rule) = (level <ℤ rule.from.y) × (level <ℤ rule.to
 IsBelow level (item.Circle c) = level <ℤ (c.y -ℤ pos c.radius)
 IsBelow level (item.Label label) = level <ℤ (label.y -ℤ pos label.size)
 IsBelow level (item.Path path) = ⊥
+IsBelow level (item.Fill fill) = ⊥

@@ -1,8 +1,10 @@
 -- The dashes of a hidden path, fitted to its length so that a corner or an end shows a dash.
-use Rattle.std.specs.Prelude.{ℕ, ◌+◌, ◌-◌, ◌*◌, ◌/◌, ◌%◌, ◌^◌, min, max, nat_lt, if◌then◌else◌, ℤ, ◌-ℤ◌, unsigned_abs, Bool, true, false, List, [], ◌∷◌, Option, Some, None, codes}
+use Rattle.std.specs.Prelude.{ℕ, ◌+◌, ◌-◌, ◌*◌, ◌/◌, ◌%◌, ◌^◌, ◌<◌, ◌≤◌, min, max, nat_lt, if◌then◌else◌, ℤ, ◌-ℤ◌, unsigned_abs, Bool, true, false, List, [], ◌∷◌, Option, Some, None, codes}
 use Rattle.std.specs.Fmt.{decimal}
 use Rattle.sheet_plan.specs.Numbers.{root_of}
+use Rattle.sheet_page.specs.Pens.{narrow_of}
 use Rattle.sheet_page.specs.declared.dashes.Dashes.{Dashes}
+use Rattle.sheet_page.specs.declared.pens.Pens.{Pens}
 use Rattle.sheet_plan.specs.declared.sheet.Mark.{Mark}
 use Rattle.sheet_plan.specs.declared.sheet.Mark.TheVariants.{Dashed}
 use Rattle.stroke_paths.specs.declared.path.Point.{Point}
@@ -32,26 +34,41 @@ length_of closed [] = 0
 length_of false (p ∷ rest) = through p rest
 length_of true (p ∷ rest) = through (last_of p rest) (p ∷ rest)
 
--- how many dashes a path has: at least two, and as many as come nearest to dashes of 3 mm and gaps of 1.5 mm. An open one ends with a dash
-abbrev pub dashes_on : Bool → ℕ → ℕ
-dashes_on true length = max 2 ((length + 2250000) / 4500000)
-dashes_on false length = max 2 ((length + 3750000) / 4500000)
+-- how many dashes a path has: at least two, and as many as come nearest to dashes of 12 widths and gaps of 3, halves rounded up. A closed
+-- path is as long as dashes and gaps in turn; an open one ends with a dash, and is shorter by a gap. A width is in hundredths of a millimetre
+abbrev pub dashes_on : Pens → Bool → ℕ → ℕ
+dashes_on pens true length = max 2 ((length + 75000 * narrow_of pens) / (150000 * narrow_of pens))
+dashes_on pens false length = max 2 ((length + 105000 * narrow_of pens) / (150000 * narrow_of pens))
 
--- how many gaps are as long as the path: a dash is as long as two, and after the last dash of an open path there is none
-abbrev pub gaps_on : Bool → ℕ → ℕ
-gaps_on true length = 3 * dashes_on true length
-gaps_on false length = 3 * dashes_on false length - 1
+-- how many gaps are between n dashes
+abbrev pub gaps_between : Bool → ℕ → ℕ
+gaps_between true n = n
+gaps_between false n = n - 1
 
--- the dashes that fit a path of this length; one below 0.6 mm is drawn whole
-abbrev pub fitted : Bool → ℕ → Option Dashes
-fitted closed length =
-    if nat_lt length 600000 then None
-    else Some (record { dash = 2 * length / gaps_on closed length; gap = length / gaps_on closed length })
+-- how long a gap is: a quarter of a dash, cut off, and at least 0.5 mm
+abbrev pub gap_on : Bool → ℕ → ℕ → ℕ
+gap_on closed length n = max 500000 (length / (4 * n + gaps_between closed n))
+
+-- how long a dash is, cut off: the dashes share the rest
+abbrev pub dash_on : Bool → ℕ → ℕ → ℕ
+dash_on closed length n = (length - gaps_between closed n * gap_on closed length n) / n
+
+abbrev pub shared : Bool → ℕ → ℕ → Dashes
+shared closed length n = record { dash = dash_on closed length n; gap = gap_on closed length n }
+
+-- the dashes that fit a path of this length; one below 1.5 mm is drawn whole
+abbrev pub fitted : Pens → Bool → ℕ → Option Dashes
+fitted pens closed length = if nat_lt length 1500000 then None else Some (shared closed length (dashes_on pens closed length))
+
+-- n dashes and the gaps between them fill a length, but for less than 10^-6 mm a dash
+pub record IsFilled (closed : Bool) (length n : ℕ) (d : Dashes) : Type 0 where
+  pub within : n * d.dash + gaps_between closed n * d.gap ≤ length
+  pub rest : length < n * d.dash + gaps_between closed n * d.gap + n
 
 -- only a hidden path has dashes of its own
-abbrev pub own_dashes : Mark → Bool → List Point → Option Dashes
-own_dashes Dashed closed points = fitted closed (length_of closed points)
-own_dashes mark closed points = None
+abbrev pub own_dashes : Pens → Mark → Bool → List Point → Option Dashes
+own_dashes pens Dashed closed points = fitted pens closed (length_of closed points)
+own_dashes pens mark closed points = None
 
 -- 10^-6 mm as hundredths of a millimetre, with four decimals
 abbrev pub with_decimals : ℕ → List ℕ

@@ -1,9 +1,11 @@
 pub mod Chains
 pub mod Dashes
+pub mod Looks
 pub mod Pages
 pub mod Pdf
 pub mod PdfContent
 pub mod PdfWords
+pub mod Pens
 pub mod Svg
 pub mod BlockCells
 pub mod Blocks
@@ -11,7 +13,6 @@ pub mod Cells
 pub mod Corners
 pub mod Labels
 pub mod BlockNames
-pub mod RuleLooks
 pub mod Rules
 pub mod Symbols
 pub mod inner

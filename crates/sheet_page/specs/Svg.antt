@@ -1,12 +1,15 @@
 -- The text of a page as SVG.
-use Rattle.std.specs.Prelude.{ℕ, zero, suc, ◌==◌, if◌then◌else◌, ℤ, Bool, List, [], ◌∷◌, ◌++◌, Option, Some, None, codes}
-use Rattle.std.specs.List.{flat_map}
+use Rattle.std.specs.Prelude.{ℕ, zero, suc, ◌==◌, if◌then◌else◌, ℤ, Bool, true, List, [], ◌∷◌, ◌++◌, Option, Some, None, codes, Vec}
+use Rattle.std.specs.declared.alloc.Global.{Global}
+use Rattle.std.specs.List.{concat, flat_map}
 use Rattle.std.specs.Fmt.{decimal, signed_decimal}
-use Rattle.sheet_page.specs.Chains.{phase_between, phase_of}
+use Rattle.sheet_page.specs.Chains.{phase_between, phase_of, with_tenth}
 use Rattle.sheet_page.specs.Dashes.{own_dashes, with_decimals}
-use Rattle.sheet_page.specs.RuleLooks.{rule_look}
+use Rattle.sheet_page.specs.Looks.{thin_look, strong_look, mark_look, rule_class}
+use Rattle.sheet_page.specs.Pens.{pens_of}
 use Rattle.sheet_page.specs.declared.dashes.Dashes.{Dashes}
 use Rattle.sheet_page.specs.declared.page.Circle.{Circle}
+use Rattle.sheet_page.specs.declared.page.Fill.{Fill}
 use Rattle.sheet_page.specs.declared.page.Frame.{Frame}
 use Rattle.sheet_page.specs.declared.page.Item.{Item}
 use Rattle.sheet_page.specs.declared.page.Item.TheVariants as variant
@@ -15,6 +18,7 @@ use Rattle.sheet_page.specs.declared.page.Page.{Page}
 use Rattle.sheet_page.specs.declared.page.Pen.{Pen}
 use Rattle.sheet_page.specs.declared.page.Pen.TheVariants as pen
 use Rattle.sheet_page.specs.declared.page.Rule.{Rule}
+use Rattle.sheet_page.specs.declared.pens.Pens.{Pens}
 use Rattle.sheet_plan.specs.LineKinds.{Look, frame_look, look_of}
 use Rattle.sheet_plan.specs.declared.sheet.Mark.{Mark}
 use Rattle.sheet_plan.specs.declared.sheet.Mark.TheVariants.{Solid, Dashed, Chain, Hatch}
@@ -24,22 +28,27 @@ use Rattle.svg_page.specs.Svg.{millimetres, opening, escaped}
 use Rattle.svg_page.specs.Texts.{◌⊕◌}
 
 -- how a class of lines is drawn, with what else its style says
-abbrev pub style_of : Look → List ℕ → List ℕ
+abbrev pub style_of : Look → List (List ℕ) → List (List ℕ)
 style_of look more =
-    codes "." ⊕ look.class ⊕ codes "{stroke-width:" ⊕ look.width ⊕ (if look.round then codes ";stroke-linecap:round" else []) ⊕ more ⊕ codes "}\n"
+    codes "." ∷ look.class ∷ codes "{stroke-width:" ∷ look.width ∷ (if look.round then codes ";stroke-linecap:round" else []) ∷ (more ++ codes "}\n" ∷ [])
 
 -- the lines of a path are joined by round corners
 abbrev pub round_joins : List ℕ
 round_joins = codes ";stroke-linejoin:round"
 
+-- an area is black where an odd number of its loops go round it, and has no outline
+abbrev pub section_style : List ℕ
+section_style = codes ".section{fill:black;fill-rule:evenodd;stroke:none}\n"
+
 -- each class; only a trace has dashes of its class
-unfoldable pub classes : List ℕ
-classes =
-    codes "path,line,circle,.frame{fill:none;stroke:black}\n" ⊕ codes "text{font-family:sans-serif}\n"
-    ⊕ style_of frame_look [] ⊕ style_of (rule_look pen.Thin) [] ⊕ style_of (rule_look pen.Strong) []
-    ⊕ style_of (look_of Solid) round_joins ⊕ style_of (look_of Dashed) round_joins
-    ⊕ style_of (look_of Chain) (round_joins ⊕ codes ";stroke-dasharray:" ⊕ (look_of Chain).dashes)
-    ⊕ style_of (look_of Hatch) [] ⊕ codes "</style>\n"
+unfoldable pub classes : Pens → List ℕ
+classes pens =
+    concat
+    (codes "path,line,circle,.frame{fill:none;stroke:black}\n" ∷ codes "text{font-family:sans-serif}\n"
+    ∷ (style_of frame_look [] ++ style_of thin_look [] ++ style_of strong_look []
+    ++ style_of (mark_look pens Solid) (round_joins ∷ []) ++ style_of (mark_look pens Dashed) (round_joins ∷ [])
+    ++ style_of (mark_look pens Chain) (round_joins ∷ codes ";stroke-dasharray:" ∷ (mark_look pens Chain).dashes ∷ [])
+    ++ style_of (mark_look pens Hatch) [] ++ section_style ∷ codes "</style>\n" ∷ []))
 
 -- a sheet of w by h millimetres is printed as large as it is
 unfoldable pub paper : ℤ → ℤ → List ℕ
@@ -52,7 +61,7 @@ ground width height = codes "<rect width=\"" ⊕ signed_decimal width ⊕ codes 
 -- the beginning of a page
 abbrev pub head : ℤ → ℤ → List ℕ
 head width height =
-    opening (millimetres width) (millimetres height) width height ++ paper (millimetres width) (millimetres height) ++ classes ++ ground width height
+    opening (millimetres width) (millimetres height) width height ++ paper (millimetres width) (millimetres height) ++ classes (pens_of width height) ++ ground width height
 
 -- the line of a frame
 abbrev pub frame_line : Frame → List ℕ
@@ -61,31 +70,31 @@ frame_line f =
     ⊕ signed_decimal f.width ⊕ codes "\" height=\"" ⊕ signed_decimal f.height ⊕ codes "\"/>\n"
 
 -- how far into its pattern a chain line begins
-abbrev pub dash_offset : ℤ → List ℕ
-dash_offset n = codes " stroke-dashoffset=\"" ⊕ signed_decimal n ⊕ codes "\""
+abbrev pub dash_offset : ℕ → List ℕ
+dash_offset n = codes " stroke-dashoffset=\"" ⊕ with_tenth n ⊕ codes "\""
 
 -- a chain line's place in its pattern
-abbrev pub pen_offset : Pen → ℤ → List ℕ
+abbrev pub pen_offset : Pen → ℕ → List ℕ
 pen_offset pen.Thin n = []
 pen_offset pen.Strong n = []
 pen_offset pen.Chain n = dash_offset n
 
-abbrev pub rule_offset : Rule → List ℕ
-rule_offset r = pen_offset r.pen (phase_between r.from r.to)
+abbrev pub rule_offset : Pens → Rule → List ℕ
+rule_offset pens r = pen_offset r.pen (phase_between pens r.from r.to)
 
 -- the line of a rule
 abbrev pub rule_start : Rule → List ℕ
 rule_start r =
-    codes "<line class=\"" ⊕ (rule_look r.pen).class ⊕ codes "\" x1=\"" ⊕ signed_decimal r.from.x ⊕ codes "\" y1=\"" ⊕ signed_decimal r.from.y
+    codes "<line class=\"" ⊕ rule_class r.pen ⊕ codes "\" x1=\"" ⊕ signed_decimal r.from.x ⊕ codes "\" y1=\"" ⊕ signed_decimal r.from.y
     ⊕ codes "\" x2=\"" ⊕ signed_decimal r.to.x ⊕ codes "\" y2=\"" ⊕ signed_decimal r.to.y ⊕ codes "\""
 
-abbrev pub rule_line : Rule → List ℕ
-rule_line r = rule_start r ++ rule_offset r ++ codes "/>\n"
+abbrev pub rule_line : Pens → Rule → List ℕ
+rule_line pens r = rule_start r ++ rule_offset pens r ++ codes "/>\n"
 
 -- the line of a circle
 abbrev pub circle_line : Circle → List ℕ
 circle_line c =
-    codes "<circle class=\"" ⊕ (rule_look pen.Strong).class ⊕ codes "\" cx=\"" ⊕ signed_decimal c.x ⊕ codes "\" cy=\"" ⊕ signed_decimal c.y ⊕ codes "\" r=\"" ⊕ decimal c.radius ⊕ codes "\"/>\n"
+    codes "<circle class=\"" ⊕ strong_look.class ⊕ codes "\" cx=\"" ⊕ signed_decimal c.x ⊕ codes "\" cy=\"" ⊕ signed_decimal c.y ⊕ codes "\" r=\"" ⊕ decimal c.radius ⊕ codes "\"/>\n"
 
 -- where a text begins, and how large its letters are
 abbrev pub text_start : Label → List ℕ
@@ -101,13 +110,14 @@ text_length (Some width) = codes " textLength=\"" ⊕ decimal width ⊕ codes "\
 abbrev pub label_line : Label → List ℕ
 label_line l = text_start l ++ text_length l.width ++ codes ">" ++ flat_map escaped l.text ++ codes "</text>\n"
 
--- whatever isn't a path, which stands in the group of its view
-abbrev pub standing : Item → List ℕ
-standing (variant.Frame frame) = frame_line frame
-standing (variant.Rule rule) = rule_line rule
-standing (variant.Circle circle) = circle_line circle
-standing (variant.Label label) = label_line label
-standing (variant.Path path) = []
+-- whatever is no path and no area: these stand in the groups of their views
+abbrev pub standing : Pens → Item → List ℕ
+standing pens (variant.Frame frame) = frame_line frame
+standing pens (variant.Rule rule) = rule_line pens rule
+standing pens (variant.Circle circle) = circle_line circle
+standing pens (variant.Label label) = label_line label
+standing pens (variant.Path path) = []
+standing pens (variant.Fill fill) = []
 
 -- dashes, in hundredths of a millimetre; of a path that is drawn whole, nothing
 abbrev pub dash_array : Option Dashes → List ℕ
@@ -115,11 +125,11 @@ dash_array None = []
 dash_array (Some d) = codes " stroke-dasharray=\"" ⊕ with_decimals d.dash ⊕ codes " " ⊕ with_decimals d.gap ⊕ codes "\""
 
 -- a chain line's place in its pattern
-abbrev pub own_offset : Mark → List Point → List ℕ
-own_offset Solid points = []
-own_offset Dashed points = []
-own_offset Chain points = dash_offset (phase_of points)
-own_offset Hatch points = []
+abbrev pub own_offset : Pens → Mark → List Point → List ℕ
+own_offset pens Solid points = []
+own_offset pens Dashed points = []
+own_offset pens Chain points = dash_offset (phase_of pens points)
+own_offset pens Hatch points = []
 
 -- a path begins with its class
 unfoldable pub path_start : Mark → List ℕ
@@ -139,31 +149,44 @@ route closed [] = []
 route closed (p ∷ rest) = to_point (codes "M") p ++ flat_map (to_point (codes "L")) rest ++ back closed
 
 -- a path: its class, its dashes or its place in them, and its points
-abbrev pub path_line : Path → List ℕ
-path_line path =
-    path_start path.mark ++ dash_array (own_dashes path.mark path.closed path.points.items) ++ own_offset path.mark path.points.items ++ codes " d=\"" ++ route path.closed path.points.items ++ codes "\"/>\n"
+abbrev pub path_line : Pens → Path → List ℕ
+path_line pens path =
+    path_start path.mark ++ dash_array (own_dashes pens path.mark path.closed path.points.items) ++ own_offset pens path.mark path.points.items ++ codes " d=\"" ++ route path.closed path.points.items ++ codes "\"/>\n"
 
--- a path of this view; nothing else stands in its group
-abbrev pub drawn_in : ℕ → Item → List ℕ
-drawn_in view (variant.Frame frame) = []
-drawn_in view (variant.Rule rule) = []
-drawn_in view (variant.Circle circle) = []
-drawn_in view (variant.Label label) = []
-drawn_in view (variant.Path path) = if path.view == view then path_line path else []
+-- a loop, which goes back to its first point
+abbrev pub loop_route : Vec Point Global → List ℕ
+loop_route points = route true points.items
+
+-- an area: its class and its loops
+abbrev pub fill_line : Fill → List ℕ
+fill_line fill = codes "<path class=\"section\" d=\"" ++ flat_map loop_route fill.loops.items ++ codes "\"/>\n"
+
+-- a path or an area of this view; nothing else stands in its group
+abbrev pub drawn_in : Pens → ℕ → Item → List ℕ
+drawn_in pens view (variant.Frame frame) = []
+drawn_in pens view (variant.Rule rule) = []
+drawn_in pens view (variant.Circle circle) = []
+drawn_in pens view (variant.Label label) = []
+drawn_in pens view (variant.Path path) = if path.view == view then path_line pens path else []
+drawn_in pens view (variant.Fill fill) = if fill.view == view then fill_line fill else []
 
 -- a group begins with the number of its view
 unfoldable pub group_start : ℕ → List ℕ
 group_start view = codes "<g id=\"view-" ⊕ decimal view ⊕ codes "\">\n"
 
--- the group of a view, also of one without paths
-abbrev pub group : ℕ → List Item → List ℕ
-group view items = group_start view ++ flat_map (drawn_in view) items ++ codes "</g>\n"
+-- the group of a view, also of an empty one
+abbrev pub group : Pens → ℕ → List Item → List ℕ
+group pens view items = group_start view ++ flat_map (drawn_in pens view) items ++ codes "</g>\n"
 
 -- the groups of the first views
-abbrev pub groups_below : ℕ → List Item → List ℕ
-groups_below zero items = []
-groups_below (suc n) items = groups_below n items ++ group n items
+abbrev pub groups_below : Pens → ℕ → List Item → List ℕ
+groups_below pens zero items = []
+groups_below pens (suc n) items = groups_below pens n items ++ group pens n items
 
--- the text of a page: what isn't a path in its order, and for each view a group of its paths in their order
+-- the text of a page by its pens: what is of no view in its order, and for each view a group of its paths and areas in their order
+abbrev pub drawn_by : Pens → Page → List ℕ
+drawn_by pens page =
+    head page.width page.height ++ flat_map (standing pens) page.items.items ++ groups_below pens page.views page.items.items ++ codes "</svg>\n"
+
 unfoldable pub svg_of : Page → List ℕ
-svg_of page = head page.width page.height ++ flat_map standing page.items.items ++ groups_below page.views page.items.items ++ codes "</svg>\n"
+svg_of page = drawn_by (pens_of page.width page.height) page

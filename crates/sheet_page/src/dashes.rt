@@ -1,7 +1,8 @@
 // The dashes of a hidden path.
 ghost use Rattle.std.specs.Prelude.{◌≡◌, ◌*◌, ◌<◌, ◌≤◌, ◌^◌, ◌↔◌, length, IfSome, IsNone, IfOk, string_bytes};
-ghost use Rattle.sheet_page.specs.Dashes.{apart, side, through, length_of, gaps_on, fitted, with_decimals};
+ghost use Rattle.sheet_page.specs.Dashes.{apart, side, through, length_of, dashes_on, gaps_between, gap_on, shared, fitted, IsFilled, with_decimals};
 
+use crate::pens::Pens;
 use exact_frac::isqrt;
 use std::alloc::{AllocError, Global};
 use stroke_paths::{Path, Point};
@@ -13,35 +14,71 @@ pub struct Dashes {
     pub gap: u64,
 }
 
-/// The dashes that fit a path, so that an open one begins and ends with a dash and a closed one goes on where it began. None where
-/// it is shorter than 0.6 mm, and so is drawn whole. Its mark doesn't matter.
+/// The dashes that fit a path that is drawn by these pens. An open path begins and ends with a dash, and a closed one goes on where it
+/// began. None where the path is shorter than 1.5 mm, and so is drawn whole. Its mark doesn't matter.
 ///
 /// Goes over its points once.
-pub fn dashes_of(path: &Path) -> Option<Dashes>
-    ensures fitted { result ≡ fitted path.now.closed (length_of path.now.closed path.now.points.items) }
-    ensures wide { IfSome result (λ d. 100000 ≤ d.gap) }
-    ensures whole { IsNone result ↔ length_of path.now.closed path.now.points.items < 600000 }
+pub fn dashes_of(path: &Path, pens: Pens) -> Option<Dashes>
+    ensures fitted { result ≡ fitted pens path.now.closed (length_of path.now.closed path.now.points.items) }
+    ensures wide { IfSome result (λ d. 500000 ≤ d.gap) }
+    ensures long { IfSome result (λ d. 250000 ≤ d.dash) }
+    ensures filled { IfSome result (IsFilled path.now.closed (length_of path.now.closed path.now.points.items) (dashes_on pens path.now.closed (length_of path.now.closed path.now.points.items))) }
+    ensures whole { IsNone result ↔ length_of path.now.closed path.now.points.items < 1500000 }
 {
     let length = length(path);
-    if length < 600_000 {
+    if length < 1_500_000 {
         return None;
     }
-    let gaps = gaps(path.closed, length);
-    Some(Dashes {
-        dash: (2 * length / gaps) as u64,
-        gap: (length / gaps) as u64,
-    })
+    let n = dashes_on(pens, path.closed, length);
+    Some(shared(path.closed, length, n))
 }
 
-/// How many gaps are as long as a path of this length.
-fn gaps(closed: bool, length: u128) -> u128
-    requires { length < 2 ^ 96 }
-    ensures { result ≡ gaps_on closed length }
+/// How many dashes a path of this length has. The length is in 10^-6 mm, as in all that follows.
+fn dashes_on(pens: Pens, closed: bool, length: u128) -> u128
+    requires long { 1500000 ≤ length }
+    requires size { length < 2 ^ 96 }
+    ensures value { result ≡ dashes_on pens closed length }
+    ensures two { 2 ≤ result }
+    ensures at_least { 750000 * result ≤ length }
+    ensures at_most { length < 2 ^ 32 * result }
 {
-    if closed {
-        3 * ((length + 2_250_000) / 4_500_000).max(2)
-    } else {
-        3 * ((length + 3_750_000) / 4_500_000).max(2) - 1
+    let width = u128::from(pens.narrow());
+    let more = if closed { 75_000 } else { 105_000 };
+    ((length + more * width) / (150_000 * width)).max(2)
+}
+
+/// How many gaps are between n dashes.
+fn gaps_between(closed: bool, n: u128) -> u128
+    requires { 2 ≤ n }
+    ensures value { result ≡ gaps_between closed n }
+    ensures few { result ≤ n }
+{
+    if closed { n } else { n - 1 }
+}
+
+/// How long a gap is between n dashes.
+fn gap_on(closed: bool, length: u128, n: u128) -> u128
+    requires two { 2 ≤ n }
+    requires size { n < 2 ^ 96 }
+    ensures { result ≡ gap_on closed length n }
+{
+    (length / (4 * n + gaps_between(closed, n))).max(500_000)
+}
+
+/// The n dashes of a path of this length.
+fn shared(closed: bool, length: u128, n: u128) -> Dashes
+    requires size { length < 2 ^ 96 }
+    requires two { 2 ≤ n }
+    requires at_least { 750000 * n ≤ length }
+    requires at_most { length < 2 ^ 32 * n }
+    ensures { result ≡ shared closed length n }
+{
+    let gap = gap_on(closed, length, n);
+    let gaps = gaps_between(closed, n);
+    let dash = (length - gaps * gap) / n;
+    Dashes {
+        dash: dash as u64,
+        gap: gap as u64,
     }
 }
 

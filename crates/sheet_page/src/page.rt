@@ -51,6 +51,14 @@ pub struct Circle {
     pub radius: u32,
 }
 
+/// An area of one of the page's views that is drawn black: what is inside an odd number of its loops. Each loop is closed: it goes from
+/// its last point back to its first. An area is no path, and has no outline of its own.
+#[derive(Debug, Drop)]
+pub struct Fill {
+    pub view: u32,
+    pub loops: Vec<Vec<Point>>,
+}
+
 /// What stands on a page.
 #[derive(Debug, Drop)]
 pub enum Item {
@@ -64,6 +72,8 @@ pub enum Item {
     Label(Label),
     /// A path of one of the page's views.
     Path(Path),
+    /// A black area of one of the page's views, as a thin section.
+    Fill(Fill),
 }
 
 /// A page: its name, the number of views that it shows, and what stands on it, in the order in which it is drawn. A PDF tells its

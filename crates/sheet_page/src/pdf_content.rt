@@ -1,13 +1,16 @@
 // What a page's items are in PDF.
-ghost use Rattle.std.specs.Prelude.{◌≡◌, ◌++◌, IfOk, OnOk, string_bytes};
+ghost use Rattle.std.specs.Prelude.{◌≡◌, ◌++◌, IfOk, OnOk, string_bytes, codes};
+ghost use Rattle.std.specs.Fmt.{decimal};
+ghost use Rattle.std.specs.List.{flat_map};
 ghost use Rattle.sheet_page.specs.Chains.{phase_between, phase_of};
 ghost use Rattle.sheet_page.specs.Dashes.{length_of, fitted};
-ghost use Rattle.sheet_page.specs.PdfContent.{points, frame_line, before_words, label_line, dashed_pen, chain_pen, pen, rule_pen, rule_lines, circle_start, lower_right, lower_left, upper_left, upper_right, arc_lead, arcs, circle_lines, point_line, lines_to, route, stroke, path_lines, item_lines, beginning, content_of};
+ghost use Rattle.sheet_page.specs.PdfContent.{points, frame_line, before_words, label_line, dashed_pen, chain_pen, pen, rule_pen, rule_lines, circle_start, lower_right, lower_left, upper_left, upper_right, arc_lead, arcs, circle_lines, point_line, lines_to, route, stroke, path_lines, loop_lines, fill_lines, item_lines, beginning, content_of};
 
-use crate::chains::{phase_between, phase_of};
+use crate::chains::{pattern, phase_between, phase_of, with_tenth};
 use crate::dashes::{Dashes, dashes_of, with_decimals};
-use crate::page::{Circle, Frame, Item, Label, Page, Pen, Rule};
+use crate::page::{Circle, Fill, Frame, Item, Label, Page, Pen, Rule};
 use crate::pdf_words::add_words;
+use crate::pens::{Pens, pens_of};
 use exact_frac::OutOfMemory;
 use sheet_plan::Mark;
 use std::alloc::{AllocError, Global};
@@ -17,10 +20,11 @@ use stroke_paths::{Path, Point};
 pub(crate) fn content(alloc: Global, page: &Page) -> Result<Vec<u8>, OutOfMemory>
     ensures { IfOk result (λ text. text.items ≡ content_of page.now) }
 {
+    let pens = pens_of(page.width, page.height);
     let mut text = Vec::new(alloc);
     text.extend_from_slice(beginning(alloc, page.height)?.as_bytes())?;
     for item in &page.items {
-        add_item(alloc, &mut text, item)?;
+        add_item(alloc, &mut text, pens, item)?;
     }
     Ok(text)
 }
@@ -45,42 +49,74 @@ pub(crate) fn points(alloc: Global, length: i64) -> Result<String, AllocError>
 }
 
 /// Adds an item.
-fn add_item(alloc: Global, text: &mut Vec<u8>, item: &Item) -> Result<(), OutOfMemory>
-    ensures { OnOk result (text.new.items ≡ text.old.items ++ item_lines item.now) }
+fn add_item(alloc: Global, text: &mut Vec<u8>, pens: Pens, item: &Item) -> Result<(), OutOfMemory>
+    ensures { OnOk result (text.new.items ≡ text.old.items ++ item_lines pens item.now) }
 {
     match item {
         Item::Frame(frame) => text.extend_from_slice(frame_line(alloc, frame)?.as_bytes())?,
-        Item::Rule(rule) => add_rule(alloc, text, rule)?,
+        Item::Rule(rule) => add_rule(alloc, text, pens, rule)?,
         Item::Circle(circle) => add_circle(alloc, text, circle)?,
         Item::Label(label) => add_label(alloc, text, label)?,
-        Item::Path(path) => add_path(alloc, text, path)?,
+        Item::Path(path) => add_path(alloc, text, pens, path)?,
+        Item::Fill(fill) => add_fill(alloc, text, fill)?,
     }
     Ok(())
 }
 
-/// The pen of chain lines, so far into its pattern.
-fn chain_pen(alloc: Global, n: i64) -> Result<String, AllocError>
-    ensures { IfOk result (λ text. string_bytes text ≡ chain_pen n) }
+/// Adds the lines of a black area.
+fn add_fill(alloc: Global, text: &mut Vec<u8>, fill: &Fill) -> Result<(), OutOfMemory>
+    ensures { OnOk result (text.new.items ≡ text.old.items ++ fill_lines fill.now) }
 {
-    format!(in alloc; "25 w 0 J [600 150 75 150] {n} d\n")
+    add_loops(alloc, text, fill.loops.as_slice())?;
+    text.extend_from_slice("f*\n".as_bytes())?;
+    Ok(())
+}
+
+/// Adds the lines of loops.
+fn add_loops(alloc: Global, text: &mut Vec<u8>, loops: &[Vec<Point>]) -> Result<(), OutOfMemory>
+    ensures { OnOk result (text.new.items ≡ text.old.items ++ flat_map loop_lines loops.now) }
+{
+    for points in loops {
+        add_loop(alloc, text, points.as_slice())?;
+    }
+    Ok(())
+}
+
+/// Adds the lines of a loop.
+fn add_loop(alloc: Global, text: &mut Vec<u8>, points: &[Point]) -> Result<(), OutOfMemory>
+    ensures { OnOk result (text.new.items ≡ text.old.items ++ (route points.now ++ codes "h\n")) }
+{
+    add_route(alloc, text, points)?;
+    text.extend_from_slice("h\n".as_bytes())?;
+    Ok(())
+}
+
+/// The pen of chain lines, so far into its pattern, in thousandths of a millimetre.
+fn chain_pen(alloc: Global, pens: Pens, n: u128) -> Result<String, AllocError>
+    ensures { IfOk result (λ text. string_bytes text ≡ chain_pen pens n) }
+{
+    let width = pens.narrow();
+    let pattern = pattern(alloc, pens)?;
+    let n = with_tenth(alloc, n)?;
+    format!(in alloc; "{width} w 0 J [{pattern}] {n} d\n")
 }
 
 /// The pen of a rule.
-fn rule_pen(alloc: Global, rule: &Rule) -> Result<String, AllocError>
-    ensures { IfOk result (λ text. string_bytes text ≡ rule_pen rule.now.pen (phase_between rule.now.from rule.now.to)) }
+fn rule_pen(alloc: Global, pens: Pens, rule: &Rule) -> Result<String, AllocError>
+    ensures { IfOk result (λ text. string_bytes text ≡ rule_pen pens rule.now.pen (phase_between pens rule.now.from rule.now.to)) }
 {
     match rule.pen {
         Pen::Thin => String::from_str(alloc, "25 w 0 J [] 0 d\n"),
         Pen::Strong => String::from_str(alloc, "35 w 1 J [] 0 d\n"),
-        Pen::Chain => chain_pen(alloc, phase_between(&rule.from, &rule.to)),
+        Pen::Chain => chain_pen(alloc, pens, phase_between(pens, &rule.from, &rule.to)),
     }
 }
 
 /// Adds the lines of a rule.
-fn add_rule(alloc: Global, text: &mut Vec<u8>, rule: &Rule) -> Result<(), OutOfMemory>
-    ensures { OnOk result (text.new.items ≡ text.old.items ++ rule_lines rule.now) }
+fn add_rule(alloc: Global, text: &mut Vec<u8>, pens: Pens, rule: &Rule) -> Result<(), OutOfMemory>
+    ensures { OnOk result (text.new.items ≡ text.old.items ++ rule_lines pens rule.now) }
 {
-    text.extend_from_slice(rule_pen(alloc, rule)?.as_bytes())?;
+    text.extend_from_slice(rule_pen(alloc, pens, rule)?.as_bytes())?;
     text.extend_from_slice(point_line(alloc, &rule.from, " m\n")?.as_bytes())?;
     text.extend_from_slice(point_line(alloc, &rule.to, " l\n")?.as_bytes())?;
     text.extend_from_slice(stroke(false).as_bytes())?;
@@ -177,37 +213,52 @@ fn before_words(alloc: Global, label: &Label) -> Result<String, AllocError>
 }
 
 /// Adds the lines of a path.
-fn add_path(alloc: Global, text: &mut Vec<u8>, path: &Path) -> Result<(), OutOfMemory>
-    ensures { OnOk result (text.new.items ≡ text.old.items ++ path_lines path.now) }
+fn add_path(alloc: Global, text: &mut Vec<u8>, pens: Pens, path: &Path) -> Result<(), OutOfMemory>
+    ensures { OnOk result (text.new.items ≡ text.old.items ++ path_lines pens path.now) }
 {
-    text.extend_from_slice(pen(alloc, path)?.as_bytes())?;
+    text.extend_from_slice(pen(alloc, pens, path)?.as_bytes())?;
     add_route(alloc, text, &path.points)?;
     text.extend_from_slice(stroke(path.closed).as_bytes())?;
     Ok(())
 }
 
 /// The pen of a path.
-fn pen(alloc: Global, path: &Path) -> Result<String, AllocError>
-    ensures { IfOk result (λ text. string_bytes text ≡ pen path.now.mark (fitted path.now.closed (length_of path.now.closed path.now.points.items)) (phase_of path.now.points.items)) }
+fn pen(alloc: Global, pens: Pens, path: &Path) -> Result<String, AllocError>
+    ensures { IfOk result (λ text. string_bytes text ≡ pen pens path.now.mark (fitted pens path.now.closed (length_of path.now.closed path.now.points.items)) (phase_of pens path.now.points.items)) }
 {
     match path.mark {
-        Mark::Solid => String::from_str(alloc, "50 w 1 J [] 0 d\n"),
-        Mark::Dashed => dashed_pen(alloc, dashes_of(path)),
-        Mark::Chain => chain_pen(alloc, phase_of(&path.points)),
-        Mark::Hatch => String::from_str(alloc, "18 w 0 J [] 0 d\n"),
+        Mark::Solid => visible_pen(alloc, pens.wide()),
+        Mark::Dashed => dashed_pen(alloc, pens, dashes_of(path, pens)),
+        Mark::Chain => chain_pen(alloc, pens, phase_of(pens, &path.points)),
+        Mark::Hatch => plain_pen(alloc, pens.narrow()),
     }
 }
 
-/// The pen of a hidden path with these dashes.
-fn dashed_pen(alloc: Global, dashes: Option<Dashes>) -> Result<String, AllocError>
-    ensures { IfOk result (λ text. string_bytes text ≡ dashed_pen dashes) }
+/// The pen of visible lines, which has round ends.
+fn visible_pen(alloc: Global, width: u32) -> Result<String, AllocError>
+    ensures { IfOk result (λ text. string_bytes text ≡ decimal width ++ codes " w 1 J [] 0 d\n") }
 {
+    format!(in alloc; "{width} w 1 J [] 0 d\n")
+}
+
+/// The pen of a line without dashes.
+fn plain_pen(alloc: Global, width: u32) -> Result<String, AllocError>
+    ensures { IfOk result (λ text. string_bytes text ≡ decimal width ++ codes " w 0 J [] 0 d\n") }
+{
+    format!(in alloc; "{width} w 0 J [] 0 d\n")
+}
+
+/// The pen of a hidden path with these dashes.
+fn dashed_pen(alloc: Global, pens: Pens, dashes: Option<Dashes>) -> Result<String, AllocError>
+    ensures { IfOk result (λ text. string_bytes text ≡ dashed_pen pens dashes) }
+{
+    let width = pens.narrow();
     let Some(dashes) = dashes else {
-        return String::from_str(alloc, "35 w 0 J [] 0 d\n");
+        return plain_pen(alloc, width);
     };
     let dash = with_decimals(alloc, dashes.dash)?;
     let gap = with_decimals(alloc, dashes.gap)?;
-    format!(in alloc; "35 w 0 J [{dash} {gap}] 0 d\n")
+    format!(in alloc; "{width} w 0 J [{dash} {gap}] 0 d\n")
 }
 
 /// Adds the lines from point to point.

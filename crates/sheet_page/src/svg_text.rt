@@ -4,31 +4,34 @@ ghost use Rattle.std.specs.List.{All, flat_map};
 ghost use Rattle.sheet_page.specs.Chains.{phase_between, phase_of};
 ghost use Rattle.sheet_page.specs.Dashes.{own_dashes};
 ghost use Rattle.sheet_page.specs.Pages.{IsInView};
-ghost use Rattle.sheet_page.specs.RuleLooks.{rule_look};
-ghost use Rattle.sheet_page.specs.Svg.{classes, paper, ground, head, frame_line, dash_offset, rule_offset, rule_start, rule_line, circle_line, text_start, text_length, label_line, standing, dash_array, own_offset, to_point, route, path_line, drawn_in, group, group_start, path_start, svg_of};
+ghost use Rattle.sheet_page.specs.Looks.{rule_class};
+ghost use Rattle.sheet_page.specs.Pens.{pens_of};
+ghost use Rattle.sheet_page.specs.Svg.{classes, paper, ground, head, frame_line, dash_offset, rule_offset, rule_start, rule_line, circle_line, text_start, text_length, label_line, standing, dash_array, own_offset, to_point, route, path_line, loop_route, fill_line, drawn_in, group, group_start, path_start, svg_of};
 
-use crate::chains::{phase_between, phase_of};
+use crate::chains::{pattern, phase_between, phase_of, with_tenth};
 use crate::dashes::{Dashes, dashes_of, with_decimals};
-use crate::page::{Circle, Frame, Item, Label, Page, Pen, Rule};
+use crate::page::{Circle, Fill, Frame, Item, Label, Page, Pen, Rule};
+use crate::pens::{Pens, pens_of};
 use exact_frac::OutOfMemory;
 use sheet_plan::Mark;
 use std::alloc::{AllocError, Global};
 use stroke_paths::{Path, Point};
 use svg_page::{add_escaped, opening};
 
-/// The text of a page in SVG (version 1.1): what isn't a path, and for each view a group of its paths, which a program can
-/// show or hide. A hidden path's dashes are fitted to it. Each path is of one of the page's views.
+/// The text of a page in SVG (version 1.1): what is of no view, and for each view a group of its paths and areas, which
+/// a program can show or hide. A hidden path's dashes are fitted to it. Each path and each area is of one of the page's views.
 ///
 /// Goes over the items once for each view, and once more.
 pub fn svg(alloc: Global, page: &Page) -> Result<Vec<u8>, OutOfMemory>
     requires { All (IsInView page.now.views) page.now.items.items }
     ensures { IfOk result (λ text. text.items ≡ svg_of page.now) }
 {
+    let pens = pens_of(page.width, page.height);
     let mut text = Vec::new(alloc);
     add_head(alloc, &mut text, page.width, page.height)?;
-    add_standing(alloc, &mut text, page.items.as_slice())?;
+    add_standing(alloc, &mut text, pens, page.items.as_slice())?;
     for view in 0..page.views {
-        add_group(alloc, &mut text, view, page.items.as_slice())?;
+        add_group(alloc, &mut text, pens, view, page.items.as_slice())?;
     }
     text.extend_from_slice("</svg>\n".as_bytes())?;
     Ok(text)
@@ -45,7 +48,7 @@ fn add_head(alloc: Global, text: &mut Vec<u8>, width: i64, height: i64) -> Resul
     let (w, h) = (width.div_euclid(100), height.div_euclid(100));
     text.extend_from_slice(opening(alloc, w, h, width, height)?.as_bytes())?;
     text.extend_from_slice(paper(alloc, w, h)?.as_bytes())?;
-    text.extend_from_slice(classes().as_bytes())?;
+    text.extend_from_slice(classes(alloc, pens_of(width, height))?.as_bytes())?;
     text.extend_from_slice(ground(alloc, width, height)?.as_bytes())?;
     Ok(())
 }
@@ -58,19 +61,24 @@ fn paper(alloc: Global, w: i64, h: i64) -> Result<String, AllocError>
 }
 
 /// How each class of lines is drawn.
-fn classes() -> &'static str
-    ensures { result.now ≡ classes }
+fn classes(alloc: Global, pens: Pens) -> Result<String, AllocError>
+    ensures { IfOk result (λ text. string_bytes text ≡ classes pens) }
 {
-    "path,line,circle,.frame{fill:none;stroke:black}\n\
-     text{font-family:sans-serif}\n\
-     .frame{stroke-width:70}\n\
-     .thin{stroke-width:25}\n\
-     .strong{stroke-width:35;stroke-linecap:round}\n\
-     .visible{stroke-width:50;stroke-linecap:round;stroke-linejoin:round}\n\
-     .hidden{stroke-width:35;stroke-linejoin:round}\n\
-     .trace{stroke-width:25;stroke-linejoin:round;stroke-dasharray:600 150 75 150}\n\
-     .hatch{stroke-width:18}\n\
-     </style>\n"
+    let (wide, narrow) = (pens.wide(), pens.narrow());
+    let pattern = pattern(alloc, pens)?;
+    format!(in alloc;
+        "path,line,circle,.frame{{fill:none;stroke:black}}\n\
+         text{{font-family:sans-serif}}\n\
+         .frame{{stroke-width:70}}\n\
+         .thin{{stroke-width:25}}\n\
+         .strong{{stroke-width:35;stroke-linecap:round}}\n\
+         .visible{{stroke-width:{wide};stroke-linecap:round;stroke-linejoin:round}}\n\
+         .hidden{{stroke-width:{narrow};stroke-linejoin:round}}\n\
+         .trace{{stroke-width:{narrow};stroke-linejoin:round;stroke-dasharray:{pattern}}}\n\
+         .hatch{{stroke-width:{narrow}}}\n\
+         .section{{fill:black;fill-rule:evenodd;stroke:none}}\n\
+         </style>\n"
+    )
 }
 
 /// The white ground of a page.
@@ -80,21 +88,26 @@ fn ground(alloc: Global, width: i64, height: i64) -> Result<String, AllocError>
     format!(in alloc; "<rect width=\"{width}\" height=\"{height}\" fill=\"white\"/>\n")
 }
 
-/// Adds whatever isn't a path.
-fn add_standing(alloc: Global, text: &mut Vec<u8>, items: &[Item]) -> Result<(), OutOfMemory>
-    ensures { OnOk result (text.new.items ≡ text.old.items ++ flat_map standing items.now) }
+/// Adds whatever is no path and no area.
+fn add_standing(
+    alloc: Global,
+    text: &mut Vec<u8>,
+    pens: Pens,
+    items: &[Item],
+) -> Result<(), OutOfMemory>
+    ensures { OnOk result (text.new.items ≡ text.old.items ++ flat_map (standing pens) items.now) }
 {
     for item in items {
         match item {
             Item::Frame(frame) => {
                 text.extend_from_slice(frame_line(alloc, frame)?.as_bytes())?;
             }
-            Item::Rule(rule) => add_rule(alloc, text, rule)?,
+            Item::Rule(rule) => add_rule(alloc, text, pens, rule)?,
             Item::Circle(circle) => {
                 text.extend_from_slice(circle_line(alloc, circle)?.as_bytes())?;
             }
             Item::Label(label) => add_label(alloc, text, label)?,
-            Item::Path(_) => {}
+            Item::Path(_) | Item::Fill(_) => {}
         }
     }
     Ok(())
@@ -113,7 +126,7 @@ fn frame_line(alloc: Global, frame: &Frame) -> Result<String, AllocError>
 
 /// The class of a rule.
 fn pen_class(pen: Pen) -> &'static str
-    ensures { result.now ≡ (rule_look pen).class }
+    ensures { result.now ≡ rule_class pen }
 {
     match pen {
         Pen::Thin => "thin",
@@ -123,19 +136,20 @@ fn pen_class(pen: Pen) -> &'static str
 }
 
 /// How far into its pattern a chain line begins.
-fn dash_offset(alloc: Global, n: i64) -> Result<String, AllocError>
+fn dash_offset(alloc: Global, n: u128) -> Result<String, AllocError>
     ensures { IfOk result (λ text. string_bytes text ≡ dash_offset n) }
 {
+    let n = with_tenth(alloc, n)?;
     format!(in alloc; " stroke-dashoffset=\"{n}\"")
 }
 
 /// The same of a rule, where it is a chain line.
-fn rule_offset(alloc: Global, rule: &Rule) -> Result<String, AllocError>
-    ensures { IfOk result (λ text. string_bytes text ≡ rule_offset rule.now) }
+fn rule_offset(alloc: Global, pens: Pens, rule: &Rule) -> Result<String, AllocError>
+    ensures { IfOk result (λ text. string_bytes text ≡ rule_offset pens rule.now) }
 {
     match rule.pen {
         Pen::Thin | Pen::Strong => Ok(String::new(alloc)),
-        Pen::Chain => dash_offset(alloc, phase_between(&rule.from, &rule.to)),
+        Pen::Chain => dash_offset(alloc, phase_between(pens, &rule.from, &rule.to)),
     }
 }
 
@@ -150,11 +164,11 @@ fn rule_start(alloc: Global, rule: &Rule) -> Result<String, AllocError>
 }
 
 /// Adds the line of a rule.
-fn add_rule(alloc: Global, text: &mut Vec<u8>, rule: &Rule) -> Result<(), OutOfMemory>
-    ensures { OnOk result (text.new.items ≡ text.old.items ++ rule_line rule.now) }
+fn add_rule(alloc: Global, text: &mut Vec<u8>, pens: Pens, rule: &Rule) -> Result<(), OutOfMemory>
+    ensures { OnOk result (text.new.items ≡ text.old.items ++ rule_line pens rule.now) }
 {
     text.extend_from_slice(rule_start(alloc, rule)?.as_bytes())?;
-    text.extend_from_slice(rule_offset(alloc, rule)?.as_bytes())?;
+    text.extend_from_slice(rule_offset(alloc, pens, rule)?.as_bytes())?;
     text.extend_from_slice("/>\n".as_bytes())?;
     Ok(())
 }
@@ -203,14 +217,15 @@ fn text_length(alloc: Global, width: Option<u32>) -> Result<String, AllocError>
 fn add_group(
     alloc: Global,
     text: &mut Vec<u8>,
+    pens: Pens,
     view: usize,
     items: &[Item],
 ) -> Result<(), OutOfMemory>
-    ensures { OnOk result (text.new.items ≡ text.old.items ++ group view items.now) }
+    ensures { OnOk result (text.new.items ≡ text.old.items ++ group pens view items.now) }
 {
     text.extend_from_slice(group_start(alloc, view)?.as_bytes())?;
     for item in items {
-        add_drawn(alloc, text, view, item)?;
+        add_drawn(alloc, text, pens, view, item)?;
     }
     text.extend_from_slice("</g>\n".as_bytes())?;
     Ok(())
@@ -223,25 +238,59 @@ fn group_start(alloc: Global, view: usize) -> Result<String, AllocError>
     format!(in alloc; "<g id=\"view-{view}\">\n")
 }
 
-/// Adds the line of an item that is a path of this view.
-fn add_drawn(alloc: Global, text: &mut Vec<u8>, view: usize, item: &Item) -> Result<(), OutOfMemory>
-    ensures { OnOk result (text.new.items ≡ text.old.items ++ drawn_in view item.now) }
+/// Adds the line of an item that is a path or an area of this view.
+fn add_drawn(
+    alloc: Global,
+    text: &mut Vec<u8>,
+    pens: Pens,
+    view: usize,
+    item: &Item,
+) -> Result<(), OutOfMemory>
+    ensures { OnOk result (text.new.items ≡ text.old.items ++ drawn_in pens view item.now) }
 {
-    if let Item::Path(path) = item {
-        if path.view as usize == view {
-            add_path(alloc, text, path)?;
+    match item {
+        Item::Path(path) => {
+            if path.view as usize == view {
+                add_path(alloc, text, pens, path)?;
+            }
         }
+        Item::Fill(fill) => {
+            if fill.view as usize == view {
+                add_fill(alloc, text, fill)?;
+            }
+        }
+        Item::Frame(_) | Item::Rule(_) | Item::Circle(_) | Item::Label(_) => {}
+    }
+    Ok(())
+}
+
+/// Adds the line of an area.
+fn add_fill(alloc: Global, text: &mut Vec<u8>, fill: &Fill) -> Result<(), OutOfMemory>
+    ensures { OnOk result (text.new.items ≡ text.old.items ++ fill_line fill.now) }
+{
+    text.extend_from_slice("<path class=\"section\" d=\"".as_bytes())?;
+    add_loops(alloc, text, fill.loops.as_slice())?;
+    text.extend_from_slice("\"/>\n".as_bytes())?;
+    Ok(())
+}
+
+/// Adds the points of loops.
+fn add_loops(alloc: Global, text: &mut Vec<u8>, loops: &[Vec<Point>]) -> Result<(), OutOfMemory>
+    ensures { OnOk result (text.new.items ≡ text.old.items ++ flat_map loop_route loops.now) }
+{
+    for points in loops {
+        add_route(alloc, text, true, points.as_slice())?;
     }
     Ok(())
 }
 
 /// Adds the line of a path.
-fn add_path(alloc: Global, text: &mut Vec<u8>, path: &Path) -> Result<(), OutOfMemory>
-    ensures { OnOk result (text.new.items ≡ text.old.items ++ path_line path.now) }
+fn add_path(alloc: Global, text: &mut Vec<u8>, pens: Pens, path: &Path) -> Result<(), OutOfMemory>
+    ensures { OnOk result (text.new.items ≡ text.old.items ++ path_line pens path.now) }
 {
     text.extend_from_slice(path_start(alloc, path.mark)?.as_bytes())?;
-    add_dashes(alloc, text, path)?;
-    add_offset(alloc, text, path)?;
+    add_dashes(alloc, text, pens, path)?;
+    add_offset(alloc, text, pens, path)?;
     text.extend_from_slice(" d=\"".as_bytes())?;
     add_route(alloc, text, path.closed, path.points.as_slice())?;
     text.extend_from_slice("\"/>\n".as_bytes())?;
@@ -257,11 +306,11 @@ fn path_start(alloc: Global, mark: Mark) -> Result<String, AllocError>
 }
 
 /// Adds the dashes of a path, if it has some of its own.
-fn add_dashes(alloc: Global, text: &mut Vec<u8>, path: &Path) -> Result<(), OutOfMemory>
-    ensures { OnOk result (text.new.items ≡ text.old.items ++ dash_array (own_dashes path.now.mark path.now.closed path.now.points.items)) }
+fn add_dashes(alloc: Global, text: &mut Vec<u8>, pens: Pens, path: &Path) -> Result<(), OutOfMemory>
+    ensures { OnOk result (text.new.items ≡ text.old.items ++ dash_array (own_dashes pens path.now.mark path.now.closed path.now.points.items)) }
 {
     if let Mark::Dashed = path.mark {
-        if let Some(dashes) = dashes_of(path) {
+        if let Some(dashes) = dashes_of(path, pens) {
             text.extend_from_slice(dash_array(alloc, &dashes)?.as_bytes())?;
         }
     }
@@ -269,11 +318,11 @@ fn add_dashes(alloc: Global, text: &mut Vec<u8>, path: &Path) -> Result<(), OutO
 }
 
 /// Adds a path's place in its pattern, if it is a chain line.
-fn add_offset(alloc: Global, text: &mut Vec<u8>, path: &Path) -> Result<(), OutOfMemory>
-    ensures { OnOk result (text.new.items ≡ text.old.items ++ own_offset path.now.mark path.now.points.items) }
+fn add_offset(alloc: Global, text: &mut Vec<u8>, pens: Pens, path: &Path) -> Result<(), OutOfMemory>
+    ensures { OnOk result (text.new.items ≡ text.old.items ++ own_offset pens path.now.mark path.now.points.items) }
 {
     if let Mark::Chain = path.mark {
-        let offset = dash_offset(alloc, phase_of(path.points.as_slice()))?;
+        let offset = dash_offset(alloc, phase_of(pens, path.points.as_slice()))?;
         text.extend_from_slice(offset.as_bytes())?;
     }
     Ok(())

@@ -6,4 +6,4 @@ use Rattle.sheet_page.proofs.svg_text.add_group.Given as goal
 -- the lines so far and those of what is left are all lines
 abbrev pub invariant-loop-item : goal.invariant-loop-item
 invariant-loop-item l =
-    l.text.items ++ flat_map (drawn_in l.view) (drop l.item-index l.items) ≡ (l.fn.text.items ++ group_start l.view) ++ flat_map (drawn_in l.view) l.items
+    l.text.items ++ flat_map (drawn_in l.pens l.view) (drop l.item-index l.items) ≡ (l.fn.text.items ++ group_start l.view) ++ flat_map (drawn_in l.pens l.view) l.items

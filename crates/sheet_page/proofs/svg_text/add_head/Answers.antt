@@ -1,8 +1,8 @@
-use Rattle.std.proofs.Common.{◌≡◌, ◌++◌, rules, ◌∙◌, FitsSigned}
+use Rattle.std.proofs.Common.{◌≡◌, ◌++◌, rules, ap, ◌∙◌, FitsSigned}
 use Rattle.std.specs.Int.{w64}
 use Rattle.std.proofs.lemmas.Int.{to_z-of_z}
 use Rattle.svg_page.specs.Svg.{millimetres, opening}
-use Rattle.sheet_page.specs.Svg.{paper}
+use Rattle.sheet_page.specs.Svg.{classes, paper}
 use Rattle.sheet_page.proofs.Written.{four_parts}
 use Rattle.sheet_page.proofs.svg_text.add_head.Goals as goal
 
@@ -16,7 +16,7 @@ returns c =
     let h_is : c.div_euclid-h.result ≡ millimetres c.args.height = simp to_z-of_z at c.div_euclid-h.ensures in
     let first = c.as_bytes.ensures.value ∙ (simp to_z-of_z at c.in_ok-opening.ensures) ∙ (λ i. opening (w_is i) (h_is i) c.args.width c.args.height) in
     let second = c.as_bytes-2.ensures.value ∙ (simp to_z-of_z at c.in_ok-paper.ensures) ∙ (λ i. paper (w_is i) (h_is i)) in
-    let third = c.as_bytes-3.ensures.value ∙ c.classes.ensures in
+    let third = c.as_bytes-3.ensures.value ∙ c.in_ok-classes.ensures ∙ ap classes (simp to_z-of_z at c.pens_of.ensures) in
     let fourth = c.as_bytes-4.ensures.value ∙ (simp to_z-of_z at c.in_ok-ground.ensures) in
     four_parts c.args.text.now.items _ _ _ _ _ _ _ _
     (c.in_ok-extend_from_slice.ensures.items ∙ (λ i. c.args.text.now.items ++ first i))

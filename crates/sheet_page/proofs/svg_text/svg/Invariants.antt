@@ -6,4 +6,4 @@ use Rattle.sheet_page.proofs.svg_text.svg.Given as goal
 -- the groups of the views so far are written
 abbrev pub invariant-loop-view : goal.invariant-loop-view
 invariant-loop-view l =
-    l.text.items ≡ (head l.page.width l.page.height ++ flat_map standing l.page.items.items) ++ groups_below l.view l.page.items.items
+    l.text.items ≡ (head l.page.width l.page.height ++ flat_map (standing l.pens) l.page.items.items) ++ groups_below l.pens l.view l.page.items.items
