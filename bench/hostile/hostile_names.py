@@ -149,7 +149,7 @@ def scripts(sheet):
                   *([part, decimals, b"triangle", b"0"] for decimals in ("²".encode(), b"7", b"99999999")),
                   *([name, b"triangle", b"0"] for name in (folder, none, b"", b"-n"))):
         script(1, b"where.py", *words)
-    head = b"sheet list 1\ndecimals 3\nscale 1:1\nview 0 front 0 0\npage 1 1\n"
+    head = b"sheet list 2\ndecimals 3\nscale 1:1\nview 0 front 0 0\nleft-out 1 2\npage 1 1\n"
     check(script(0, b"lengths.py", put(b"list", head + b"0 solid 0 0 9000/3 4000 0 0 0 0\n")).startswith(b"view 0 front: solid 5.000,"), "lengths")
     for text in (b"", triangle, head[:12], *(head + line for line in (b"\n", b"0 solid 0 0 0 0 0 0 0 0", b"1 solid 0 0 0 0 0 0 0 0\n", b"view 1 toward 0 0 0 1 1\n")),
                  *(head + b"0 solid %s 0 0 0 0 0 0 0\n" % number for number in (b"1/0", b"1e999999999", b"9" * 5000, "²".encode()))):

@@ -14,7 +14,7 @@ SHOWN = "%s|toward( -?[0-9]){3}|cut [xyz] -?[0-9]{1,7} (high|low) [A-M]" % "|".j
 VIEW = re.compile("view [0-9]{1,2} (%s)%s\n" % (SHOWN, PLACE))
 STROKE = re.compile("[0-9]{1,2} (%s)( -?[0-9]{1,32}(/[1-9][0-9]{0,21})?){4}%s\n" % ("|".join(MARKS), PLACE * 2))
 DECIMALS = re.compile("decimals [0-6]\n")
-UNUSED = re.compile("(scale|page) [0-9: ]+\n")
+PAGE = re.compile("page [0-9]{1,9} [0-9]{1,9}\n")
 
 
 def direction(shown):
@@ -37,10 +37,10 @@ def squares(toward):
 def main(*names):
     if len(names) != 1:
         raise one_line.Fault("usage: lengths.py LIST")
-    unit, views, sums = 1, {}, {}
+    unit, views, sums, pages = 1, {}, {}, 0
     with open(names[0], encoding="latin-1") as lines:
         # a line of a list is shorter than 1000; that of a file without line ends isn't
-        if lines.readline(1000) != "sheet list 1\n":
+        if lines.readline(1000) != "sheet list 2\n":
             raise one_line.Fault("%s: not what sheet --list writes" % names[0])
         for count, line in enumerate(iter(lambda: lines.readline(1000), ""), 2):
             words = line.split()
@@ -53,7 +53,9 @@ def main(*names):
                 u1, v1, u2, v2 = map(Fraction, words[2:6])
                 right, up = views[words[0]][1]
                 sums[words[0]][words[1]] += unit * math.sqrt((u2 - u1) ** 2 / right + (v2 - v1) ** 2 / up)
-            elif not UNUSED.fullmatch(line):
+            elif PAGE.fullmatch(line):
+                pages = 1
+            elif pages or not line.endswith("\n"):
                 raise one_line.Fault("%s: line %d: not as sheet --list writes it" % (names[0], count))
     for number, (shown, _) in views.items():
         yield "view %s %s: %s" % (number, shown, ", ".join("%s %.3f" % (mark, sums[number][mark]) for mark in MARKS))

@@ -8,13 +8,13 @@ use Rattle.text_fit.specs.declared.fit.Fitted.{Fitted}
 use Rattle.sheet_plan.specs.declared.boxes.ViewBox.{ViewBox}
 use Rattle.sheet_page.specs.declared.page.Label.{Label}
 use Rattle.sheet_page.proofs.FittedTexts.{is_fitted_in, no_larger}
-use Rattle.cut_marks.specs.Items.{room_of, heading_label, heading_item, IsInRoom, IsLabelInRoom}
-use Rattle.cut_marks.specs.MarkLetters.{heading_text}
+use Rattle.sheet_page.specs.Labels.{fitted_in}
+use Rattle.cut_marks.specs.Items.{room_of, heading_label, IsInRoom, IsLabelInRoom}
 use Rattle.cut_marks.specs.Reach.{room_start, room_end, IsInReach, IsHeadingInReach}
 use Rattle.cut_marks.specs.declared.figures.Heading.{Heading}
 
-pub stated : (h : Heading) (title : List ℕ) (f : Fitted) → IsFitted (room_of h) (heading_text h.letter title) f → heading_label h f ≡ heading_item h title
-stated h title f is = ap (heading_label h) (is_fitted_in (room_of h) (heading_text h.letter title) f is)
+pub stated : (h : Heading) (text : List ℕ) (f : Fitted) → IsFitted (room_of h) text f → heading_label h f ≡ heading_label h (fitted_in (room_of h) text)
+stated h text f is = ap (heading_label h) (is_fitted_in (room_of h) text f is)
 
 no_wider : (used room : ℕ) → used ≤ 1000 * room → used / 1000 ≤ room
 no_wider used room fits = omega (arith, fits)
@@ -25,15 +25,15 @@ starts x wide room h = omega (arith, ints)
 ends : (x : ℤ) (wide room : ℕ) → wide ≤ room → (x -ℤ pos (wide / 2) +ℤ pos wide) ≤ℤ (x -ℤ pos (room / 2) +ℤ pos room)
 ends x wide room h = omega (arith, ints)
 
-pub in_room : (h : Heading) (title : List ℕ) (f : Fitted) → IsFitted (room_of h) (heading_text h.letter title) f → IsInRoom h (heading_item h title)
-in_room h title f is =
-    subst (IsInRoom h) (stated h title f is)
+pub in_room : (h : Heading) (text : List ℕ) (f : Fitted) → IsFitted (room_of h) text f → IsInRoom h (heading_label h (fitted_in (room_of h) text))
+in_room h text f is =
+    subst (IsInRoom h) (stated h text f is)
     (record {
       fits = is.inside;
       left = starts h.x (text_width f.text * f.size / 1000) h.room wide;
       right = ends h.x (text_width f.text * f.size / 1000) h.room wide;
       base = refl;
-      small = no_larger (room_of h) (heading_text h.letter title) f is;
+      small = no_larger (room_of h) text f is;
     })
   where
     wide : text_width f.text * f.size / 1000 ≤ h.room

@@ -1,5 +1,5 @@
 -- What tells the cuts of a job is in reach of the views' boxes, and far within the range of numbers.
-use Rattle.std.proofs.Common.{◌≡◌, ◌⊎◌, inl, inr, ◌<◌, ◌/◌, ◌^◌, ℕ, Bool, List, [], ◌∷◌, ◌++◌, Option, Some, All, IfSome, length, slice_get, unsigned_abs, refl, sym, subst, ◌∙◌, length-append, arith}
+use Rattle.std.proofs.Common.{◌≡◌, ◌⊎◌, inl, inr, ◌<◌, ◌≤◌, ◌/◌, ◌^◌, ℕ, Bool, List, [], ◌∷◌, ◌++◌, Option, Some, All, IfSome, length, slice_get, unsigned_abs, refl, sym, ap, subst, ◌∙◌, length-append, arith}
 use Rattle.std.specs.Prelude.{ℤ, pos, ◌+ℤ◌, ◌-ℤ◌, ◌*ℤ◌, ◌<ℤ◌, ◌≤ℤ◌}
 use Rattle.std.specs.Int.{int_min, int_max}
 use Rattle.std.proofs.lemmas.Int.{ints, clamps}
@@ -17,6 +17,7 @@ use Rattle.sheet_plan.specs.Boxes.{TakesBox, box_of}
 use Rattle.cut_marks.specs.Figures.{marks_in, mark_of, room_over, heading_over}
 use Rattle.cut_marks.specs.Lanes.{AreLaned}
 use Rattle.cut_marks.specs.Lanes.AreLaned.{none as none_laned, told, untold}
+use Rattle.lattice.specs.Cuts.{Plane, plane_of}
 use Rattle.job_file.specs.ShownCuts.{cuts_in}
 use Rattle.cut_marks.specs.Marks.{IsHeaded, ArePlainMarks, IsCutView, IsMarked, AreMarked}
 use Rattle.cut_marks.specs.Marks.AreMarked.{none as none_marked, more as more_marked}
@@ -58,21 +59,21 @@ module _ (sheet : Sheet) (s : Part) (view : ℕ) (b : ViewBox) (is_box : TakesBo
       (All-weaker (λ e. IsCrossed b e.trace) (λ e. IsMarkInReach b (mark_of b e)) (mark_in_reach b) laned (all_laned traces laned left_out are_laned (all_crossed cuts traces are)))
 
 -- ---- a heading
-over_middle : (b : ViewBox) (letter : ℕ) (has : Bool) → b.left ≤ℤ b.right → b.top ≤ℤ b.bottom → IsHeadingInReach b (heading_over b letter has)
-over_middle b letter has across down =
+over_middle : (b : ViewBox) (letter : ℕ) (c : Plane) (has : Bool) → b.left ≤ℤ b.right → b.top ≤ℤ b.bottom → IsHeadingInReach b (heading_over b letter c has)
+over_middle b letter c has across down =
     let f = floor_of-is (b.left +ℤ b.right) (pos 2) (omega (arith, ints)) in
     go (floor_of (b.left +ℤ b.right) (pos 2)) (room_over b) (no_wider b.left b.right across) f.at_most f.rest_below
   where
-    no_wider : (l r : ℤ) → l ≤ℤ r → pos (unsigned_abs (int_min (int_max (r -ℤ l +ℤ pos 1400) (pos 0)) (pos 118900))) ≤ℤ (r -ℤ l +ℤ pos 1400)
+    no_wider : (l r : ℤ) → l ≤ℤ r → pos (unsigned_abs (int_min (int_max (r -ℤ l +ℤ pos 1000) (pos 0)) (pos 118900))) ≤ℤ (r -ℤ l +ℤ pos 1000)
     no_wider l r across = omega (arith, ints, clamps)
 
-    start : (l r x : ℤ) (room : ℕ) → pos room ≤ℤ (r -ℤ l +ℤ pos 1400) → (l +ℤ r) <ℤ (x *ℤ pos 2 +ℤ pos 2) → (l -ℤ pos 700) ≤ℤ (x -ℤ pos (room / 2))
+    start : (l r x : ℤ) (room : ℕ) → pos room ≤ℤ (r -ℤ l +ℤ pos 1000) → (l +ℤ r) <ℤ (x *ℤ pos 2 +ℤ pos 2) → (l -ℤ pos 700) ≤ℤ (x -ℤ pos (room / 2))
     start l r x room wide high = omega (arith, ints)
 
-    end : (l r x : ℤ) (room : ℕ) → pos room ≤ℤ (r -ℤ l +ℤ pos 1400) → (x *ℤ pos 2) ≤ℤ (l +ℤ r) → (x -ℤ pos (room / 2) +ℤ pos room) ≤ℤ (r +ℤ pos 700)
+    end : (l r x : ℤ) (room : ℕ) → pos room ≤ℤ (r -ℤ l +ℤ pos 1000) → (x *ℤ pos 2) ≤ℤ (l +ℤ r) → (x -ℤ pos (room / 2) +ℤ pos room) ≤ℤ (r +ℤ pos 700)
     end l r x room wide low = omega (arith, ints)
 
-    go : (x : ℤ) (room : ℕ) → pos room ≤ℤ (b.right -ℤ b.left +ℤ pos 1400) → (x *ℤ pos 2) ≤ℤ (b.left +ℤ b.right) → (b.left +ℤ b.right) <ℤ (x *ℤ pos 2 +ℤ pos 2)
+    go : (x : ℤ) (room : ℕ) → pos room ≤ℤ (b.right -ℤ b.left +ℤ pos 1000) → (x *ℤ pos 2) ≤ℤ (b.left +ℤ b.right) → (b.left +ℤ b.right) <ℤ (x *ℤ pos 2 +ℤ pos 2)
         → IsInReach b (x -ℤ pos (room / 2)) (x -ℤ pos (room / 2) +ℤ pos room) (b.top -ℤ pos 200 -ℤ pos 500) (b.top -ℤ pos 200 +ℤ pos 150)
     go x room wide low high = record {
       left = start b.left b.right x room wide high;
@@ -83,7 +84,7 @@ over_middle b letter has across down =
 
 heading_in_reach : (sheet : Sheet) (s : Part) (view number : ℕ) (c : Cut) (h : Heading) → (is : IsHeaded sheet s view number c h) → IsHeadingInReach is.box h
 heading_in_reach sheet s view number c h is =
-    subst (IsHeadingInReach is.box) (sym is.over) (over_middle is.box h.letter h.has_section (box_across sheet s.corners view is.box is.is_box) (box_down sheet s.corners view is.box is.is_box))
+    subst (IsHeadingInReach is.box) (sym is.over) (over_middle is.box h.letter (plane_of c) h.has_section (box_across sheet s.corners view is.box is.is_box) (box_down sheet s.corners view is.box is.is_box))
 
 -- ---- what is in reach is in range
 point_in_range : (b : ViewBox) (p : SheetPoint) (x x_end y y_end : ℤ) → x ≤ℤ p.x → p.x ≤ℤ x_end → y ≤ℤ p.y → p.y ≤ℤ y_end → IsInReach b x x_end y y_end → IsPlaceInRange p
@@ -121,10 +122,11 @@ end_in_range b e h = record {
 mark_in_range : (b : ViewBox) (m : CutMark) → IsMarkInReach b m → IsMarkInRange m
 mark_in_range b m h = record { first = end_in_range b m.first h.first; second = end_in_range b m.second h.second }
 
-heading_in_range : (b : ViewBox) (h : Heading) → IsHeadingInReach b h → IsHeadingInRange h
-heading_in_range b h k = record {
+heading_in_range : (b : ViewBox) (h : Heading) → unsigned_abs h.at ≤ 2 ^ 20 → IsHeadingInReach b h → IsHeadingInRange h
+heading_in_range b h small k = record {
   x = around b.left b.right h.x h.room b.left_in_range b.right_in_range k.left k.right;
   y = beneath b.top b.bottom h.y b.top_in_range b.bottom_in_range k.top k.bottom;
+  at = small;
 }
   where
     around : (a b n : ℤ) (room : ℕ) → unsigned_abs a < 2 ^ 61 → unsigned_abs b < 2 ^ 61 → (a -ℤ pos 700) ≤ℤ (n -ℤ pos (room / 2)) → (n -ℤ pos (room / 2) +ℤ pos room) ≤ℤ (b +ℤ pos 700) → unsigned_abs n < 2 ^ 62
@@ -138,7 +140,9 @@ pub all_in_range : (b : ViewBox) (marks : List CutMark) → All (IsMarkInReach b
 all_in_range b marks h = All-weaker (IsMarkInReach b) IsMarkInRange (mark_in_range b) marks h
 
 pub headed_in_range : (sheet : Sheet) (s : Part) (view number : ℕ) (c : Cut) (h : Heading) → IsHeaded sheet s view number c h → IsHeadingInRange h
-headed_in_range sheet s view number c h is = heading_in_range is.box h (heading_in_reach sheet s view number c h is)
+headed_in_range sheet s view number c h is =
+    let same : h.at ≡ c.at = ap (λ (x : Heading). x.at) is.over in
+    heading_in_range is.box h (subst (λ (at : ℤ). unsigned_abs at ≤ 2 ^ 20) (sym same) c.in_range) (heading_in_reach sheet s view number c h is)
 
 -- ---- a job
 module _ (sheet : Sheet) (s : Part) (cuts : List Cut) where

@@ -13,4 +13,4 @@ pub mod Written
 pub mod Parts
 pub mod HeadingLabels
 pub mod TitledViews
-pub mod UntitledHeadings
+pub mod WholePlaces

@@ -1,8 +1,9 @@
 -- What the marks and headings of cuts are on a page.
-use Rattle.std.specs.Prelude.{◌≡◌, ℕ, ◌*◌, ◌/◌, ◌≤◌, ℤ, pos, negsuc, int_lt, Bool, ◌+ℤ◌, ◌-ℤ◌, ◌≤ℤ◌, if◌then◌else◌, List, [], ◌∷◌, ◌++◌, Option, None, Some, IfSome, slice_get, unwrap_or}
+use Rattle.std.specs.Prelude.{◌≡◌, ◌⊎◌, false, ℕ, ◌*◌, ◌/◌, ◌≤◌, ℤ, pos, negsuc, int_lt, Bool, ◌+ℤ◌, ◌-ℤ◌, ◌≤ℤ◌, if◌then◌else◌, List, [], ◌∷◌, ◌++◌, Option, None, Some, IfSome, slice_get, unwrap_or}
 use Rattle.std.specs.Char.{encode_utf8}
 use Rattle.std.specs.Ordering.{int_eq}
 use Rattle.std.specs.List.{flat_map}
+use Rattle.dec_text.specs.declared.number.Length.{Length}
 use Rattle.text_fit.specs.Fits.{Fits}
 use Rattle.text_fit.specs.Widths.{text_width}
 use Rattle.text_fit.specs.declared.fit.Fitted.{Fitted}
@@ -18,7 +19,8 @@ use Rattle.sheet_page.specs.declared.page.Label.{Label}
 use Rattle.sheet_page.specs.declared.page.Pen.{Pen}
 use Rattle.sheet_page.specs.declared.page.Pen.TheVariants as pen
 use Rattle.sheet_page.specs.Labels.{fitted_in, set_width}
-use Rattle.cut_marks.specs.MarkLetters.{half_of, width_of, heading_text}
+use Rattle.cut_marks.specs.HeadingTexts.{bare_text, fits_least, front_text, heading_text}
+use Rattle.cut_marks.specs.MarkLetters.{half_of, width_of}
 use Rattle.cut_marks.specs.Reach.{room_start, room_end}
 
 -- a straight line from one place to another
@@ -40,13 +42,16 @@ wide_of f = text_width f.text * f.size / 1000
 abbrev pub heading_label : Heading → Fitted → Item
 heading_label h f = item.Label (record { x = h.x -ℤ pos (wide_of f / 2); y = h.y; size = f.size; width = set_width h.room (wide_of f); text = f.text })
 
--- the heading of a view with this title
-abbrev pub heading_item : Heading → List ℕ → Item
-heading_item h title = heading_label h (fitted_in (room_of h) (heading_text h.letter title))
+-- the heading of a view with this title; a sheet says lengths of so many decimals in this unit
+abbrev pub fitted_heading : ℕ → Length → Heading → List ℕ → Fitted
+fitted_heading decimals unit h title = fitted_in (room_of h) (heading_text decimals unit h title)
 
-abbrev pub heading_items : Option Heading → List ℕ → List Item
-heading_items None title = []
-heading_items (Some h) title = heading_item h title ∷ []
+abbrev pub heading_item : ℕ → Length → Heading → List ℕ → Item
+heading_item decimals unit h title = heading_label h (fitted_heading decimals unit h title)
+
+abbrev pub heading_items : ℕ → Length → Option Heading → List ℕ → List Item
+heading_items decimals unit None title = []
+heading_items decimals unit (Some h) title = heading_item decimals unit h title ∷ []
 
 -- a heading's label is no wider than the heading's room, and stands there, in letters of 5 mm at most
 pub record IsLabelInRoom (h : Heading) (l : Label) : Type 0 where
@@ -62,6 +67,7 @@ IsInRoom h (item.Rule rule) = ⊥
 IsInRoom h (item.Circle circle) = ⊥
 IsInRoom h (item.Label label) = IsLabelInRoom h label
 IsInRoom h (item.Path path) = ⊥
+IsInRoom h (item.Fill fill) = ⊥
 
 -- behind the tip of an arrow that comes from the tail, as far as its head is long: 1 mm
 abbrev pub behind : ℤ → ℤ → ℤ
@@ -102,22 +108,32 @@ abbrev pub items_of_mark : CutMark → List Item
 items_of_mark m = rule_to pen.Chain m.first.tail m.second.tail ∷ (end_items m m.first ++ end_items m m.second)
 
 -- a view with this title
-abbrev pub items_of_view : ViewMarks → List ℕ → List Item
-items_of_view v title = heading_items v.heading title ++ flat_map items_of_mark v.marks.items
+abbrev pub items_of_view : ℕ → Length → ViewMarks → List ℕ → List Item
+items_of_view decimals unit v title = heading_items decimals unit v.heading title ++ flat_map items_of_mark v.marks.items
 
 -- all of them, view by view, each with its title; views behind the last title have none
-abbrev pub items_of_marks : List ViewMarks → List (List ℕ) → List Item
-items_of_marks [] titles = []
-items_of_marks (v ∷ views) [] = items_of_view v [] ++ items_of_marks views []
-items_of_marks (v ∷ views) (title ∷ titles) = items_of_view v title ++ items_of_marks views titles
+abbrev pub items_of_marks : ℕ → Length → List ViewMarks → List (List ℕ) → List Item
+items_of_marks decimals unit [] titles = []
+items_of_marks decimals unit (v ∷ views) [] = items_of_view decimals unit v [] ++ items_of_marks decimals unit views []
+items_of_marks decimals unit (v ∷ views) (title ∷ titles) = items_of_view decimals unit v title ++ items_of_marks decimals unit views titles
 
 -- the title of the view with this number
 abbrev pub title_at : List (List ℕ) → ℕ → List ℕ
 title_at titles view = unwrap_or (slice_get titles view) []
 
--- each heading's label is in its room
-abbrev pub IsHeadedInRoom : ViewMarks → List ℕ → Type 0
-IsHeadedInRoom v title = IfSome v.heading (λ h. IsInRoom h (heading_item h title))
+-- a text has the letters and the place of a heading whole, at its beginning; or there is no room for them, and it is the one without the place
+abbrev pub HasPlaceWhole : ℕ → Length → Heading → List ℕ → List ℕ → Type 0
+HasPlaceWhole decimals unit h title text =
+    ((rest : List ℕ) × (text ≡ front_text decimals unit h ++ rest))
+    ⊎ ((fits_least h (front_text decimals unit h) ≡ false) × (text ≡ (fitted_in (room_of h) (bare_text h title)).text))
 
-abbrev pub AreInRooms : List ViewMarks → List (List ℕ) → Type 0
-AreInRooms views titles = (view : ℕ) (v : ViewMarks) → slice_get views view ≡ Some v → IsHeadedInRoom v (title_at titles view)
+-- a heading's label is in its room, and no place is cut
+pub record IsWellHeaded (decimals : ℕ) (unit : Length) (h : Heading) (title : List ℕ) : Type 0 where
+  pub in_room : IsInRoom h (heading_item decimals unit h title)
+  pub place : HasPlaceWhole decimals unit h title (fitted_heading decimals unit h title).text
+
+abbrev pub IsHeadedWell : ℕ → Length → ViewMarks → List ℕ → Type 0
+IsHeadedWell decimals unit v title = IfSome v.heading (λ h. IsWellHeaded decimals unit h title)
+
+abbrev pub AreHeadedWell : ℕ → Length → List ViewMarks → List (List ℕ) → Type 0
+AreHeadedWell decimals unit views titles = (view : ℕ) (v : ViewMarks) → slice_get views view ≡ Some v → IsHeadedWell decimals unit v (title_at titles view)

@@ -8,4 +8,6 @@ pub mod Ranges
 pub mod Reach
 pub mod Traces
 pub mod Items
+pub mod AxisNames
+pub mod HeadingTexts
 pub mod MarkLetters

@@ -1,6 +1,5 @@
--- The texts of marks and headings, and how wide letters are in Helvetica.
-use Rattle.std.specs.Prelude.{ℕ, ◌*◌, ◌/◌, ◌==◌, if◌then◌else◌, List, [], ◌∷◌, ◌++◌, codes}
-use Rattle.std.specs.Char.{encode_utf8}
+-- How wide the letters of marks are in Helvetica.
+use Rattle.std.specs.Prelude.{ℕ, ◌*◌, ◌/◌, ◌==◌, if◌then◌else◌}
 
 -- the width of a letter, in thousandths of its size
 abbrev pub width_of : ℕ → ℕ
@@ -10,12 +9,3 @@ width_of c =
 -- half of the length of a text that is so many thousandths of its size long
 abbrev pub half_of : ℕ → ℕ → ℕ
 half_of thousandths size = thousandths * size / 2000
-
--- the title of a view behind its letters; an empty one is none
-abbrev pub behind_letters : List ℕ → List ℕ
-behind_letters [] = []
-behind_letters (b ∷ title) = codes " " ++ b ∷ title
-
--- the text of a heading, as A-A, or A-A through the bore
-abbrev pub heading_text : ℕ → List ℕ → List ℕ
-heading_text letter title = encode_utf8 letter ++ codes "-" ++ encode_utf8 letter ++ behind_letters title

@@ -25,7 +25,7 @@ pub record IsHeaded (sheet : Sheet) (s : Part) (view number : ℕ) (c : Cut) (h 
   pub box : ViewBox
   pub is_box : TakesBox sheet s.corners view (box_of box)
   pub lettered : IsLetterOf number h.letter
-  pub over : h ≡ heading_over box h.letter h.has_section
+  pub over : h ≡ heading_over box h.letter (plane_of c) h.has_section
   pub section : IsTrue h.has_section ↔ HasSegment (plane_of c) s
 
 -- the marks of the cuts' traces in the plain view with this number, and the letters that have no place

@@ -1,5 +1,5 @@
 -- Places that are far within the range of numbers.
-use Rattle.std.specs.Prelude.{◌<◌, ◌^◌, unsigned_abs}
+use Rattle.std.specs.Prelude.{◌<◌, ◌≤◌, ◌^◌, unsigned_abs}
 use Rattle.cut_marks.specs.declared.figures.Heading.{Heading}
 use Rattle.cut_marks.specs.declared.figures.CutMark.{CutMark}
 use Rattle.cut_marks.specs.declared.figures.MarkEnd.{MarkEnd}
@@ -22,3 +22,4 @@ pub record IsMarkInRange (m : CutMark) : Type 0 where
 pub record IsHeadingInRange (h : Heading) : Type 0 where
   pub x : unsigned_abs h.x < 2 ^ 62
   pub y : unsigned_abs h.y < 2 ^ 62
+  pub at : unsigned_abs h.at ≤ 2 ^ 20

@@ -9,6 +9,7 @@ ghost use Rattle.cut_marks.specs.Figures.{ahead, place_at, upright_end, base_bey
 use crate::traces::{is_forward, is_upright};
 use crate::ways::{Lane, Laned};
 use exact_frac::OutOfMemory;
+use lattice::{Axis, Cut};
 use sheet_plan::ViewBox;
 use std::alloc::Global;
 
@@ -42,12 +43,14 @@ pub struct CutMark {
     pub second: MarkEnd,
 }
 
-/// The heading of a cut view, `A-A` with this letter, and the view's title behind it, with the middle of its base line at x and y. It is
-/// 5 mm high, or less where it would be wider than `room`, whose middle is that of the base line. If the cut's plane crosses no triangle,
-/// the view shows no section.
+/// The heading of a cut view, as `A-A (y = 10)` with this letter and the place of its cut on an axis, and the view's title behind it,
+/// with the middle of its base line at x and y. It is 5 mm high, or less where it would be wider than `room`, whose middle is that of the
+/// base line. If the cut's plane crosses no triangle, the view shows no section.
 #[derive(Clone, Copy, Debug)]
 pub struct Heading {
     pub letter: u8,
+    pub axis: Axis,
+    pub at: i64,
     pub x: i64,
     pub y: i64,
     pub room: u32,
@@ -201,20 +204,22 @@ pub(crate) fn marks_in(
     Ok(marks)
 }
 
-/// The room of the heading over a cut view with this box: as wide as the box and 7 mm on both sides of it, but no wider than the widest
+/// The room of the heading over a cut view with this box: as wide as the box and 5 mm on both sides of it, but no wider than the widest
 /// sheet.
 fn room_over(b: &ViewBox) -> u32
     ensures { result ≡ room_over b.now }
 {
-    (b.right - b.left + 1400).max(0).min(118_900) as u32
+    (b.right - b.left + 1000).max(0).min(118_900) as u32
 }
 
-/// The heading over a cut view with this box.
-pub(crate) fn heading_over(b: &ViewBox, letter: u8, has_section: bool) -> Heading
-    ensures { result ≡ heading_over b.now letter has_section }
+/// The heading over the view of a cut with this box.
+pub(crate) fn heading_over(b: &ViewBox, letter: u8, cut: &Cut, has_section: bool) -> Heading
+    ensures { result ≡ heading_over b.now letter (plane_of cut.now) has_section }
 {
     Heading {
         letter,
+        axis: cut.axis(),
+        at: cut.at(),
         x: (b.left + b.right).div_euclid(2),
         y: b.top - 200,
         room: room_over(b),

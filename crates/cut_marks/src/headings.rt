@@ -4,20 +4,18 @@ ghost use Rattle.text_fit.specs.Fits.{Fits};
 ghost use Rattle.text_fit.specs.Widths.{text_width};
 ghost use Rattle.sheet_page.specs.Labels.{set_width};
 ghost use Rattle.cut_marks.specs.Ranges.{IsHeadingInRange};
-ghost use Rattle.cut_marks.specs.Items.{room_of, wide_of, heading_label, heading_item, IsInRoom};
+ghost use Rattle.cut_marks.specs.Items.{room_of, wide_of, heading_label, heading_item, IsWellHeaded};
 
 use crate::figures::Heading;
-use crate::mark_letters::heading_text;
+use crate::heading_texts::{LEAST, heading_text};
 use exact_frac::OutOfMemory;
+use length_text::LengthForm;
 use sheet_page::{Item, Label};
 use std::alloc::Global;
 use text_fit::{Fitted, Room, fit_text, text_width};
 
 /// The greatest size of a heading's letters.
 const MOST: u32 = 500;
-
-/// And the least one.
-const LEAST: u32 = 180;
 
 /// The room of a heading.
 fn room_of(heading: &Heading) -> Room
@@ -65,18 +63,19 @@ fn heading_label(heading: &Heading, fitted: Fitted) -> Item
     })
 }
 
-/// Adds the heading of a view with this title.
+/// Adds the heading of a view with this title, which says lengths in this form.
 pub(crate) fn add_heading(
     alloc: Global,
     items: &mut Vec<Item>,
     heading: &Heading,
     title: &str,
+    form: LengthForm,
 ) -> Result<(), OutOfMemory>
     requires { IsHeadingInRange heading.now }
-    ensures items { OnOk result (items.new.items ≡ items.old.items ++ heading_item heading.now title.now ∷ []) }
-    ensures in_room { OnOk result (IsInRoom heading.now (heading_item heading.now title.now)) }
+    ensures items { OnOk result (items.new.items ≡ items.old.items ++ heading_item form.decimals form.unit heading.now title.now ∷ []) }
+    ensures well { OnOk result (IsWellHeaded form.decimals form.unit heading.now title.now) }
 {
-    let text = heading_text(alloc, heading.letter, title)?;
+    let text = heading_text(alloc, form, heading, title)?;
     let fitted = fit_text(alloc, text.as_str(), room_of(heading))?;
     items.push(heading_label(heading, fitted))?;
     Ok(())

@@ -3,7 +3,7 @@ ghost use Rattle.std.specs.Prelude.{◌≡◌, ◌≤◌, ◌<◌, ◌^◌, ◌+
 ghost use Rattle.std.specs.List.{flat_map};
 ghost use Rattle.cut_marks.specs.MarkLetters.{half_of, width_of};
 ghost use Rattle.cut_marks.specs.Ranges.{IsPlaceInRange, IsEndInRange, IsMarkInRange};
-ghost use Rattle.cut_marks.specs.Items.{rule_to, text_at, heading_items, behind, is_upright, upright_head, level_head, head_at, arrow_items, letter_item, beside_items, end_items, items_of_mark, items_of_view, items_of_marks, title_at, IsHeadedInRoom, AreInRooms};
+ghost use Rattle.cut_marks.specs.Items.{rule_to, text_at, heading_items, behind, is_upright, upright_head, level_head, head_at, arrow_items, letter_item, beside_items, end_items, items_of_mark, items_of_view, items_of_marks, title_at, IsHeadedWell, AreHeadedWell};
 
 use crate::figures::{CutMark, MarkEnd, SheetPoint};
 use crate::headings::add_heading;
@@ -11,6 +11,7 @@ use crate::mark_letters::{half_of, letter_text, width_of};
 use crate::views::ViewMarks;
 use dec_text::Name;
 use exact_frac::OutOfMemory;
+use length_text::LengthForm;
 use sheet_page::{Item, Label, Pen, Rule};
 use std::alloc::Global;
 use stroke_paths::Point;
@@ -199,12 +200,13 @@ fn add_headings(
     items: &mut Vec<Item>,
     view: &ViewMarks,
     title: &str,
+    form: LengthForm,
 ) -> Result<(), OutOfMemory>
-    ensures items { OnOk result (items.new.items ≡ items.old.items ++ heading_items view.now.heading title.now) }
-    ensures in_room { OnOk result (IsHeadedInRoom view.now title.now) }
+    ensures items { OnOk result (items.new.items ≡ items.old.items ++ heading_items form.decimals form.unit view.now.heading title.now) }
+    ensures well { OnOk result (IsHeadedWell form.decimals form.unit view.now title.now) }
 {
     match &view.heading {
-        Some(heading) => add_heading(alloc, items, heading, title),
+        Some(heading) => add_heading(alloc, items, heading, title, form),
         None => Ok(()),
     }
 }
@@ -215,11 +217,12 @@ fn add_view(
     items: &mut Vec<Item>,
     view: &ViewMarks,
     title: &str,
+    form: LengthForm,
 ) -> Result<(), OutOfMemory>
-    ensures items { OnOk result (items.new.items ≡ items.old.items ++ items_of_view view.now title.now) }
-    ensures in_room { OnOk result (IsHeadedInRoom view.now title.now) }
+    ensures items { OnOk result (items.new.items ≡ items.old.items ++ items_of_view form.decimals form.unit view.now title.now) }
+    ensures well { OnOk result (IsHeadedWell form.decimals form.unit view.now title.now) }
 {
-    add_headings(alloc, items, view, title)?;
+    add_headings(alloc, items, view, title, form)?;
     for mark in &view.marks {
         add_mark(alloc, items, mark)?;
     }
@@ -238,18 +241,21 @@ fn title_at(titles: &[Name], view: usize) -> &str
 
 /// What tells the cuts on a page, view by view: for a heading a text, and for a mark a chain line from end to end and at each end an
 /// arrow and a text. No path is among it. `titles` are those of the views, in their order; a view has none if its title is empty or if
-/// there are fewer. The time goes with the number of marks and with the lengths of the titles.
+/// there are fewer. `form` is how a heading says the place of its cut, which is in it whole or not at all. The time goes with the number
+/// of marks and with the lengths of the titles.
 pub fn mark_items(
     alloc: Global,
     views: &[ViewMarks],
     titles: &[Name],
+    form: LengthForm,
 ) -> Result<Vec<Item>, OutOfMemory>
-    ensures items { IfOk result (λ items. items.items ≡ items_of_marks views.now titles.now) }
-    ensures in_rooms { IfOk result (λ _. AreInRooms views.now titles.now) }
+    ensures items { IfOk result (λ items. items.items ≡ items_of_marks form.decimals form.unit views.now titles.now) }
+    ensures well { IfOk result (λ _. AreHeadedWell form.decimals form.unit views.now titles.now) }
 {
     let mut items = Vec::new(alloc);
     for view in 0..views.len() {
-        add_view(alloc, &mut items, &views[view], title_at(titles, view))?;
+        let title = title_at(titles, view);
+        add_view(alloc, &mut items, &views[view], title, form)?;
     }
     Ok(items)
 }

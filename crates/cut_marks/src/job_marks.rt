@@ -51,7 +51,7 @@ fn heading_of(solid: &Solid, sheet: &Sheet, view: u32, number: usize, cut: &Cut)
     ensures { IsHeaded sheet.now (solid_part solid.now) view number cut.now result }
 {
     let b = ViewBox::of(solid, sheet, view);
-    heading_over(&b, letter_of(number), has_segment(solid, cut))
+    heading_over(&b, letter_of(number), cut, has_segment(solid, cut))
 }
 
 /// What tells the cuts in the view with this number, which shows this, where so many cuts are shown before it.

@@ -1,5 +1,5 @@
-//! How a drawing tells its cuts: each cut has a letter, its view is headed by it and by the view's title, and where another view sees
-//! the cut's plane edge-on, a chain line crosses the view's whole box, with the letter and an arrow in the viewing direction at both
+//! How a drawing tells its cuts: each cut has a letter, its view is headed by it, by the place of the cut and by the view's title, and
+//! where another view sees the cut's plane edge-on, a chain line crosses the view's whole box, with the letter and an arrow in the viewing direction at both
 //! ends.
 //!
 //! In one view no letter or arrow of a mark touches one of another mark; only chain lines may cross them.
@@ -7,11 +7,14 @@
 //! All lengths are in hundredths of a millimetre on the sheet. Marks and headings end within 7 mm of their view's box, so that they
 //! reach no other view: views are 15 mm apart (lemma `clear`). The cost is a few passes over the part's corners for each view and cut.
 //! `mark_items` says what they are on a page: a text stands with its middle at its place, by the widths of Helvetica's letters. A
-//! heading that would be wider than its view's box and 7 mm on both sides is set smaller, and then cut.
+//! heading that would be wider than its view's box and 5 mm on both sides is set smaller. Then its title is cut, and at last the place is
+//! left out: it is never cut, as half a number would be another one.
 #![tactic(auto)]
 
 mod areas;
+mod axes;
 mod figures;
+mod heading_texts;
 mod headings;
 mod items;
 mod job_marks;
@@ -25,6 +28,7 @@ mod traces;
 mod views;
 mod ways;
 
+pub use axes::axis_name;
 pub use figures::{CutMark, Heading, MarkEnd, SheetPoint};
 pub use items::mark_items;
 pub use job_marks::marks;

@@ -1,7 +1,7 @@
-// The texts of marks and headings, and how wide letters are.
-ghost use Rattle.std.specs.Prelude.{◌≡◌, ◌≤◌, ◌++◌, IfOk, OnOk, string_bytes};
+// The letters of marks, and how wide they are.
+ghost use Rattle.std.specs.Prelude.{◌≡◌, ◌≤◌, IfOk, string_bytes};
 ghost use Rattle.std.specs.Char.{encode_utf8};
-ghost use Rattle.cut_marks.specs.MarkLetters.{width_of, half_of, behind_letters, heading_text};
+ghost use Rattle.cut_marks.specs.MarkLetters.{width_of, half_of};
 
 use std::alloc::{AllocError, Global};
 
@@ -39,29 +39,5 @@ pub(crate) fn letter_text(alloc: Global, letter: u8) -> Result<String, AllocErro
 {
     let mut text = String::new(alloc);
     text.push(letter as char)?;
-    Ok(text)
-}
-
-/// Adds the title of a view behind its letters, if it isn't empty.
-fn add_title(text: &mut String, title: &str) -> Result<(), AllocError>
-    ensures { OnOk result (string_bytes text.new ≡ string_bytes text.old ++ behind_letters title.now) }
-{
-    if title.is_empty() {
-        return Ok(());
-    }
-    text.push_str(" ")?;
-    text.push_str(title)?;
-    Ok(())
-}
-
-/// The text of the heading of a view with this title.
-pub(crate) fn heading_text(alloc: Global, letter: u8, title: &str) -> Result<String, AllocError>
-    ensures { IfOk result (λ text. string_bytes text ≡ heading_text letter title.now) }
-{
-    let mut text = String::new(alloc);
-    text.push(letter as char)?;
-    text.push_str("-")?;
-    text.push(letter as char)?;
-    add_title(&mut text, title)?;
     Ok(text)
 }

@@ -2,7 +2,7 @@
 use Rattle.std.proofs.Common.{◌≡◌, ℕ, ◌<◌, List, [], ◌∷◌, ◌++◌, Bool, Option, None, Some, map, length}
 use Rattle.std.specs.Prelude.{ℤ, pos, negsuc}
 use Rattle.std.specs.List.{All, flat_map}
-use Rattle.std.proofs.lemmas.List.Elements.{All-nil, All-cons, All-append, All-filter, All-map, All-weaker}
+use Rattle.std.proofs.lemmas.List.Elements.{All-nil, All-cons, All-head, All-tail, All-append, All-filter, All-map, All-weaker}
 use Rattle.std.proofs.lemmas.Slice.Zip.{AllZip-long}
 use Rattle.sheet_plan.specs.Centred.{IsPlannedFor, IsMovedPlace, IsCentred}
 use Rattle.cut_marks.specs.declared.figures.Heading.{Heading}
@@ -11,6 +11,7 @@ use Rattle.cut_marks.specs.declared.figures.MarkEnd.{MarkEnd}
 use Rattle.cut_marks.specs.declared.figures.SheetPoint.{SheetPoint}
 use Rattle.cut_marks.specs.declared.views.ViewMarks.{ViewMarks}
 use Rattle.drawing.specs.Drawing.{IsPlannedDrawing}
+use Rattle.dec_text.specs.declared.number.Length.{Length}
 use Rattle.cut_marks.specs.Items.{rule_to, head_at, letter_item, beside_items, arrow_items, end_items, items_of_mark, heading_item, heading_items, items_of_view, items_of_marks}
 use Rattle.sheet_page.specs.Corners.{IsInCorner}
 use Rattle.lattice.specs.declared.points.Corner.{Corner}
@@ -22,7 +23,9 @@ use Rattle.sheet_page.specs.declared.page.Item.{Item}
 use Rattle.sheet_page.specs.declared.page.Item.TheVariants as item
 use Rattle.sheet_page.specs.declared.page.Pen.TheVariants as pen
 use Rattle.stroke_paths.specs.declared.path.Path.{Path}
-use Rattle.sheet_core.specs.Pages.{is_shown, frame_of, shown_paths}
+use Rattle.section_look.specs.declared.fills.Fill.{Fill}
+use Rattle.section_look.specs.declared.looks.SectionLook.{SectionLook}
+use Rattle.sheet_core.specs.Pages.{is_shown, fills_of, frame_of, shown_paths}
 
 -- the sheet of a drawing was planned for it
 pub planned_for : (d : Drawing) → IsPlannedDrawing d → IsPlannedFor d.job (solid_part d.solid).corners d.sheet
@@ -51,6 +54,7 @@ module _ (n : ℕ) where
   block_item width height (item.Circle circle) h = tt
   block_item width height (item.Label label) h = tt
   block_item width height (item.Path path) h = absurd h
+  block_item width height (item.Fill fill) h = absurd h
 
   pub of_block : (width height : ℤ) (items : List Item) → All (IsInCorner width height) items → All (IsInView n) items
   of_block width height items h = All-weaker (IsInCorner width height) (IsInView n) (block_item width height) items h
@@ -69,25 +73,42 @@ module _ (n : ℕ) where
   of_mark : (m : CutMark) → All (IsInView n) (items_of_mark m)
   of_mark m = All-cons (IsInView n) (rule_to pen.Chain m.first.tail m.second.tail) (end_items m m.first ++ end_items m m.second) tt (All-append (IsInView n) (end_items m m.first) (end_items m m.second) (of_end m m.first) (of_end m m.second))
 
-  of_heading : (h : Option Heading) (title : List ℕ) → All (IsInView n) (heading_items h title)
-  of_heading None title = All-nil (IsInView n)
-  of_heading (Some h) title = one (heading_item h title) tt
+  module _ (decimals : ℕ) (unit : Length) where
+    of_heading : (h : Option Heading) (title : List ℕ) → All (IsInView n) (heading_items decimals unit h title)
+    of_heading None title = All-nil (IsInView n)
+    of_heading (Some h) title = one (heading_item decimals unit h title) tt
 
-  of_view : (v : ViewMarks) (title : List ℕ) → All (IsInView n) (items_of_view v title)
-  of_view v title =
-      All-append (IsInView n) (heading_items v.heading title) (flat_map items_of_mark v.marks.items) (of_heading v.heading title) (all_flat (IsInView n) items_of_mark of_mark v.marks.items)
+    of_view : (v : ViewMarks) (title : List ℕ) → All (IsInView n) (items_of_view decimals unit v title)
+    of_view v title =
+        All-append (IsInView n) (heading_items decimals unit v.heading title) (flat_map items_of_mark v.marks.items) (of_heading v.heading title)
+        (all_flat (IsInView n) items_of_mark of_mark v.marks.items)
 
-  pub of_marks : (views : List ViewMarks) (titles : List (List ℕ)) → All (IsInView n) (items_of_marks views titles)
-  of_marks [] titles = All-nil (IsInView n)
-  of_marks (v ∷ views) [] = All-append (IsInView n) (items_of_view v []) (items_of_marks views []) (of_view v []) (of_marks views [])
-  of_marks (v ∷ views) (title ∷ titles) = All-append (IsInView n) (items_of_view v title) (items_of_marks views titles) (of_view v title) (of_marks views titles)
+    pub of_marks : (views : List ViewMarks) (titles : List (List ℕ)) → All (IsInView n) (items_of_marks decimals unit views titles)
+    of_marks [] titles = All-nil (IsInView n)
+    of_marks (v ∷ views) [] = All-append (IsInView n) (items_of_view decimals unit v []) (items_of_marks decimals unit views []) (of_view v []) (of_marks views [])
+    of_marks (v ∷ views) (title ∷ titles) =
+        All-append (IsInView n) (items_of_view decimals unit v title) (items_of_marks decimals unit views titles) (of_view v title) (of_marks views titles)
 
-pub in_views : (n : ℕ) (hidden : List Bool) (d : Drawing) (block marks : List Item) (paths : List Path) → All (IsInView n) block → All (IsInView n) marks → All (λ p. p.view < n) paths
-    → All (IsInView n) ((frame_of d.sheet.width d.sheet.height ∷ block) ++ map item.Path (shown_paths hidden paths) ++ marks)
-in_views n hidden d block marks paths of_block of_marks within =
+  of_section : (section : SectionLook) → section.view < n → All (IsInView n) (fills_of section)
+  of_section section within = go section.fills.items
+    where
+      go : (fills : List Fill) → All (IsInView n) (map (λ (fill : Fill). item.Fill (record { view = section.view; loops = fill.loops })) fills)
+      go [] = All-nil (IsInView n)
+      go (fill ∷ fills) = All-cons (IsInView n) (item.Fill (record { view = section.view; loops = fill.loops })) (map (λ (f : Fill). item.Fill (record { view = section.view; loops = f.loops })) fills) within (go fills)
+
+  of_sections : (sections : List SectionLook) → All (λ section. section.view < n) sections → All (IsInView n) (flat_map fills_of sections)
+  of_sections [] there = All-nil (IsInView n)
+  of_sections (section ∷ sections) there =
+      All-append (IsInView n) (fills_of section) (flat_map fills_of sections) (of_section section (All-head (λ s. s.view < n) section sections there)) (of_sections sections (All-tail (λ s. s.view < n) section sections there))
+
+pub in_views : (n : ℕ) (hidden : List Bool) (d : Drawing) (block marks : List Item) (sections : List SectionLook) (paths : List Path) → All (IsInView n) block → All (IsInView n) marks
+    → All (λ section. section.view < n) sections → All (λ p. p.view < n) paths
+    → All (IsInView n) ((frame_of d.sheet.width d.sheet.height ∷ block) ++ flat_map fills_of sections ++ map item.Path (shown_paths hidden paths) ++ marks)
+in_views n hidden d block marks sections paths of_block of_marks placed within =
     let frame = frame_of d.sheet.width d.sheet.height ∷ block in
+    let fills = flat_map fills_of sections in
     let drawn = map item.Path (shown_paths hidden paths) in
-    All-append (IsInView n) (frame ++ drawn) marks
-    (All-append (IsInView n) frame drawn
-    (All-cons (IsInView n) (frame_of d.sheet.width d.sheet.height) block tt of_block)
+    All-append (IsInView n) ((frame ++ fills) ++ drawn) marks
+    (All-append (IsInView n) (frame ++ fills) drawn
+    (All-append (IsInView n) frame fills (All-cons (IsInView n) (frame_of d.sheet.width d.sheet.height) block tt of_block) (of_sections n sections placed))
     (All-map (IsInView n) item.Path (shown_paths hidden paths) (All-filter (λ p. is_shown hidden p.view p.mark) (λ p. p.view < n) paths within))) of_marks

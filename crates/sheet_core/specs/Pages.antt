@@ -1,21 +1,24 @@
 -- The page of a drawing: its frame, its title block, the paths of its strokes, but for hidden lines that aren't asked for, and what tells
 -- its cuts.
 use Rattle.std.specs.Prelude.{◌≡◌, ℕ, Bool, true, not, ◌||◌, pos, ℤ, ◌-ℤ◌, List, ◌∷◌, ◌++◌, length, map, slice_get, unwrap_or}
-use Rattle.std.specs.List.{filter}
+use Rattle.std.specs.List.{filter, flat_map}
 use Rattle.sheet_plan.specs.Centred.{IsCentred, ViewsStayWithin, ViewsStayApart}
 use Rattle.cut_marks.specs.Areas.{NoneTouch}
 use Rattle.job_file.specs.ShownCuts.{cuts_in}
 use Rattle.cut_marks.specs.Marks.{AreMarked}
 use Rattle.cut_marks.specs.Reach.{AreInReach}
 use Rattle.cut_marks.specs.declared.views.ViewMarks.{ViewMarks}
-use Rattle.cut_marks.specs.Items.{items_of_marks}
+use Rattle.cut_marks.specs.Items.{items_of_marks, AreHeadedWell}
 use Rattle.sheet_plan.specs.LineKinds.{is_same_mark}
 use Rattle.sheet_plan.specs.declared.sheet.Mark.{Mark}
-use Rattle.sheet_plan.specs.declared.sheet.Mark.TheVariants.{Dashed}
+use Rattle.sheet_plan.specs.declared.sheet.Mark.TheVariants.{Dashed, Hatch}
 use Rattle.sheet_plan.specs.declared.sheet.Sheet.{Sheet}
 use Rattle.sheet_plan.specs.declared.sheet.Stroke.{Stroke}
 use Rattle.drawing.specs.Strokes.{AreStrokes}
 use Rattle.drawing.specs.declared.drawn.Drawing.{Drawing}
+use Rattle.section_look.specs.HatchStrokes.{AreHatchStrokes}
+use Rattle.section_look.specs.Looks.{AreLooks}
+use Rattle.section_look.specs.declared.looks.SectionLook.{SectionLook}
 use Rattle.stroke_paths.specs.Paths.{ArePaths}
 use Rattle.stroke_paths.specs.declared.path.Path.{Path}
 use Rattle.sheet_page.specs.declared.page.Item.{Item}
@@ -39,37 +42,58 @@ shown_paths hidden paths = filter (λ p. is_shown hidden p.view p.mark) paths
 abbrev pub frame_of : ℤ → ℤ → Item
 frame_of width height = item.Frame (record { x = pos 1000; y = pos 1000; width = width -ℤ pos 2000; height = height -ℤ pos 2000 })
 
--- what stands on the page: the frame, the title block, the paths that are drawn, and what tells the cuts
-abbrev pub items_of : SheetLook → List ℕ → Drawing → List Path → List ViewMarks → List Item
-items_of look part d paths marks =
-    (frame_of d.sheet.width d.sheet.height ∷ block_of d.sheet d.job part look.block)
-    ++ map item.Path (shown_paths look.hidden.items paths)
-    ++ items_of_marks marks look.titles.items
+-- what is filled of the sections in views
+abbrev pub fills_of : SectionLook → List Item
+fills_of section = map (λ fill. item.Fill (record { view = section.view; loops = fill.loops })) section.fills.items
 
--- the strokes of a drawing that are drawn
-abbrev pub shown_strokes : List Bool → List Stroke → List Stroke
-shown_strokes hidden strokes = filter (λ s. is_shown hidden s.view s.mark) strokes
+-- what stands on the page: the frame, the title block, what is filled of sections, the paths that are drawn, and what tells the cuts
+abbrev pub items_of : SheetLook → List ℕ → Drawing → List SectionLook → List Path → List ViewMarks → List Item
+items_of look part d sections paths marks =
+    (frame_of d.sheet.width d.sheet.height ∷ block_of d.sheet d.job part look.block)
+    ++ flat_map fills_of sections
+    ++ map item.Path (shown_paths look.hidden.items paths)
+    ++ items_of_marks d.job.decimals d.job.unit marks look.titles.items
+
+-- which strokes of a drawing are drawn
+abbrev pub drawn_strokes : List Bool → List Stroke → List Bool
+drawn_strokes hidden strokes = map (λ s. is_shown hidden s.view s.mark) strokes
+
+-- ---- the picture
+-- the strokes of a drawing but for its hatch lines
+abbrev pub unhatched : List Stroke → List Stroke
+unhatched strokes = filter (λ s. not (is_same_mark s.mark Hatch)) strokes
+
+-- the strokes of the picture: those, and then the hatch lines by which the sheet shows the sections
+pub record IsPicture (sheet : Sheet) (strokes : List Stroke) (sections : List SectionLook) (picture : List Stroke) : Type 0 where
+  pub hatches : List Stroke
+  pub are_hatches : AreHatchStrokes sheet sections hatches
+  pub together : picture ≡ unhatched strokes ++ hatches
 
 -- The page shows the drawing of the part with this name: its frame and its title block, and, on the sheet with its views in the middle of
--- their room, the paths of its strokes that are drawn, in their order, and the marks and the headings of its cuts. All views and strokes are
--- moved by one shift; the views stay within the margins and apart; each mark and heading ends within 7 mm of its view, and no two marks of
--- a view touch.
+-- their room, what is filled of its sections, the paths of its strokes that are drawn, in their order, with hatch lines as close as the
+-- sections need, and the marks and the headings of its cuts. All views and strokes are moved by one shift; the views stay within the margins and apart; each mark and heading ends within 7 mm of its view, no two marks of a
+-- view touch, and no heading has the place of its cut in part.
 pub record IsPageWith (look : SheetLook) (part : List ℕ) (d : Drawing) (page : Page) (sheet : Sheet) (strokes : List Stroke) (marks : List ViewMarks) : Type 0 where
   pub centred : IsCentred d.sheet (solid_part d.solid).corners sheet
   pub within : ViewsStayWithin (solid_part d.solid).corners sheet
   pub apart : ViewsStayApart (solid_part d.solid).corners sheet
   pub are_strokes : AreStrokes sheet d.views.items strokes
   pub moved : AreMovedTogether d sheet strokes
+  pub sections : List SectionLook
+  pub are_sections : AreLooks sheet (solid_part d.solid) d.job.views.items sections
+  pub picture : List Stroke
+  pub is_picture : IsPicture sheet strokes sections picture
   pub paths : List Path
-  pub are_paths : ArePaths strokes paths
+  pub are_paths : ArePaths picture paths
   pub are_marks : AreMarked sheet (solid_part d.solid) (cuts_in d.job.views.items) d.job.views.items marks
   pub in_reach : AreInReach sheet (solid_part d.solid).corners marks
   pub none_touch : NoneTouch marks
+  pub headed : AreHeadedWell d.job.decimals d.job.unit marks look.titles.items
   pub width : page.width ≡ d.sheet.width
   pub height : page.height ≡ d.sheet.height
   pub title : page.title ≡ d.job.title
   pub views : page.views ≡ length d.sheet.places.items
-  pub items : page.items.items ≡ items_of look part d paths marks
+  pub items : page.items.items ≡ items_of look part d sections paths marks
 
 -- on some such sheet
 abbrev pub IsPageOf : SheetLook → List ℕ → Drawing → Page → Type 0

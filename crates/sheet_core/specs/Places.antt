@@ -1,7 +1,7 @@
 -- Where a surface is at fault, as a line tells it.
 use Rattle.std.specs.Prelude.{ℕ, List, codes}
 use Rattle.sheet_input.specs.declared.place.FaultPlace.{FaultPlace}
-use Rattle.sheet_summary.specs.Lengths.{mm_text}
+use Rattle.length_text.specs.Lengths.{mm_text}
 use Rattle.svg_page.specs.Texts.{◌⊕◌}
 
 -- a place in mm

@@ -26,7 +26,7 @@ use Rattle.sheet_input.specs.declared.refusal.Told.{Told}
 use Rattle.sheet_input.specs.declared.refusal.Told.TheVariants as told
 use Rattle.sheet_job.specs.declared.flaw.PlacedFlaw.{PlacedFlaw}
 use Rattle.sheet_words.specs.Names.{Goal, ListGoal, Named, said, svg_file, pdf_file, list_said, list_file}
-use Rattle.sheet_summary.specs.Lengths.{mm_text}
+use Rattle.length_text.specs.Lengths.{mm_text}
 use Rattle.solid_mesh.specs.declared.faults.MeshFault.{MeshFault}
 use Rattle.solid_mesh.specs.declared.faults.MeshFault.TheVariants.{Flat, SameWay, Unpaired, Double, Meet}
 use Rattle.svg_page.specs.Texts.{◌⊕◌}

@@ -11,7 +11,7 @@ use Rattle.put_texts.specs.Desks.{HearsAll}
 use Rattle.put_texts.specs.Noting.{IsQuiet, Notes, NotesWhole, unless_said}
 use Rattle.put_texts.specs.Order.{Way, Text, nowhere, aloud, under, SaysAlone, HoldTexts, KeepsTexts, SaysTexts, SparesFiles, SparesSaid}
 use Rattle.sheet_input.specs.Faults.{sheet_faults}
-use Rattle.sheet_core.specs.Pages.{IsPageWith, shown_strokes}
+use Rattle.sheet_core.specs.Pages.{IsPageWith, drawn_strokes}
 use Rattle.sheet_summary.specs.Summary.{summary_of}
 use Rattle.sheet_input.specs.declared.fault.SheetFault.{SheetFault}
 use Rattle.sheet_input.specs.declared.fault.SheetFault.TheVariants.{Common, WriteList, WritePlain}
@@ -71,7 +71,7 @@ pub record Writes (named : Named) (fault : Option SheetFault) (old new : DeskSta
   pub marks : List ViewMarks
   pub shows : IsPageWith made.look named.part made.drawing page on strokes marks
   pub texts : List (Text SheetFault)
-  pub are_texts : texts ≡ texts_for named (page_text named.out page) (listed named.list (list_text made.drawing.job on (shown_strokes made.look.hidden.items strokes))) (listed named.plain (plain_job (job_seen made.drawing.job))) (summary_of made.drawing made.look.fitted made.look.in_units page marks)
+  pub are_texts : texts ≡ texts_for named (page_text named.out page) (listed named.list (list_text made.drawing.job on (drawn_strokes made.look.hidden.items strokes) strokes)) (listed named.plain (plain_job (job_seen made.drawing.job))) (summary_of made.drawing made.look.fitted made.look.in_units page marks)
   pub files : old.tells ≡ true → KeepsTexts sheet_faults fault texts old.files new.files
   pub said : old.tells_said ≡ true → SaysTexts sheet_faults fault texts old.said new.said
   pub spared : SparesFiles sheet_faults fault texts old.files new.files

@@ -11,6 +11,7 @@ mod lines;
 mod millimetres;
 mod page;
 mod parts;
+mod picture;
 mod put;
 mod refusals;
 mod run;

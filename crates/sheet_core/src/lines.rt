@@ -14,7 +14,7 @@ pub const HELP: &str =
     --list      where the list of its strokes goes, for programs: a name, or - for\n\
     \x20           the standard output; without it there is none\n\
     --hidden    where hidden lines are drawn, whatever the job says: all, in every\n\
-    \x20           view; plain, in no cut view; none, nowhere\n\
+    \x20           view; plain, in plain views along an axis; none, nowhere\n\
     --title, --number, --revision, --material, --date\n\
     \x20           texts of the title block, in place of the job's\n\
     --plain-job where the job goes as one of version 2, for draw and pieces: a\n\

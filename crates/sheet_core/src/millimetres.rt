@@ -2,8 +2,8 @@
 ghost use Rattle.std.specs.Prelude.{◌≡◌, IfOk, string_bytes};
 ghost use Rattle.sheet_core.specs.Places.{point_text};
 
+use length_text::mm_text;
 use sheet_input::FaultPlace;
-use sheet_summary::mm_text;
 use std::alloc::{AllocError, Global};
 
 // A place in mm.

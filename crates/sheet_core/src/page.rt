@@ -2,15 +2,19 @@
 ghost use Rattle.std.specs.Prelude.{◌≡◌, ◌<◌, ◌≤◌, ◌++◌, ℕ, length, map, IfOk, OnOk};
 ghost use Rattle.std.specs.List.{All};
 ghost use Rattle.drawing.specs.Drawing.{IsPlannedDrawing};
+ghost use Rattle.cut_marks.specs.Items.{AreHeadedWell};
 ghost use Rattle.sheet_page.specs.Pages.{IsInView};
 ghost use Rattle.sheet_page.specs.Blocks.{block_of};
 ghost use Rattle.sheet_page.specs.declared.page.Item.TheVariants as item;
-ghost use Rattle.sheet_core.specs.Pages.{is_shown, shown_paths, shown_strokes, frame_of, items_of, IsPageOf, IsPageWith};
+ghost use Rattle.sheet_core.specs.Pages.{is_shown, shown_paths, drawn_strokes, frame_of, items_of, IsPageOf, IsPageWith};
 
+use crate::picture::{add_fills, picture_of};
 use cut_marks::{ViewMarks, mark_items, marks};
 use dec_text::Name;
 use drawing::{Drawing, strokes_of};
 use exact_frac::OutOfMemory;
+use length_text::LengthForm;
+use section_look::{SectionLook, looks_of};
 use sheet_input::SheetLook;
 use sheet_page::{Frame, Item, Page, title_block};
 use sheet_plan::{Mark, Sheet, Stroke, centred};
@@ -64,42 +68,47 @@ fn add_items(items: &mut Vec<Item>, more: Vec<Item>) -> Result<(), OutOfMemory>
     Ok(())
 }
 
-/// What stands on the page of a drawing of this part, with these paths and what tells its cuts.
+/// What stands on the page of a drawing of this part, with these sections, these paths and what tells its cuts.
 fn items_of(
     alloc: Global,
     look: &SheetLook,
     part: &str,
     drawing: &Drawing,
+    sections: Vec<SectionLook>,
     paths: Vec<Path>,
     marks: &[ViewMarks],
 ) -> Result<Vec<Item>, OutOfMemory>
-    ensures items { IfOk result (λ items. items.items ≡ items_of look.now part.now drawing.now paths.items marks.now) }
+    ensures items { IfOk result (λ items. items.items ≡ items_of look.now part.now drawing.now sections.items paths.items marks.now) }
+    ensures headed { IfOk result (λ _. AreHeadedWell drawing.now.job.decimals drawing.now.job.unit marks.now look.now.titles.items) }
     ensures of_block { IfOk result (λ _. (n : ℕ) → All (IsInView n) (block_of drawing.now.sheet drawing.now.job part.now look.now.block)) }
 {
     let mut items = Vec::new(alloc);
     items.push(frame_of(&drawing.sheet))?;
     let block = title_block(alloc, &drawing.sheet, &drawing.job, part, &look.block)?;
     add_items(&mut items, block)?;
+    add_fills(&mut items, sections)?;
     add_paths(&mut items, &look.hidden, paths)?;
-    add_items(&mut items, mark_items(alloc, marks, &look.titles)?)?;
+    let form = LengthForm {
+        decimals: drawing.job.decimals,
+        unit: drawing.job.unit,
+    };
+    add_items(&mut items, mark_items(alloc, marks, &look.titles, form)?)?;
     Ok(items)
 }
 
-/// The strokes of a drawing that are drawn.
-pub(crate) fn shown_strokes(
+/// Which strokes of a drawing are drawn.
+pub(crate) fn drawn_strokes(
     alloc: Global,
     hidden: &[bool],
     strokes: &[Stroke],
-) -> Result<Vec<Stroke>, OutOfMemory>
-    ensures { IfOk result (λ shown. shown.items ≡ shown_strokes hidden.now strokes.now) }
+) -> Result<Vec<bool>, OutOfMemory>
+    ensures { IfOk result (λ drawn. drawn.items ≡ drawn_strokes hidden.now strokes.now) }
 {
-    let mut shown = Vec::new(alloc);
+    let mut drawn = Vec::new(alloc);
     for stroke in strokes {
-        if is_shown(hidden, stroke.view, stroke.mark) {
-            shown.push(*stroke)?;
-        }
+        drawn.push(is_shown(hidden, stroke.view, stroke.mark))?;
     }
-    Ok(shown)
+    Ok(drawn)
 }
 
 /// The page of a drawing, the sheet that it shows with the views in the middle of their room, all strokes there, and what tells the
@@ -126,9 +135,11 @@ pub(crate) fn show(
 {
     let on = centred(alloc, &drawing.solid, &drawing.sheet)?;
     let strokes = strokes_of(alloc, &on, &drawing.views)?;
-    let paths = paths(alloc, &strokes)?;
+    let sections = looks_of(alloc, &drawing.solid, &on, &drawing.job.views)?;
+    let picture = picture_of(alloc, &on, &strokes, &sections)?;
+    let paths = paths(alloc, &picture)?;
     let marks = marks(alloc, &drawing.solid, &on, &drawing.job.views)?;
-    let items = items_of(alloc, look, part, drawing, paths, &marks)?;
+    let items = items_of(alloc, look, part, drawing, sections, paths, &marks)?;
     let page = Page {
         width: drawing.sheet.width,
         height: drawing.sheet.height,
@@ -145,9 +156,11 @@ pub(crate) fn show(
 }
 
 /// The page of a drawing of the part with this name: the sheet's frame and its title block, and, with the views in the middle of their
-/// room, the paths of its strokes, but for hidden lines where they aren't asked for, and the marks and headings of its cuts.
+/// room, what is filled of its sections, the paths of its strokes, but for hidden lines where they aren't asked for, and the marks and
+/// headings of its cuts. Hatch lines are as close as the sections need.
 ///
-/// The time goes with the number of strokes, and for each view and cut a few passes are made over the corners.
+/// The time goes with the number of strokes, and for each view and cut a few passes are made over the corners. That of a section is told
+/// at `looks_of`.
 pub fn page_of(
     alloc: Global,
     look: &SheetLook,

@@ -3,9 +3,9 @@ ghost use Rattle.std.specs.Prelude.{◌≡◌, IfOk, string_bytes};
 ghost use Rattle.sheet_core.specs.Refusals.{may_try_more, nearness, placed_text, room_text, size_text, surface_text};
 
 use crate::millimetres::point_text;
+use length_text::mm_text;
 use part_lines::{advice_text, mesh_text};
 use sheet_input::FaultPlace;
-use sheet_summary::mm_text;
 use solid_mesh::MeshFault;
 use std::alloc::{AllocError, Global};
 

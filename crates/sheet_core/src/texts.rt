@@ -2,7 +2,7 @@
 ghost use Rattle.std.specs.Prelude.{◌≡◌, ◌≤◌, length, IfOk};
 ghost use Rattle.std.specs.List.{All};
 ghost use Rattle.drawing.specs.Drawing.{IsPlannedDrawing};
-ghost use Rattle.sheet_core.specs.Pages.{shown_strokes};
+ghost use Rattle.sheet_core.specs.Pages.{drawn_strokes};
 ghost use Rattle.job_file.specs.Seen.{job_seen};
 ghost use Rattle.job_writer.specs.PlainJobs.{plain_job};
 ghost use Rattle.sheet_core.specs.Writing.{listed, page_text};
@@ -11,7 +11,7 @@ ghost use Rattle.sheet_list.specs.Lists.{list_text};
 ghost use Rattle.sheet_page.specs.Pages.{IsInView};
 ghost use Rattle.sheet_words.specs.Seen.{goal_seen, named_seen};
 
-use crate::page::{Shown, show, shown_strokes};
+use crate::page::{Shown, drawn_strokes, show};
 use crate::refusals::{list_line, write_line};
 use exact_frac::OutOfMemory;
 use job_file::Job;
@@ -47,7 +47,7 @@ fn page_text(alloc: Global, out: &Out, page: &Page) -> Result<Vec<u8>, OutOfMemo
     }
 }
 
-/// The list of the strokes of a drawing that are shown, where the request asks for one.
+/// The list of the strokes of a drawing, where the request asks for one.
 fn listed(
     alloc: Global,
     request: &SheetRequest,
@@ -57,13 +57,13 @@ fn listed(
     requires drawing { IsPlannedDrawing input.now.drawing }
     requires placed { length input.now.drawing.job.views.items ≤ length shown.now.on.places.items }
     ensures { IfOk result (λ text. text.items ≡
-        listed (named_seen request.now).list (list_text input.now.drawing.job shown.now.on (shown_strokes input.now.look.hidden.items shown.now.strokes.items))) }
+        listed (named_seen request.now).list (list_text input.now.drawing.job shown.now.on (drawn_strokes input.now.look.hidden.items shown.now.strokes.items) shown.now.strokes.items)) }
 {
     match &request.list {
         None => Ok(Vec::new(alloc)),
         Some(_) => {
-            let strokes = shown_strokes(alloc, &input.look.hidden, &shown.strokes)?;
-            list_text(alloc, &input.drawing.job, &shown.on, &strokes)
+            let drawn = drawn_strokes(alloc, &input.look.hidden, &shown.strokes)?;
+            list_text(alloc, &input.drawing.job, &shown.on, &drawn, &shown.strokes)
         }
     }
 }

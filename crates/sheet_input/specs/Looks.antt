@@ -1,5 +1,7 @@
 -- How a sheet looks, by the words and the job.
-use Rattle.std.specs.Prelude.{ℕ, Bool, true, false, not, List, [], map, Option, Some, None, is_some, unwrap_or}
+use Rattle.std.specs.Prelude.{ℕ, ℤ, pos, Bool, true, false, not, ◌&&◌, ◌||◌, List, [], map, Option, Some, None, is_some, unwrap_or}
+use Rattle.std.specs.Ordering.{int_eq}
+use Rattle.lattice.specs.Triple.{Triple}
 use Rattle.job_file.specs.ViewValues.{Shown, ViewValues, whole, behind}
 use Rattle.sheet_job.specs.SheetJobs.{BlockValues}
 use Rattle.sheet_job.specs.SheetViews.{SheetShownValues, SheetViewValues, plain, cut}
@@ -9,30 +11,38 @@ use Rattle.sheet_words.specs.Names.{Named, TextsSaid}
 use Rattle.sheet_input.specs.Jobs.{AnyValues, older_job, own_job}
 
 -- ---- hidden lines
-abbrev pub is_cut : Shown → Bool
-is_cut (whole direction) = false
-is_cut (behind plane) = true
+-- two of a direction's three numbers are 0: it is along an axis
+abbrev pub are_nothing : ℤ → ℤ → Bool
+are_nothing a b = int_eq a (pos 0) && int_eq b (pos 0)
 
-abbrev pub is_sheet_cut : SheetShownValues → Bool
-is_sheet_cut (plain direction) = false
-is_sheet_cut (cut axis at from_high value_at) = true
+abbrev pub is_along : Triple → Bool
+is_along d = are_nothing d.y d.z || (are_nothing d.x d.z || are_nothing d.x d.y)
 
--- hidden lines are drawn in a view of this kind, a cut or not
+-- a view shows the whole part along an axis
+abbrev pub looks_along : Shown → Bool
+looks_along (whole direction) = is_along direction
+looks_along (behind plane) = false
+
+abbrev pub shows_along : SheetShownValues → Bool
+shows_along (plain direction) = is_along direction
+shows_along (cut axis at from_high value_at) = false
+
+-- hidden lines are drawn in a view of this kind, a plain one along an axis or not
 abbrev pub draws_hidden : Hidden → Bool → Bool
-draws_hidden All section = true
-draws_hidden Plain section = not section
-draws_hidden Never section = false
+draws_hidden All along = true
+draws_hidden Plain along = along
+draws_hidden Never along = false
 
 -- by the words, or else by the view, or else by the job
 abbrev pub hidden_in : Option Hidden → Option Bool → Hidden → Bool → Bool
-hidden_in (Some words) view job section = draws_hidden words section
-hidden_in None (Some view) job section = view
-hidden_in None None job section = draws_hidden job section
+hidden_in (Some words) view job along = draws_hidden words along
+hidden_in None (Some view) job along = view
+hidden_in None None job along = draws_hidden job along
 
--- in which of the job's views hidden lines are drawn; an older job draws all
+-- in which of the job's views hidden lines are drawn; an older job draws them in plain views along an axis
 abbrev pub hidden_by : Option Hidden → AnyValues → List Bool
-hidden_by words (older_job values) = map (λ (v : ViewValues). hidden_in words None All (is_cut v.shows)) values.views
-hidden_by words (own_job values) = map (λ (v : SheetViewValues). hidden_in words v.hidden values.hidden (is_sheet_cut v.shows)) values.views
+hidden_by words (older_job values) = map (λ (v : ViewValues). hidden_in words None Plain (looks_along v.shows)) values.views
+hidden_by words (own_job values) = map (λ (v : SheetViewValues). hidden_in words v.hidden values.hidden (shows_along v.shows)) values.views
 
 -- ---- the title block
 -- the texts of the block that the job has
@@ -62,8 +72,8 @@ titles_of (older_job values) = map (λ (v : ViewValues). []) values.views
 titles_of (own_job values) = map (λ (v : SheetViewValues). v.title) values.views
 
 -- ---- all of it
--- the block, in which views hidden lines are drawn, the titles of the views, whether the number of decimals was left to the program, and
--- whether the job says the places of its cuts in units
+-- the block, in which views hidden lines are drawn, the titles of the views, whether the number of decimals was left to the program,
+-- and whether the job says the places of its cuts in units
 pub record Look : Type 0 where
   pub block : BlockValues
   pub hidden : List Bool

@@ -1,19 +1,20 @@
 // How a sheet looks, by the words and the job.
 ghost use Rattle.std.specs.Prelude.{◌≡◌, [], IsTrue, None, IfOk, map, unwrap_or};
 ghost use Rattle.job_file.specs.Seen.{shown, view_seen};
+ghost use Rattle.lattice.specs.Points.{of_dir};
 ghost use Rattle.job_file.specs.Texts.{is_title};
 ghost use Rattle.job_file.specs.ViewValues.{ViewValues};
 ghost use Rattle.sheet_job.specs.SheetSeen.{block_seen, sheet_view_seen, shown_seen};
 ghost use Rattle.sheet_job.specs.SheetViews.{SheetViewValues};
 ghost use Rattle.sheet_words.specs.Seen.{named_seen, said_seen};
 ghost use Rattle.sheet_words.specs.Titles.{IsProper};
-ghost use Rattle.sheet_input.specs.Looks.{block_by, draws_hidden, hidden_by, hidden_in, is_cut, is_fitted, is_in_units, is_sheet_cut, job_block, look_of, titles_of};
+ghost use Rattle.sheet_input.specs.Looks.{block_by, draws_hidden, hidden_by, hidden_in, is_along, is_fitted, is_in_units, job_block, look_of, looks_along, shows_along, titles_of};
 ghost use Rattle.sheet_input.specs.Seen.{any_seen, look_seen};
 
 use dec_text::Name;
 use exact_frac::OutOfMemory;
 use job_file::JobView;
-use lattice::ViewSpec;
+use lattice::{Dir, ViewSpec};
 use sheet_job::{AnyJob, BlockTexts, Hidden, SheetShown, SheetView};
 use sheet_words::{SaidTexts, SheetRequest};
 use std::alloc::Global;
@@ -29,45 +30,53 @@ pub struct SheetLook {
     pub in_units: bool,
 }
 
-/// Hidden lines are drawn in a view of this kind, a cut or not.
-fn draws_hidden(hidden: Hidden, is_cut: bool) -> bool
-    ensures { result ≡ draws_hidden hidden is_cut }
+/// Hidden lines are drawn in a view of this kind, a plain one along an axis or not.
+fn draws_hidden(hidden: Hidden, is_along: bool) -> bool
+    ensures { result ≡ draws_hidden hidden is_along }
 {
     match hidden {
         Hidden::All => true,
-        Hidden::Plain => !is_cut,
+        Hidden::Plain => is_along,
         Hidden::Never => false,
     }
 }
 
 /// Whether hidden lines are drawn: by the words, or else by the view, or else by the job.
-fn hidden_in(words: Option<Hidden>, view: Option<bool>, job: Hidden, is_cut: bool) -> bool
-    ensures { result ≡ hidden_in words view job is_cut }
+fn hidden_in(words: Option<Hidden>, view: Option<bool>, job: Hidden, is_along: bool) -> bool
+    ensures { result ≡ hidden_in words view job is_along }
 {
     match (words, view) {
-        (Some(words), _) => draws_hidden(words, is_cut),
+        (Some(words), _) => draws_hidden(words, is_along),
         (None, Some(view)) => view,
-        (None, None) => draws_hidden(job, is_cut),
+        (None, None) => draws_hidden(job, is_along),
     }
 }
 
-/// The view is a cut.
-fn is_cut(spec: &ViewSpec) -> bool
-    ensures { result ≡ is_cut (shown spec.now) }
+/// Two of the direction's three numbers are 0.
+fn is_along(direction: &Dir) -> bool
+    ensures { result ≡ is_along (of_dir direction.now) }
+{
+    let d = direction.vector();
+    d.y == 0 && d.z == 0 || d.x == 0 && d.z == 0 || d.x == 0 && d.y == 0
+}
+
+/// The view shows the whole part along an axis.
+fn looks_along(spec: &ViewSpec) -> bool
+    ensures { result ≡ looks_along (shown spec.now) }
 {
     match spec {
-        ViewSpec::Plain(_) => false,
-        ViewSpec::Section(_) => true,
+        ViewSpec::Plain(direction) => is_along(direction),
+        ViewSpec::Section(_) => false,
     }
 }
 
-/// The view of a sheet is a cut.
-fn is_sheet_cut(shows: &SheetShown) -> bool
-    ensures { result ≡ is_sheet_cut (shown_seen shows.now) }
+/// The same of a view of version 3.
+fn shows_along(shows: &SheetShown) -> bool
+    ensures { result ≡ shows_along (shown_seen shows.now) }
 {
     match shows {
-        SheetShown::Plain(_) => false,
-        SheetShown::Cut(_) => true,
+        SheetShown::Plain(direction) => is_along(direction),
+        SheetShown::Cut(_) => false,
     }
 }
 
@@ -77,11 +86,11 @@ fn older_hidden(
     words: Option<Hidden>,
     views: &[JobView],
 ) -> Result<Vec<bool>, OutOfMemory>
-    ensures { IfOk result (λ hidden. hidden.items ≡ map (λ (v : ViewValues). hidden_in words None Hidden.All (is_cut v.shows)) (map view_seen views.now)) }
+    ensures { IfOk result (λ hidden. hidden.items ≡ map (λ (v : ViewValues). hidden_in words None Hidden.Plain (looks_along v.shows)) (map view_seen views.now)) }
 {
     let mut hidden = Vec::new(alloc);
     for view in views {
-        hidden.push(hidden_in(words, None, Hidden::All, is_cut(&view.spec)))?;
+        hidden.push(hidden_in(words, None, Hidden::Plain, looks_along(&view.spec)))?;
     }
     Ok(hidden)
 }
@@ -93,11 +102,11 @@ fn own_hidden(
     job: Hidden,
     views: &[SheetView],
 ) -> Result<Vec<bool>, OutOfMemory>
-    ensures { IfOk result (λ hidden. hidden.items ≡ map (λ (v : SheetViewValues). hidden_in words v.hidden job (is_sheet_cut v.shows)) (map sheet_view_seen views.now)) }
+    ensures { IfOk result (λ hidden. hidden.items ≡ map (λ (v : SheetViewValues). hidden_in words v.hidden job (shows_along v.shows)) (map sheet_view_seen views.now)) }
 {
     let mut hidden = Vec::new(alloc);
     for view in views {
-        hidden.push(hidden_in(words, view.hidden, job, is_sheet_cut(&view.shows)))?;
+        hidden.push(hidden_in(words, view.hidden, job, shows_along(&view.shows)))?;
     }
     Ok(hidden)
 }

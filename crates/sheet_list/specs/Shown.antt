@@ -6,14 +6,13 @@ use Rattle.job_file.specs.declared.view.Principal.TheVariants.{Front, Back, Left
 use Rattle.lattice.specs.Cuts.{Plane, plane_of}
 use Rattle.lattice.specs.Points.{of_dir}
 use Rattle.lattice.specs.Triple.{Triple}
-use Rattle.lattice.specs.declared.points.Axis.{Axis}
-use Rattle.lattice.specs.declared.points.Axis.TheVariants.{X, Y, Z}
 use Rattle.lattice.specs.declared.pieces.ViewSpec.{ViewSpec}
 use Rattle.lattice.specs.declared.pieces.ViewSpec.TheVariants.{Plain, Section}
+use Rattle.cut_marks.specs.AxisNames.{axis_name}
 use Rattle.cut_marks.specs.Letters.{letters}
 use Rattle.svg_page.specs.Texts.{◌⊕◌}
 
--- named views, axes and sides have the names that a job calls them by
+-- named views and sides have the names that a job calls them by
 abbrev pub name_of : Principal → List ℕ
 name_of Front = codes "front"
 name_of Back = codes "back"
@@ -21,11 +20,6 @@ name_of Left = codes "left"
 name_of Right = codes "right"
 name_of Above = codes "above"
 name_of Below = codes "below"
-
-abbrev pub axis_name : Axis → List ℕ
-axis_name X = codes "x"
-axis_name Y = codes "y"
-axis_name Z = codes "z"
 
 abbrev pub side_name : Bool → List ℕ
 side_name from_high = if from_high then codes "high" else codes "low"

@@ -2,17 +2,18 @@
 ghost use Rattle.std.specs.Prelude.{◌≡◌, ◌<◌, ◌++◌, Some, codes, string_bytes, IfOk, OnOk};
 ghost use Rattle.std.specs.Fmt.{signed_decimal};
 ghost use Rattle.job_file.specs.Names.{principals};
-ghost use Rattle.job_file.specs.CutKeys.{axes, sides};
+ghost use Rattle.job_file.specs.CutKeys.{sides};
 ghost use Rattle.job_file.specs.Steps.{look_up};
 ghost use Rattle.lattice.specs.Cuts.{Plane, plane_of};
 ghost use Rattle.lattice.specs.Points.{of_dir};
 ghost use Rattle.svg_page.specs.Texts.{◌⊕◌};
-ghost use Rattle.sheet_list.specs.Shown.{name_of, axis_name, side_name, letter_text, toward_text, plain_text, cut_text, shown_text};
+ghost use Rattle.cut_marks.specs.AxisNames.{axis_name};
+ghost use Rattle.sheet_list.specs.Shown.{name_of, side_name, letter_text, toward_text, plain_text, cut_text, shown_text};
 
-use cut_marks::letter_of;
+use cut_marks::{axis_name, letter_of};
 use exact_frac::OutOfMemory;
 use job_file::{JobView, Principal};
-use lattice::{Axis, Cut, Dir, ViewSpec};
+use lattice::{Cut, Dir, ViewSpec};
 use std::alloc::{AllocError, Global};
 
 /// The name of a view, as a job calls it.
@@ -27,18 +28,6 @@ fn name_of(name: Principal) -> &'static str
         Principal::Right => "right",
         Principal::Above => "above",
         Principal::Below => "below",
-    }
-}
-
-/// The name of an axis, as a job calls it.
-fn axis_name(axis: Axis) -> &'static str
-    ensures text { result.now ≡ axis_name axis }
-    ensures in_a_job { look_up axes result.now ≡ Some axis }
-{
-    match axis {
-        Axis::X => "x",
-        Axis::Y => "y",
-        Axis::Z => "z",
     }
 }
 

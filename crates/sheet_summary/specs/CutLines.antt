@@ -10,7 +10,7 @@ use Rattle.lattice.specs.Cuts.{Plane, plane_of}
 use Rattle.lattice.specs.declared.pieces.ViewSpec.{ViewSpec}
 use Rattle.lattice.specs.declared.pieces.ViewSpec.TheVariants.{Section}
 use Rattle.sheet_summary.specs.Ends.{least_along, greatest_along}
-use Rattle.sheet_summary.specs.Lengths.{mm_text}
+use Rattle.length_text.specs.Lengths.{mm_text}
 use Rattle.svg_page.specs.Texts.{◌⊕◌}
 
 -- on which side of the place a plane stands, in halves of a unit: before it, as the viewer looks

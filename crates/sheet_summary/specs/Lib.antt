@@ -1,4 +1,3 @@
-pub mod Lengths
 pub mod Ends
 pub mod CutLines
 pub mod Summary

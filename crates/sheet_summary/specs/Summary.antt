@@ -18,7 +18,7 @@ use Rattle.sheet_plan.specs.declared.sheet.Mark.{Mark}
 use Rattle.sheet_plan.specs.declared.sheet.Mark.TheVariants.{Solid, Dashed, Hatch}
 use Rattle.sheet_summary.specs.CutLines.{cut_lines}
 use Rattle.sheet_summary.specs.Ends.{least_along, greatest_along}
-use Rattle.sheet_summary.specs.Lengths.{mm_text}
+use Rattle.length_text.specs.Lengths.{mm_text}
 use Rattle.solid_mesh.specs.Solids.{solid_part}
 use Rattle.svg_page.specs.Texts.{◌⊕◌}
 

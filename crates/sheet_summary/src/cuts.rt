@@ -5,13 +5,13 @@ ghost use Rattle.solid_mesh.specs.Solids.{solid_part};
 ghost use Rattle.sheet_summary.specs.CutLines.{cut_line, cut_lines, is_between, is_close, is_near, is_near_end, near_text, side_of, twice_at, view_line};
 
 use crate::ends::ends_along;
-use crate::millimetres::mm_text;
 use cut_marks::{Heading, ViewMarks};
 use drawing::Drawing;
 use exact_frac::OutOfMemory;
 use fault_lines::axis_text;
 use job_file::JobView;
 use lattice::{Cut, ViewSpec};
+use length_text::mm_text;
 use solid_mesh::Solid;
 use std::alloc::{AllocError, Global};
 

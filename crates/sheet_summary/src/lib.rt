@@ -4,8 +4,6 @@
 
 mod cuts;
 mod ends;
-mod millimetres;
 mod summary;
 
-pub use millimetres::mm_text;
 pub use summary::summary_of;

@@ -5,12 +5,12 @@ ghost use Rattle.sheet_summary.specs.Summary.{first_line, fitted_text, is_path_o
 
 use crate::cuts::cut_lines;
 use crate::ends::ends_along;
-use crate::millimetres::mm_text;
 use cut_marks::{ViewMarks, notes};
 use drawing::Drawing;
 use exact_frac::OutOfMemory;
 use job_file::{Paper, Scale};
 use lattice::Axis;
+use length_text::mm_text;
 use sheet_page::{Item, Page};
 use sheet_plan::Mark;
 use solid_mesh::Solid;

@@ -1,7 +1,7 @@
 // Strokes joined to paths, and the dashes of paths.
 use crate::sheets::stroke;
 use exact_frac::OutOfMemory;
-use sheet_page::dashes_of;
+use sheet_page::{Pens, dashes_of, pens_of};
 use sheet_plan::{Mark, Stroke};
 use std::alloc::Global;
 use std::test::Fail;
@@ -49,7 +49,7 @@ const HIDDEN: Mark = Mark::Dashed;
 
 const HATCH: Mark = Mark::Hatch;
 
-const JOINED: [(&str, &[Line], &str); 9] = [
+const JOINED: [(&str, &[Line], &str); 13] = [
     (
         "a box",
         &[
@@ -67,7 +67,35 @@ const JOINED: [(&str, &[Line], &str); 9] = [
             (0, HIDDEN, (100, 0), (200, 0)),
             (0, HIDDEN, (100, 0), (100, 100)),
         ],
-        "M0 0L100 0M100 0L200 0M100 0L100 100",
+        "M0 0L100 0L200 0M100 0L100 100",
+    ),
+    (
+        "two turns by 45 degrees, to the left and to the right",
+        &[
+            (0, HIDDEN, (0, 0), (100, 0)),
+            (0, HIDDEN, (100, 0), (200, 100)),
+            (0, HIDDEN, (200, -100), (100, 0)),
+        ],
+        "M0 0L100 0M100 0L200 100M200 -100L100 0",
+    ),
+    (
+        "a cross",
+        &[
+            (0, HIDDEN, (0, 0), (100, 0)),
+            (0, HIDDEN, (100, 0), (200, 0)),
+            (0, HIDDEN, (100, -100), (100, 0)),
+            (0, HIDDEN, (100, 0), (100, 100)),
+        ],
+        "M0 0L100 0M100 0L200 0M100 -100L100 0M100 0L100 100",
+    ),
+    (
+        "a short stroke that turns more, and a long one that turns less",
+        &[
+            (0, HIDDEN, (0, 0), (100, 0)),
+            (0, HIDDEN, (100, 0), (110, 1)),
+            (0, HIDDEN, (100, 0), (1100, -50)),
+        ],
+        "M0 0L100 0L1100 -50M100 0L110 1",
     ),
     (
         "a T of two marks",
@@ -129,6 +157,21 @@ const JOINED: [(&str, &[Line], &str); 9] = [
             (0, HIDDEN, (-50, 50), (0, 0)),
         ],
         "M100 0L0 0L-50 50L-50 150L0 200L100 200L150 150L150 50Z",
+    ),
+    (
+        "an octagon, and a stroke that ends at a corner",
+        &[
+            (0, HIDDEN, (100, 0), (0, 0)),
+            (0, HIDDEN, (100, 0), (150, 50)),
+            (0, HIDDEN, (150, 150), (150, 50)),
+            (0, HIDDEN, (50, 40), (150, 50)),
+            (0, HIDDEN, (150, 150), (100, 200)),
+            (0, HIDDEN, (0, 200), (100, 200)),
+            (0, HIDDEN, (0, 200), (-50, 150)),
+            (0, HIDDEN, (-50, 50), (-50, 150)),
+            (0, HIDDEN, (-50, 50), (0, 0)),
+        ],
+        "M100 0L0 0L-50 50L-50 150L0 200L100 200L150 150L150 50ZM50 40L150 50",
     ),
 ];
 
@@ -210,52 +253,106 @@ fn through(alloc: Global, closed: bool, places: &[(i64, i64)]) -> Result<Path, O
 // Whether a path is closed, its points, and the length of a dash and of a gap.
 type Dashed = (bool, &'static [(i64, i64)], Option<(u64, u64)>);
 
-// From 0.6 mm on a path has dashes, at least two; with a length of 9.75 mm an open one has three, with 11.25 mm a closed one.
-const DASHED: [Dashed; 11] = [
-    (false, &[(0, 0), (59, 0)], None),
-    (false, &[(0, 0), (60, 0)], Some((240_000, 120_000))),
-    (false, &[(0, 0), (974, 0)], Some((3_896_000, 1_948_000))),
-    (false, &[(0, 0), (975, 0)], Some((2_437_500, 1_218_750))),
+// From 1.5 mm on a path has dashes, at least two, and gaps of at least 0.5 mm. Dashes of 3 mm and gaps of 0.75 mm take 3.75 mm: an open
+// path has two up to 2.5 * 3.75 - 0.75 = 8.625 mm, and a closed one up to 2.5 * 3.75 = 9.375 mm. Of n dashes a gap is a fourth of a dash:
+// of 8.63 mm a 14th, and a dash is a third of 8.63 mm less two gaps.
+const DASHED: [Dashed; 13] = [
+    (false, &[(0, 0), (149, 0)], None),
+    (false, &[(0, 0), (150, 0)], Some((500_000, 500_000))),
+    (false, &[(0, 0), (862, 0)], Some((3_831_111, 957_777))),
+    (false, &[(0, 0), (863, 0)], Some((2_465_714, 616_428))),
     (
         false,
-        &[(975, 0), (575, 0), (0, 0)],
-        Some((2_437_500, 1_218_750)),
+        &[(863, 0), (463, 0), (0, 0)],
+        Some((2_465_714, 616_428)),
     ),
-    (false, &[(0, 0), (300, 400)], Some((2_000_000, 1_000_000))),
-    (false, &[(0, 0), (60, 60)], Some((339_411, 169_705))),
-    (true, &[(0, 0), (14, 0), (14, 15), (0, 15)], None),
+    (false, &[(0, 0), (300, 400)], Some((2_222_222, 555_555))),
+    (false, &[(0, 0), (110, 110)], Some((527_817, 500_000))),
+    (false, &[(0, 0), (10_000, 0)], Some((2_985_075, 746_268))),
+    (true, &[(0, 0), (37, 0), (37, 37), (0, 37)], None),
     (
         true,
-        &[(0, 0), (15, 0), (15, 15), (0, 15)],
-        Some((200_000, 100_000)),
-    ),
-    (
-        true,
-        &[(0, 0), (281, 0), (281, 281), (0, 281)],
-        Some((3_746_666, 1_873_333)),
+        &[(0, 0), (37, 0), (37, 38), (0, 38)],
+        Some((250_000, 500_000)),
     ),
     (
         true,
-        &[(0, 0), (281, 0), (281, 282), (0, 282)],
-        Some((2_502_222, 1_251_111)),
+        &[(0, 0), (234, 0), (234, 234), (0, 234)],
+        Some((3_744_000, 936_000)),
+    ),
+    (
+        true,
+        &[(0, 0), (234, 0), (234, 235), (0, 235)],
+        Some((2_501_333, 625_333)),
+    ),
+    (true, &[], None),
+];
+
+// On A4 dashes of 2.16 mm and gaps of 0.54 mm take 2.7 mm: two dashes up to 2.5 * 2.7 - 0.54 = 6.21 mm, and closed up to 6.75 mm. A 14th
+// of 6.21 mm is less than 0.5 mm.
+const DASHED_ON_A4: [Dashed; 5] = [
+    (false, &[(0, 0), (149, 0)], None),
+    (false, &[(0, 0), (620, 0)], Some((2_755_556, 688_888))),
+    (false, &[(0, 0), (621, 0)], Some((1_736_666, 500_000))),
+    (
+        true,
+        &[(0, 0), (168, 0), (168, 169), (0, 169)],
+        Some((2_696_000, 674_000)),
+    ),
+    (
+        true,
+        &[(0, 0), (169, 0), (169, 169), (0, 169)],
+        Some((1_753_333, 500_000)),
     ),
 ];
 
 // The dashes of a path.
-fn dashes(path: &Path) -> Option<(u64, u64)> {
-    match dashes_of(path) {
+fn dashes(path: &Path, pens: Pens) -> Option<(u64, u64)> {
+    match dashes_of(path, pens) {
         Some(dashes) => Some((dashes.dash, dashes.gap)),
         None => None,
     }
 }
 
+// The first row that has other dashes, and these.
+fn other_dashes(
+    alloc: Global,
+    pens: Pens,
+    rows: &[Dashed],
+) -> Result<Option<(Dashed, Option<(u64, u64)>)>, OutOfMemory> {
+    for row in rows {
+        let found = dashes(&through(alloc, row.0, row.1)?, pens);
+        if found != row.2 {
+            return Ok(Some((*row, found)));
+        }
+    }
+    Ok(None)
+}
+
 #[test]
-fn dashes_that_fit(rt: HostRuntime) {
-    for (closed, places, expected) in &DASHED {
-        let Ok(path) = through(rt.alloc(), *closed, places) else {
-            panic!(rt; "no memory");
-        };
-        let found = dashes(&path);
-        assert!(rt; found == *expected, "{places:?}: {found:?}");
+fn dashes_that_fit(rt: HostRuntime) -> Result<(), Fail> {
+    let other = other_dashes(rt.alloc(), Pens::Usual, &DASHED)?;
+    assert!(rt; other.is_none(), "{other:?}");
+    let other = other_dashes(rt.alloc(), Pens::Small, &DASHED_ON_A4)?;
+    assert!(rt; other.is_none(), "{other:?}");
+    Ok(())
+}
+
+// Pages in hundredths of a millimetre: A4 upright and lying, a little wider, a little longer, and A3.
+const PENS: [(i64, i64, Pens); 7] = [
+    (21_000, 29_700, Pens::Small),
+    (29_700, 21_000, Pens::Small),
+    (21_100, 29_700, Pens::Usual),
+    (29_700, 21_100, Pens::Usual),
+    (10_000, 29_800, Pens::Usual),
+    (29_800, 10_000, Pens::Usual),
+    (42_000, 29_700, Pens::Usual),
+];
+
+#[test]
+fn pens_of_pages(rt: HostRuntime) {
+    for (width, height, expected) in &PENS {
+        let found = pens_of(*width, *height);
+        assert!(rt; found == *expected, "{width} {height}: {found:?}");
     }
 }

@@ -16,9 +16,9 @@ returns c =
     let across : FitsSigned w64 (b.right -ℤ b.left) = omega (arith, ints, b.left_in_range, b.right_in_range) in
     let right : FitsSigned w64 b.right = omega (arith, ints, b.right_in_range) in
     let left : FitsSigned w64 b.left = omega (arith, ints, b.left_in_range) in
-    let wide : FitsSigned w64 (b.right -ℤ b.left +ℤ pos 1400) = omega (arith, ints, b.left_in_range, b.right_in_range) in
+    let wide : FitsSigned w64 (b.right -ℤ b.left +ℤ pos 1000) = omega (arith, ints, b.left_in_range, b.right_in_range) in
     let max_fits : FitsSigned w64 c.max.result = search rules in
     let min_fits : FitsSigned w64 c.min.result = search rules in
-    let some : c.max.result ≡ int_max (b.right -ℤ b.left +ℤ pos 1400) (pos 0) = simp to_z-of_z at c.max.ensures.value in
+    let some : c.max.result ≡ int_max (b.right -ℤ b.left +ℤ pos 1000) (pos 0) = simp to_z-of_z at c.max.ensures.value in
     let few : c.min.result ≡ int_min c.max.result (pos 118900) = simp to_z-of_z at c.min.ensures.value in
     simp to_z-of_z (ap unsigned_abs (few ∙ ap (λ (n : ℤ). int_min n (pos 118900)) some))

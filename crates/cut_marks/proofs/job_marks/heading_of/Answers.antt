@@ -17,6 +17,6 @@ returns c =
       box = b;
       is_box = c.of-b.ensures;
       lettered = subst (IsLetterOf c.args.number) letter c.letter_of.ensures;
-      over = c.heading_over.ensures ∙ (λ i. heading_over b (letter i) (same i));
+      over = c.heading_over.ensures ∙ (λ i. heading_over b (letter i) (plane_of c.args.cut.now) (same i));
       section = subst (λ (v : Bool). IsTrue v ↔ HasSegment (plane_of c.args.cut.now) (solid_part c.args.solid.now)) same c.has_segment.ensures;
     }

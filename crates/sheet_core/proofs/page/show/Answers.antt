@@ -9,7 +9,7 @@ use Rattle.drawing.specs.Strokes.{AreStrokes}
 use Rattle.drawing.proofs.DrawnViews.{few, placed}
 use Rattle.sheet_plan.proofs.JobSheets.{as_many_places}
 use Rattle.job_file.specs.declared.view.JobView.{JobView}
-use Rattle.cut_marks.specs.Items.{items_of_marks}
+use Rattle.cut_marks.specs.Items.{items_of_marks, AreHeadedWell}
 use Rattle.sheet_plan.specs.declared.sheet.Stroke.{Stroke}
 use Rattle.stroke_paths.specs.Paths.{ArePaths}
 use Rattle.stroke_paths.proofs.ViewsWithin.{views_within}
@@ -18,7 +18,9 @@ use Rattle.sheet_page.specs.Pages.{IsInView}
 use Rattle.sheet_page.specs.declared.page.Item.{Item}
 use Rattle.sheet_page.specs.Blocks.{block_of}
 use Rattle.solid_mesh.specs.Solids.{solid_part}
-use Rattle.sheet_core.specs.Pages.{items_of}
+use Rattle.section_look.specs.Looks.{AreLooks}
+use Rattle.section_look.specs.declared.looks.SectionLook.{SectionLook}
+use Rattle.sheet_core.specs.Pages.{items_of, IsPicture}
 use Rattle.sheet_core.proofs.Moved.{moved_strokes}
 use Rattle.sheet_core.proofs.PageItems.{planned_for, same_places, of_marks, in_views}
 use Rattle.sheet_core.proofs.page.show.Goals as goal
@@ -37,16 +39,36 @@ strokes_of-requires-clause-few c =
     let views = ap (λ (views : List ViewDrawing). length views) c.deref.ensures.value in
     omega (arith, few c.args.drawing.now c.requires.shows, views)
 
+pub looks_of-requires-clause-placed : goal.looks_of-requires-clause-placed
+looks_of-requires-clause-placed c =
+    let d = c.args.drawing.now in
+    let here = same_places d.sheet (solid_part d.solid).corners c.in_ok-on.on c.in_ok-on.ensures.centred in
+    let views = ap (λ (views : List JobView). length views) c.deref-2.ensures.value in
+    omega (arith, as_many_places d.job (solid_part d.solid).corners d.sheet c.requires.sheet, here, views)
+
+pub looks_of-requires-clause-few : goal.looks_of-requires-clause-few
+looks_of-requires-clause-few c =
+    let views = ap (λ (views : List JobView). length views) c.deref-2.ensures.value in
+    omega (arith, views, c.args.drawing.now.job.few_views)
+
+pub picture_of-requires-clause-placed : goal.picture_of-requires-clause-placed
+picture_of-requires-clause-placed c =
+    subst (λ (xs : List SectionLook). All (λ (x : SectionLook). x.view < length c.in_ok-on.on.places.items) xs) (sym c.deref-4.ensures.value) c.in_ok-sections.ensures.in_range
+
+pub picture_of-requires-clause-in_range : goal.picture_of-requires-clause-in_range
+picture_of-requires-clause-in_range c =
+    subst (λ (xs : List Stroke). All (λ (x : Stroke). x.view < length c.in_ok-on.on.places.items) xs) (sym c.deref-3.ensures.value) c.in_ok-strokes.ensures.in_range
+
 pub marks-requires-clause-placed : goal.marks-requires-clause-placed
 marks-requires-clause-placed c =
     let d = c.args.drawing.now in
     let here = same_places d.sheet (solid_part d.solid).corners c.in_ok-on.on c.in_ok-on.ensures.centred in
-    let views = ap (λ (views : List JobView). length views) c.deref-3.ensures.value in
+    let views = ap (λ (views : List JobView). length views) c.deref-6.ensures.value in
     omega (arith, as_many_places d.job (solid_part d.solid).corners d.sheet c.requires.sheet, here, views)
 
 pub marks-requires-clause-few : goal.marks-requires-clause-few
 marks-requires-clause-few c =
-    let views = ap (λ (views : List JobView). length views) c.deref-3.ensures.value in
+    let views = ap (λ (views : List JobView). length views) c.deref-6.ensures.value in
     omega (arith, views, c.args.drawing.now.job.few_views)
 
 pub returns-clause-shows : goal.returns-clause-shows
@@ -67,16 +89,22 @@ returns-clause-shows c =
       apart = c.in_ok-on.ensures.apart;
       are_strokes = are_strokes;
       moved = record { right = _; down = _; views = moved; are_moved = λ before here. moved_strokes _ _ d.sheet sheet moved d.views.items before strokes here are_strokes };
+      sections = c.in_ok-sections.sections.items;
+      are_sections = subst (λ (views : List JobView). AreLooks sheet (solid_part d.solid) views c.in_ok-sections.sections.items) c.deref-2.ensures.value c.in_ok-sections.ensures.looks;
+      picture = c.in_ok-picture.picture.items;
+      is_picture = subst (λ (ss : List Stroke). IsPicture sheet ss c.in_ok-sections.sections.items c.in_ok-picture.picture.items) c.deref-3.ensures.value
+          (subst (λ (looks : List SectionLook). IsPicture sheet c.deref-3.result.now looks c.in_ok-picture.picture.items) c.deref-4.ensures.value c.in_ok-picture.ensures.picture);
       paths = c.in_ok-paths.paths.items;
-      are_paths = subst (λ (ss : List Stroke). ArePaths ss c.in_ok-paths.paths.items) c.deref-2.ensures.value c.in_ok-paths.ensures;
-      are_marks = subst (λ (views : List JobView). AreMarked sheet (solid_part d.solid) (cuts_in views) views marks) c.deref-3.ensures.value c.in_ok-marks.ensures.marked;
+      are_paths = subst (λ (ss : List Stroke). ArePaths ss c.in_ok-paths.paths.items) c.deref-5.ensures.value c.in_ok-paths.ensures;
+      are_marks = subst (λ (views : List JobView). AreMarked sheet (solid_part d.solid) (cuts_in views) views marks) c.deref-6.ensures.value c.in_ok-marks.ensures.marked;
       in_reach = c.in_ok-marks.ensures.in_reach;
       none_touch = c.in_ok-marks.ensures.none_touch;
+      headed = subst (λ (ms : List ViewMarks). AreHeadedWell d.job.decimals d.job.unit ms c.args.look.now.titles.items) c.deref-7.ensures.value c.in_ok-items.ensures.headed;
       width = simp to_z-of_z;
       height = simp to_z-of_z;
       title = c.in_ok-new.ensures.same ∙ c.as_str.ensures.same;
       views = omega (arith, c.len.ensures, d.sheet.places.ok.0);
-      items = c.in_ok-items.ensures.items ∙ ap (λ (ms : List ViewMarks). items_of c.args.look.now c.args.part.now d c.in_ok-paths.paths.items ms) c.deref-4.ensures.value;
+      items = c.in_ok-items.ensures.items ∙ ap (λ (ms : List ViewMarks). items_of c.args.look.now c.args.part.now d c.in_ok-sections.sections.items c.in_ok-paths.paths.items ms) c.deref-7.ensures.value;
     }
 
 pub returns-clause-in_views : goal.returns-clause-in_views
@@ -84,13 +112,15 @@ returns-clause-in_views c =
     let d = c.args.drawing.now in
     let moved = length c.in_ok-on.on.places.items in
     let block = block_of d.sheet d.job c.args.part.now c.args.look.now.block in
+    let sections = c.in_ok-sections.sections.items in
     let paths = c.in_ok-paths.paths.items in
-    let strokes : All (λ (s : Stroke). s.view < moved) c.deref-2.result.now = subst (λ (xs : List Stroke). All (λ (s : Stroke). s.view < moved) xs) (sym c.deref-2.ensures.value) c.in_ok-strokes.ensures.in_range in
-    let within = views_within c.deref-2.result.now moved paths strokes c.in_ok-paths.ensures in
+    let titles = c.args.look.now.titles.items in
+    let strokes : All (λ (s : Stroke). s.view < moved) c.deref-5.result.now = subst (λ (xs : List Stroke). All (λ (s : Stroke). s.view < moved) xs) (sym c.deref-5.ensures.value) c.in_ok-picture.ensures.in_range in
+    let within = views_within c.deref-5.result.now moved paths strokes c.in_ok-paths.ensures in
     let all : All (IsInView moved) c.in_ok-items.items.items =
     subst (λ (items : List Item). All (IsInView moved) items) (sym c.in_ok-items.ensures.items)
-    (in_views moved c.args.look.now.hidden.items d block (items_of_marks c.deref-4.result.now c.args.look.now.titles.items) paths (c.in_ok-items.ensures.of_block moved)
-    (of_marks moved c.deref-4.result.now c.args.look.now.titles.items) within) in
+    (in_views moved c.args.look.now.hidden.items d block (items_of_marks d.job.decimals d.job.unit c.deref-7.result.now titles) sections paths (c.in_ok-items.ensures.of_block moved)
+    (of_marks moved d.job.decimals d.job.unit c.deref-7.result.now titles) c.in_ok-sections.ensures.in_range within) in
     let same : moved ≡ c.len.result = omega (arith, c.len.ensures, d.sheet.places.ok.0, same_places d.sheet (solid_part d.solid).corners c.in_ok-on.on c.in_ok-on.ensures.centred) in
     subst (λ (n : ℕ). All (IsInView n) c.in_ok-items.items.items) same all
 

@@ -9,4 +9,5 @@ returns c =
     let two = All-same (IsInView 1) _ _ c.in_ok-push-2.ensures.items (All-push (IsInView 1) _ _ one c.rule-2.ensures) in
     let three = All-same (IsInView 1) _ _ c.in_ok-push-3.ensures.items (All-push (IsInView 1) _ _ two c.rule-3.ensures) in
     let four = All-same (IsInView 1) _ _ c.in_ok-push-4.ensures.items (All-push (IsInView 1) _ _ three tt) in
-    All-same (IsInView 1) _ _ c.in_ok-push-5.ensures.items (All-push (IsInView 1) _ _ four c.in_ok-chain_line.ensures)
+    let five = All-same (IsInView 1) _ _ c.in_ok-push-5.ensures.items (All-push (IsInView 1) _ _ four c.in_ok-area.ensures) in
+    All-same (IsInView 1) _ _ c.in_ok-push-6.ensures.items (All-push (IsInView 1) _ _ five c.in_ok-chain_line.ensures)

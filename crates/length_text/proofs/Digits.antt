@@ -1,7 +1,7 @@
 -- Digits, one after the other.
 use Rattle.std.proofs.Common.{◌≡◌, ℕ, zero, suc, ◌-◌, ◌/◌, ◌%◌, ◌^◌, List, refl, sym, ap, subst, ◌∙◌, arith}
 use Rattle.std.specs.Fmt.{decimal}
-use Rattle.sheet_summary.specs.Lengths.{digits}
+use Rattle.length_text.specs.Lengths.{digits}
 use Rattle.svg_page.specs.Texts.{◌⊕◌}
 
 -- the first digit, and those behind it

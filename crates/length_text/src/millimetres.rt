@@ -1,14 +1,15 @@
 // Lengths in millimetres, as a line says them.
 ghost use Rattle.std.specs.Prelude.{◌≡◌, ◌≤◌, ◌<◌, ◌^◌, IfOk, string_bytes};
-ghost use Rattle.sheet_summary.specs.Lengths.{behind_point, digits, length_text, mm_text};
+ghost use Rattle.length_text.specs.Lengths.{behind_point, digits, whole_text, mm_text};
 
 use std::alloc::{AllocError, Global};
 
 /// So many zeros behind a one.
-fn power_of_ten(zeros: u8) -> u64
+pub(crate) fn power_of_ten(zeros: u8) -> u64
     requires { zeros ≤ 6 }
     ensures value { result ≡ 10 ^ zeros }
-    ensures least { 0 < result }
+    ensures least { 1 ≤ result }
+    ensures most { result ≤ 1000000 }
 {
     match zeros {
         0 => 1,
@@ -50,9 +51,9 @@ fn behind_point(alloc: Global, count: u8, rest: u64) -> Result<String, AllocErro
 }
 
 /// A length in mm.
-fn length_text(alloc: Global, decimals: u8, units: u64) -> Result<String, AllocError>
+fn whole_text(alloc: Global, decimals: u8, units: u64) -> Result<String, AllocError>
     requires { decimals ≤ 6 }
-    ensures { IfOk result (λ text. string_bytes text ≡ length_text decimals units) }
+    ensures { IfOk result (λ text. string_bytes text ≡ whole_text decimals units) }
 {
     let unit = power_of_ten(decimals);
     let whole = units / unit;
@@ -65,7 +66,7 @@ pub fn mm_text(alloc: Global, decimals: u8, units: i64) -> Result<String, AllocE
     requires { decimals ≤ 6 }
     ensures { IfOk result (λ text. string_bytes text ≡ mm_text decimals units) }
 {
-    let length = length_text(alloc, decimals, units.unsigned_abs())?;
+    let length = whole_text(alloc, decimals, units.unsigned_abs())?;
     if units < 0 {
         format!(in alloc; "-{length}")
     } else {

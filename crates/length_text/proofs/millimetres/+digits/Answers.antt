@@ -1,10 +1,10 @@
 use Rattle.std.proofs.Common.{◌≡◌, ◌/◌, List, ℕ, ap, ◌∙◌, string_bytes}
 use Rattle.std.proofs.lemmas.Result.{IfOk-weaker}
-use Rattle.sheet_summary.specs.Lengths.{digits}
+use Rattle.length_text.specs.Lengths.{digits}
 use Rattle.std.specs.Fmt.{decimal}
 use Rattle.svg_page.specs.Texts.{◌⊕◌}
-use Rattle.sheet_summary.proofs.Digits.{step}
-use Rattle.sheet_summary.proofs.millimetres.+digits.Goals as goal
+use Rattle.length_text.proofs.Digits.{step}
+use Rattle.length_text.proofs.millimetres.+digits.Goals as goal
 
 pub returns : goal.returns
 returns t c =

@@ -1,4 +1,4 @@
-use Rattle.sheet_summary.proofs.millimetres.+digits.Given as goal
+use Rattle.length_text.proofs.millimetres.+digits.Given as goal
 
 abbrev pub decreases-digits : goal.decreases-digits
 decreases-digits l = l.count

@@ -16,9 +16,9 @@ behind_point count zero = []
 behind_point count (suc less) = codes "." ⊕ digits count (suc less)
 
 -- so many units of 10^-decimals mm, in mm
-abbrev pub length_text : ℕ → ℕ → List ℕ
-length_text decimals units = decimal (units / 10 ^ decimals) ⊕ behind_point decimals (units % 10 ^ decimals)
+abbrev pub whole_text : ℕ → ℕ → List ℕ
+whole_text decimals units = decimal (units / 10 ^ decimals) ⊕ behind_point decimals (units % 10 ^ decimals)
 
 abbrev pub mm_text : ℕ → ℤ → List ℕ
-mm_text decimals (pos n) = length_text decimals n
-mm_text decimals (negsuc n) = codes "-" ⊕ length_text decimals (suc n)
+mm_text decimals (pos n) = whole_text decimals n
+mm_text decimals (negsuc n) = codes "-" ⊕ whole_text decimals (suc n)
