@@ -4,15 +4,12 @@ pub mod Bands
 pub mod BoxPlaces
 pub mod CellNames
 pub mod Extremes
-pub mod Greatest
 pub mod InLine
 pub mod JobSheets
 pub mod Lengths
 pub mod Listed
-pub mod Moves
 pub mod OneKinds
 pub mod Ordered
-pub mod PlannedBoxes
 pub mod Reaches
 pub mod Rooms
 pub mod Roots

@@ -1,5 +1,4 @@
 pub mod Boxes
-pub mod Centred
 pub mod Extents
 pub mod JobSheets
 pub mod Layout

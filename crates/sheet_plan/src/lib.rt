@@ -4,14 +4,12 @@
 //! and y goes down, from the sheet's upper left corner.
 //!
 //! `plan` puts the views at the upper left of what a sheet has for them, from 20 mm from its left and upper edge to 20 mm from its right
-//! and 40 mm from its lower edge. `centred` moves them to the right and down, by half of what is left there: all by the same, so that
-//! they stay in line, and still apart and within the margins.
+//! and 40 mm from its lower edge.
 #![tactic(auto)]
 
 mod bounds;
 mod boxes;
 mod cells;
-mod centring;
 mod errors;
 mod extents;
 mod formats;
@@ -25,7 +23,6 @@ mod strokes;
 
 pub use bounds::Extent;
 pub use boxes::ViewBox;
-pub use centring::centred;
 pub use errors::PlanError;
 pub use extents::{Reach, extent, reach_along};
 pub use numbers::Ruler;
