@@ -1,0 +1,11 @@
+pub mod Anchors
+pub mod Blocks
+pub mod Cells
+pub mod Keeps
+pub mod Layouts
+pub mod Plans
+pub mod Rooms
+pub mod Rows
+pub mod Seats
+pub mod Trials
+pub mod inner
