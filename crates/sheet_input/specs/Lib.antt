@@ -2,9 +2,11 @@ pub mod Answers
 pub mod Faults
 pub mod Fits
 pub mod Jobs
+pub mod Laid
 pub mod Looks
 pub mod Places
 pub mod Seen
+pub mod Sheets
 pub mod Steps
 pub mod Texts
 pub mod Titles
