@@ -14,3 +14,4 @@ pub mod Parts
 pub mod HeadingLabels
 pub mod TitledViews
 pub mod WholePlaces
+pub mod AskedSides

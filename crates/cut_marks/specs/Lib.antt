@@ -1,4 +1,5 @@
 pub mod Areas
+pub mod AskedSides
 pub mod Figures
 pub mod Lanes
 pub mod Letters

@@ -12,6 +12,7 @@
 #![tactic(auto)]
 
 mod areas;
+mod asked_sides;
 mod axes;
 mod figures;
 mod heading_texts;
@@ -28,6 +29,7 @@ mod traces;
 mod views;
 mod ways;
 
+pub use asked_sides::sides_for;
 pub use axes::axis_name;
 pub use figures::{CutMark, Heading, MarkEnd, SheetPoint};
 pub use items::mark_items;
