@@ -15,3 +15,4 @@ pub mod HeadingLabels
 pub mod TitledViews
 pub mod WholePlaces
 pub mod AskedSides
+pub mod WithSides

@@ -10,5 +10,6 @@ pub mod Reach
 pub mod Traces
 pub mod Items
 pub mod AxisNames
+pub mod HeadingRooms
 pub mod HeadingTexts
 pub mod MarkLetters
