@@ -11,6 +11,7 @@ use Rattle.lattice.specs.declared.cuts.Cut.{Cut}
 use Rattle.lattice.specs.declared.pieces.ViewSpec.{ViewSpec}
 use Rattle.lattice.specs.declared.pieces.ViewSpec.TheVariants.{Plain, Section}
 use Rattle.geometry.specs.Parts.{Part}
+use Rattle.sheet_layout.specs.declared.sides.Sides.{Sides}
 use Rattle.sheet_plan.specs.declared.sheet.Sheet.{Sheet}
 use Rattle.cut_marks.specs.Areas.{areas_of, are_separate, is_clear, are_apart, none_touch, IsClearOf, AreApart, NoneTouch}
 use Rattle.cut_marks.specs.Figures.{marks_in}
@@ -60,12 +61,12 @@ all_apart (m ∷ rest) e =
     AllPairs-cons AreApart m rest (All-weaker (λ n. are_apart m n ≡ true) (AreApart m) (apart m) rest (AllPass-from_list_all (are_apart m) rest here)) (all_apart rest later)
 
 -- ---- a job
-module _ (sheet : Sheet) (s : Part) (cuts : List Cut) where
-  of_view : (view number : ℕ) (spec : ViewSpec) (m : ViewMarks) → IsMarked sheet s cuts view number spec m → AllPairs AreApart m.marks.items
+module _ (sheet : Sheet) (sides : List Sides) (shrunk : Bool) (s : Part) (cuts : List Cut) where
+  of_view : (view number : ℕ) (spec : ViewSpec) (m : ViewMarks) → IsMarked sheet sides shrunk s cuts view number spec m → AllPairs AreApart m.marks.items
   of_view view number (Plain d) m h = subst (AllPairs AreApart) (sym h.marks) (all_apart (marks_in h.box h.laned) (told_apart h.box h.traces h.laned m.left_out.items h.are_laned))
   of_view view number (Section c) m h = subst (AllPairs AreApart) (sym h.no_marks) (all_apart [] refl)
 
-  pub marked_apart : (views : List JobView) (all : List ViewMarks) → AreMarked sheet s cuts views all → NoneTouch all
+  pub marked_apart : (views : List JobView) (all : List ViewMarks) → AreMarked sheet sides shrunk s cuts views all → NoneTouch all
   marked_apart _ _ none = All-nil (λ view. AllPairs AreApart view.marks.items)
   marked_apart _ _ (more views v all m are is) =
       All-push (λ view. AllPairs AreApart view.marks.items) all m (marked_apart views all are) (of_view _ _ v.spec m is)

@@ -5,12 +5,9 @@ use Rattle.std.proofs.lemmas.Int.{ints}
 use Rattle.text_fit.specs.Fits.{IsFitted}
 use Rattle.text_fit.specs.Widths.{text_width}
 use Rattle.text_fit.specs.declared.fit.Fitted.{Fitted}
-use Rattle.sheet_plan.specs.declared.boxes.ViewBox.{ViewBox}
-use Rattle.sheet_page.specs.declared.page.Label.{Label}
 use Rattle.sheet_page.proofs.FittedTexts.{is_fitted_in, no_larger}
 use Rattle.sheet_page.specs.Labels.{fitted_in}
-use Rattle.cut_marks.specs.Items.{room_of, heading_label, IsInRoom, IsLabelInRoom}
-use Rattle.cut_marks.specs.Reach.{room_start, room_end, IsInReach, IsHeadingInReach}
+use Rattle.cut_marks.specs.Items.{room_of, heading_label, IsInRoom}
 use Rattle.cut_marks.specs.declared.figures.Heading.{Heading}
 
 pub stated : (h : Heading) (text : List ℕ) (f : Fitted) → IsFitted (room_of h) text f → heading_label h f ≡ heading_label h (fitted_in (room_of h) text)
@@ -38,21 +35,3 @@ in_room h text f is =
   where
     wide : text_width f.text * f.size / 1000 ≤ h.room
     wide = no_wider (text_width f.text * f.size) h.room is.inside
-
--- ---- what is in a room that is in reach of a box is in reach too
-chained : (a b c : ℤ) → a ≤ℤ b → b ≤ℤ c → a ≤ℤ c
-chained a b c h k = omega (arith, ints)
-
-above : (top y at : ℤ) (size : ℕ) → top ≤ℤ (y -ℤ pos 500) → at ≡ y → size ≤ 500 → top ≤ℤ (at -ℤ pos size)
-above top y at size h same small = omega (arith, ints, same)
-
-beneath : (bottom y at : ℤ) → (y +ℤ pos 150) ≤ℤ bottom → at ≡ y → (at +ℤ pos 150) ≤ℤ bottom
-beneath bottom y at h same = omega (arith, ints, same)
-
-pub label_in_reach : (b : ViewBox) (h : Heading) (l : Label) → IsHeadingInReach b h → IsLabelInRoom h l → IsInReach b l.x (l.x +ℤ pos (text_width l.text * l.size / 1000)) (l.y -ℤ pos l.size) (l.y +ℤ pos 150)
-label_in_reach b h l reach room = record {
-  left = chained (b.left -ℤ pos 700) (room_start h) l.x reach.left room.left;
-  right = chained (l.x +ℤ pos (text_width l.text * l.size / 1000)) (room_end h) (b.right +ℤ pos 700) room.right reach.right;
-  top = above (b.top -ℤ pos 700) h.y l.y l.size reach.top room.base room.small;
-  bottom = beneath (b.bottom +ℤ pos 700) h.y l.y reach.bottom room.base;
-}

@@ -1,8 +1,7 @@
--- What tells the cuts of a job is in reach of the views' boxes, and far within the range of numbers.
-use Rattle.std.proofs.Common.{◌≡◌, ◌⊎◌, inl, inr, ◌<◌, ◌≤◌, ◌/◌, ◌^◌, ℕ, Bool, List, [], ◌∷◌, ◌++◌, Option, Some, All, IfSome, length, slice_get, unsigned_abs, refl, sym, ap, subst, ◌∙◌, length-append, arith}
+-- What tells the cuts of a job is in reach of the views' boxes and within their sides, and far within the range of numbers.
+use Rattle.std.proofs.Common.{◌≡◌, ◌⊎◌, inl, inr, ◌+◌, ◌-◌, ◌*◌, ◌<◌, ◌≤◌, ◌/◌, ◌^◌, min, ℕ, Bool, List, [], ◌∷◌, ◌++◌, Option, Some, All, IfSome, length, slice_get, unsigned_abs, refl, sym, subst, ◌∙◌, length-append, arith}
 use Rattle.std.specs.Prelude.{ℤ, pos, ◌+ℤ◌, ◌-ℤ◌, ◌*ℤ◌, ◌<ℤ◌, ◌≤ℤ◌}
-use Rattle.std.specs.Int.{int_min, int_max}
-use Rattle.std.proofs.lemmas.Int.{ints, clamps}
+use Rattle.std.proofs.lemmas.Int.{ints}
 use Rattle.std.proofs.lemmas.List.Elements.{All-nil, All-push, All-pop, All-same, All-map, All-weaker}
 use Rattle.integers.specs.Floors.{floor_of}
 use Rattle.integers.proofs.Floors.{floor_of-is}
@@ -14,7 +13,8 @@ use Rattle.lattice.specs.declared.pieces.ViewSpec.TheVariants.{Plain, Section}
 use Rattle.geometry.specs.Parts.{Part}
 use Rattle.sheet_plan.specs.declared.sheet.Sheet.{Sheet}
 use Rattle.sheet_plan.specs.Boxes.{TakesBox, box_of}
-use Rattle.cut_marks.specs.Figures.{marks_in, mark_of, room_over, heading_over}
+use Rattle.cut_marks.specs.Figures.{marks_in, mark_of, heading_over}
+use Rattle.cut_marks.specs.HeadingRooms.{room_over, box_width}
 use Rattle.cut_marks.specs.Lanes.{AreLaned}
 use Rattle.cut_marks.specs.Lanes.AreLaned.{none as none_laned, told, untold}
 use Rattle.lattice.specs.Cuts.{Plane, plane_of}
@@ -22,9 +22,12 @@ use Rattle.job_file.specs.ShownCuts.{cuts_in}
 use Rattle.cut_marks.specs.Marks.{IsHeaded, ArePlainMarks, IsCutView, IsMarked, AreMarked}
 use Rattle.cut_marks.specs.Marks.AreMarked.{none as none_marked, more as more_marked}
 use Rattle.cut_marks.specs.Ranges.{IsPlaceInRange, IsEndInRange, IsMarkInRange, IsHeadingInRange}
-use Rattle.cut_marks.specs.Reach.{IsInReach, IsPointInReach, IsLetterInReach, IsEndInReach, IsMarkInReach, IsHeadingInReach, IsViewInReach, AreInReach, IsCrossed}
+use Rattle.cut_marks.specs.Reach.{IsInReach, IsPointInReach, IsLetterInReach, IsEndInReach, IsMarkInReach, IsHeadingWithin, IsViewInReach, AreInReach, IsCrossed}
 use Rattle.cut_marks.specs.Traces.{AreTraces}
 use Rattle.cut_marks.specs.Traces.AreTraces.{none as no_traces, seen, unseen}
+use Rattle.sheet_layout.specs.Keeps.{with_sides}
+use Rattle.sheet_layout.specs.Seats.{level_side, side_or_least}
+use Rattle.sheet_layout.specs.declared.sides.Sides.{Sides}
 use Rattle.sheet_plan.specs.declared.boxes.ViewBox.{ViewBox}
 use Rattle.cut_marks.specs.declared.figures.Heading.{Heading}
 use Rattle.cut_marks.specs.declared.figures.CutMark.{CutMark}
@@ -36,6 +39,7 @@ use Rattle.cut_marks.specs.declared.ways.Trace.{Trace}
 use Rattle.cut_marks.proofs.Crossed.{crossed, box_across, box_down}
 use Rattle.cut_marks.proofs.Placed.{placed_of}
 use Rattle.cut_marks.proofs.Reach.{mark_in_reach}
+use Rattle.cut_marks.proofs.WithSides.{level_least, listed_below, side_least}
 
 -- ---- the marks of a plain view
 module _ (sheet : Sheet) (s : Part) (view : ℕ) (b : ViewBox) (is_box : TakesBox sheet s.corners view (box_of b)) where
@@ -59,32 +63,45 @@ module _ (sheet : Sheet) (s : Part) (view : ℕ) (b : ViewBox) (is_box : TakesBo
       (All-weaker (λ e. IsCrossed b e.trace) (λ e. IsMarkInReach b (mark_of b e)) (mark_in_reach b) laned (all_laned traces laned left_out are_laned (all_crossed cuts traces are)))
 
 -- ---- a heading
-over_middle : (b : ViewBox) (letter : ℕ) (c : Plane) (has : Bool) → b.left ≤ℤ b.right → b.top ≤ℤ b.bottom → IsHeadingInReach b (heading_over b letter c has)
-over_middle b letter c has across down =
-    let f = floor_of-is (b.left +ℤ b.right) (pos 2) (omega (arith, ints)) in
-    go (floor_of (b.left +ℤ b.right) (pos 2)) (room_over b) (no_wider b.left b.right across) f.at_most f.rest_below
-  where
-    no_wider : (l r : ℤ) → l ≤ℤ r → pos (unsigned_abs (int_min (int_max (r -ℤ l +ℤ pos 1000) (pos 0)) (pos 118900))) ≤ℤ (r -ℤ l +ℤ pos 1000)
-    no_wider l r across = omega (arith, ints, clamps)
+module _ (shrunk : Bool) (s : Sides) (b : ViewBox) (across : b.left ≤ℤ b.right) (down : b.top ≤ℤ b.bottom) where
+  abbrev to_left : ℕ
+  to_left = level_side shrunk s.left s.width (box_width b)
 
-    start : (l r x : ℤ) (room : ℕ) → pos room ≤ℤ (r -ℤ l +ℤ pos 1000) → (l +ℤ r) <ℤ (x *ℤ pos 2 +ℤ pos 2) → (l -ℤ pos 700) ≤ℤ (x -ℤ pos (room / 2))
-    start l r x room wide high = omega (arith, ints)
+  abbrev to_right : ℕ
+  to_right = level_side shrunk s.right s.width (box_width b)
 
-    end : (l r x : ℤ) (room : ℕ) → pos room ≤ℤ (r -ℤ l +ℤ pos 1000) → (x *ℤ pos 2) ≤ℤ (l +ℤ r) → (x -ℤ pos (room / 2) +ℤ pos room) ≤ℤ (r +ℤ pos 700)
-    end l r x room wide low = omega (arith, ints)
+  narrower : (l r : ℤ) (left right room : ℕ) → l ≤ℤ r → 750 ≤ left → 750 ≤ right → room ≡ min 118900 ((unsigned_abs (r -ℤ l) + 2 * min left right) - 500)
+      → (pos (room + 500) ≤ℤ (r -ℤ l +ℤ pos (left + left))) × (pos (room + 500) ≤ℤ (r -ℤ l +ℤ pos (right + right)))
+  narrower l r left right room ordered wide wide_too is = (omega (arith, ints, is), omega (arith, ints, is))
 
-    go : (x : ℤ) (room : ℕ) → pos room ≤ℤ (b.right -ℤ b.left +ℤ pos 1000) → (x *ℤ pos 2) ≤ℤ (b.left +ℤ b.right) → (b.left +ℤ b.right) <ℤ (x *ℤ pos 2 +ℤ pos 2)
-        → IsInReach b (x -ℤ pos (room / 2)) (x -ℤ pos (room / 2) +ℤ pos room) (b.top -ℤ pos 200 -ℤ pos 500) (b.top -ℤ pos 200 +ℤ pos 150)
-    go x room wide low high = record {
-      left = start b.left b.right x room wide high;
-      right = end b.left b.right x room wide low;
-      top = omega (arith, ints);
-      bottom = omega (arith, ints);
-    }
+  start : (l r x : ℤ) (side room : ℕ) → pos (room + 500) ≤ℤ (r -ℤ l +ℤ pos (side + side)) → (l +ℤ r) <ℤ (x *ℤ pos 2 +ℤ pos 2) → (l -ℤ pos side +ℤ pos 250) ≤ℤ (x -ℤ pos (room / 2))
+  start l r x side room wide high = omega (arith, ints)
 
-heading_in_reach : (sheet : Sheet) (s : Part) (view number : ℕ) (c : Cut) (h : Heading) → (is : IsHeaded sheet s view number c h) → IsHeadingInReach is.box h
-heading_in_reach sheet s view number c h is =
-    subst (IsHeadingInReach is.box) (sym is.over) (over_middle is.box h.letter (plane_of c) h.has_section (box_across sheet s.corners view is.box is.is_box) (box_down sheet s.corners view is.box is.is_box))
+  end : (l r x : ℤ) (side room : ℕ) → pos (room + 500) ≤ℤ (r -ℤ l +ℤ pos (side + side)) → (x *ℤ pos 2) ≤ℤ (l +ℤ r) → (x -ℤ pos (room / 2) +ℤ pos room) ≤ℤ (r +ℤ pos side -ℤ pos 250)
+  end l r x side room wide low = omega (arith, ints)
+
+  over_middle : (letter : ℕ) (c : Plane) (has : Bool) → IsHeadingWithin (with_sides shrunk s (box_of b)) (heading_over b (room_over shrunk s b) letter c has)
+  over_middle letter c has =
+      let f = floor_of-is (b.left +ℤ b.right) (pos 2) (omega (arith, ints)) in
+      let (left, right) = narrower b.left b.right to_left to_right (room_over shrunk s b) across (level_least shrunk s.left s.width (box_width b)) (level_least shrunk s.right s.width (box_width b)) refl in
+      record {
+        left = start b.left b.right (floor_of (b.left +ℤ b.right) (pos 2)) to_left (room_over shrunk s b) left f.rest_below;
+        right = end b.left b.right (floor_of (b.left +ℤ b.right) (pos 2)) to_right (room_over shrunk s b) right f.at_most;
+        top = above b.top (side_or_least shrunk s.top) (side_least shrunk s.top);
+        bottom = beneath b.top b.bottom (side_or_least shrunk s.bottom) down (side_least shrunk s.bottom);
+      }
+    where
+      above : (t : ℤ) (side : ℕ) → 750 ≤ side → (t -ℤ pos side) <ℤ (t -ℤ pos 200 -ℤ pos 500)
+      above t side h = omega (arith, ints)
+
+      beneath : (t u : ℤ) (side : ℕ) → t ≤ℤ u → 750 ≤ side → (t -ℤ pos 200 +ℤ pos 150) <ℤ (u +ℤ pos side)
+      beneath t u side ordered h = omega (arith, ints)
+
+module _ (sheet : Sheet) (sides : List Sides) (shrunk : Bool) (s : Part) where
+  heading_within : (view number : ℕ) (c : Cut) (h : Heading) → (is : IsHeaded sheet sides shrunk s view number c h) → IsHeadingWithin (with_sides shrunk is.asked (box_of is.box)) h
+  heading_within view number c h is =
+      subst (IsHeadingWithin (with_sides shrunk is.asked (box_of is.box))) (sym is.over)
+      (over_middle shrunk is.asked is.box (box_across sheet s.corners view is.box is.is_box) (box_down sheet s.corners view is.box is.is_box) h.letter (plane_of c) h.has_section)
 
 -- ---- what is in reach is in range
 point_in_range : (b : ViewBox) (p : SheetPoint) (x x_end y y_end : ℤ) → x ≤ℤ p.x → p.x ≤ℤ x_end → y ≤ℤ p.y → p.y ≤ℤ y_end → IsInReach b x x_end y y_end → IsPlaceInRange p
@@ -122,60 +139,70 @@ end_in_range b e h = record {
 mark_in_range : (b : ViewBox) (m : CutMark) → IsMarkInReach b m → IsMarkInRange m
 mark_in_range b m h = record { first = end_in_range b m.first h.first; second = end_in_range b m.second h.second }
 
-heading_in_range : (b : ViewBox) (h : Heading) → unsigned_abs h.at ≤ 2 ^ 20 → IsHeadingInReach b h → IsHeadingInRange h
-heading_in_range b h small k = record {
-  x = around b.left b.right h.x h.room b.left_in_range b.right_in_range k.left k.right;
-  y = beneath b.top b.bottom h.y b.top_in_range b.bottom_in_range k.top k.bottom;
-  at = small;
-}
+over_in_range : (b : ViewBox) (room letter : ℕ) (c : Plane) (has : Bool) → unsigned_abs c.at ≤ 2 ^ 20 → IsHeadingInRange (heading_over b room letter c has)
+over_in_range b room letter c has small =
+    let f = floor_of-is (b.left +ℤ b.right) (pos 2) (omega (arith, ints)) in
+    record {
+      x = middle b.left b.right (floor_of (b.left +ℤ b.right) (pos 2)) b.left_in_range b.right_in_range f.at_most f.rest_below;
+      y = higher b.top b.top_in_range;
+      at = small;
+    }
   where
-    around : (a b n : ℤ) (room : ℕ) → unsigned_abs a < 2 ^ 61 → unsigned_abs b < 2 ^ 61 → (a -ℤ pos 700) ≤ℤ (n -ℤ pos (room / 2)) → (n -ℤ pos (room / 2) +ℤ pos room) ≤ℤ (b +ℤ pos 700) → unsigned_abs n < 2 ^ 62
-    around a b n room f g h i = omega (arith, ints)
+    middle : (l r x : ℤ) → unsigned_abs l < 2 ^ 61 → unsigned_abs r < 2 ^ 61 → (x *ℤ pos 2) ≤ℤ (l +ℤ r) → (l +ℤ r) <ℤ (x *ℤ pos 2 +ℤ pos 2) → unsigned_abs x < 2 ^ 62
+    middle l r x f g low high = omega (arith, ints)
 
-    beneath : (a b n : ℤ) → unsigned_abs a < 2 ^ 61 → unsigned_abs b < 2 ^ 61 → (a -ℤ pos 700) ≤ℤ (n -ℤ pos 500) → (n +ℤ pos 150) ≤ℤ (b +ℤ pos 700) → unsigned_abs n < 2 ^ 62
-    beneath a b n f g h i = omega (arith, ints)
+    higher : (t : ℤ) → unsigned_abs t < 2 ^ 61 → unsigned_abs (t -ℤ pos 200) < 2 ^ 62
+    higher t h = omega (arith, ints)
 
 -- ---- so all marks of a plain view and the heading of a cut view are in range
 pub all_in_range : (b : ViewBox) (marks : List CutMark) → All (IsMarkInReach b) marks → All IsMarkInRange marks
 all_in_range b marks h = All-weaker (IsMarkInReach b) IsMarkInRange (mark_in_range b) marks h
 
-pub headed_in_range : (sheet : Sheet) (s : Part) (view number : ℕ) (c : Cut) (h : Heading) → IsHeaded sheet s view number c h → IsHeadingInRange h
-headed_in_range sheet s view number c h is =
-    let same : h.at ≡ c.at = ap (λ (x : Heading). x.at) is.over in
-    heading_in_range is.box h (subst (λ (at : ℤ). unsigned_abs at ≤ 2 ^ 20) (sym same) c.in_range) (heading_in_reach sheet s view number c h is)
+pub headed_in_range : (sheet : Sheet) (sides : List Sides) (shrunk : Bool) (s : Part) (view number : ℕ) (c : Cut) (h : Heading) → IsHeaded sheet sides shrunk s view number c h → IsHeadingInRange h
+headed_in_range sheet sides shrunk s view number c h is =
+    subst IsHeadingInRange (sym is.over) (over_in_range is.box (room_over shrunk is.asked is.box) h.letter (plane_of c) h.has_section c.in_range)
 
 -- ---- a job
-module _ (sheet : Sheet) (s : Part) (cuts : List Cut) where
-  as_many : (views : List JobView) (all : List ViewMarks) → AreMarked sheet s cuts views all → length all ≡ length views
+module _ (sheet : Sheet) (sides : List Sides) (shrunk : Bool) (s : Part) (cuts : List Cut) where
+  as_many : (views : List JobView) (all : List ViewMarks) → AreMarked sheet sides shrunk s cuts views all → length all ≡ length views
   as_many _ _ none_marked = refl
   as_many _ _ (more_marked views v all m are is) = omega (arith, length-append all (m ∷ []), length-append views (v ∷ []), as_many views all are)
 
-  of_plain : (view : ℕ) (m : ViewMarks) → ArePlainMarks sheet s cuts view m → IsViewInReach sheet s.corners view m
-  of_plain view m h = record {
-    box = h.box;
-    is_box = h.is_box;
-    heading = subst (λ (o : Option Heading). IfSome o (IsHeadingInReach h.box)) (sym h.unheaded) tt;
-    marks = All-same (IsMarkInReach h.box) m.marks.items (marks_in h.box h.laned) h.marks (marks_in_reach sheet s view h.box h.is_box cuts h.traces h.laned m.left_out.items h.are_traces h.are_laned);
-  }
+  of_plain : (view : ℕ) (m : ViewMarks) → view < length sides → ArePlainMarks sheet s cuts view m → IsViewInReach sheet s.corners sides shrunk view m
+  of_plain view m within h =
+      let (asked, listed) = listed_below sides view within in
+      record {
+        box = h.box;
+        is_box = h.is_box;
+        asked = asked;
+        listed = listed;
+        heading = subst (λ (o : Option Heading). IfSome o (IsHeadingWithin (with_sides shrunk asked (box_of h.box)))) (sym h.unheaded) tt;
+        marks = All-same (IsMarkInReach h.box) m.marks.items (marks_in h.box h.laned) h.marks (marks_in_reach sheet s view h.box h.is_box cuts h.traces h.laned m.left_out.items h.are_traces h.are_laned);
+      }
 
-  of_cut : (view number : ℕ) (c : Cut) (m : ViewMarks) → IsCutView sheet s view number c m → IsViewInReach sheet s.corners view m
+  of_cut : (view number : ℕ) (c : Cut) (m : ViewMarks) → IsCutView sheet sides shrunk s view number c m → IsViewInReach sheet s.corners sides shrunk view m
   of_cut view number c m h = record {
     box = h.is.box;
     is_box = h.is.is_box;
-    heading = subst (λ (o : Option Heading). IfSome o (IsHeadingInReach h.is.box)) (sym h.headed) (heading_in_reach sheet s view number c h.heading h.is);
+    asked = h.is.asked;
+    listed = h.is.listed;
+    heading = subst (λ (o : Option Heading). IfSome o (IsHeadingWithin (with_sides shrunk h.is.asked (box_of h.is.box)))) (sym h.headed) (heading_within sheet sides shrunk s view number c h.heading h.is);
     marks = All-same (IsMarkInReach h.is.box) m.marks.items [] h.no_marks (All-nil (IsMarkInReach h.is.box));
   }
 
-  of_view : (view number : ℕ) (spec : ViewSpec) (m : ViewMarks) → IsMarked sheet s cuts view number spec m → IsViewInReach sheet s.corners view m
-  of_view view number (Plain d) m h = of_plain view m h
-  of_view view number (Section c) m h = of_cut view number c m h
+  of_view : (view number : ℕ) (spec : ViewSpec) (m : ViewMarks) → view < length sides → IsMarked sheet sides shrunk s cuts view number spec m → IsViewInReach sheet s.corners sides shrunk view m
+  of_view view number (Plain d) m within h = of_plain view m within h
+  of_view view number (Section c) m within h = of_cut view number c m h
 
-  pub marked_in_reach : (views : List JobView) (all : List ViewMarks) → AreMarked sheet s cuts views all → AreInReach sheet s.corners all
-  marked_in_reach _ _ none_marked view m at = absurd (cc)
-  marked_in_reach _ _ (more_marked views v all n are is) view m at = go (slice_get_push all n view m at) (λ e. marked_in_reach views all are view m e)
+  pub marked_in_reach : (views : List JobView) (all : List ViewMarks) → length views ≤ length sides → AreMarked sheet sides shrunk s cuts views all → AreInReach sheet s.corners sides shrunk all
+  marked_in_reach _ _ enough none_marked view m at = absurd (cc)
+  marked_in_reach _ _ enough (more_marked views v all n are is) view m at = go (slice_get_push all n view m at) (λ e. marked_in_reach views all (omega (arith, enough, longer)) are view m e)
     where
-      go : (slice_get all view ≡ Some m) ⊎ ((view ≡ length all) × (n ≡ m)) → (slice_get all view ≡ Some m → IsViewInReach sheet s.corners view m) → IsViewInReach sheet s.corners view m
+      longer : length (views ++ v ∷ []) ≡ length views + 1
+      longer = length-append views (v ∷ [])
+
+      go : (slice_get all view ≡ Some m) ⊎ ((view ≡ length all) × (n ≡ m)) → (slice_get all view ≡ Some m → IsViewInReach sheet s.corners sides shrunk view m) → IsViewInReach sheet s.corners sides shrunk view m
       go (inl e) before = before e
       go (inr (e, same)) before =
-          subst (λ (k : ℕ). IsViewInReach sheet s.corners k m) (sym (e ∙ as_many views all are))
-          (subst (IsViewInReach sheet s.corners (length views)) same (of_view (length views) (length (cuts_in views)) v.spec n is))
+          subst (λ (k : ℕ). IsViewInReach sheet s.corners sides shrunk k m) (sym (e ∙ as_many views all are))
+          (subst (IsViewInReach sheet s.corners sides shrunk (length views)) same (of_view (length views) (length (cuts_in views)) v.spec n (omega (arith, enough, longer)) is))

@@ -14,3 +14,5 @@ pub mod Parts
 pub mod HeadingLabels
 pub mod TitledViews
 pub mod WholePlaces
+pub mod AskedSides
+pub mod WithSides

@@ -1,10 +1,9 @@
 -- A mark whose trace crosses the box of its view stays within its reach.
-use Rattle.std.proofs.Common.{inl, inr, Bool, true, false, arith}
+use Rattle.std.proofs.Common.{Bool, true, false, arith}
 use Rattle.std.specs.Prelude.{ℤ, pos, ◌+ℤ◌, ◌-ℤ◌, ◌≤ℤ◌, if◌then◌else◌}
 use Rattle.std.proofs.lemmas.Int.{ints}
-use Rattle.sheet_plan.specs.Boxes.{box_of, AreApart}
 use Rattle.cut_marks.specs.Figures.{out_of, other_of, upright_end, level_end, end_on, near_side, far_side, mark_of}
-use Rattle.cut_marks.specs.Reach.{IsInReach, IsEndInReach, IsMarkInReach, IsCrossed, AreClear}
+use Rattle.cut_marks.specs.Reach.{IsEndInReach, IsMarkInReach, IsCrossed}
 use Rattle.cut_marks.specs.Traces.{is_upright, is_forward}
 use Rattle.sheet_plan.specs.declared.boxes.ViewBox.{ViewBox}
 use Rattle.cut_marks.specs.declared.ways.Lane.{Lane}
@@ -71,10 +70,3 @@ mark_in_reach b e h =
         let (left, right) = sides b.left b.right out h.across o in
         let (left_too, right_too) = sides b.left b.right other h.across p in
         (level_in b (is_forward e.trace.way) e.trace.at (b.left -ℤ out) (b.left -ℤ other) l r left.0 left.1 left_too.0 left_too.1, level_in b (is_forward e.trace.way) e.trace.at (b.right +ℤ out) (b.right +ℤ other) l r right.0 right.1 right_too.0 right_too.1)
-
--- ---- what is in the reach of two boxes that are apart is clear of one another
-pub clear : (a b : ViewBox) → AreApart (box_of a) (box_of b) → (l r t u l' r' t' u' : ℤ) → IsInReach a l r t u → IsInReach b l' r' t' u' → AreClear l r t u l' r' t' u'
-clear a b (inl (inl e)) l r t u l' r' t' u' h k = inl (let x = h.right in let y = k.left in omega (arith, ints))
-clear a b (inl (inr e)) l r t u l' r' t' u' h k = inr (inr (inl (let x = h.bottom in let y = k.top in omega (arith, ints))))
-clear a b (inr (inl e)) l r t u l' r' t' u' h k = inr (inl (let x = h.left in let y = k.right in omega (arith, ints)))
-clear a b (inr (inr e)) l r t u l' r' t' u' h k = inr (inr (inr (let x = h.top in let y = k.bottom in omega (arith, ints))))

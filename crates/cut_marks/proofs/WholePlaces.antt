@@ -1,5 +1,5 @@
 -- The place in a heading is never cut.
-use Rattle.std.proofs.Common.{◌≡◌, ◌⊎◌, inl, inr, ℕ, zero, suc, ◌+◌, ◌-◌, ◌*◌, ◌/◌, ◌≤◌, max, min, Bool, true, false, List, [], ◌∷◌, ◌++◌, length, take, refl, sym, ap, subst, ◌∙◌, arith, append_assoc, div-mul-le_self, mul-le-mul_right}
+use Rattle.std.proofs.Common.{◌≡◌, inl, inr, ℕ, zero, suc, ◌-◌, ◌*◌, ◌/◌, ◌≤◌, max, min, Bool, true, false, List, [], ◌∷◌, ◌++◌, length, take, refl, sym, ap, subst, ◌∙◌, arith, append_assoc, div-mul-le_self, mul-le-mul_right}
 use Rattle.std.specs.Prelude.{nat_le, ◌||◌, if◌then◌else◌, encode_utf8_all, codes}
 use Rattle.std.specs.Str.{chars, IsUtf8}
 use Rattle.std.proofs.lemmas.Bool.{leb-true, leb-false}
@@ -10,7 +10,7 @@ use Rattle.svg_page.specs.Texts.{◌⊕◌}
 use Rattle.text_fit.specs.Fits.{size_in, with_points}
 use Rattle.text_fit.specs.Widths.{chars_width, text_width}
 use Rattle.text_fit.specs.declared.fit.Fitted.{Fitted}
-use Rattle.cut_marks.specs.HeadingTexts.{bare_text, fits_least, front_text, has_room, heading_text, whole_text, title_text}
+use Rattle.cut_marks.specs.HeadingTexts.{bare_text, fits_least, front_text, has_room, title_text}
 use Rattle.cut_marks.specs.Items.{room_of, HasPlaceWhole, fitted_heading}
 use Rattle.cut_marks.specs.declared.figures.Heading.{Heading}
 

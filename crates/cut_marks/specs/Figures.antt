@@ -1,6 +1,5 @@
 -- The figures of marks and headings, in hundredths of a millimetre: x goes right and y down.
-use Rattle.std.specs.Prelude.{ℕ, ℤ, pos, ◌+ℤ◌, ◌-ℤ◌, unsigned_abs, not, Bool, true, false, if◌then◌else◌, List, map}
-use Rattle.std.specs.Int.{int_min, int_max}
+use Rattle.std.specs.Prelude.{ℕ, ℤ, pos, ◌+ℤ◌, ◌-ℤ◌, not, Bool, true, false, if◌then◌else◌, List, map}
 use Rattle.integers.specs.Floors.{floor_of}
 use Rattle.lattice.specs.Cuts.{Plane}
 use Rattle.cut_marks.specs.Traces.{is_upright, is_forward}
@@ -81,18 +80,14 @@ mark_of b e =
 abbrev pub marks_in : ViewBox → List Laned → List CutMark
 marks_in b laned = map (mark_of b) laned
 
--- as wide as a view's box and 5 mm on both sides of it, so that 5 mm are left between headings, but no wider than the widest sheet
-abbrev pub room_over : ViewBox → ℕ
-room_over b = unsigned_abs (int_min (int_max (b.right -ℤ b.left +ℤ pos 1000) (pos 0)) (pos 118900))
-
 -- above the middle of the box of a cut's view
-abbrev pub heading_over : ViewBox → ℕ → Plane → Bool → Heading
-heading_over b letter c has_section = record {
+abbrev pub heading_over : ViewBox → (room letter : ℕ) → Plane → Bool → Heading
+heading_over b room letter c has_section = record {
   letter = letter;
   axis = c.axis;
   at = c.at;
   x = floor_of (b.left +ℤ b.right) (pos 2);
   y = b.top -ℤ pos 200;
-  room = room_over b;
+  room = room;
   has_section = has_section;
 }

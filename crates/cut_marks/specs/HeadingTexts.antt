@@ -1,5 +1,5 @@
 -- What the headings of cut views say.
-use Rattle.std.specs.Prelude.{ℕ, ◌*◌, ◌/◌, max, nat_le, Bool, ◌||◌, if◌then◌else◌, List, [], ◌∷◌, ◌++◌, codes}
+use Rattle.std.specs.Prelude.{ℕ, ◌*◌, ◌/◌, max, nat_le, Bool, ◌||◌, if◌then◌else◌, List, [], ◌∷◌, codes}
 use Rattle.std.specs.Char.{encode_utf8}
 use Rattle.dec_text.specs.declared.number.Length.{Length}
 use Rattle.length_text.specs.Places.{length_text}

@@ -1,4 +1,5 @@
 pub mod Areas
+pub mod AskedSides
 pub mod Figures
 pub mod Lanes
 pub mod Letters
@@ -9,5 +10,6 @@ pub mod Reach
 pub mod Traces
 pub mod Items
 pub mod AxisNames
+pub mod HeadingRooms
 pub mod HeadingTexts
 pub mod MarkLetters

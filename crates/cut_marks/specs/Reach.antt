@@ -1,8 +1,10 @@
--- How far marks and headings reach outside the box of their view.
-use Rattle.std.specs.Prelude.{◌≡◌, ◌⊎◌, ℕ, ◌/◌, ℤ, pos, ◌+ℤ◌, ◌-ℤ◌, ◌<ℤ◌, ◌≤ℤ◌, if◌then◌else◌, List, All, Some, IfSome, slice_get}
+-- How far marks and headings reach outside the box of their view, and that they stay within its sides.
+use Rattle.std.specs.Prelude.{◌≡◌, ◌⊎◌, ℕ, ◌/◌, Bool, ℤ, pos, ◌+ℤ◌, ◌-ℤ◌, ◌<ℤ◌, ◌≤ℤ◌, if◌then◌else◌, List, All, Some, IfSome, slice_get}
 use Rattle.lattice.specs.declared.points.Corner.{Corner}
 use Rattle.sheet_plan.specs.declared.sheet.Sheet.{Sheet}
-use Rattle.sheet_plan.specs.Boxes.{TakesBox, box_of}
+use Rattle.sheet_plan.specs.Boxes.{Box, TakesBox, box_of}
+use Rattle.sheet_layout.specs.Keeps.{with_sides}
+use Rattle.sheet_layout.specs.declared.sides.Sides.{Sides}
 use Rattle.cut_marks.specs.Traces.{is_upright}
 use Rattle.sheet_plan.specs.declared.boxes.ViewBox.{ViewBox}
 use Rattle.cut_marks.specs.declared.figures.Heading.{Heading}
@@ -47,20 +49,32 @@ room_start h = h.x -ℤ pos (h.room / 2)
 abbrev pub room_end : Heading → ℤ
 room_end h = room_start h +ℤ pos h.room
 
--- a heading takes its room across, 5 mm above its base line and 1.5 mm beneath
-abbrev pub IsHeadingInReach : ViewBox → Heading → Type 0
-IsHeadingInReach b h = IsInReach b (room_start h) (room_end h) (h.y -ℤ pos 500) (h.y +ℤ pos 150)
+-- a heading, which takes its room across, 5 mm above its base line and 1.5 mm beneath, is within a box, with 2.5 mm left on both sides
+pub record IsHeadingWithin (around : Box) (h : Heading) : Type 0 where
+  pub left : (around.left +ℤ pos 250) ≤ℤ room_start h
+  pub right : room_end h ≤ℤ (around.right -ℤ pos 250)
+  pub top : around.top <ℤ (h.y -ℤ pos 500)
+  pub bottom : (h.y +ℤ pos 150) <ℤ around.bottom
 
--- what tells the cuts in the view with this number is in reach of its box
-pub record IsViewInReach (sheet : Sheet) (corners : List Corner) (view : ℕ) (m : ViewMarks) : Type 0 where
+-- the marks of the view with this number are in reach of its box, and its heading is within the box with its sides
+pub record IsViewInReach (sheet : Sheet) (corners : List Corner) (sides : List Sides) (shrunk : Bool) (view : ℕ) (m : ViewMarks) : Type 0 where
   pub box : ViewBox
   pub is_box : TakesBox sheet corners view (box_of box)
-  pub heading : IfSome m.heading (IsHeadingInReach box)
+  pub asked : Sides
+  pub listed : slice_get sides view ≡ Some asked
+  pub heading : IfSome m.heading (IsHeadingWithin (with_sides shrunk asked (box_of box)))
   pub marks : All (IsMarkInReach box) m.marks.items
 
 -- and so in each view
-abbrev pub AreInReach : Sheet → List Corner → List ViewMarks → Type 0
-AreInReach sheet corners all = (view : ℕ) (m : ViewMarks) → slice_get all view ≡ Some m → IsViewInReach sheet corners view m
+abbrev pub AreInReach : Sheet → List Corner → List Sides → Bool → List ViewMarks → Type 0
+AreInReach sheet corners sides shrunk all = (view : ℕ) (m : ViewMarks) → slice_get all view ≡ Some m → IsViewInReach sheet corners sides shrunk view m
+
+-- what goes across from x to x_end and downward from y to y_end ends within a box
+pub record IsInside (around : Box) (x x_end y y_end : ℤ) : Type 0 where
+  pub left : around.left <ℤ x
+  pub right : x_end <ℤ around.right
+  pub top : around.top <ℤ y
+  pub bottom : y_end <ℤ around.bottom
 
 -- the trace crosses the box
 pub record IsCrossed (b : ViewBox) (t : Trace) : Type 0 where

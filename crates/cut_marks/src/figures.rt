@@ -4,7 +4,7 @@ ghost use Rattle.lattice.specs.Cuts.{plane_of};
 ghost use Rattle.solid_mesh.specs.Solids.{solid_part};
 ghost use Rattle.cut_marks.specs.Letters.{IsLetterOf};
 ghost use Rattle.cut_marks.specs.Traces.{is_upright, is_forward};
-ghost use Rattle.cut_marks.specs.Figures.{ahead, place_at, upright_end, base_beyond, level_end, end_on, other_of, out_of, near_side, far_side, end_of, mark_of, marks_in, room_over, heading_over};
+ghost use Rattle.cut_marks.specs.Figures.{ahead, place_at, upright_end, base_beyond, level_end, end_on, other_of, out_of, near_side, far_side, end_of, mark_of, marks_in, heading_over};
 
 use crate::traces::{is_forward, is_upright};
 use crate::ways::{Lane, Laned};
@@ -204,17 +204,15 @@ pub(crate) fn marks_in(
     Ok(marks)
 }
 
-/// The room of the heading over a cut view with this box: as wide as the box and 5 mm on both sides of it, but no wider than the widest
-/// sheet.
-fn room_over(b: &ViewBox) -> u32
-    ensures { result ≡ room_over b.now }
-{
-    (b.right - b.left + 1000).max(0).min(118_900) as u32
-}
-
-/// The heading over the view of a cut with this box.
-pub(crate) fn heading_over(b: &ViewBox, letter: u8, cut: &Cut, has_section: bool) -> Heading
-    ensures { result ≡ heading_over b.now letter (plane_of cut.now) has_section }
+/// The heading over the view of a cut with this box, in a room so wide.
+pub(crate) fn heading_over(
+    b: &ViewBox,
+    room: u32,
+    letter: u8,
+    cut: &Cut,
+    has_section: bool,
+) -> Heading
+    ensures { result ≡ heading_over b.now room letter (plane_of cut.now) has_section }
 {
     Heading {
         letter,
@@ -222,7 +220,7 @@ pub(crate) fn heading_over(b: &ViewBox, letter: u8, cut: &Cut, has_section: bool
         at: cut.at(),
         x: (b.left + b.right).div_euclid(2),
         y: b.top - 200,
-        room: room_over(b),
+        room,
         has_section,
     }
 }

@@ -45,7 +45,11 @@ fn with_title(
 }
 
 /// The letters of a heading and the place of its cut.
-fn front_text(alloc: Global, form: LengthForm, heading: &Heading) -> Result<String, AllocError>
+pub(crate) fn front_text(
+    alloc: Global,
+    form: LengthForm,
+    heading: &Heading,
+) -> Result<String, AllocError>
     requires { unsigned_abs heading.now.at ≤ 2 ^ 20 }
     ensures { IfOk result (λ text. string_bytes text ≡ front_text form.decimals form.unit heading.now) }
 {

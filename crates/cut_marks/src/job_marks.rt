@@ -9,6 +9,7 @@ ghost use Rattle.cut_marks.specs.Marks.{IsHeaded, ArePlainMarks, IsMarked, AreMa
 ghost use Rattle.cut_marks.specs.Reach.{AreInReach};
 
 use crate::figures::{Heading, heading_over, marks_in};
+use crate::heading_rooms::room_over;
 use crate::lanes::{Told, laned};
 use crate::letters::letter_of;
 use crate::traces::traces_in;
@@ -17,6 +18,7 @@ use cut_plane::has_segment;
 use exact_frac::OutOfMemory;
 use job_file::{JobView, cuts_in};
 use lattice::{Cut, ViewSpec};
+use sheet_layout::Sides;
 use sheet_plan::{Sheet, ViewBox};
 use solid_mesh::Solid;
 use std::alloc::Global;
@@ -45,13 +47,24 @@ fn plain_marks(
 }
 
 /// The heading of the cut view with this number, which shows the cut with the other number.
-fn heading_of(solid: &Solid, sheet: &Sheet, view: u32, number: usize, cut: &Cut) -> Heading
+fn heading_of(
+    solid: &Solid,
+    sheet: &Sheet,
+    sides: &[Sides],
+    shrunk: bool,
+    view: u32,
+    number: usize,
+    cut: &Cut,
+) -> Heading
     requires placed { view < length sheet.now.places.items }
+    requires asked { view < length sides.now }
     requires few { number < 12 }
-    ensures { IsHeaded sheet.now (solid_part solid.now) view number cut.now result }
+    ensures { IsHeaded sheet.now sides.now shrunk (solid_part solid.now) view number cut.now result }
 {
     let b = ViewBox::of(solid, sheet, view);
-    heading_over(&b, letter_of(number), cut, has_segment(solid, cut))
+    let asked = &sides[view as usize];
+    let room = room_over(shrunk, asked, &b);
+    heading_over(&b, room, letter_of(number), cut, has_segment(solid, cut))
 }
 
 /// What tells the cuts in the view with this number, which shows this, where so many cuts are shown before it.
@@ -59,20 +72,25 @@ fn view_marks(
     alloc: Global,
     solid: &Solid,
     sheet: &Sheet,
+    sides: &[Sides],
+    shrunk: bool,
     view: u32,
     cuts: &[Cut],
     number: usize,
     spec: &ViewSpec,
 ) -> Result<ViewMarks, OutOfMemory>
     requires placed { view < length sheet.now.places.items }
+    requires asked { view < length sides.now }
     requires few { length cuts.now ≤ 12 }
     requires fewer { number < 12 }
-    ensures { IfOk result (IsMarked sheet.now (solid_part solid.now) cuts.now view number spec.now) }
+    ensures { IfOk result (IsMarked sheet.now sides.now shrunk (solid_part solid.now) cuts.now view number spec.now) }
 {
     match spec {
         ViewSpec::Plain(_) => plain_marks(alloc, solid, sheet, view, cuts),
         ViewSpec::Section(cut) => Ok(ViewMarks {
-            heading: Some(heading_of(solid, sheet, view, number, cut)),
+            heading: Some(heading_of(
+                solid, sheet, sides, shrunk, view, number, cut,
+            )),
             marks: Vec::new(alloc),
             left_out: Vec::new(alloc),
         }),
@@ -92,18 +110,21 @@ fn count_below(views: &[JobView], end: usize) -> usize
     count
 }
 
-/// What tells the cuts of a job in each of its views, in their order, on this sheet of the solid. It costs a few passes over the
-/// corners for each view and cut.
+/// What tells the cuts of a job in each of its views, in their order, on this sheet of the solid. Each view has on its sides what it asks
+/// for, or 7.5 mm if they are shrunk. It costs a few passes over the corners for each view and cut.
 pub fn marks(
     alloc: Global,
     solid: &Solid,
     sheet: &Sheet,
+    sides: &[Sides],
+    shrunk: bool,
     views: &[JobView],
 ) -> Result<Vec<ViewMarks>, OutOfMemory>
     requires placed { length views.now ≤ length sheet.now.places.items }
+    requires asked { length views.now ≤ length sides.now }
     requires few { length views.now ≤ 12 }
-    ensures marked { IfOk result (λ marks. AreMarked sheet.now (solid_part solid.now) (cuts_in views.now) views.now marks.items) }
-    ensures in_reach { IfOk result (λ marks. AreInReach sheet.now (solid_part solid.now).corners marks.items) }
+    ensures marked { IfOk result (λ marks. AreMarked sheet.now sides.now shrunk (solid_part solid.now) (cuts_in views.now) views.now marks.items) }
+    ensures in_reach { IfOk result (λ marks. AreInReach sheet.now (solid_part solid.now).corners sides.now shrunk marks.items) }
     ensures none_touch { IfOk result (λ marks. NoneTouch marks.items) }
 {
     let cuts = cuts_in(alloc, views)?;
@@ -114,6 +135,8 @@ pub fn marks(
             alloc,
             solid,
             sheet,
+            sides,
+            shrunk,
             view as u32,
             &cuts,
             number,

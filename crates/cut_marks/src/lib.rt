@@ -4,16 +4,19 @@
 //!
 //! In one view no letter or arrow of a mark touches one of another mark; only chain lines may cross them.
 //!
-//! All lengths are in hundredths of a millimetre on the sheet. Marks and headings end within 7 mm of their view's box, so that they
-//! reach no other view: views are 15 mm apart (lemma `clear`). The cost is a few passes over the part's corners for each view and cut.
+//! All lengths are in hundredths of a millimetre on the sheet. Marks end within 7 mm of their view's box, and a heading ends within the box
+//! with the sides that its view asks for (`sides_for`). No two such boxes overlap on a sheet, and no side is narrower than 7.5 mm, so that
+//! marks and headings reach no other view (lemma `clear`). The cost is a few passes over the part's corners for each view and cut.
 //! `mark_items` says what they are on a page: a text stands with its middle at its place, by the widths of Helvetica's letters. A
-//! heading that would be wider than its view's box and 5 mm on both sides is set smaller. Then its title is cut, and at last the place is
-//! left out: it is never cut, as half a number would be another one.
+//! heading's room is its view's box with its sides, less 5 mm. A heading that would be wider is set smaller. Then its title is cut, and at
+//! last the place is left out: it is never cut, as half a number would be another one.
 #![tactic(auto)]
 
 mod areas;
+mod asked_sides;
 mod axes;
 mod figures;
+mod heading_rooms;
 mod heading_texts;
 mod headings;
 mod items;
@@ -28,6 +31,7 @@ mod traces;
 mod views;
 mod ways;
 
+pub use asked_sides::sides_for;
 pub use axes::axis_name;
 pub use figures::{CutMark, Heading, MarkEnd, SheetPoint};
 pub use items::mark_items;

@@ -1,6 +1,6 @@
--- A title block stands in the corner of its sheet, its texts in their cells, and it is clear of the views.
-use Rattle.std.proofs.Common.{ℕ, suc, ◌+◌, ◌≤◌, ◌≡◌, Bool, true, false, List, [], ◌∷◌, ◌++◌, Result, Ok, Err, IfOk, map, refl, get_or, sym, subst, arith, rules}
-use Rattle.std.specs.Prelude.{nat_le, ℤ, pos, ◌+ℤ◌, ◌-ℤ◌, ◌*ℤ◌, ◌<ℤ◌, ◌≤ℤ◌}
+-- A title block stands in the corner of its sheet, its texts in their cells, and it is clear of what ends before the corner.
+use Rattle.std.proofs.Common.{ℕ, suc, ◌+◌, ◌≤◌, ◌≡◌, inl, inr, Bool, true, false, List, [], ◌∷◌, ◌++◌, Result, Ok, Err, IfOk, map, refl, sym, subst, arith, rules}
+use Rattle.std.specs.Prelude.{nat_le, ℤ, pos, ◌+ℤ◌, ◌-ℤ◌, ◌*ℤ◌, ◌≤ℤ◌}
 use Rattle.std.specs.List.{All, Contains, flat_map}
 use Rattle.std.proofs.lemmas.Bool.{leb-true}
 use Rattle.std.proofs.lemmas.Int.{ints}
@@ -13,12 +13,12 @@ use Rattle.sheet_page.specs.declared.page.Item.{Item}
 use Rattle.sheet_page.specs.declared.page.Item.TheVariants as item
 use Rattle.sheet_page.specs.declared.page.Pen.{Pen}
 use Rattle.sheet_page.specs.declared.page.Rule.{Rule}
-use Rattle.sheet_plan.specs.Boxes.{Box, IsWithinMargins}
+use Rattle.sheet_plan.specs.Boxes.{Box}
 use Rattle.sheet_plan.specs.declared.sheet.Sheet.{Sheet}
 use Rattle.sheet_page.specs.BlockCells.{cells_of}
 use Rattle.sheet_page.specs.Blocks.{block_of}
 use Rattle.sheet_page.specs.Cells.{IsCell}
-use Rattle.sheet_page.specs.Corners.{IsPointInCorner, IsInCorner, IsInCell, KeepsToCells, IsBelow}
+use Rattle.sheet_page.specs.Corners.{IsPointInCorner, IsInCorner, IsInCell, KeepsToCells, EndsBefore, IsRightOf, IsBelow, IsClearOf}
 use Rattle.sheet_page.specs.Labels.{Said, cell_items}
 use Rattle.sheet_page.specs.Rules.{corner_of, point_from, rule_from, rules_of}
 use Rattle.sheet_page.specs.Symbols.{circle_from, symbol_of}
@@ -144,23 +144,36 @@ module _ (sheet : Sheet) (job : Job) (part : List ℕ) (texts : BlockTexts) wher
   written_keeps written (Ok items) e are = subst (All (KeepsToCells corner cells)) (sym e) (block_keeps are)
   written_keeps written (Err fault) e are = e
 
--- ---- the views
-above : (bottom h y : ℤ) → bottom ≤ℤ (h -ℤ pos 4000) → (h -ℤ pos 3200) ≤ℤ y → (bottom +ℤ pos 700) <ℤ y
-above bottom h y a b = omega (arith, ints)
+-- ---- what stands beside the block or above it
+past : (a b c : ℤ) → a ≤ℤ b → b ≤ℤ c → a ≤ℤ c
+past a b c h k = omega (arith, ints)
 
-below_view : (sheet : Sheet) (box : Box) (one : Item) → IsWithinMargins sheet box → IsInCorner sheet.width sheet.height one → IsBelow (box.bottom +ℤ pos 700) one
-below_view sheet box (item.Frame frame) within h = absurd h
-below_view sheet box (item.Rule rule) within h = (above box.bottom sheet.height rule.from.y within.bottom h.0.top, above box.bottom sheet.height rule.to.y within.bottom h.1.top)
-below_view sheet box (item.Circle c) within h = above box.bottom sheet.height (c.y -ℤ pos c.radius) within.bottom h.top
-below_view sheet box (item.Label label) within h = above box.bottom sheet.height (label.y -ℤ pos label.size) within.bottom h.top
-below_view sheet box (item.Path path) within h = absurd h
-below_view sheet box (item.Fill fill) within h = absurd h
+module _ (width height : ℤ) where
+  right_of : (place : ℤ) (one : Item) → place ≤ℤ (width -ℤ pos 19000) → IsInCorner width height one → IsRightOf place one
+  right_of place (item.Frame frame) before h = absurd h
+  right_of place (item.Rule rule) before h = (past _ _ _ before h.0.left, past _ _ _ before h.1.left)
+  right_of place (item.Circle c) before h = past _ _ _ before h.left
+  right_of place (item.Label label) before h = past _ _ _ before h.left
+  right_of place (item.Path path) before h = absurd h
+  right_of place (item.Fill fill) before h = absurd h
 
--- what is in the corner is below each view that is within the sheet's margins, by more than the 7 mm that the marks of cuts reach
-pub clear_of_views : (sheet : Sheet) (box : Box) (items : List Item) → IsWithinMargins sheet box → All (IsInCorner sheet.width sheet.height) items → All (IsBelow (box.bottom +ℤ pos 700)) items
-clear_of_views sheet box items within h k d lt = below_view sheet box (get_or items k d) within (h k d lt)
+  below : (level : ℤ) (one : Item) → level ≤ℤ (height -ℤ pos 3200) → IsInCorner width height one → IsBelow level one
+  below level (item.Frame frame) before h = absurd h
+  below level (item.Rule rule) before h = (past _ _ _ before h.0.top, past _ _ _ before h.1.top)
+  below level (item.Circle c) before h = past _ _ _ before h.top
+  below level (item.Label label) before h = past _ _ _ before h.top
+  below level (item.Path path) before h = absurd h
+  below level (item.Fill fill) before h = absurd h
 
-pub written_clear : {T E : Type 0} (written : T → List Item) (result : Result T E) (sheet : Sheet) (box : Box) → IsWithinMargins sheet box
-    → IfOk result (λ items. All (IsInCorner sheet.width sheet.height) (written items)) → IfOk result (λ items. All (IsBelow (box.bottom +ℤ pos 700)) (written items))
-written_clear written (Ok items) sheet box within h = clear_of_views sheet box (written items) within h
-written_clear written (Err fault) sheet box within h = h
+  one_clear : (box : Box) (one : Item) → EndsBefore width height box → IsInCorner width height one → IsClearOf box one
+  one_clear box one (inl before) h = inl (right_of box.right one before h)
+  one_clear box one (inr before) h = inr (below box.bottom one before h)
+
+  -- what is in the corner is clear of each rectangle that ends to the left of it or above it, as a view with its sides does
+  pub clear_of_views : (box : Box) (items : List Item) → EndsBefore width height box → All (IsInCorner width height) items → All (IsClearOf box) items
+  clear_of_views box items before h = All-weaker (IsInCorner width height) (IsClearOf box) (λ one is. one_clear box one before is) items h
+
+pub written_clear : {T E : Type 0} (written : T → List Item) (result : Result T E) (width height : ℤ) (box : Box) → EndsBefore width height box
+    → IfOk result (λ items. All (IsInCorner width height) (written items)) → IfOk result (λ items. All (IsClearOf box) (written items))
+written_clear written (Ok items) width height box before h = clear_of_views width height box (written items) before h
+written_clear written (Err fault) width height box before h = h

@@ -1,11 +1,12 @@
 -- The corner of a sheet that its title block takes, and the cells there.
-use Rattle.std.specs.Prelude.{◌+◌, ◌*◌, ℤ, pos, ◌+ℤ◌, ◌-ℤ◌, ◌*ℤ◌, ◌<ℤ◌, ◌≤ℤ◌, List}
+use Rattle.std.specs.Prelude.{◌⊎◌, ◌+◌, ◌*◌, ℤ, pos, ◌+ℤ◌, ◌-ℤ◌, ◌*ℤ◌, ◌≤ℤ◌, List}
 use Rattle.std.specs.List.{Contains}
 use Rattle.text_fit.specs.Widths.{text_width}
 use Rattle.sheet_page.specs.declared.cells.Cell.{Cell}
 use Rattle.sheet_page.specs.declared.page.Item.{Item}
 use Rattle.sheet_page.specs.declared.page.Item.TheVariants as item
 use Rattle.sheet_page.specs.declared.page.Label.{Label}
+use Rattle.sheet_plan.specs.Boxes.{Box}
 use Rattle.stroke_paths.specs.declared.path.Point.{Point}
 use Rattle.sheet_page.specs.Labels.{Said}
 
@@ -58,11 +59,27 @@ KeepsToCells corner cells (item.Label label) = (e : Said) × Contains cells e ×
 KeepsToCells corner cells (item.Path path) = Unit {0}
 KeepsToCells corner cells (item.Fill fill) = Unit {0}
 
--- all that an item takes is below this height
+-- a rectangle ends to the left of the corner or above it
+abbrev pub EndsBefore : ℤ → ℤ → Box → Type 0
+EndsBefore width height box = (box.right ≤ℤ (width -ℤ pos 19000)) ⊎ (box.bottom ≤ℤ (height -ℤ pos 3200))
+
+-- all that an item takes is to the right of this place, or below this height
+abbrev pub IsRightOf : ℤ → Item → Type 0
+IsRightOf place (item.Frame frame) = ⊥
+IsRightOf place (item.Rule rule) = (place ≤ℤ rule.from.x) × (place ≤ℤ rule.to.x)
+IsRightOf place (item.Circle c) = place ≤ℤ (c.x -ℤ pos c.radius)
+IsRightOf place (item.Label label) = place ≤ℤ label.x
+IsRightOf place (item.Path path) = ⊥
+IsRightOf place (item.Fill fill) = ⊥
+
 abbrev pub IsBelow : ℤ → Item → Type 0
 IsBelow level (item.Frame frame) = ⊥
-IsBelow level (item.Rule rule) = (level <ℤ rule.from.y) × (level <ℤ rule.to.y)
-IsBelow level (item.Circle c) = level <ℤ (c.y -ℤ pos c.radius)
-IsBelow level (item.Label label) = level <ℤ (label.y -ℤ pos label.size)
+IsBelow level (item.Rule rule) = (level ≤ℤ rule.from.y) × (level ≤ℤ rule.to.y)
+IsBelow level (item.Circle c) = level ≤ℤ (c.y -ℤ pos c.radius)
+IsBelow level (item.Label label) = level ≤ℤ (label.y -ℤ pos label.size)
 IsBelow level (item.Path path) = ⊥
 IsBelow level (item.Fill fill) = ⊥
+
+-- it is clear of a rectangle
+abbrev pub IsClearOf : Box → Item → Type 0
+IsClearOf box one = IsRightOf box.right one ⊎ IsBelow box.bottom one

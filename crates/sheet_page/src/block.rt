@@ -1,10 +1,10 @@
 // The title block of a sheet.
-ghost use Rattle.std.specs.Prelude.{◌≡◌, IfOk, pos, ◌+ℤ◌};
+ghost use Rattle.std.specs.Prelude.{◌≡◌, IfOk};
 ghost use Rattle.std.specs.List.{All};
-ghost use Rattle.sheet_plan.specs.Boxes.{Box, IsWithinMargins};
+ghost use Rattle.sheet_plan.specs.Boxes.{Box};
 ghost use Rattle.sheet_page.specs.BlockCells.{cells_of};
 ghost use Rattle.sheet_page.specs.Blocks.{block_of};
-ghost use Rattle.sheet_page.specs.Corners.{IsInCorner, KeepsToCells, IsBelow};
+ghost use Rattle.sheet_page.specs.Corners.{IsInCorner, KeepsToCells, EndsBefore, IsClearOf};
 ghost use Rattle.sheet_page.specs.Rules.{corner_of};
 ghost use Rattle.sheet_page.specs.inner.Spaces.{AreInCells};
 
@@ -37,9 +37,9 @@ fn items_of(
     Ok(items)
 }
 
-/// The title block of a job's sheet that shows the part of this name, with the fields of ISO 7200. It is in the sheet's corner, and below
-/// each view that is within the sheet's margins, by more than the 7 mm that the marks of cuts reach. By the widths of Helvetica no text
-/// leaves its cell: a long one is set smaller, down to 1.8 mm, and then cut. The time goes with the texts' length.
+/// The title block of a job's sheet that shows the part of this name, with the fields of ISO 7200. It is in the sheet's corner, and clear
+/// of each rectangle that ends to the left of that corner or above it. By the widths of Helvetica no text leaves its cell: a long one is
+/// set smaller, down to 1.8 mm, and then cut. The time goes with the texts' length.
 pub fn title_block(
     alloc: Global,
     sheet: &Sheet,
@@ -50,7 +50,7 @@ pub fn title_block(
     ensures value { IfOk result (λ items. items.items ≡ block_of sheet.now job.now part.now texts.now) }
     ensures corner { IfOk result (λ items. All (IsInCorner sheet.now.width sheet.now.height) items.items) }
     ensures cells { IfOk result (λ items. All (KeepsToCells (corner_of sheet.now.width sheet.now.height) (cells_of sheet.now.scale job.now part.now texts.now)) items.items) }
-    ensures clear { (box : Box) → IsWithinMargins sheet.now box → IfOk result (λ items. All (IsBelow (box.bottom +ℤ pos 700)) items.items) }
+    ensures clear { (box : Box) → EndsBefore sheet.now.width sheet.now.height box → IfOk result (λ items. All (IsClearOf box) items.items) }
 {
     items_of(alloc, sheet, job, part, texts)
 }

@@ -2,7 +2,7 @@
 //!
 //! Lengths are in hundredths of a millimetre; x goes to the right and y goes down, from the upper left corner. The title block has the
 //! fields of ISO 7200. It is in the lower right corner of the sheet's frame, 180 mm wide and 22 mm high. Nothing of it is outside, no
-//! text leaves its cell, and no view comes near to the block, not even with the marks of cuts, which reach 7 mm beyond a view (lemma
+//! text leaves its cell, and it is clear of each rectangle that ends to the left of it or above it, as a view does with its sides (lemma
 //! `clear_of_views`).
 #![tactic(auto)]
 

@@ -18,4 +18,4 @@ returns c =
     let middle : c.div_euclid.result ≡ floor_of (b.left +ℤ b.right) (pos 2) = simp to_z-of_z at c.div_euclid.ensures in
     let at_fits : FitsSigned w64 c.at.result = search rules in
     let place : c.at.result ≡ (plane_of c.args.cut.now).at = c.at.ensures.place in
-    simp to_z-of_z (λ i. record { letter = c.args.letter; axis = c.axis.ensures i; at = place i; x = middle i; y = b.top -ℤ pos 200; room = c.room_over.ensures i; has_section = c.args.has_section })
+    simp to_z-of_z (λ i. record { letter = c.args.letter; axis = c.axis.ensures i; at = place i; x = middle i; y = b.top -ℤ pos 200; room = c.args.room; has_section = c.args.has_section })

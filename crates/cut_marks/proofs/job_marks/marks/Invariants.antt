@@ -6,4 +6,4 @@ use Rattle.cut_marks.proofs.job_marks.marks.Given as goal
 
 -- the views so far
 abbrev pub invariant-loop-view : goal.invariant-loop-view
-invariant-loop-view l = AreMarked l.sheet (solid_part l.solid) (cuts_in l.views) (take l.view l.views) l.marks.items
+invariant-loop-view l = AreMarked l.sheet l.sides l.shrunk (solid_part l.solid) (cuts_in l.views) (take l.view l.views) l.marks.items

@@ -12,6 +12,6 @@ one h x e = cc
 pub invariant_of-result : goal.invariant_of-result
 invariant_of-result c = record {
   heading_in_range = λ x e. subst IsHeadingInRange (one c.heading_of.result x e)
-      (headed_in_range c.args.sheet.now (solid_part c.args.solid.now) c.args.view c.args.number c.in-Section.cut c.heading_of.result c.heading_of.ensures);
+      (headed_in_range c.args.sheet.now c.args.sides.now c.args.shrunk (solid_part c.args.solid.now) c.args.view c.args.number c.in-Section.cut c.heading_of.result c.heading_of.ensures);
   marks_in_range = All-same IsMarkInRange c.new.result.items [] c.new.ensures.items (All-nil IsMarkInRange);
 }

@@ -1,4 +1,4 @@
-use Rattle.std.proofs.Common.{◌≡◌, ℕ, ◌++◌, ◌≤◌, length, arith, rules, subst, FitsSigned}
+use Rattle.std.proofs.Common.{◌≡◌, ◌++◌, ◌≤◌, length, rules, subst, FitsSigned}
 use Rattle.std.specs.Int.{w64}
 use Rattle.std.specs.List.{flat_map}
 use Rattle.std.proofs.lemmas.Int.{to_z-of_z}

@@ -1,4 +1,3 @@
-use Rattle.std.proofs.Common.{rules}
 use Rattle.sheet_page.specs.Svg.{classes}
 use Rattle.sheet_page.proofs.svg_text.classes.Goals as goal
 
