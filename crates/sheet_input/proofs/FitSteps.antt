@@ -25,7 +25,7 @@ use Rattle.sheet_input.specs.Jobs.{Lifted, older_job, titled}
 use Rattle.sheet_input.specs.Seen.{any_seen}
 use Rattle.sheet_input.specs.Texts.{PartText, ReadsSoup, file, sample}
 use Rattle.sheet_input.specs.declared.fault.SheetFault.{SheetFault}
-use Rattle.sheet_input.specs.declared.fault.SheetFault.TheVariants.{Common, OwnJob}
+use Rattle.sheet_input.specs.declared.fault.SheetFault.TheVariants.{Common, OwnJob, NoRoom}
 use Rattle.sheet_input.specs.declared.refusal.Refusal.{Refusal}
 use Rattle.sheet_input.specs.declared.refusal.Told.{Told}
 use Rattle.sheet_input.specs.inner.Taking.{is_short, size_in, IsOfFit, IsOfMeshIn, IsOfSolidIn, IsToldAt, IsToldFit, IsToldText}
@@ -123,6 +123,7 @@ want_refused steps e short = absurd (true≢false (sym short))
 
 pub refused_of : {A : Type 0} (steps : Result A SheetFault → Type 0) (e : SheetFault) → steps (Err e) → RefusesOf sheet_faults steps e
 refused_of steps OwnJob h = h
+refused_of steps (NoRoom lack) h = h
 refused_of steps (Common (ReadFault input)) h = tt
 refused_of steps (Common (WriteFault target)) h = tt
 refused_of steps (Common Memory) h = tt

@@ -106,10 +106,10 @@ fn draw_text(
         Err(refusal) => return Err(refusal),
     };
     match drawn(alloc, settled, wish) {
-        Ok(LaidDrawing { drawing, shrunk }) => Ok(SheetInput {
-            drawing,
+        Ok(made) => Ok(SheetInput {
+            drawing: made.drawing,
             look,
-            shrunk,
+            shrunk: made.shrunk,
         }),
         Err(refusal) => Err(refusal),
     }

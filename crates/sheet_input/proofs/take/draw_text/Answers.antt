@@ -1,9 +1,8 @@
 use Rattle.std.specs.Prelude.{option_copied}
-use Rattle.drawing.specs.Drawing.{drawn_in}
 use Rattle.part_input.specs.Parts.{sample_size}
 use Rattle.sheet_words.specs.Seen.{named_seen}
 use Rattle.sheet_input.specs.Seen.{any_seen, look_seen}
-use Rattle.sheet_input.specs.inner.Taking.{settled_seen, text_seen}
+use Rattle.sheet_input.specs.inner.Taking.{laid_in, settled_seen, text_seen}
 use Rattle.sheet_input.proofs.TakeSteps.{drawing_given, sheet_told, sized_as, told_as}
 use Rattle.sheet_input.proofs.take.draw_text.Goals as goal
 
