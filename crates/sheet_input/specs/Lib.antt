@@ -2,6 +2,7 @@ pub mod Answers
 pub mod Faults
 pub mod Fits
 pub mod Jobs
+pub mod Laid
 pub mod Looks
 pub mod Places
 pub mod Seen
