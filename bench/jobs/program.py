@@ -57,6 +57,12 @@ def view_lines(words, number):
             words = words[7:]
 
 
+def left_open(said, line, choices):
+    """What a job says of its sheet or its scale; if it is "fit", the choice that the line of a plain job names."""
+    taken = line.partition(" = ")[2].strip('"')
+    return taken if said == "fit" and taken in choices else said
+
+
 def is_plain(said, plain, part):
     """The plain job has the values of a job."""
     words = said.split(" ")[1:]
@@ -64,7 +70,8 @@ def is_plain(said, plain, part):
     decimals = int(lines[1].rpartition(" ")[2])
     title = bytes.fromhex(words[0][1:]).decode().replace("\\", "\\\\").replace('"', '\\"')
     head = ["version = 2", "decimals = %d" % decimals]
-    head += ['%s = "%s"' % pair for pair in zip(("angle", "sheet", "scale", "crease"), (words[5], words[3], words[6], words[7]))]
+    sheet, scale = left_open(words[3], lines[3], jobs.PAPERS), left_open(words[6], lines[4], jobs.SCALES)
+    head += ['%s = "%s"' % pair for pair in zip(("angle", "sheet", "scale", "crease"), (words[5], sheet, scale, words[7]))]
     if lines[:6] != head or lines[6] not in ('title = "%s"' % title, *['title = "%s"' % part.stem] * (words[0] == "-")):
         return False
     tail = ["outputs = []", 'unit = "%s"' % words[1], 'layout = "%s"' % words[4]]

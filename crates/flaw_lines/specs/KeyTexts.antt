@@ -42,7 +42,7 @@ abbrev pub allowed_values : SheetKey → List ℕ
 allowed_values Version = codes "3"
 allowed_values Unit = codes "\"mm\" or \"inch\""
 allowed_values Decimals = codes "\"fit\", or 0 to 6"
-allowed_values Sheet = codes "\"A0\", \"A1\", \"A2\", \"A3\" or \"A4\""
+allowed_values Sheet = codes "\"A0\", \"A1\", \"A2\", \"A3\", \"A4\" or \"fit\""
 allowed_values Layout = codes "\"landscape\" or \"portrait\""
 allowed_values Angle = codes "\"first\" or \"third\""
 allowed_values Scale = codes "one of \"50:1\", \"20:1\", \"10:1\", \"5:1\", \"2:1\", \"1:1\", \"1:2\", \"1:5\", \"1:10\", \"1:20\", \"1:50\", \"1:100\", or \"fit\""

@@ -53,7 +53,7 @@ fn allowed_values(key: SheetKey) -> &'static str
         SheetKey::Version => "3",
         SheetKey::Unit => "\"mm\" or \"inch\"",
         SheetKey::Decimals => "\"fit\", or 0 to 6",
-        SheetKey::Sheet => "\"A0\", \"A1\", \"A2\", \"A3\" or \"A4\"",
+        SheetKey::Sheet => "\"A0\", \"A1\", \"A2\", \"A3\", \"A4\" or \"fit\"",
         SheetKey::Layout => "\"landscape\" or \"portrait\"",
         SheetKey::Angle => "\"first\" or \"third\"",
         SheetKey::Scale => {

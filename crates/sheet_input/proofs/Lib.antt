@@ -1,8 +1,12 @@
+pub mod Cases
 pub mod FitSteps
+pub mod LaidOut
 pub mod NeverMissing
 pub mod OneDrawing
+pub mod OneLayout
 pub mod SheetChains
 pub mod SomeDrawing
+pub mod SomeLayout
 pub mod SomeOwnJob
 pub mod TakeSteps
 pub mod TakenSheets

@@ -2,11 +2,9 @@
 use Rattle.std.proofs.Common.{◌≡◌, inl, inr, ℕ, Bool, true, false, List, [], ◌∷◌, Option, Some, None, Result, Ok, Err, refl, sym, ap, subst, ◌∙◌}
 use Rattle.dec_text.specs.declared.number.Length.{Length}
 use Rattle.desk.specs.Files.{Files}
-use Rattle.part_input.proofs.OneSheet.{plan_single}
 use Rattle.part_input.proofs.Singles.{IsSingle, same_value, same_fault, not_both, single_then, file_single, job_bytes_single, text_single, weld_single, check_single, sample_single}
 use Rattle.part_input.specs.Jobs.{TakesFile, TakesJob}
 use Rattle.part_input.specs.Parts.{ReadsText, WeldsPart, ChecksPart, sample_size}
-use Rattle.part_input.specs.Sheets.{PlansSheet}
 use Rattle.part_input.specs.Steps.{◌and_then◌}
 use Rattle.part_input.specs.declared.fault.Fault.{Fault}
 use Rattle.part_input.specs.declared.fault.Fault.TheVariants.{Job as JobUnread}
@@ -20,11 +18,13 @@ use Rattle.sheet_words.specs.Names.{Named}
 use Rattle.sheet_input.specs.Fits.{Attempts, IsFaultFrom, is_range, Fits, first_by, others_by, decimals_of, FitsBy, SettlesBy, last_by}
 use Rattle.sheet_input.specs.Jobs.{AnyValues, older_job, own_job, Lifted, IsRefusedRead, ReadsAnyJob, TakesAnyJob, SettlesJob}
 use Rattle.sheet_input.specs.Looks.{look_of}
+use Rattle.sheet_input.specs.Sheets.{LaysSheet, wish_of}
 use Rattle.sheet_input.specs.Steps.{DrawsText, DrawsBy, DrawsSheet}
 use Rattle.sheet_input.specs.Texts.{PartText, sample, file, TakesTextOr, TakesText, ReadsSoup, ReadsSolid}
 use Rattle.sheet_input.specs.Titles.{title_of}
 use Rattle.sheet_input.specs.declared.fault.SheetFault.{SheetFault}
 use Rattle.sheet_input.specs.declared.fault.SheetFault.TheVariants.{Common, OwnJob}
+use Rattle.sheet_input.proofs.OneLayout.{lays_single}
 
 -- ---- with the faults of `sheet`
 module _ {A : Type 0} (steps : Result A Fault → Type 0) (single : IsSingle steps) where
@@ -139,10 +139,10 @@ fits_by_single title values size text =
 draws_text_single : (named : Named) (values : AnyValues) (text : PartText) → IsSingle (DrawsText named values text)
 draws_text_single named values text =
     single_then (FitsBy (title_of named.said.title values named.part) values (sample_size named.part) text)
-    (λ settled. Lifted (PlansSheet settled.job settled.part) and_then λ drawn r. r ≡ Ok (record { drawn = drawn; look = look_of named values }))
+    (λ settled. LaysSheet (wish_of values) settled.job settled.part and_then λ drawn r. r ≡ Ok (record { drawn = drawn; look = look_of named values }))
     (fits_by_single (title_of named.said.title values named.part) values (sample_size named.part) text)
-    (λ settled. single_then (Lifted (PlansSheet settled.job settled.part)) (λ drawn r. r ≡ Ok (record { drawn = drawn; look = look_of named values }))
-    (lifted_single (PlansSheet settled.job settled.part) (plan_single settled.job settled.part)) (λ drawn r s p q. p ∙ sym q))
+    (λ settled. single_then (LaysSheet (wish_of values) settled.job settled.part) (λ drawn r. r ≡ Ok (record { drawn = drawn; look = look_of named values }))
+    (lays_single (wish_of values) settled.job settled.part) (λ drawn r s p q. p ∙ sym q))
 
 draws_by_single : (files : Files) (named : Named) (values : AnyValues) → IsSingle (DrawsBy files named values)
 draws_by_single files named values =

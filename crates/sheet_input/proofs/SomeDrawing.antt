@@ -17,12 +17,11 @@ use Rattle.answers_exist.proofs.SomeJob.{some_job}
 use Rattle.answers_exist.proofs.SomeReading.{HasCornerPlaces}
 use Rattle.part_input.specs.Jobs.{TakesFile, TakesJob}
 use Rattle.part_input.specs.Parts.{ChecksPart, ReadsText, WeldsPart, sample_size}
-use Rattle.part_input.specs.Sheets.{PlansSheet}
 use Rattle.part_input.specs.Steps.{◌and_then◌}
 use Rattle.part_input.specs.declared.fault.Fault.{Fault}
 use Rattle.part_input.specs.declared.fault.Fault.TheVariants.{Job as JobUnread}
 use Rattle.part_input.specs.declared.fault.Input.TheVariants.{Part as ThePart}
-use Rattle.part_input.proofs.SomeSteps.{Any, AreValues, HasAnswerSuch, IsProper, some_and_then, some_check, some_file, some_job_bytes, some_plan, some_sample_of, some_text, some_weld_of}
+use Rattle.part_input.proofs.SomeSteps.{Any, AreValues, HasAnswerSuch, IsProper, some_and_then, some_check, some_file, some_job_bytes, some_sample_of, some_text, some_weld_of}
 use Rattle.sheet_job.specs.AnyJobs.{AnyRead, any_job_of_bytes, any_job_of_table, is_own, no_toml, older, own}
 use Rattle.sheet_job.specs.JobsAt.{IsJobAt, IsTooFarIn}
 use Rattle.sheet_job.specs.SheetFaults.{OwnFault}
@@ -32,11 +31,13 @@ use Rattle.sheet_words.specs.Titles.{IsProper as IsProperTitle}
 use Rattle.sheet_input.specs.Fits.{Attempts, Fits, FitsBy, IsFaultFrom, Settled, SettlesBy, decimals_of, first_by, is_range, last_by, others_by}
 use Rattle.sheet_input.specs.Jobs.{AnyValues, IsRefusedRead, Lifted, ReadsAnyJob, SettlesJob, TakesAnyJob, older_job, own_job, titled}
 use Rattle.sheet_input.specs.Looks.{look_of}
+use Rattle.sheet_input.specs.Sheets.{LaysSheet, wish_of}
 use Rattle.sheet_input.specs.Steps.{DrawsBy, DrawsSheet, DrawsText}
 use Rattle.sheet_input.specs.Texts.{PartText, ReadsSoup, ReadsSolid, TakesText, TakesTextOr, file, sample}
 use Rattle.sheet_input.specs.Titles.{name_title, part_title, title_of}
 use Rattle.sheet_input.specs.declared.fault.SheetFault.{SheetFault}
 use Rattle.sheet_input.specs.declared.fault.SheetFault.TheVariants.{Common, OwnJob}
+use Rattle.sheet_input.proofs.SomeLayout.{some_layout}
 use Rattle.sheet_input.proofs.SomeOwnJob.{AreOwn, own_at, text_own}
 
 -- the same with the faults of `sheet`
@@ -216,10 +217,10 @@ module _ (alloc : Global) where
     some_drawn_text values are text =
         let title = title_of named.said.title values named.part in
         some_and_then IsSettled Any (FitsBy title values (sample_size named.part) text)
-        (λ settled. Lifted (PlansSheet settled.job settled.part) and_then λ drawn r. r ≡ Ok (record { drawn = drawn; look = look_of named values }))
+        (λ settled. LaysSheet (wish_of values) settled.job settled.part and_then λ drawn r. r ≡ Ok (record { drawn = drawn; look = look_of named values }))
         (some_fit_by title (title_proper named.said.title values named.part said are) values are text (sample_size named.part))
-        (λ settled is. some_and_then Any Any (Lifted (PlansSheet settled.job settled.part)) (λ drawn r. r ≡ Ok (record { drawn = drawn; look = look_of named values }))
-        (lift Any (PlansSheet settled.job settled.part) (some_plan settled.job is.0 settled.part is.1)) (λ drawn _. (Ok (record { drawn = drawn; look = look_of named values }), (refl, tt))))
+        (λ settled is. some_and_then Any Any (LaysSheet (wish_of values) settled.job settled.part) (λ drawn r. r ≡ Ok (record { drawn = drawn; look = look_of named values }))
+        (some_layout (wish_of values) settled.job is.0 settled.part is.1) (λ drawn _. (Ok (record { drawn = drawn; look = look_of named values }), (refl, tt))))
 
     some_drawn_by : (values : AnyValues) → IsRead values → HasAnswerSuch Any (DrawsBy files named values)
     some_drawn_by values are =

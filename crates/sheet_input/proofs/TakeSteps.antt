@@ -5,13 +5,13 @@ use Rattle.desk.specs.Files.{Files, DeskState}
 use Rattle.job_file.specs.Documents.{JobValues}
 use Rattle.part_input.proofs.Missing.{no_job}
 use Rattle.part_input.specs.Parts.{IsOfPart, IsOfSoup, IsOfSoupOr, sample_size}
-use Rattle.part_input.specs.Sheets.{PlansSheet}
 use Rattle.part_input.specs.Steps.{◌and_then◌, RefusesOf, IsMissingOf}
 use Rattle.part_input.specs.declared.fault.Fault.{Fault}
 use Rattle.part_input.specs.declared.fault.Fault.TheVariants.{ReadFault, Part as PartUnread, Mesh}
 use Rattle.part_input.specs.declared.fault.Input.TheVariants.{Job as TheJob, Part as ThePart}
 use Rattle.part_lines.specs.declared.hint.PartHint.{PartHint}
 use Rattle.sheet_job.specs.declared.any.AnyJob.{AnyJob}
+use Rattle.sheet_layout.specs.declared.layout.Wish.{Wish}
 use Rattle.sheet_plan.specs.JobSheets.{Drawn}
 use Rattle.sheet_words.specs.Names.{Named}
 use Rattle.sheet_input.specs.Answers.{GivesSheet}
@@ -20,11 +20,12 @@ use Rattle.sheet_input.specs.Fits.{Attempts, FitsBy, IsFaultAt, IsFaultBy, IsHer
 use Rattle.sheet_input.specs.Jobs.{AnyValues, Lifted, unit_of}
 use Rattle.sheet_input.specs.Looks.{Look, look_of}
 use Rattle.sheet_input.specs.Seen.{any_seen}
+use Rattle.sheet_input.specs.Sheets.{LaysSheet, wish_of}
 use Rattle.sheet_input.specs.Steps.{DrawnSheet, DrawsBy, DrawsText}
 use Rattle.sheet_input.specs.Texts.{PartText, file, sample, ReadsSoup, TakesText, TakesTextOr}
 use Rattle.sheet_input.specs.Titles.{title_of}
 use Rattle.sheet_input.specs.declared.fault.SheetFault.{SheetFault}
-use Rattle.sheet_input.specs.declared.fault.SheetFault.TheVariants.{Common, OwnJob}
+use Rattle.sheet_input.specs.declared.fault.SheetFault.TheVariants.{Common, OwnJob, NoRoom}
 use Rattle.sheet_input.specs.declared.refusal.Refusal.{Refusal}
 use Rattle.sheet_input.specs.declared.refusal.Told.{Told}
 use Rattle.sheet_input.specs.declared.refusal.Told.TheVariants.{Nothing, Text, Surface}
@@ -40,6 +41,7 @@ pub sheet_told : (title : List ℕ) (any : AnyJob) (size : Option (List ℕ)) (t
 sheet_told title any size text (Common (PartUnread fault)) told of nothing = absurd of
 sheet_told title any size text (Common (Mesh fault)) told of nothing = absurd of
 sheet_told title any size text (Common fault) told of nothing = nothing
+sheet_told title any size text (NoRoom lack) told of nothing = nothing
 sheet_told title any size text e told of nothing = absurd of
 
 -- by the size of the part that is named
@@ -49,12 +51,13 @@ told_as title any size other same text e told h = subst (λ (s : Option (List �
 module _ (named : Named) (values : AnyValues) (text : PartText) where
   -- what fits is drawn
   pub drawing_given : (title : List ℕ) → title ≡ title_of named.said.title values named.part → (size : Option (List ℕ)) → size ≡ sample_size named.part
-      → (settled : Settled) → FitsBy title values size text (Ok settled) → (drawn : Drawn) → PlansSheet settled.job settled.part (Ok drawn)
-      → (look : Look) → look ≡ look_of named values → DrawsText named values text (Ok (record { drawn = drawn; look = look }))
-  drawing_given title same size is settled fits drawn plans look looks =
+      → (settled : Settled) → FitsBy title values size text (Ok settled) → (w : Wish) → w ≡ wish_of values
+      → (drawn : Drawn) → LaysSheet w settled.job settled.part (Ok drawn) → (look : Look) → look ≡ look_of named values → DrawsText named values text (Ok (record { drawn = drawn; look = look }))
+  drawing_given title same size is settled fits w asked drawn plans look looks =
       let by_title = subst (λ (t : List ℕ). FitsBy t values size text (Ok settled)) same fits in
       let by_size = subst (λ (s : Option (List ℕ)). FitsBy (title_of named.said.title values named.part) values s text (Ok settled)) is by_title in
-      (settled, by_size, (drawn, plans, ap (λ (l : Look). Ok (record { drawn = drawn; look = l })) looks))
+      let laid = subst (λ (v : Wish). LaysSheet v settled.job settled.part (Ok drawn)) asked plans in
+      (settled, by_size, (drawn, laid, ap (λ (l : Look). Ok (record { drawn = drawn; look = l })) looks))
 
   pub drawn_of_text : {X : Type 0} (view : X → DrawnSheet) → size_in text ≡ sample_size named.part → (r : Result X Refusal) → GivesSheet view (DrawsText named values text) r → IfOk r (λ x. IsDrawnOf named values (view x))
   drawn_of_text view same (Ok x) draws = record { text = text; size = same; draws = draws }

@@ -14,7 +14,7 @@ use Rattle.sheet_input.specs.Jobs.{AnyValues, TakesAnyJob, unit_of}
 use Rattle.sheet_input.specs.Places.{IsPartAt, IsTextAt, IsToldFor}
 use Rattle.sheet_input.specs.Seen.{any_seen}
 use Rattle.sheet_input.specs.declared.fault.SheetFault.{SheetFault}
-use Rattle.sheet_input.specs.declared.fault.SheetFault.TheVariants.{Common, OwnJob}
+use Rattle.sheet_input.specs.declared.fault.SheetFault.TheVariants.{Common, OwnJob, NoRoom}
 use Rattle.sheet_input.specs.declared.refusal.Refusal.{Refusal}
 use Rattle.sheet_input.specs.declared.refusal.Told.{Told}
 use Rattle.sheet_input.specs.declared.refusal.Told.TheVariants.{Text, Surface, Job as JobTold}
@@ -44,6 +44,7 @@ module _ (old : DeskState) (named : Named) where
       → IsToldBy old named any e told → IsOfFiles named.part name e
   drawn_of name any usual (Common fault) told of h = inr of
   drawn_of name any usual OwnJob told of h = named_own name any usual told h
+  drawn_of name any usual (NoRoom lack) told of h = tt
   drawn_of name any usual e told of h = absurd of
 
   pub drawn_of_files : {X : Type 0} (name : Option (List ℕ)) (any : AnyJob) → (name ≡ None → (files : Files) → TakesAnyJob files name (Ok (any_seen any))) → (r : Result X Refusal)
@@ -71,9 +72,8 @@ module _ (files : Files) (named : Named) where
   job_in_order (Err r) h = any_in_order r.fault h
 
   drawn_in_order_of : (values : AnyValues) → TakesAnyJob files named.job (Ok values) → (e : SheetFault) → IsOfDrawn named.part e → IsSettledIfRead named values e → ReadsInOrder files named e
-  drawn_in_order_of values taken (Common (ReadFault ThePart)) (inl h) settles = (no_size (sample_size named.part) ThePart h, values, taken, settles.0, settles.1)
-  drawn_in_order_of values taken (Common (ReadFault TheJob)) (inl h) settles = absurd (no_job (sample_size named.part) h)
-  drawn_in_order_of values taken (Common (ReadFault input)) (inr h) settles = absurd h
+  drawn_in_order_of values taken (Common (ReadFault ThePart)) h settles = (no_size (sample_size named.part) ThePart h, values, taken, settles.0, settles.1)
+  drawn_in_order_of values taken (Common (ReadFault TheJob)) h settles = absurd (no_job (sample_size named.part) h)
   drawn_in_order_of values taken e h settles = tt
 
   pub drawn_in_order : {X : Type 0} (values : AnyValues) → TakesAnyJob files named.job (Ok values) → (r : Result X Refusal) → IfErr r (λ r. IsOfDrawn named.part r.fault)

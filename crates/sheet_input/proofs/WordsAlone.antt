@@ -13,6 +13,7 @@ use Rattle.sheet_words.specs.Names.{Named}
 use Rattle.sheet_input.specs.Answers.{IsOfNames, IsUsualIfNone}
 use Rattle.sheet_input.specs.Fits.{Settled, Attempts, Fits, first_by, others_by, decimals_of}
 use Rattle.sheet_input.specs.Jobs.{AnyValues, Lifted, SettlesJob, TakesAnyJob, older_job, own_job}
+use Rattle.sheet_input.specs.Sheets.{job_on, wish_of}
 use Rattle.sheet_input.specs.Steps.{DrawnSheet, DrawsText}
 use Rattle.sheet_input.specs.Texts.{PartText, ReadsSolid, file, sample}
 use Rattle.sheet_input.specs.Titles.{title_of}
@@ -57,7 +58,7 @@ sample_drawn : (named : Named) (values : AnyValues) (size : List ℕ) (made : Dr
 sample_drawn named values size made (settled, fits, (drawn, plans, draws)) =
     let title = title_of named.said.title values named.part in
     let (n, tried) = fits_some (Attempts title values (sample size)) (first_by (decimals_of values) (sample_size named.part)) (others_by (decimals_of values) (sample_size named.part)) settled fits in
-    subst (λ (p : Part). MakesSample size (Ok p)) (sym (ap (λ (m : DrawnSheet). m.drawn.part) (same_value made _ draws) ∙ ap (λ d. d.part) plans.0)) (sample_made title values size n settled tried)
+    subst (λ (p : Part). MakesSample size (Ok p)) (sym (ap (λ (m : DrawnSheet). m.drawn.part) (same_value made _ draws) ∙ ap (λ d. d.part) plans.drawn_is)) (sample_made title values size n settled tried)
 
 part_by_words : (named : Named) (values : AnyValues) (text : PartText) (made : DrawnSheet) → DrawsText named values text (Ok made) → (size : Option (List ℕ)) → size_in text ≡ size → IsPartOf size made.drawn.part
 part_by_words named values text made draws None same = tt
@@ -75,12 +76,15 @@ module _ (named : Named) (values : AnyValues) (usual : named.job ≡ None → (f
       let (n, job, settles, part, reads, both) =
       fits_at title values is.text (first_by (decimals_of values) (sample_size named.part)) (others_by (decimals_of values) (sample_size named.part)) settled fits in
       let sheet = same_value made _ draws in
-      let same : job ≡ made.drawn.job =
-      sym (ap (λ (m : DrawnSheet). m.drawn.job) sheet ∙ ap (λ d. d.job) plans.0 ∙ ap (λ (s : Settled). s.job) both) in
+      let same : made.drawn.job ≡ job_on (wish_of values) plans.paper job =
+      ap (λ (m : DrawnSheet). m.drawn.job) sheet ∙ ap (λ d. d.job) plans.drawn_is ∙ ap (λ (s : Settled). job_on (wish_of values) plans.paper s.job) both in
       record {
         values = values;
         decimals = n;
-        settles = subst (λ (j : JobValues). SettlesJob title values n (Ok j)) same settles;
+        settled = job;
+        settles = settles;
+        paper = plans.paper;
+        job = same;
         look = ap (λ (m : DrawnSheet). m.look) sheet;
         usual = usual_by named.job values usual;
         part = part_by_words named values is.text made is.draws (sample_size named.part) is.size;

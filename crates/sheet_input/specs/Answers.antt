@@ -2,9 +2,10 @@
 use Rattle.std.specs.Prelude.{◌≡◌, ◌⊎◌, ℕ, List, [], Option, Some, None, IsSome, Result, Ok, Err}
 use Rattle.desk.specs.Files.{Files}
 use Rattle.job_file.specs.Documents.{JobValues}
+use Rattle.job_file.specs.declared.job.Paper.{Paper}
 use Rattle.part_input.specs.Jobs.{IsOfJobFile, ReadsJob}
 use Rattle.part_input.specs.Parts.{IsOfPart, sample_size}
-use Rattle.part_input.specs.Sheets.{IsOfSheet, IsPartOf}
+use Rattle.part_input.specs.Sheets.{IsPartOf}
 use Rattle.part_input.specs.Steps.{RefusesOf}
 use Rattle.part_input.specs.declared.fault.Fault.TheVariants.{ReadFault, Memory}
 use Rattle.part_input.specs.declared.fault.Input.{Input}
@@ -14,10 +15,11 @@ use Rattle.sheet_input.specs.Faults.{sheet_faults}
 use Rattle.sheet_input.specs.Fits.{SettlesBy}
 use Rattle.sheet_input.specs.Jobs.{AnyValues, SettlesJob, TakesAnyJob, older_job}
 use Rattle.sheet_input.specs.Looks.{look_of}
+use Rattle.sheet_input.specs.Sheets.{job_on, wish_of}
 use Rattle.sheet_input.specs.Steps.{DrawnSheet}
 use Rattle.sheet_input.specs.Titles.{title_of}
 use Rattle.sheet_input.specs.declared.fault.SheetFault.{SheetFault}
-use Rattle.sheet_input.specs.declared.fault.SheetFault.TheVariants.{Common, OwnJob}
+use Rattle.sheet_input.specs.declared.fault.SheetFault.TheVariants.{Common, OwnJob, NoRoom}
 use Rattle.sheet_input.specs.declared.refusal.Refusal.{Refusal}
 
 -- ---- answers
@@ -41,8 +43,9 @@ IsOfAnyJob name fault = ⊥
 
 -- of a job, of a part, or of a sheet
 abbrev pub IsOfFiles : List ℕ → Option (List ℕ) → SheetFault → Type 0
-IsOfFiles part job (Common fault) = IsOfAnyJob job (Common fault) ⊎ IsOfPart part fault ⊎ IsOfSheet fault
+IsOfFiles part job (Common fault) = IsOfAnyJob job (Common fault) ⊎ IsOfPart part fault
 IsOfFiles part job OwnJob = IsSome job
+IsOfFiles part job (NoRoom lack) = Unit {0}
 IsOfFiles part job fault = ⊥
 
 -- ---- the order of reading
@@ -65,11 +68,15 @@ IsUsualIfNone None values = (usual : JobValues) × ReadsJob [] (Ok usual) × (va
 IsUsualIfNone (Some name) values = Unit {0}
 
 -- What is drawn goes by one job and by the words: at some number of decimals the job is that job's, with the words' title or its own, and
--- the sheet looks as this job and the words say. Where no job is named it is the usual one, and a sample is that of its size.
+-- on some paper where any will do; and the sheet looks as this job and the words say. Where no job is named it is the usual one, and a
+-- sample is that of its size.
 pub record IsOfNames (named : Named) (made : DrawnSheet) : Type 0 where
   pub values : AnyValues
   pub decimals : ℕ
-  pub settles : SettlesJob (title_of named.said.title values named.part) values decimals (Ok made.drawn.job)
+  pub settled : JobValues
+  pub settles : SettlesJob (title_of named.said.title values named.part) values decimals (Ok settled)
+  pub paper : Paper
+  pub job : made.drawn.job ≡ job_on (wish_of values) paper settled
   pub look : made.look ≡ look_of named values
   pub usual : IsUsualIfNone named.job values
   pub part : IsPartOf (sample_size named.part) made.drawn.part

@@ -5,7 +5,7 @@ use Rattle.part_input.specs.Faults.{status_of as common_status}
 use Rattle.part_input.specs.declared.fault.Fault.TheVariants.{Memory, WriteFault}
 use Rattle.part_input.specs.declared.fault.Target.TheVariants as target
 use Rattle.sheet_input.specs.declared.fault.SheetFault.{SheetFault}
-use Rattle.sheet_input.specs.declared.fault.SheetFault.TheVariants.{Common, OwnJob, WriteList, WritePlain}
+use Rattle.sheet_input.specs.declared.fault.SheetFault.TheVariants.{Common, OwnJob, NoRoom, WriteList, WritePlain}
 use Rattle.sheet_input.specs.declared.fault.SheetTarget.{SheetTarget}
 use Rattle.sheet_input.specs.declared.fault.SheetTarget.TheVariants.{Page, Listing, PlainJob, Summary}
 
@@ -13,12 +13,14 @@ abbrev pub status_of : Option SheetFault → ℕ
 status_of None = 0
 status_of (Some (Common fault)) = common_status (Some fault)
 status_of (Some OwnJob) = 3
+status_of (Some (NoRoom lack)) = 6
 status_of (Some WriteList) = 8
 status_of (Some WritePlain) = 8
 
 abbrev pub cause_of : SheetFault → Cause
 cause_of (Common fault) = common_cause fault
 cause_of OwnJob = elsewhere
+cause_of (NoRoom lack) = elsewhere
 cause_of WriteList = unwritten
 cause_of WritePlain = unwritten
 

@@ -6,6 +6,7 @@ pub mod Laid
 pub mod Looks
 pub mod Places
 pub mod Seen
+pub mod Sheets
 pub mod Steps
 pub mod Texts
 pub mod Titles

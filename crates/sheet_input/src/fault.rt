@@ -3,6 +3,7 @@ ghost use Rattle.std.specs.Prelude.{◌≡◌, refl};
 
 use part_input::{Fault, Target};
 use put_texts::RunFault;
+use sheet_layout::NoRoom;
 
 /// Why a run refuses.
 #[derive(Debug, Drop)]
@@ -11,6 +12,8 @@ pub enum SheetFault {
     Common(Fault),
     /// The job is one of version 3 with a fault, or TOML refuses its text. What is wrong with it is told beside this.
     OwnJob,
+    /// The views don't fit the sheet: what is missing, and what would do.
+    NoRoom(NoRoom),
     /// The list of the strokes couldn't be written.
     WriteList,
     /// The plain job couldn't be written.
@@ -64,6 +67,7 @@ impl RunFault for SheetFault {
             None => 0,
             Some(SheetFault::Common(fault)) => fault.status(),
             Some(SheetFault::OwnJob) => 3,
+            Some(SheetFault::NoRoom(_)) => 6,
             Some(SheetFault::WriteList) => 8,
             Some(SheetFault::WritePlain) => 8,
         }

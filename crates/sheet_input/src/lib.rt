@@ -1,10 +1,11 @@
 //! What a sheet is drawn from: the job and the part that a request names, taken from a desk, the number of decimals at which the part is
-//! accepted, and how the sheet looks.
+//! accepted, the layout of its views, and how the sheet looks.
 #![tactic(auto)]
 
 mod fault;
 mod fit;
 mod jobs;
+mod laid;
 mod look;
 mod place;
 mod refusal;

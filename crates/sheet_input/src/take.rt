@@ -2,27 +2,28 @@
 ghost use Rattle.std.specs.Prelude.{◌≡◌, true, IfOk, IfErr, IsSome, IsTrue};
 ghost use Rattle.std.specs.Result.{result_err};
 ghost use Rattle.desk.specs.Files.{Files, OnlyReads};
-ghost use Rattle.drawing.specs.Drawing.{IsPlannedDrawing, drawn_in};
 ghost use Rattle.job_file.specs.Seen.{job_seen};
 ghost use Rattle.job_file.specs.Texts.{is_title};
 ghost use Rattle.part_input.specs.Causes.{CountsReadsOf};
 ghost use Rattle.part_input.specs.Parts.{IsOfPart, sample_size};
-ghost use Rattle.part_input.specs.Sheets.{NamesNoFile, PlansSheet};
+ghost use Rattle.part_input.specs.Sheets.{NamesNoFile};
 ghost use Rattle.part_input.specs.Steps.{IsMissingOf};
 ghost use Rattle.solid_mesh.specs.Solids.{solid_part};
 ghost use Rattle.sheet_words.specs.Seen.{named_seen};
 ghost use Rattle.sheet_input.specs.Answers.{GivesSheet, IsOfFiles, IsOfNames, ReadsInOrder, fault_in};
 ghost use Rattle.sheet_input.specs.Faults.{sheet_faults};
-ghost use Rattle.sheet_input.specs.Jobs.{Lifted};
+ghost use Rattle.sheet_input.specs.Laid.{IsLaidDrawing};
 ghost use Rattle.sheet_input.specs.Places.{IsToldFor};
 ghost use Rattle.sheet_input.specs.Seen.{any_seen, input_seen};
+ghost use Rattle.sheet_input.specs.Sheets.{LaysSheet, wish_of};
 ghost use Rattle.sheet_input.specs.Steps.{DrawsBy, DrawsSheet, DrawsText};
 ghost use Rattle.sheet_input.specs.Titles.{title_of};
-ghost use Rattle.sheet_input.specs.inner.Taking.{IsDrawnOf, IsOfDraw, IsOfDrawn, IsOfSheetIn, IsSettledIfRead, IsToldBy, IsToldIn, size_in, text_seen};
+ghost use Rattle.sheet_input.specs.inner.Taking.{IsDrawnOf, IsOfDraw, IsOfDrawn, IsOfSheetIn, IsSettledIfRead, IsToldBy, IsToldIn, laid_in, size_in, text_seen};
 
 use crate::fault::SheetFault;
 use crate::fit::{Settled, check_last, fit_part};
 use crate::jobs::take_any_job;
+use crate::laid::{job_for, laid_out, wish_of};
 use crate::look::{SheetLook, look_of};
 use crate::refusal::{Refusal, Told, plain, short};
 use crate::taken_text::PartText;
@@ -31,32 +32,49 @@ use crate::title::title_of;
 use dec_text::Name;
 use desk::Desk;
 use drawing::{Drawing, drawing_on};
-use part_input::{Fault, sample_size, sheet_of};
+use part_input::sample_size;
 use sheet_job::AnyJob;
+use sheet_layout::{Layout, Wish};
 use sheet_words::SheetRequest;
 use std::alloc::Global;
 
-/// A drawing, and how its sheet looks.
+/// A drawing, how its sheet looks, and whether the views' sides are shrunk there.
 #[derive(Drop)]
 pub struct SheetInput {
     pub drawing: Drawing,
     pub look: SheetLook,
+    pub shrunk: bool,
 }
 
-/// The drawing of a solid by a job.
-fn drawn(alloc: Global, settled: Settled) -> Result<Drawing, Refusal>
-    ensures answer { GivesSheet drawn_in (Lifted (PlansSheet (job_seen settled.job) (solid_part settled.solid))) result }
+/// A drawing on its sheet, and whether the views' sides are shrunk there.
+#[derive(Drop)]
+pub(crate) struct LaidDrawing {
+    pub(crate) drawing: Drawing,
+    pub(crate) shrunk: bool,
+}
+
+/// The drawing of a solid by a job, on the sheet of its layout.
+fn drawn(alloc: Global, settled: Settled, wish: Wish) -> Result<LaidDrawing, Refusal>
+    ensures answer { GivesSheet laid_in (LaysSheet wish (job_seen settled.job) (solid_part settled.solid)) result }
     ensures of_sheet { IfErr result (λ r. IsOfSheetIn r.fault) }
     ensures told { IfErr result (λ r. r.told ≡ Told.Nothing) }
-    ensures shows { IfOk result IsPlannedDrawing }
+    ensures shows { IfOk result (λ made. IsLaidDrawing made.drawing made.shrunk) }
 {
     let Settled { job, solid } = settled;
-    let sheet = match sheet_of(alloc, &job, &solid) {
-        Ok(sheet) => sheet,
-        Err(fault) => return Err(plain(SheetFault::Common(fault))),
+    let Layout {
+        sheet,
+        paper,
+        shrunk,
+    } = match laid_out(alloc, &solid, &job, wish) {
+        Ok(layout) => layout,
+        Err(refusal) => return Err(refusal),
     };
+    let job = job_for(job, wish, paper);
     match drawing_on(alloc, solid, job, sheet) {
-        Ok(made) => Ok(made.drawing),
+        Ok(made) => Ok(LaidDrawing {
+            drawing: made.drawing,
+            shrunk,
+        }),
         Err(_) => Err(short()),
     }
 }
@@ -75,19 +93,24 @@ fn draw_text(
     ensures answer { GivesSheet input_seen (DrawsText (named_seen request.now) (any_seen job) (text_seen text.now)) result }
     ensures of_draw { IfErr result (λ r. IsOfDraw (text_seen text.now) r.fault) }
     ensures told { IfErr result (λ r. IsToldIn title job (sample_size (named_seen request.now).part) (text_seen text.now) r.fault r.told) }
-    ensures shows { IfOk result (λ input. IsPlannedDrawing input.drawing) }
+    ensures shows { IfOk result (λ input. IsLaidDrawing input.drawing input.shrunk) }
 {
     let look = match look_of(alloc, request, &job) {
         Ok(look) => look,
         Err(_) => return Err(short()),
     };
+    let wish = wish_of(&job);
     let size = sample_size(request.part.as_str());
     let settled = match fit_part(alloc, job, title, size, text) {
         Ok(settled) => settled,
         Err(refusal) => return Err(refusal),
     };
-    match drawn(alloc, settled) {
-        Ok(drawing) => Ok(SheetInput { drawing, look }),
+    match drawn(alloc, settled, wish) {
+        Ok(LaidDrawing { drawing, shrunk }) => Ok(SheetInput {
+            drawing,
+            look,
+            shrunk,
+        }),
         Err(refusal) => Err(refusal),
     }
 }
@@ -105,7 +128,7 @@ fn draw_by<D: Desk>(
         GivesSheet input_seen (DrawsBy files (named_seen request.now) (any_seen job)) result }
     ensures of_part { IfErr result (λ r. IsOfDrawn (named_seen request.now).part r.fault) }
     ensures told { IfErr result (λ r. IsToldBy (D.state desk.old) (named_seen request.now) job r.fault r.told) }
-    ensures shows { IfOk result (λ input. IsPlannedDrawing input.drawing) }
+    ensures shows { IfOk result (λ input. IsLaidDrawing input.drawing input.shrunk) }
     ensures of_text { IfOk result (λ input. IsDrawnOf (named_seen request.now) (any_seen job) (input_seen input)) }
     ensures settled { IfErr result (λ r. IsSettledIfRead (named_seen request.now) (any_seen job) r.fault) }
     ensures reads { CountsReadsOf sheet_faults (result_err (fault_in result)) (D.state desk.old).read_faults (D.state desk.new).read_faults }
@@ -141,7 +164,7 @@ pub fn take_sheet<D: Desk>(
         GivesSheet input_seen (DrawsSheet files (named_seen request.now)) result }
 
     // On every desk the drawing shows the part as the job asks, and the words alone say this of it.
-    ensures shows { IfOk result (λ input. IsPlannedDrawing input.drawing) }
+    ensures shows { IfOk result (λ input. IsLaidDrawing input.drawing input.shrunk) }
     ensures by_words { IfOk result (λ input. IsOfNames (named_seen request.now) (input_seen input)) }
 
     // Each fault is one of the files that are named, and what is told beside it is so.

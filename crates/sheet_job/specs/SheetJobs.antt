@@ -1,5 +1,5 @@
 -- What a job of version 3 says, or its first fault.
-use Rattle.std.specs.Prelude.{ℕ, ◌+◌, ◌-◌, Bool, false, List, [], ◌∷◌, length, Option, Some, None, Result, Ok, Err, if◌then◌else◌, codes}
+use Rattle.std.specs.Prelude.{ℕ, ◌+◌, ◌-◌, Bool, false, List, [], ◌∷◌, length, Option, Some, None, option_map, Result, Ok, Err, if◌then◌else◌, codes}
 use Rattle.std.specs.Option.{option_or}
 use Rattle.dec_text.specs.declared.number.Length.{Length}
 use Rattle.dec_text.specs.declared.number.Length.TheVariants.{Millimetre}
@@ -17,8 +17,8 @@ use Rattle.lattice.specs.declared.pieces.Crease.{Crease}
 use Rattle.lattice.specs.declared.pieces.Crease.TheVariants.{Normal}
 use Rattle.sheet_job.specs.SheetFaults.{OwnFault, in_line, in_tables, wrong, ◌>>=◌, unless}
 use Rattle.sheet_job.specs.SheetKeys.{key_named, is_right, is_quoted}
-use Rattle.sheet_job.specs.SheetViews.{meaning_at, or_usual, SheetViewValues, sheet_views_of}
-use Rattle.sheet_job.specs.WrittenValues.{choice_in, title_in, hiddens, decimals_in}
+use Rattle.sheet_job.specs.SheetViews.{entry_of, meaning_at, or_usual, SheetViewValues, sheet_views_of}
+use Rattle.sheet_job.specs.WrittenValues.{is_fit, choice_in, title_in, hiddens, decimals_in}
 use Rattle.sheet_job.specs.declared.hidden.Hidden.{Hidden}
 use Rattle.sheet_job.specs.declared.hidden.Hidden.TheVariants as hidden
 use Rattle.sheet_job.specs.declared.keys.SheetKey.{SheetKey}
@@ -79,11 +79,12 @@ block_of entries = record {
   note = text_at (codes "note") entries;
 }
 
--- the values of a job. No number of decimals is "fit"; no title is the name of the part's file.
+-- The values of a job. No number of decimals is "fit"; no title is the name of the part's file. With any paper, `paper` is the usual one.
 pub record SheetJobValues : Type 0 where
   pub decimals : Option ℕ
   pub third : Bool
   pub paper : Paper
+  pub any_paper : Bool
   pub scale : Option (ℕ × ℕ)
   pub crease : Crease
   pub title : Option (List ℕ)
@@ -99,6 +100,7 @@ values_with entries block views = record {
   decimals = or_usual None (meaning_at decimals_in (codes "decimals") entries);
   third = or_usual false (meaning_at (choice_in angles) (codes "angle") entries);
   paper = or_usual A3 (meaning_at (choice_in papers) (codes "sheet") entries);
+  any_paper = or_usual false (option_map (λ e. is_fit e.value) (entry_of (codes "sheet") entries));
   scale = or_usual None (meaning_at (choice_in fits) (codes "scale") entries);
   crease = or_usual Normal (meaning_at (choice_in creases) (codes "crease") entries);
   title = meaning_at title_in (codes "title") entries;

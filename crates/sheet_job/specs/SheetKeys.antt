@@ -11,7 +11,7 @@ use Rattle.job_tables.specs.declared.table.TableKind.TheVariants as table
 use Rattle.job_text.specs.Values.{Written}
 use Rattle.sheet_job.specs.declared.keys.SheetKey.{SheetKey}
 use Rattle.sheet_job.specs.declared.keys.SheetKey.TheVariants as key
-use Rattle.sheet_job.specs.WrittenValues.{text_in, flag_in, choice_in, title_in, hiddens, decimals_digit, decimals_in, toward_in, is_length, length_in}
+use Rattle.sheet_job.specs.WrittenValues.{text_in, flag_in, is_fit, choice_in, title_in, hiddens, decimals_digit, decimals_in, toward_in, is_length, length_in}
 
 -- ---- the keys of each table, in its order
 abbrev pub job_keys : List (List ℕ × SheetKey)
@@ -41,7 +41,7 @@ is_right key.Version value = true
 is_right key.Title value = is_some (title_in value)
 is_right key.Unit value = is_some (choice_in lengths value)
 is_right key.Decimals value = is_some (decimals_in value)
-is_right key.Sheet value = is_some (choice_in papers value)
+is_right key.Sheet value = is_some (choice_in papers value) || is_fit value
 is_right key.Layout value = is_some (choice_in layouts value)
 is_right key.Angle value = is_some (choice_in angles value)
 is_right key.Scale value = is_some (choice_in fits value)

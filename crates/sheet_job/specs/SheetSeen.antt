@@ -45,6 +45,7 @@ sheet_job_seen job = record {
   decimals = job.decimals;
   third = job.third;
   paper = job.paper;
+  any_paper = job.any_paper;
   scale = option_map scale_seen job.scale;
   crease = job.crease;
   title = job.title;

@@ -1,5 +1,5 @@
 -- What a value of a line means.
-use Rattle.std.specs.Prelude.{ℕ, ◌-◌, ℤ, pos, neg_ℤ, Bool, true, ◌&&◌, ◌||◌, ◌==◌, nat_le, List, [], ◌∷◌, length, Option, Some, None, option_map, option_and_then, if◌then◌else◌, codes}
+use Rattle.std.specs.Prelude.{ℕ, ◌-◌, ℤ, pos, neg_ℤ, Bool, true, false, ◌&&◌, ◌||◌, ◌==◌, nat_le, List, [], ◌∷◌, length, Option, Some, None, option_map, option_and_then, if◌then◌else◌, codes}
 use Rattle.std.specs.Char.{is_ascii_digit}
 use Rattle.std.specs.List.{list_all, list_any}
 use Rattle.std.specs.Str.{bytes_eq}
@@ -29,6 +29,14 @@ proper_title t = if is_title t then Some t else None
 
 abbrev pub title_in : Written → Option (List ℕ)
 title_in value = option_and_then proper_title (text_in value)
+
+-- the text "fit"
+abbrev pub is_fit_text : Option (List ℕ) → Bool
+is_fit_text None = false
+is_fit_text (Some t) = bytes_eq t (codes "fit")
+
+abbrev pub is_fit : Written → Bool
+is_fit value = is_fit_text (text_in value)
 
 -- hidden lines in all views, in plain views, or in none
 abbrev pub hiddens : List (List ℕ × Hidden)

@@ -19,8 +19,11 @@ pub struct SheetJob {
     pub decimals: Option<u8>,
     /// The views are arranged by third-angle projection, and else by first-angle projection.
     pub third: bool,
+    /// The usual one if any paper will do.
     pub paper: Paper,
-    /// None for the greatest scale up to 1:1 at which the views fit the sheet.
+    /// The least sheet on which the views fit is taken.
+    pub any_paper: bool,
+    /// None for the greatest scale at which the views fit the sheet, and for 1:1 where any paper will do.
     pub scale: Option<Scale>,
     pub crease: Crease,
     /// None for the name of the part's file.

@@ -6,8 +6,8 @@ ghost use Rattle.sheet_job.specs.SheetKeys.{job_keys, block_keys, view_keys, key
 
 use crate::numbers::{decimals_digit, decimals_in, is_length, length_in, toward_in};
 use crate::values::{
-    axis_in, crease_in, flag_of, hidden_in, layout_in, name_in, paper_in, projection_in, scale_in,
-    side_in, text_of, title_of, unit_in,
+    axis_in, crease_in, flag_of, hidden_in, is_fit, layout_in, name_in, paper_in, projection_in,
+    scale_in, side_in, text_of, title_of, unit_in,
 };
 use job_tables::TableKind;
 use job_text::Written;
@@ -123,7 +123,7 @@ pub(crate) fn is_right(key: SheetKey, value: &Written) -> bool
         SheetKey::Version => true,
         SheetKey::Unit => unit_in(value).is_some(),
         SheetKey::Decimals => decimals_in(value).is_some(),
-        SheetKey::Sheet => paper_in(value).is_some(),
+        SheetKey::Sheet => paper_in(value).is_some() || is_fit(value),
         SheetKey::Layout => layout_in(value).is_some(),
         SheetKey::Angle => projection_in(value).is_some(),
         SheetKey::Scale => scale_in(value).is_some(),

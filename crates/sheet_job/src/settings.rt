@@ -6,13 +6,15 @@ ghost use Rattle.job_file.specs.Papers.{papers};
 ghost use Rattle.job_file.specs.Seen.{scale_seen};
 ghost use Rattle.job_file.specs.Texts.{is_title};
 ghost use Rattle.job_tables.specs.Seen.{entry_seen};
-ghost use Rattle.sheet_job.specs.SheetViews.{meaning_at, or_usual};
-ghost use Rattle.sheet_job.specs.WrittenValues.{choice_in, title_in, hiddens, decimals_in};
+ghost use Rattle.sheet_job.specs.SheetViews.{entry_of, meaning_at, or_usual};
+ghost use Rattle.sheet_job.specs.WrittenValues.{is_fit, choice_in, title_in, hiddens, decimals_in};
 
 use crate::entries::{title_at, value_at};
 use crate::hidden::Hidden;
 use crate::numbers::decimals_in;
-use crate::values::{crease_in, hidden_in, layout_in, paper_in, projection_in, scale_in, unit_in};
+use crate::values::{
+    crease_in, hidden_in, is_fit, layout_in, paper_in, projection_in, scale_in, unit_in,
+};
 use dec_text::{Length, Name};
 use exact_frac::OutOfMemory;
 use job_file::{Paper, Scale};
@@ -46,6 +48,16 @@ pub(crate) fn paper(entries: &[TableEntry]) -> Paper
     value_at(entries, "sheet")
         .and_then(paper_in)
         .unwrap_or(Paper::A3)
+}
+
+/// Whether the least sheet on which the views fit is taken.
+pub(crate) fn any_paper(entries: &[TableEntry]) -> bool
+    ensures { result ≡ or_usual false (option_map (λ e. is_fit e.value) (entry_of (codes "sheet") (map entry_seen entries.now))) }
+{
+    match value_at(entries, "sheet") {
+        Some(value) => is_fit(value),
+        None => false,
+    }
 }
 
 /// The scale.

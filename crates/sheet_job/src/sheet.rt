@@ -10,7 +10,9 @@ ghost use Rattle.sheet_job.specs.inner.Stops.{stop_of_lines, stop_of_tables};
 
 use crate::flaw::{JobFlaw, SheetStop};
 use crate::job::SheetJob;
-use crate::settings::{crease, decimals, hidden, paper, portrait, scale, third, title, unit};
+use crate::settings::{
+    any_paper, crease, decimals, hidden, paper, portrait, scale, third, title, unit,
+};
 use crate::title_block::block_texts;
 use crate::view::SheetView;
 use crate::views::views_of;
@@ -37,6 +39,7 @@ fn job_with(
         decimals: decimals(entries),
         third: third(entries),
         paper: paper(entries),
+        any_paper: any_paper(entries),
         scale: scale(entries),
         crease: crease(entries),
         title: title(alloc, entries)?,

@@ -8,7 +8,7 @@ ghost use Rattle.job_file.specs.Seen.{scale_seen};
 ghost use Rattle.job_file.specs.Steps.{look_up};
 ghost use Rattle.job_file.specs.Texts.{is_title};
 ghost use Rattle.job_text.specs.Seen.{written_seen};
-ghost use Rattle.sheet_job.specs.WrittenValues.{text_in, flag_in, choice_in, title_in, hiddens};
+ghost use Rattle.sheet_job.specs.WrittenValues.{text_in, flag_in, is_fit, choice_in, title_in, hiddens};
 
 use crate::hidden::Hidden;
 use dec_text::Length;
@@ -36,6 +36,16 @@ pub(crate) fn flag_of(value: &Written) -> Option<bool>
     match value {
         Written::One(TextItem::Flag(flag)) => Some(*flag),
         _ => None,
+    }
+}
+
+/// The text "fit".
+pub(crate) fn is_fit(value: &Written) -> bool
+    ensures { result ≡ is_fit (written_seen value.now) }
+{
+    match text_of(value) {
+        Some(text) => text == "fit",
+        None => false,
     }
 }
 

@@ -58,6 +58,8 @@ fn flaws_of_lines_and_values(rt: HostRuntime) {
             decimals
         )
     );
+    let sheet = "3:8: wrong sheet: \"A0\", \"A1\", \"A2\", \"A3\", \"A4\" or \"fit\"";
+    assert!(rt; has_text(alloc, JobFlaw::Wrong(SheetKey::Sheet, false, None), sheet));
     let hidden = "3:8: view 12: wrong hidden: true or false";
     assert!(rt;
         has_text(

@@ -1,7 +1,7 @@
 // Jobs of any version, the places of faults, and cuts at a number of decimals.
 ghost use Rattle.std.specs.Prelude.{◌<◌, ◌^◌, length};
 
-use job_file::{JobFault, Principal, is_title};
+use job_file::{JobFault, Key, Paper, Principal, is_title};
 use job_text::TextPlace;
 use lattice::{Axis, ViewSpec};
 use sheet_job::{
@@ -97,6 +97,35 @@ fn flaws_of_jobs(rt: HostRuntime) {
             ) && is_at(&placed, 5, 8)
         ),
         None => panic!(rt; "no flaw"),
+    }
+}
+
+/// The text is a job with this paper, and any paper will do, or not.
+fn has_paper(alloc: Global, bytes: &[u8], paper: Paper, any: bool) -> bool
+    requires { length bytes.now < 2 ^ 31 }
+{
+    match read_any_job(alloc, bytes) {
+        Ok(AnyJob::Own(job)) => job.paper == paper && job.any_paper == any,
+        _ => false,
+    }
+}
+
+#[test]
+fn sheets_of_jobs(rt: HostRuntime) {
+    let alloc = rt.alloc();
+    assert!(rt; has_paper(alloc, b"version = 3\n", Paper::A3, false));
+    assert!(rt; has_paper(alloc, b"version = 3\nsheet = 'A4'\n", Paper::A4, false));
+    assert!(rt; has_paper(alloc, b"version = 3\nsheet = 'fit'\n", Paper::A3, true));
+    match flaw_of(alloc, b"version = 3\nsheet = 'Fit'\n") {
+        Some(placed) => assert!(rt;
+            matches!(placed.flaw, JobFlaw::Wrong(SheetKey::Sheet, false, None))
+                && is_at(&placed, 2, 9)
+        ),
+        None => panic!(rt; "no flaw"),
+    }
+    match read_any_job(alloc, b"version = 2\nsheet = 'fit'\n") {
+        Err(AnyJobError::Older(JobFault::Wrong(Key::Sheet))) => {}
+        _ => panic!(rt; "a job of version 2 for any paper"),
     }
 }
 

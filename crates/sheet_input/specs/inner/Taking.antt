@@ -8,12 +8,21 @@ use Rattle.part_input.specs.Jobs.{TakesJob}
 use Rattle.part_input.specs.Parts.{IsOfPart, IsOfSoupOr, IsOfSampleOr, sample_size}
 use Rattle.part_input.specs.declared.fault.Fault.{Fault}
 use Rattle.part_input.specs.declared.fault.Fault.TheVariants.{ReadFault, Part as PartUnread, Mesh, WriteFault, Memory}
-use Rattle.part_input.specs.Sheets.{IsOfSheet}
 use Rattle.part_lines.specs.Hints.{IsPartHint}
 use Rattle.part_lines.specs.declared.hint.PartHint.{PartHint}
 use Rattle.part_input.specs.inner.Texts.{IsOfMesh}
+use Rattle.cut_marks.specs.AskedSides.{sides_for}
+use Rattle.drawing.specs.Drawing.{drawn_in}
 use Rattle.job_file.specs.Documents.{JobValues}
 use Rattle.job_file.specs.Seen.{job_seen}
+use Rattle.job_file.specs.declared.job.Job.{Job as MadeJob}
+use Rattle.job_file.specs.declared.job.Paper.{Paper}
+use Rattle.lattice.specs.declared.points.Corner.{Corner}
+use Rattle.sheet_layout.specs.Keeps.{HasPlaceForEach, KeepsApart, StandsInFrame}
+use Rattle.sheet_layout.specs.Layouts.{HasNoRoom, IsLaidOut}
+use Rattle.sheet_layout.specs.declared.layout.Layout.{Layout}
+use Rattle.sheet_layout.specs.declared.layout.Wish.{Wish}
+use Rattle.sheet_plan.specs.JobSheets.{Drawn}
 use Rattle.solid_mesh.specs.Solids.{solid_part}
 use Rattle.solid_mesh.specs.Faults.{HasFault}
 use Rattle.solid_mesh.specs.declared.faults.MeshFault.{MeshFault}
@@ -32,11 +41,12 @@ use Rattle.sheet_input.specs.Steps.{DrawnSheet, DrawsText}
 use Rattle.sheet_input.specs.Texts as of
 use Rattle.sheet_input.specs.Titles.{title_of}
 use Rattle.sheet_input.specs.declared.fault.SheetFault.{SheetFault}
-use Rattle.sheet_input.specs.declared.fault.SheetFault.TheVariants.{Common, OwnJob}
+use Rattle.sheet_input.specs.declared.fault.SheetFault.TheVariants.{Common, OwnJob, NoRoom}
 use Rattle.sheet_input.specs.declared.fit.Settled.{Settled}
 use Rattle.sheet_input.specs.declared.place.FaultPlace.{FaultPlace}
 use Rattle.sheet_input.specs.declared.refusal.Told.{Told}
 use Rattle.sheet_input.specs.declared.refusal.Told.TheVariants.{Nothing, Text, Surface, Job}
+use Rattle.sheet_input.specs.declared.take.LaidDrawing.{LaidDrawing}
 use Rattle.sheet_input.specs.declared.taken_text.PartText.{PartText}
 use Rattle.sheet_input.specs.declared.taken_text.PartText.TheVariants.{Sample, Bytes}
 use Rattle.weld.specs.declared.fault.PartFault.{PartFault}
@@ -193,6 +203,36 @@ IsToldTaken old name OwnJob (Job flaw) = old.tells ≡ true → (bytes : List �
 IsToldTaken old name OwnJob told = ⊥
 IsToldTaken old name fault told = told ≡ Nothing
 
+-- ---- a layout
+-- the views of the job are laid out so
+pub record IsLaidFor (job : MadeJob) (corners : List Corner) (w : Wish) (layout : Layout) : Type 0 where
+  pub laid : IsLaidOut job corners (sides_for job) w layout
+  pub apart : KeepsApart corners (sides_for job) layout
+  pub in_frame : StandsInFrame corners (sides_for job) layout
+  pub places : HasPlaceForEach job.views.items layout
+
+-- no plan has room for them
+abbrev pub IsUnlaid : MadeJob → List Corner → Wish → SheetFault → Type 0
+IsUnlaid job corners w (NoRoom lack) = HasNoRoom job corners (sides_for job) w lack
+IsUnlaid job corners w (Common Memory) = Unit {0}
+IsUnlaid job corners w fault = ⊥
+
+-- the job is the other one, but for its paper
+pub record IsSameButPaper (job made : MadeJob) : Type 0 where
+  pub decimals : made.decimals ≡ job.decimals
+  pub third : made.third ≡ job.third
+  pub scale : made.scale ≡ job.scale
+  pub unit : made.unit ≡ job.unit
+  pub portrait : made.portrait ≡ job.portrait
+  pub views : made.views.items ≡ job.views.items
+
+-- it is the job itself, or the job on another paper where any will do
+abbrev pub IsDrawnFor : Wish → MadeJob → MadeJob → Type 0
+IsDrawnFor w job made = (made ≡ job) ⊎ ((w.any_paper ≡ true) × IsSameButPaper job made)
+
+abbrev pub laid_in : LaidDrawing → Drawn
+laid_in made = drawn_in made.drawing
+
 -- ---- all of it
 -- what a text of the part says is drawn by the job
 pub record IsDrawnOf (named : Named) (values : AnyValues) (made : DrawnSheet) : Type 0 where
@@ -200,9 +240,10 @@ pub record IsDrawnOf (named : Named) (values : AnyValues) (made : DrawnSheet) : 
   pub size : size_in text ≡ sample_size named.part
   pub draws : DrawsText named values text (Ok made)
 
--- of the sheet
+-- of the sheet: it has no room, or memory ran out
 abbrev pub IsOfSheetIn : SheetFault → Type 0
-IsOfSheetIn (Common fault) = IsOfSheet fault
+IsOfSheetIn (NoRoom lack) = Unit {0}
+IsOfSheetIn (Common Memory) = Unit {0}
 IsOfSheetIn fault = ⊥
 
 -- of a job, of a part's text, or of a sheet
@@ -212,7 +253,8 @@ IsOfDraw text fault = IsOfFit text fault ⊎ IsOfSheetIn fault
 -- of a part of this name, or of a job at a number of decimals, or of a sheet
 abbrev pub IsOfDrawn : List ℕ → SheetFault → Type 0
 IsOfDrawn part OwnJob = Unit {0}
-IsOfDrawn part (Common fault) = IsOfPart part fault ⊎ IsOfSheet fault
+IsOfDrawn part (NoRoom lack) = Unit {0}
+IsOfDrawn part (Common fault) = IsOfPart part fault
 IsOfDrawn part fault = ⊥
 
 -- where a file can't be read, the job's cuts are in range

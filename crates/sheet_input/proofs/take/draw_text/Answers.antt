@@ -10,7 +10,7 @@ use Rattle.sheet_input.proofs.take.draw_text.Goals as goal
 pub returns-in-Ok-drawn-clause-answer : goal.returns-in-Ok-drawn-clause-answer
 returns-in-Ok-drawn-clause-answer c =
     drawing_given (named_seen c.args.request.now) (any_seen c.args.job) (text_seen c.args.text.now) c.args.title c.requires.title (option_copied c.sample_size-size.result) (sized_as (option_copied c.sample_size-size.result) _ c.args.request.now.part c.sample_size-size.ensures c.as_str.ensures.same)
-    (settled_seen c.in-Ok-fit_part.settled) c.in-Ok-fit_part.ensures.answer (drawn_in c.in-Ok-drawn.drawing) c.in-Ok-drawn.ensures.answer (look_seen c.in-Ok.look) c.in-Ok.ensures
+    (settled_seen c.in-Ok-fit_part.settled) c.in-Ok-fit_part.ensures.answer c.wish_of-wish.result c.wish_of-wish.ensures (laid_in c.in-Ok-drawn.made) c.in-Ok-drawn.ensures.answer (look_seen c.in-Ok.look) c.in-Ok.ensures
 
 pub returns-in-Err-drawn-clause-told : goal.returns-in-Err-drawn-clause-told
 returns-in-Err-drawn-clause-told c =
