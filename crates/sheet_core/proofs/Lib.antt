@@ -1,6 +1,5 @@
 pub mod Answered
 pub mod Asked
-pub mod Moved
 pub mod PageItems
 pub mod Putting
 pub mod Told

@@ -3,18 +3,14 @@ use Rattle.std.proofs.Common.{◌≡◌, ℕ, ◌<◌, List, [], ◌∷◌, ◌+
 use Rattle.std.specs.Prelude.{ℤ, pos, negsuc}
 use Rattle.std.specs.List.{All, flat_map}
 use Rattle.std.proofs.lemmas.List.Elements.{All-nil, All-cons, All-head, All-tail, All-append, All-filter, All-map, All-weaker}
-use Rattle.std.proofs.lemmas.Slice.Zip.{AllZip-long}
-use Rattle.sheet_plan.specs.Centred.{IsPlannedFor, IsMovedPlace, IsCentred}
 use Rattle.cut_marks.specs.declared.figures.Heading.{Heading}
 use Rattle.cut_marks.specs.declared.figures.CutMark.{CutMark}
 use Rattle.cut_marks.specs.declared.figures.MarkEnd.{MarkEnd}
 use Rattle.cut_marks.specs.declared.figures.SheetPoint.{SheetPoint}
 use Rattle.cut_marks.specs.declared.views.ViewMarks.{ViewMarks}
-use Rattle.drawing.specs.Drawing.{IsPlannedDrawing}
 use Rattle.dec_text.specs.declared.number.Length.{Length}
 use Rattle.cut_marks.specs.Items.{rule_to, head_at, letter_item, beside_items, arrow_items, end_items, items_of_mark, heading_item, heading_items, items_of_view, items_of_marks}
 use Rattle.sheet_page.specs.Corners.{IsInCorner}
-use Rattle.lattice.specs.declared.points.Corner.{Corner}
 use Rattle.sheet_plan.specs.declared.sheet.Sheet.{Sheet}
 use Rattle.solid_mesh.specs.Solids.{solid_part}
 use Rattle.drawing.specs.declared.drawn.Drawing.{Drawing}
@@ -26,14 +22,6 @@ use Rattle.stroke_paths.specs.declared.path.Path.{Path}
 use Rattle.section_look.specs.declared.fills.Fill.{Fill}
 use Rattle.section_look.specs.declared.looks.SectionLook.{SectionLook}
 use Rattle.sheet_core.specs.Pages.{is_shown, fills_of, frame_of, shown_paths}
-
--- the sheet of a drawing was planned for it
-pub planned_for : (d : Drawing) → IsPlannedDrawing d → IsPlannedFor d.job (solid_part d.solid).corners d.sheet
-planned_for d is = record { extents = is.sheet.extents; reach = is.sheet.reach; planned = is.sheet.planned }
-
--- and has as many places once they are moved
-pub same_places : (old : Sheet) (corners : List Corner) (new : Sheet) → IsCentred old corners new → length new.places.items ≡ length old.places.items
-same_places old corners new is = AllZip-long (IsMovedPlace _ _) old.places.items new.places.items is.moved.places
 
 -- ---- views
 all_flat : {A B : Type 0} (P : B → Type 0) (f : A → List B) → ((x : A) → All P (f x)) → (xs : List A) → All P (flat_map f xs)

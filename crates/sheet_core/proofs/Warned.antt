@@ -40,7 +40,6 @@ module _ (named : Named) (old between new : DeskState) (same : OnlyReads old bet
       let said = ap (λ (s : DeskState). s.said) same in
       record {
         page = w.page;
-        on = w.on;
         strokes = w.strokes;
         marks = w.marks;
         shows = w.shows;

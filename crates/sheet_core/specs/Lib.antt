@@ -1,5 +1,4 @@
 pub mod Lines
-pub mod Moved
 pub mod Pages
 pub mod Run
 pub mod Writing

@@ -1,14 +1,15 @@
 -- The page of a drawing: its frame, its title block, the paths of its strokes, but for hidden lines that aren't asked for, and what tells
 -- its cuts.
 use Rattle.std.specs.Prelude.{◌≡◌, ℕ, Bool, true, not, ◌||◌, pos, ℤ, ◌-ℤ◌, List, ◌∷◌, ◌++◌, length, map, slice_get, unwrap_or}
-use Rattle.std.specs.List.{filter, flat_map}
-use Rattle.sheet_plan.specs.Centred.{IsCentred, ViewsStayWithin, ViewsStayApart}
+use Rattle.std.specs.List.{All, filter, flat_map}
+use Rattle.cut_marks.specs.AskedSides.{sides_for}
 use Rattle.cut_marks.specs.Areas.{NoneTouch}
 use Rattle.job_file.specs.ShownCuts.{cuts_in}
 use Rattle.cut_marks.specs.Marks.{AreMarked}
 use Rattle.cut_marks.specs.Reach.{AreInReach}
 use Rattle.cut_marks.specs.declared.views.ViewMarks.{ViewMarks}
 use Rattle.cut_marks.specs.Items.{items_of_marks, AreHeadedWell}
+use Rattle.sheet_plan.specs.Boxes.{Box}
 use Rattle.sheet_plan.specs.LineKinds.{is_same_mark}
 use Rattle.sheet_plan.specs.declared.sheet.Mark.{Mark}
 use Rattle.sheet_plan.specs.declared.sheet.Mark.TheVariants.{Dashed, Hatch}
@@ -24,9 +25,11 @@ use Rattle.stroke_paths.specs.declared.path.Path.{Path}
 use Rattle.sheet_page.specs.declared.page.Item.{Item}
 use Rattle.sheet_page.specs.declared.page.Item.TheVariants as item
 use Rattle.sheet_page.specs.declared.page.Page.{Page}
-use Rattle.sheet_core.specs.Moved.{AreMovedTogether}
+use Rattle.sheet_layout.specs.Keeps.{KeepsApart, StandsInFrame, TakesRoom}
+use Rattle.sheet_layout.specs.declared.layout.Layout.{Layout}
 use Rattle.solid_mesh.specs.Solids.{solid_part}
 use Rattle.sheet_page.specs.Blocks.{block_of}
+use Rattle.sheet_page.specs.Corners.{IsClearOf}
 use Rattle.sheet_input.specs.declared.look.SheetLook.{SheetLook}
 
 -- ---- hidden lines
@@ -69,24 +72,27 @@ pub record IsPicture (sheet : Sheet) (strokes : List Stroke) (sections : List Se
   pub are_hatches : AreHatchStrokes sheet sections hatches
   pub together : picture ≡ unhatched strokes ++ hatches
 
--- The page shows the drawing of the part with this name: its frame and its title block, and, on the sheet with its views in the middle of
--- their room, what is filled of its sections, the paths of its strokes that are drawn, in their order, with hatch lines as close as the
--- sections need, and the marks and the headings of its cuts. All views and strokes are moved by one shift; the views stay within the margins and apart; each mark and heading ends within 7 mm of its view, no two marks of a
--- view touch, and no heading has the place of its cut in part.
-pub record IsPageWith (look : SheetLook) (part : List ℕ) (d : Drawing) (page : Page) (sheet : Sheet) (strokes : List Stroke) (marks : List ViewMarks) : Type 0 where
-  pub centred : IsCentred d.sheet (solid_part d.solid).corners sheet
-  pub within : ViewsStayWithin (solid_part d.solid).corners sheet
-  pub apart : ViewsStayApart (solid_part d.solid).corners sheet
-  pub are_strokes : AreStrokes sheet d.views.items strokes
-  pub moved : AreMovedTogether d sheet strokes
+-- The page shows the drawing of the part with this name, whose sheet is that of a layout: the frame and the title block, what is filled of
+-- its sections, the paths of its strokes that are drawn, in their order, with hatch lines as close as the sections need, and the marks and the
+-- headings of its cuts. The views with their sides, which are shrunk or not, keep apart, in the frame and clear of the block. Each mark ends
+-- within 7 mm of its view, and each heading within its view's sides; no two marks of a view touch, and no heading has the place of its cut in
+-- part.
+pub record IsPageWith (look : SheetLook) (part : List ℕ) (d : Drawing) (shrunk : Bool) (page : Page) (strokes : List Stroke) (marks : List ViewMarks) : Type 0 where
+  pub layout : Layout
+  pub sheet : d.sheet ≡ layout.sheet
+  pub shrunk_is : layout.shrunk ≡ shrunk
+  pub apart : KeepsApart (solid_part d.solid).corners (sides_for d.job) layout
+  pub in_frame : StandsInFrame (solid_part d.solid).corners (sides_for d.job) layout
+  pub clear : (view : ℕ) (room : Box) → TakesRoom layout (solid_part d.solid).corners (sides_for d.job) view room → All (IsClearOf room) (block_of d.sheet d.job part look.block)
+  pub are_strokes : AreStrokes d.sheet d.views.items strokes
   pub sections : List SectionLook
-  pub are_sections : AreLooks sheet (solid_part d.solid) d.job.views.items sections
+  pub are_sections : AreLooks d.sheet (solid_part d.solid) d.job.views.items sections
   pub picture : List Stroke
-  pub is_picture : IsPicture sheet strokes sections picture
+  pub is_picture : IsPicture d.sheet strokes sections picture
   pub paths : List Path
   pub are_paths : ArePaths picture paths
-  pub are_marks : AreMarked sheet (solid_part d.solid) (cuts_in d.job.views.items) d.job.views.items marks
-  pub in_reach : AreInReach sheet (solid_part d.solid).corners marks
+  pub are_marks : AreMarked d.sheet (sides_for d.job) shrunk (solid_part d.solid) (cuts_in d.job.views.items) d.job.views.items marks
+  pub in_reach : AreInReach d.sheet (solid_part d.solid).corners (sides_for d.job) shrunk marks
   pub none_touch : NoneTouch marks
   pub headed : AreHeadedWell d.job.decimals d.job.unit marks look.titles.items
   pub width : page.width ≡ d.sheet.width
@@ -95,6 +101,6 @@ pub record IsPageWith (look : SheetLook) (part : List ℕ) (d : Drawing) (page :
   pub views : page.views ≡ length d.sheet.places.items
   pub items : page.items.items ≡ items_of look part d sections paths marks
 
--- on some such sheet
-abbrev pub IsPageOf : SheetLook → List ℕ → Drawing → Page → Type 0
-IsPageOf look part d page = (sheet : Sheet) × (strokes : List Stroke) × (marks : List ViewMarks) × IsPageWith look part d page sheet strokes marks
+-- with some such strokes and marks
+abbrev pub IsPageOf : SheetLook → List ℕ → Drawing → Bool → Page → Type 0
+IsPageOf look part d shrunk page = (strokes : List Stroke) × (marks : List ViewMarks) × IsPageWith look part d shrunk page strokes marks

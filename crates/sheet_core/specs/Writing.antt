@@ -21,7 +21,6 @@ use Rattle.sheet_list.specs.Lists.{list_text}
 use Rattle.sheet_page.specs.Pdf.{pdf_of}
 use Rattle.sheet_page.specs.Svg.{svg_of}
 use Rattle.sheet_page.specs.declared.page.Page.{Page}
-use Rattle.sheet_plan.specs.declared.sheet.Sheet.{Sheet}
 use Rattle.sheet_plan.specs.declared.sheet.Stroke.{Stroke}
 use Rattle.sheet_words.specs.Names.{Asks, Goal, ListGoal, Named, help, version, sheet, said, svg_file, pdf_file, list_said, list_file}
 
@@ -66,12 +65,11 @@ texts_for named page list plain summary =
 -- isn't kept touches no file, and what isn't said adds nothing to what was said.
 pub record Writes (named : Named) (fault : Option SheetFault) (old new : DeskState) (made : SheetInput) : Type 0 where
   pub page : Page
-  pub on : Sheet
   pub strokes : List Stroke
   pub marks : List ViewMarks
-  pub shows : IsPageWith made.look named.part made.drawing page on strokes marks
+  pub shows : IsPageWith made.look named.part made.drawing made.shrunk page strokes marks
   pub texts : List (Text SheetFault)
-  pub are_texts : texts ≡ texts_for named (page_text named.out page) (listed named.list (list_text made.drawing.job on (drawn_strokes made.look.hidden.items strokes) strokes)) (listed named.plain (plain_job (job_seen made.drawing.job))) (summary_of made.drawing made.look.fitted made.look.in_units page marks)
+  pub are_texts : texts ≡ texts_for named (page_text named.out page) (listed named.list (list_text made.drawing.job made.drawing.sheet (drawn_strokes made.look.hidden.items strokes) strokes)) (listed named.plain (plain_job (job_seen made.drawing.job))) (summary_of made.drawing made.look.fitted made.look.in_units page marks)
   pub files : old.tells ≡ true → KeepsTexts sheet_faults fault texts old.files new.files
   pub said : old.tells_said ≡ true → SaysTexts sheet_faults fault texts old.said new.said
   pub spared : SparesFiles sheet_faults fault texts old.files new.files

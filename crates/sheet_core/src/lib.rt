@@ -1,7 +1,7 @@
 //! The program `sheet`: from the words and a desk to a sheet for paper and screen.
 //!
-//! It shows the drawing that `draw` makes, with its strokes joined to paths and dashes that are fitted to them, as SVG or as PDF, and
-//! lists its strokes for programs where that is asked for. Of a fault it tells one line, with the file's name and the fault's place.
+//! It draws views as `draw` does, on a layout of its own (`sheet_layout`), with their strokes joined to paths and dashes that are fitted to
+//! them, as SVG or as PDF, and lists its strokes for programs where that is asked for. Of a fault it tells one line, with the file's name and the fault's place.
 #![tactic(auto)]
 
 mod answers;

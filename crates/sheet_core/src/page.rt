@@ -1,15 +1,16 @@
 // The page of a drawing.
-ghost use Rattle.std.specs.Prelude.{◌≡◌, ◌<◌, ◌≤◌, ◌++◌, ℕ, length, map, IfOk, OnOk};
+ghost use Rattle.std.specs.Prelude.{◌≡◌, ◌++◌, map, IfOk, OnOk};
 ghost use Rattle.std.specs.List.{All};
-ghost use Rattle.drawing.specs.Drawing.{IsPlannedDrawing};
 ghost use Rattle.cut_marks.specs.Items.{AreHeadedWell};
 ghost use Rattle.sheet_page.specs.Pages.{IsInView};
 ghost use Rattle.sheet_page.specs.Blocks.{block_of};
+ghost use Rattle.sheet_page.specs.Corners.{IsInCorner};
 ghost use Rattle.sheet_page.specs.declared.page.Item.TheVariants as item;
+ghost use Rattle.sheet_input.specs.Laid.{IsLaidDrawing};
 ghost use Rattle.sheet_core.specs.Pages.{is_shown, shown_paths, drawn_strokes, frame_of, items_of, IsPageOf, IsPageWith};
 
 use crate::picture::{add_fills, picture_of};
-use cut_marks::{ViewMarks, mark_items, marks};
+use cut_marks::{ViewMarks, mark_items, marks, sides_for};
 use dec_text::Name;
 use drawing::{Drawing, strokes_of};
 use exact_frac::OutOfMemory;
@@ -17,7 +18,7 @@ use length_text::LengthForm;
 use section_look::{SectionLook, looks_of};
 use sheet_input::SheetLook;
 use sheet_page::{Frame, Item, Page, title_block};
-use sheet_plan::{Mark, Sheet, Stroke, centred};
+use sheet_plan::{Mark, Sheet, Stroke};
 use std::alloc::Global;
 use stroke_paths::{Path, paths};
 
@@ -80,7 +81,7 @@ fn items_of(
 ) -> Result<Vec<Item>, OutOfMemory>
     ensures items { IfOk result (λ items. items.items ≡ items_of look.now part.now drawing.now sections.items paths.items marks.now) }
     ensures headed { IfOk result (λ _. AreHeadedWell drawing.now.job.decimals drawing.now.job.unit marks.now look.now.titles.items) }
-    ensures of_block { IfOk result (λ _. (n : ℕ) → All (IsInView n) (block_of drawing.now.sheet drawing.now.job part.now look.now.block)) }
+    ensures in_corner { IfOk result (λ _. All (IsInCorner drawing.now.sheet.width drawing.now.sheet.height) (block_of drawing.now.sheet drawing.now.job part.now look.now.block)) }
 {
     let mut items = Vec::new(alloc);
     items.push(frame_of(&drawing.sheet))?;
@@ -111,12 +112,10 @@ pub(crate) fn drawn_strokes(
     Ok(drawn)
 }
 
-/// The page of a drawing, the sheet that it shows with the views in the middle of their room, all strokes there, and what tells the
-/// cuts.
+/// The page of a drawing, all strokes there, and what tells the cuts.
 #[derive(Drop)]
 pub(crate) struct Shown {
     pub(crate) page: Page,
-    pub(crate) on: Sheet,
     pub(crate) strokes: Vec<Stroke>,
     pub(crate) marks: Vec<ViewMarks>,
 }
@@ -127,18 +126,26 @@ pub(crate) fn show(
     look: &SheetLook,
     part: &str,
     drawing: &Drawing,
+    shrunk: bool,
 ) -> Result<Shown, OutOfMemory>
-    requires { IsPlannedDrawing drawing.now }
-    ensures shows { IfOk result (λ shown. IsPageWith look.now part.now drawing.now shown.page shown.on shown.strokes.items shown.marks.items) }
+    requires { IsLaidDrawing drawing.now shrunk }
+    ensures shows { IfOk result (λ shown. IsPageWith look.now part.now drawing.now shrunk shown.page shown.strokes.items shown.marks.items) }
     ensures in_views { IfOk result (λ shown. All (IsInView shown.page.views) shown.page.items.items) }
-    ensures placed { IfOk result (λ shown. length drawing.now.job.views.items ≤ length shown.on.places.items) }
 {
-    let on = centred(alloc, &drawing.solid, &drawing.sheet)?;
-    let strokes = strokes_of(alloc, &on, &drawing.views)?;
-    let sections = looks_of(alloc, &drawing.solid, &on, &drawing.job.views)?;
-    let picture = picture_of(alloc, &on, &strokes, &sections)?;
+    let sheet = &drawing.sheet;
+    let strokes = strokes_of(alloc, sheet, &drawing.views)?;
+    let sections = looks_of(alloc, &drawing.solid, sheet, &drawing.job.views)?;
+    let picture = picture_of(alloc, sheet, &strokes, &sections)?;
     let paths = paths(alloc, &picture)?;
-    let marks = marks(alloc, &drawing.solid, &on, &drawing.job.views)?;
+    let sides = sides_for(alloc, &drawing.job)?;
+    let marks = marks(
+        alloc,
+        &drawing.solid,
+        sheet,
+        &sides,
+        shrunk,
+        &drawing.job.views,
+    )?;
     let items = items_of(alloc, look, part, drawing, sections, paths, &marks)?;
     let page = Page {
         width: drawing.sheet.width,
@@ -149,15 +156,14 @@ pub(crate) fn show(
     };
     Ok(Shown {
         page,
-        on,
         strokes,
         marks,
     })
 }
 
-/// The page of a drawing of the part with this name: the sheet's frame and its title block, and, with the views in the middle of their
-/// room, what is filled of its sections, the paths of its strokes, but for hidden lines where they aren't asked for, and the marks and
-/// headings of its cuts. Hatch lines are as close as the sections need.
+/// The page of a drawing of the part with this name: the sheet's frame and its title block, what is filled of its sections, the paths of
+/// its strokes, but for hidden lines where they aren't asked for, and the marks and headings of its cuts. Hatch lines are as close as the
+/// sections need. The sheet is that of a layout, whose sides are shrunk or not.
 ///
 /// The time goes with the number of strokes, and for each view and cut a few passes are made over the corners. That of a section is told
 /// at `looks_of`.
@@ -166,11 +172,12 @@ pub fn page_of(
     look: &SheetLook,
     part: &str,
     drawing: &Drawing,
+    shrunk: bool,
 ) -> Result<Page, OutOfMemory>
-    requires { IsPlannedDrawing drawing.now }
-    ensures page { IfOk result (IsPageOf look.now part.now drawing.now) }
+    requires { IsLaidDrawing drawing.now shrunk }
+    ensures page { IfOk result (IsPageOf look.now part.now drawing.now shrunk) }
     ensures in_views { IfOk result (λ page. All (IsInView page.views) page.items.items) }
 {
-    let shown = show(alloc, look, part, drawing)?;
+    let shown = show(alloc, look, part, drawing, shrunk)?;
     Ok(shown.page)
 }

@@ -1,11 +1,11 @@
 // The top call: from the words and a desk to a sheet.
 ghost use Rattle.std.specs.Prelude.{◌≡◌, true, Some, IfSome, IfNone};
-ghost use Rattle.drawing.specs.Drawing.{IsPlannedDrawing};
 ghost use Rattle.draw_words.specs.Seen.{texts};
 ghost use Rattle.put_texts.specs.Noting.{IsQuiet};
 ghost use Rattle.put_texts.specs.Runs.{IsRun};
 ghost use Rattle.sheet_core.specs.Run.{sheet_run};
 ghost use Rattle.sheet_core.specs.Writing.{IsQuietIfAsked, SpeaksIfTold, TellsAsked, Writes, WritesAsked, summary_way};
+ghost use Rattle.sheet_input.specs.Laid.{IsLaidDrawing};
 ghost use Rattle.sheet_words.specs.Names.{asked_by, sheet as of_sheet};
 ghost use Rattle.sheet_words.specs.Seen.{named_seen};
 
@@ -26,7 +26,7 @@ use std::alloc::Global;
 /// Draws what was asked for, writes its sheet, its list and its plain job where they go, and tells of them.
 fn draw_sheet<D: Reasons>(alloc: Global, request: SheetRequest, desk: &mut D) -> SheetOutcome
     ensures run { IsRun (sheet_run D.reason (Some (of_sheet (named_seen request)))) result.status result.fault result.made (D.state desk.old) (D.state desk.new) }
-    ensures shows { IfSome result.made (λ made. IsPlannedDrawing made.drawing) }
+    ensures shows { IfSome result.made (λ made. IsLaidDrawing made.drawing made.shrunk) }
     ensures written { IfSome result.made (Writes (named_seen request) result.fault (D.state desk.old) (D.state desk.new)) }
     ensures unsaid { IfNone result.made ((D.state desk.new).said ≡ (D.state desk.old).said) }
     ensures quiet { IfNone result.fault (IsQuiet (summary_way (named_seen request)) (D.state desk.old).warn_faults (D.state desk.new).warn_faults) }
@@ -63,8 +63,8 @@ pub fn sheet<D: Reasons>(alloc: Global, words: &[String], desk: &mut D) -> Sheet
     // It is a run of the steps that the words ask for, from the files at entry.
     ensures run { IsRun (sheet_run D.reason (asked_by (texts words.now))) result.status result.fault result.made (D.state desk.old) (D.state desk.new) }
 
-    // Its drawing shows the part by the job.
-    ensures shows { IfSome result.made (λ made. IsPlannedDrawing made.drawing) }
+    // Its drawing shows the part by the job, on the sheet of its layout.
+    ensures shows { IfSome result.made (λ made. IsLaidDrawing made.drawing made.shrunk) }
 
     // The texts of one page that shows it are put where the words say, one after the other: the sheet, its list, the plain job, and the
     // summary.

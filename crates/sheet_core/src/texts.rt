@@ -1,12 +1,12 @@
 // What is written of a drawing, made before anything is.
-ghost use Rattle.std.specs.Prelude.{◌≡◌, ◌≤◌, length, IfOk};
+ghost use Rattle.std.specs.Prelude.{◌≡◌, IfOk};
 ghost use Rattle.std.specs.List.{All};
-ghost use Rattle.drawing.specs.Drawing.{IsPlannedDrawing};
 ghost use Rattle.sheet_core.specs.Pages.{drawn_strokes};
 ghost use Rattle.job_file.specs.Seen.{job_seen};
 ghost use Rattle.job_writer.specs.PlainJobs.{plain_job};
 ghost use Rattle.sheet_core.specs.Writing.{listed, page_text};
 ghost use Rattle.sheet_core.specs.inner.Texts.{AreTextsOf};
+ghost use Rattle.sheet_input.specs.Laid.{IsLaidDrawing};
 ghost use Rattle.sheet_list.specs.Lists.{list_text};
 ghost use Rattle.sheet_page.specs.Pages.{IsInView};
 ghost use Rattle.sheet_words.specs.Seen.{goal_seen, named_seen};
@@ -54,16 +54,16 @@ fn listed(
     input: &SheetInput,
     shown: &Shown,
 ) -> Result<Vec<u8>, OutOfMemory>
-    requires drawing { IsPlannedDrawing input.now.drawing }
-    requires placed { length input.now.drawing.job.views.items ≤ length shown.now.on.places.items }
+    requires { IsLaidDrawing input.now.drawing input.now.shrunk }
     ensures { IfOk result (λ text. text.items ≡
-        listed (named_seen request.now).list (list_text input.now.drawing.job shown.now.on (drawn_strokes input.now.look.hidden.items shown.now.strokes.items) shown.now.strokes.items)) }
+        listed (named_seen request.now).list (list_text input.now.drawing.job input.now.drawing.sheet (drawn_strokes input.now.look.hidden.items shown.now.strokes.items) shown.now.strokes.items)) }
 {
     match &request.list {
         None => Ok(Vec::new(alloc)),
         Some(_) => {
             let drawn = drawn_strokes(alloc, &input.look.hidden, &shown.strokes)?;
-            list_text(alloc, &input.drawing.job, &shown.on, &drawn, &shown.strokes)
+            let drawing = &input.drawing;
+            list_text(alloc, &drawing.job, &drawing.sheet, &drawn, &shown.strokes)
         }
     }
 }
@@ -84,14 +84,18 @@ pub(crate) fn texts_of(
     request: &SheetRequest,
     input: &SheetInput,
 ) -> Result<Texts, OutOfMemory>
-    requires { IsPlannedDrawing input.now.drawing }
+    requires { IsLaidDrawing input.now.drawing input.now.shrunk }
     ensures { IfOk result (AreTextsOf (named_seen request.now) input.now) }
 {
-    let shown = show(alloc, &input.look, request.part.as_str(), &input.drawing)?;
+    let SheetInput {
+        drawing,
+        look,
+        shrunk,
+    } = input;
+    let shown = show(alloc, look, request.part.as_str(), drawing, *shrunk)?;
     let page = page_text(alloc, &request.out, &shown.page)?;
     let list = listed(alloc, request, input, &shown)?;
-    let plain = plained(alloc, request, &input.drawing.job)?;
-    let SheetInput { drawing, look } = input;
+    let plain = plained(alloc, request, &drawing.job)?;
     let (fitted, in_units) = (look.fitted, look.in_units);
     let summary = summary_of(alloc, drawing, fitted, in_units, &shown.page, &shown.marks)?;
     let unwritten = write_line(alloc, &request.out, None)?;

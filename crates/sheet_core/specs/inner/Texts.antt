@@ -12,12 +12,12 @@ use Rattle.sheet_core.specs.Refusals.{list_line, write_line}
 use Rattle.sheet_list.specs.Lists.{list_text}
 use Rattle.sheet_words.specs.Names.{Named}
 
--- the page of a drawing, the sheet and the strokes that it shows, and what tells the cuts there
+-- the page of a drawing, the strokes that it shows, and what tells the cuts there
 pub record AreTextsOf (named : Named) (input : SheetInput) (texts : Texts) : Type 0 where
   pub shown : Shown
-  pub shows : IsPageWith input.look named.part input.drawing shown.page shown.on shown.strokes.items shown.marks.items
+  pub shows : IsPageWith input.look named.part input.drawing input.shrunk shown.page shown.strokes.items shown.marks.items
   pub text : texts.page.items ≡ page_text named.out shown.page
-  pub list : texts.list.items ≡ listed named.list (list_text input.drawing.job shown.on (drawn_strokes input.look.hidden.items shown.strokes.items) shown.strokes.items)
+  pub list : texts.list.items ≡ listed named.list (list_text input.drawing.job input.drawing.sheet (drawn_strokes input.look.hidden.items shown.strokes.items) shown.strokes.items)
   pub plain : texts.plain.items ≡ listed named.plain (plain_job (job_seen input.drawing.job))
   pub summary : string_bytes texts.summary ≡ summary_of input.drawing input.look.fitted input.look.in_units shown.page shown.marks.items
   pub unwritten : string_bytes texts.unwritten ≡ write_line named.out None

@@ -3,11 +3,13 @@ use Rattle.std.specs.Int.{w64}
 use Rattle.std.specs.List.{All}
 use Rattle.std.proofs.lemmas.Int.{ints, to_z-of_z}
 use Rattle.job_file.specs.ShownCuts.{cuts_in}
+use Rattle.cut_marks.specs.AskedSides.{sides_for}
 use Rattle.cut_marks.specs.Marks.{AreMarked}
+use Rattle.cut_marks.specs.Reach.{AreInReach}
+use Rattle.sheet_layout.specs.declared.sides.Sides.{Sides}
 use Rattle.cut_marks.specs.declared.views.ViewMarks.{ViewMarks}
 use Rattle.drawing.specs.Strokes.{AreStrokes}
 use Rattle.drawing.proofs.DrawnViews.{few, placed}
-use Rattle.sheet_plan.proofs.JobSheets.{as_many_places}
 use Rattle.job_file.specs.declared.view.JobView.{JobView}
 use Rattle.cut_marks.specs.Items.{items_of_marks, AreHeadedWell}
 use Rattle.sheet_plan.specs.declared.sheet.Stroke.{Stroke}
@@ -17,22 +19,21 @@ use Rattle.view_lines.specs.declared.view.ViewDrawing.{ViewDrawing}
 use Rattle.sheet_page.specs.Pages.{IsInView}
 use Rattle.sheet_page.specs.declared.page.Item.{Item}
 use Rattle.sheet_page.specs.Blocks.{block_of}
+use Rattle.sheet_page.specs.Corners.{EndsBefore}
+use Rattle.sheet_page.proofs.InCorner.{clear_of_views}
+use Rattle.sheet_plan.specs.declared.sheet.Sheet.{Sheet}
 use Rattle.solid_mesh.specs.Solids.{solid_part}
 use Rattle.section_look.specs.Looks.{AreLooks}
 use Rattle.section_look.specs.declared.looks.SectionLook.{SectionLook}
 use Rattle.sheet_core.specs.Pages.{items_of, IsPicture}
-use Rattle.sheet_core.proofs.Moved.{moved_strokes}
-use Rattle.sheet_core.proofs.PageItems.{planned_for, same_places, of_marks, in_views}
+use Rattle.sheet_core.proofs.PageItems.{of_block, of_marks, in_views}
 use Rattle.sheet_core.proofs.page.show.Goals as goal
-
-pub centred-requires : goal.centred-requires
-centred-requires c = record { planned = (c.args.drawing.now.job, planned_for c.args.drawing.now c.requires) }
 
 pub strokes_of-requires-clause-placed : goal.strokes_of-requires-clause-placed
 strokes_of-requires-clause-placed c =
     let d = c.args.drawing.now in
     let views = ap (λ (views : List ViewDrawing). length views) c.deref.ensures.value in
-    omega (arith, placed d c.requires.shows, same_places d.sheet (solid_part d.solid).corners c.in_ok-on.on c.in_ok-on.ensures.centred, views)
+    omega (arith, placed d c.requires.shows, views)
 
 pub strokes_of-requires-clause-few : goal.strokes_of-requires-clause-few
 strokes_of-requires-clause-few c =
@@ -42,9 +43,8 @@ strokes_of-requires-clause-few c =
 pub looks_of-requires-clause-placed : goal.looks_of-requires-clause-placed
 looks_of-requires-clause-placed c =
     let d = c.args.drawing.now in
-    let here = same_places d.sheet (solid_part d.solid).corners c.in_ok-on.on c.in_ok-on.ensures.centred in
     let views = ap (λ (views : List JobView). length views) c.deref-2.ensures.value in
-    omega (arith, as_many_places d.job (solid_part d.solid).corners d.sheet c.requires.sheet, here, views)
+    omega (arith, c.requires.shows.placed.count, views)
 
 pub looks_of-requires-clause-few : goal.looks_of-requires-clause-few
 looks_of-requires-clause-few c =
@@ -53,28 +53,35 @@ looks_of-requires-clause-few c =
 
 pub picture_of-requires-clause-placed : goal.picture_of-requires-clause-placed
 picture_of-requires-clause-placed c =
-    subst (λ (xs : List SectionLook). All (λ (x : SectionLook). x.view < length c.in_ok-on.on.places.items) xs) (sym c.deref-4.ensures.value) c.in_ok-sections.ensures.in_range
+    subst (λ (xs : List SectionLook). All (λ (x : SectionLook). x.view < length c.args.drawing.now.sheet.places.items) xs) (sym c.deref-4.ensures.value) c.in_ok-sections.ensures.in_range
 
 pub picture_of-requires-clause-in_range : goal.picture_of-requires-clause-in_range
 picture_of-requires-clause-in_range c =
-    subst (λ (xs : List Stroke). All (λ (x : Stroke). x.view < length c.in_ok-on.on.places.items) xs) (sym c.deref-3.ensures.value) c.in_ok-strokes.ensures.in_range
+    subst (λ (xs : List Stroke). All (λ (x : Stroke). x.view < length c.args.drawing.now.sheet.places.items) xs) (sym c.deref-3.ensures.value) c.in_ok-strokes.ensures.in_range
 
 pub marks-requires-clause-placed : goal.marks-requires-clause-placed
 marks-requires-clause-placed c =
     let d = c.args.drawing.now in
-    let here = same_places d.sheet (solid_part d.solid).corners c.in_ok-on.on c.in_ok-on.ensures.centred in
-    let views = ap (λ (views : List JobView). length views) c.deref-6.ensures.value in
-    omega (arith, as_many_places d.job (solid_part d.solid).corners d.sheet c.requires.sheet, here, views)
+    let views = ap (λ (views : List JobView). length views) c.deref-7.ensures.value in
+    omega (arith, c.requires.shows.placed.count, views)
+
+pub marks-requires-clause-asked : goal.marks-requires-clause-asked
+marks-requires-clause-asked c =
+    let views = ap (λ (views : List JobView). length views) c.deref-7.ensures.value in
+    let sides = ap (λ (sides : List Sides). length sides) c.deref-6.ensures.value in
+    omega (arith, c.in_ok-sides.ensures.count, views, sides)
 
 pub marks-requires-clause-few : goal.marks-requires-clause-few
 marks-requires-clause-few c =
-    let views = ap (λ (views : List JobView). length views) c.deref-6.ensures.value in
+    let views = ap (λ (views : List JobView). length views) c.deref-7.ensures.value in
     omega (arith, views, c.args.drawing.now.job.few_views)
 
 pub returns-clause-shows : goal.returns-clause-shows
 returns-clause-shows c =
     let d = c.args.drawing.now in
-    let sheet = c.in_ok-on.on in
+    let sheet = d.sheet in
+    let laid = c.requires in
+    let asked : c.deref-6.result.now ≡ sides_for d.job = c.deref-6.ensures.value ∙ c.in_ok-sides.ensures.sides in
     let strokes = c.in_ok-strokes.strokes.items in
     let marks = c.in_ok-marks.marks.items in
     let wide = d.sheet.width_in_range in
@@ -82,13 +89,15 @@ returns-clause-shows c =
     let width_fits : FitsSigned w64 d.sheet.width = omega (arith, ints) in
     let height_fits : FitsSigned w64 d.sheet.height = omega (arith, ints) in
     let are_strokes = subst (λ (views : List ViewDrawing). AreStrokes sheet views strokes) c.deref.ensures.value c.in_ok-strokes.ensures.strokes in
-    let moved = c.in_ok-on.ensures.centred.moved in
     record {
-      centred = c.in_ok-on.ensures.centred;
-      within = c.in_ok-on.ensures.within_margins;
-      apart = c.in_ok-on.ensures.apart;
+      layout = laid.layout;
+      sheet = laid.sheet;
+      shrunk_is = laid.shrunk_is;
+      apart = laid.apart;
+      in_frame = laid.in_frame;
+      clear = λ view room takes. clear_of_views d.sheet.width d.sheet.height room (block_of d.sheet d.job c.args.part.now c.args.look.now.block)
+          (subst (λ (s : Sheet). EndsBefore s.width s.height room) (sym laid.sheet) (laid.in_frame view room takes).clear) c.in_ok-items.ensures.in_corner;
       are_strokes = are_strokes;
-      moved = record { right = _; down = _; views = moved; are_moved = λ before here. moved_strokes _ _ d.sheet sheet moved d.views.items before strokes here are_strokes };
       sections = c.in_ok-sections.sections.items;
       are_sections = subst (λ (views : List JobView). AreLooks sheet (solid_part d.solid) views c.in_ok-sections.sections.items) c.deref-2.ensures.value c.in_ok-sections.ensures.looks;
       picture = c.in_ok-picture.picture.items;
@@ -96,35 +105,31 @@ returns-clause-shows c =
           (subst (λ (looks : List SectionLook). IsPicture sheet c.deref-3.result.now looks c.in_ok-picture.picture.items) c.deref-4.ensures.value c.in_ok-picture.ensures.picture);
       paths = c.in_ok-paths.paths.items;
       are_paths = subst (λ (ss : List Stroke). ArePaths ss c.in_ok-paths.paths.items) c.deref-5.ensures.value c.in_ok-paths.ensures;
-      are_marks = subst (λ (views : List JobView). AreMarked sheet (solid_part d.solid) (cuts_in views) views marks) c.deref-6.ensures.value c.in_ok-marks.ensures.marked;
-      in_reach = c.in_ok-marks.ensures.in_reach;
+      are_marks = subst (λ (sides : List Sides). AreMarked sheet sides c.args.shrunk (solid_part d.solid) (cuts_in d.job.views.items) d.job.views.items marks) asked
+          (subst (λ (views : List JobView). AreMarked sheet c.deref-6.result.now c.args.shrunk (solid_part d.solid) (cuts_in views) views marks) c.deref-7.ensures.value c.in_ok-marks.ensures.marked);
+      in_reach = subst (λ (sides : List Sides). AreInReach sheet (solid_part d.solid).corners sides c.args.shrunk marks) asked c.in_ok-marks.ensures.in_reach;
       none_touch = c.in_ok-marks.ensures.none_touch;
-      headed = subst (λ (ms : List ViewMarks). AreHeadedWell d.job.decimals d.job.unit ms c.args.look.now.titles.items) c.deref-7.ensures.value c.in_ok-items.ensures.headed;
+      headed = subst (λ (ms : List ViewMarks). AreHeadedWell d.job.decimals d.job.unit ms c.args.look.now.titles.items) c.deref-8.ensures.value c.in_ok-items.ensures.headed;
       width = simp to_z-of_z;
       height = simp to_z-of_z;
       title = c.in_ok-new.ensures.same ∙ c.as_str.ensures.same;
       views = omega (arith, c.len.ensures, d.sheet.places.ok.0);
-      items = c.in_ok-items.ensures.items ∙ ap (λ (ms : List ViewMarks). items_of c.args.look.now c.args.part.now d c.in_ok-sections.sections.items c.in_ok-paths.paths.items ms) c.deref-7.ensures.value;
+      items = c.in_ok-items.ensures.items ∙ ap (λ (ms : List ViewMarks). items_of c.args.look.now c.args.part.now d c.in_ok-sections.sections.items c.in_ok-paths.paths.items ms) c.deref-8.ensures.value;
     }
 
 pub returns-clause-in_views : goal.returns-clause-in_views
 returns-clause-in_views c =
     let d = c.args.drawing.now in
-    let moved = length c.in_ok-on.on.places.items in
+    let many = length c.args.drawing.now.sheet.places.items in
     let block = block_of d.sheet d.job c.args.part.now c.args.look.now.block in
     let sections = c.in_ok-sections.sections.items in
     let paths = c.in_ok-paths.paths.items in
     let titles = c.args.look.now.titles.items in
-    let strokes : All (λ (s : Stroke). s.view < moved) c.deref-5.result.now = subst (λ (xs : List Stroke). All (λ (s : Stroke). s.view < moved) xs) (sym c.deref-5.ensures.value) c.in_ok-picture.ensures.in_range in
-    let within = views_within c.deref-5.result.now moved paths strokes c.in_ok-paths.ensures in
-    let all : All (IsInView moved) c.in_ok-items.items.items =
-    subst (λ (items : List Item). All (IsInView moved) items) (sym c.in_ok-items.ensures.items)
-    (in_views moved c.args.look.now.hidden.items d block (items_of_marks d.job.decimals d.job.unit c.deref-7.result.now titles) sections paths (c.in_ok-items.ensures.of_block moved)
-    (of_marks moved d.job.decimals d.job.unit c.deref-7.result.now titles) c.in_ok-sections.ensures.in_range within) in
-    let same : moved ≡ c.len.result = omega (arith, c.len.ensures, d.sheet.places.ok.0, same_places d.sheet (solid_part d.solid).corners c.in_ok-on.on c.in_ok-on.ensures.centred) in
+    let strokes : All (λ (s : Stroke). s.view < many) c.deref-5.result.now = subst (λ (xs : List Stroke). All (λ (s : Stroke). s.view < many) xs) (sym c.deref-5.ensures.value) c.in_ok-picture.ensures.in_range in
+    let within = views_within c.deref-5.result.now many paths strokes c.in_ok-paths.ensures in
+    let all : All (IsInView many) c.in_ok-items.items.items =
+    subst (λ (items : List Item). All (IsInView many) items) (sym c.in_ok-items.ensures.items)
+    (in_views many c.args.look.now.hidden.items d block (items_of_marks d.job.decimals d.job.unit c.deref-8.result.now titles) sections paths (of_block many d.sheet.width d.sheet.height block c.in_ok-items.ensures.in_corner)
+    (of_marks many d.job.decimals d.job.unit c.deref-8.result.now titles) c.in_ok-sections.ensures.in_range within) in
+    let same : many ≡ c.len.result = omega (arith, c.len.ensures, d.sheet.places.ok.0) in
     subst (λ (n : ℕ). All (IsInView n) c.in_ok-items.items.items) same all
-
-pub returns-clause-placed : goal.returns-clause-placed
-returns-clause-placed c =
-    let d = c.args.drawing.now in
-    omega (arith, as_many_places d.job (solid_part d.solid).corners d.sheet c.requires.sheet, same_places d.sheet (solid_part d.solid).corners c.in_ok-on.on c.in_ok-on.ensures.centred)

@@ -138,12 +138,11 @@ returns-clause-written g c =
     let list = texts.list.items in
     let plain = texts.plain.items in
     let shown_text = page_text named.out shown.page in
-    let shown_list = listed named.list (list_text input.drawing.job shown.on (drawn_strokes input.look.hidden.items shown.strokes.items) shown.strokes.items) in
+    let shown_list = listed named.list (list_text input.drawing.job input.drawing.sheet (drawn_strokes input.look.hidden.items shown.strokes.items) shown.strokes.items) in
     let Q : Option SheetFault → Option SheetInput → Type 0 = λ fault made. IfSome made (Writes named fault old new) in
     at_end Q c.ended.result.fault fault c.ended.result.made (Some input) c.ended.ensures.fault c.ended.ensures.made
     (writes_from named old between new c.in-Ok-take_sheet.ensures.changes fault input (record {
       page = shown.page;
-      on = shown.on;
       strokes = shown.strokes.items;
       marks = shown.marks.items;
       shows = made.shows;

@@ -10,7 +10,7 @@ returns c =
     let input = c.args.input.now in
     record {
       shown = shown;
-      shows = subst (λ (part : List ℕ). IsPageWith input.look part input.drawing shown.page shown.on shown.strokes.items shown.marks.items) c.as_str.ensures.same c.in_ok-shown.ensures.shows;
+      shows = subst (λ (part : List ℕ). IsPageWith input.look part input.drawing input.shrunk shown.page shown.strokes.items shown.marks.items) c.as_str.ensures.same c.in_ok-shown.ensures.shows;
       text = c.in_ok-page.ensures;
       list = c.in_ok-list.ensures;
       plain = c.in_ok-plain.ensures;
