@@ -15,7 +15,7 @@ use Rattle.sheet_input.specs.Answers.{IsOfAnyJob, IsOfFiles}
 use Rattle.sheet_input.specs.Faults.{cause_of}
 use Rattle.sheet_input.specs.Steps.{DrawnSheet, DrawsSheet}
 use Rattle.sheet_input.specs.declared.fault.SheetFault.{SheetFault}
-use Rattle.sheet_input.specs.declared.fault.SheetFault.TheVariants.{Common, OwnJob, WriteList, WritePlain}
+use Rattle.sheet_input.specs.declared.fault.SheetFault.TheVariants.{Common, OwnJob, NoRoom, WriteList, WritePlain}
 use Rattle.sheet_input.specs.inner.Shortage.{short_alone}
 use Rattle.sheet_input.proofs.NeverMissing.{never_missing_sheet}
 use Rattle.sheet_input.proofs.OneDrawing.{draws_sheet_single}
@@ -45,6 +45,7 @@ module _ (files : Files) (input : Input) where
 never_unread : (asked : Option Asks) (files : Files) → HasFilesAsked files asked → (f : SheetFault) → cause_of f ≡ unread → RunsSheet asked files (Err f) → ⊥
 never_unread asked files there (Common e) is h = read_only (λ (e : Fault). RunsSheet asked files (Err (Common e)) → ⊥) (λ input. never_missing files input asked there) e is h
 never_unread asked files there OwnJob is h = unread_only elsewhere is
+never_unread asked files there (NoRoom lack) is h = unread_only elsewhere is
 never_unread asked files there WriteList is h = unread_only unwritten is
 never_unread asked files there WritePlain is h = unread_only unwritten is
 
@@ -52,8 +53,7 @@ never_unread asked files there WritePlain is h = unread_only unwritten is
 module _ (part : List ℕ) (job : Option (List ℕ)) (alone : NamesNoFile job part) (input : Input) where
   files_unread : IsOfFiles part job (Common (ReadFault input)) → ⊥
   files_unread (inl of_job) = subst (λ (name : Option (List ℕ)). IsOfAnyJob name (Common (ReadFault input))) alone.no_job of_job
-  files_unread (inr (inl of_part)) = sample_not_read (sample_size part) alone.sample input of_part
-  files_unread (inr (inr of_sheet)) = of_sheet
+  files_unread (inr of_part) = sample_not_read (sample_size part) alone.sample input of_part
 
 input_unread : (asked : Option Asks) → NamesNoFileAsked asked → (input : Input) → AnswersSheetWords asked (Some (Common (ReadFault input))) → ⊥
 input_unread None none input h = h
@@ -64,6 +64,7 @@ input_unread (Some (sheet named)) none input h = files_unread named.part named.j
 none_unread : (asked : Option Asks) → NamesNoFileAsked asked → (f : SheetFault) → cause_of f ≡ unread → AnswersSheetWords asked (Some f) → ⊥
 none_unread asked none (Common e) is may = read_only (λ (e : Fault). AnswersSheetWords asked (Some (Common e)) → ⊥) (λ input. input_unread asked none input) e is may
 none_unread asked none OwnJob is may = unread_only elsewhere is
+none_unread asked none (NoRoom lack) is may = unread_only elsewhere is
 none_unread asked none WriteList is may = unread_only unwritten is
 none_unread asked none WritePlain is may = unread_only unwritten is
 

@@ -17,7 +17,7 @@ use Rattle.sheet_core.specs.Run.{AnswersSheetWords, HasDrawing, RunsInOrder}
 use Rattle.sheet_core.specs.inner.Faults.{IsOfReading, IsOfWriting}
 use Rattle.sheet_core.proofs.Putting.{by_writing}
 use Rattle.sheet_input.specs.declared.fault.SheetFault.{SheetFault}
-use Rattle.sheet_input.specs.declared.fault.SheetFault.TheVariants.{Common, OwnJob, WriteList, WritePlain}
+use Rattle.sheet_input.specs.declared.fault.SheetFault.TheVariants.{Common, OwnJob, NoRoom, WriteList, WritePlain}
 use Rattle.sheet_words.specs.Names.{Asks, Named, help, version, sheet}
 
 -- ---- faults of taking a drawing are none of the words and none of writing
@@ -40,18 +40,17 @@ part_no_write (Some size) target h = h
 module _ (part : List ℕ) (job : Option (List ℕ)) where
   no_usage : IsOfFiles part job (Common Usage) → ⊥
   no_usage (inl h) = job_no_usage job h
-  no_usage (inr (inl h)) = part_no_usage (sample_size part) h
-  no_usage (inr (inr h)) = h
+  no_usage (inr h) = part_no_usage (sample_size part) h
 
   no_write : (target : Target) → IsOfFiles part job (Common (WriteFault target)) → ⊥
   no_write target (inl h) = job_no_write job target h
-  no_write target (inr (inl h)) = part_no_write (sample_size part) target h
-  no_write target (inr (inr h)) = h
+  no_write target (inr h) = part_no_write (sample_size part) target h
 
   pub unwritten_files : (e : SheetFault) → IsOfFiles part job e → HasNoWriteFaultOf sheet_faults (Some e)
   unwritten_files (Common (WriteFault target)) h = absurd (no_write target h)
   unwritten_files (Common e) h = tt
   unwritten_files OwnJob h = tt
+  unwritten_files (NoRoom lack) h = tt
   unwritten_files WriteList h = absurd h
   unwritten_files WritePlain h = absurd h
 
@@ -64,6 +63,7 @@ answers_files named (Common Memory) h = tt
 answers_files named (Common (WriteFault target)) h = absurd (no_write named.part named.job target h)
 answers_files named (Common e) h = h
 answers_files named OwnJob h = h
+answers_files named (NoRoom lack) h = h
 answers_files named WriteList h = absurd h
 answers_files named WritePlain h = absurd h
 
@@ -90,6 +90,7 @@ in_order named files e h = tt
 pub of_reading : (e : SheetFault) → cause_of e ≡ unread → IsOfReading e
 of_reading (Common e) is = read_only (λ (e : Fault). IsOfReading (Common e)) (λ input. tt) e is
 of_reading OwnJob is = absurd (unread_only elsewhere is)
+of_reading (NoRoom lack) is = absurd (unread_only elsewhere is)
 of_reading WriteList is = absurd (unread_only unwritten is)
 of_reading WritePlain is = absurd (unread_only unwritten is)
 

@@ -13,7 +13,7 @@ use Rattle.put_texts.specs.Puts.{IsOfTexts}
 use Rattle.put_texts.proofs.Putting.{by_fault, of_way}
 use Rattle.sheet_input.specs.Faults.{cause_of, sheet_faults, unwritten_of}
 use Rattle.sheet_input.specs.declared.fault.SheetFault.{SheetFault}
-use Rattle.sheet_input.specs.declared.fault.SheetFault.TheVariants.{Common, OwnJob, WriteList, WritePlain}
+use Rattle.sheet_input.specs.declared.fault.SheetFault.TheVariants.{Common, OwnJob, NoRoom, WriteList, WritePlain}
 use Rattle.sheet_input.specs.declared.fault.SheetTarget.{SheetTarget}
 use Rattle.sheet_input.specs.declared.fault.SheetTarget.TheVariants as sheet_target
 use Rattle.sheet_core.specs.Writing.{way_of, list_way, summary_way, texts_for, IsOfTarget}
@@ -37,6 +37,7 @@ module _ (named : Named) (P : SheetFault → Type 0) (written : (target : Target
   by_writing WriteList is = listed is
   by_writing WritePlain is = plained is
   by_writing OwnJob is = absurd is
+  by_writing (NoRoom lack) is = absurd is
   by_writing (Common (WriteFault target)) is = written target is
   by_writing (Common Memory) is = want
   by_writing (Common e) is = absurd is

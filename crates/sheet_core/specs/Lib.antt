@@ -4,5 +4,6 @@ pub mod Run
 pub mod Writing
 pub mod inner
 pub mod Refusals
+pub mod Rooms
 pub mod Places
 pub mod Unread

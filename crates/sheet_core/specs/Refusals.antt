@@ -18,8 +18,9 @@ use Rattle.part_lines.specs.PartTexts.{advice_text, mesh_text, part_text}
 use Rattle.part_lines.specs.declared.hint.PartHint.{PartHint}
 use Rattle.part_lines.specs.declared.hint.PartHint.TheVariants as hint
 use Rattle.sheet_core.specs.Places.{point_text}
+use Rattle.sheet_core.specs.Rooms.{no_room_line}
 use Rattle.sheet_input.specs.declared.fault.SheetFault.{SheetFault}
-use Rattle.sheet_input.specs.declared.fault.SheetFault.TheVariants.{Common, OwnJob, WriteList, WritePlain}
+use Rattle.sheet_input.specs.declared.fault.SheetFault.TheVariants.{Common, OwnJob, NoRoom, WriteList, WritePlain}
 use Rattle.flaw_lines.specs.FlawTexts.{flaw_text}
 use Rattle.sheet_input.specs.declared.place.FaultPlace.{FaultPlace}
 use Rattle.sheet_input.specs.declared.refusal.Told.{Told}
@@ -224,5 +225,6 @@ own_line named other = about (job_in named) (codes "no job")
 abbrev pub fault_line : Option Named → Told → Option Reason → SheetFault → List ℕ
 fault_line named told reason (Common fault) = common_line named told reason fault
 fault_line named told reason OwnJob = own_line named told
+fault_line named told reason (NoRoom lack) = no_room_line lack
 fault_line named told reason WriteList = list_line (list_in named) reason
 fault_line named told reason WritePlain = list_line (plain_in named) reason

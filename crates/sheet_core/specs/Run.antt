@@ -18,7 +18,7 @@ use Rattle.sheet_input.specs.Faults.{sheet_faults, status_of}
 use Rattle.sheet_input.specs.Seen.{input_seen}
 use Rattle.sheet_input.specs.Steps.{DrawnSheet, DrawsSheet}
 use Rattle.sheet_input.specs.declared.fault.SheetFault.{SheetFault}
-use Rattle.sheet_input.specs.declared.fault.SheetFault.TheVariants.{Common, OwnJob, WriteList, WritePlain}
+use Rattle.sheet_input.specs.declared.fault.SheetFault.TheVariants.{Common, OwnJob, NoRoom, WriteList, WritePlain}
 use Rattle.sheet_input.specs.declared.take.SheetInput.{SheetInput}
 use Rattle.sheet_words.specs.Names.{Asks, help, version, sheet}
 
@@ -41,6 +41,7 @@ IsOfAsked (Some (sheet named)) target = IsOfTarget named target
 -- on every desk the words are refused exactly so, unless memory ran out, and the job and the part are at fault only as they may be
 abbrev pub AnswersSheetWords : Option Asks → Option SheetFault → Type 0
 AnswersSheetWords asked (Some OwnJob) = AsksSheetAnd asked (λ named. IsOfFiles named.part named.job OwnJob)
+AnswersSheetWords asked (Some (NoRoom lack)) = AsksSheetAnd asked (λ named. IsOfFiles named.part named.job (NoRoom lack))
 AnswersSheetWords asked (Some WriteList) = AsksSheetAnd asked (λ named. IsSome named.list)
 AnswersSheetWords asked (Some WritePlain) = AsksSheetAnd asked (λ named. IsSome named.plain)
 AnswersSheetWords asked (Some (Common Usage)) = asked ≡ None

@@ -14,6 +14,7 @@ mod parts;
 mod picture;
 mod put;
 mod refusals;
+mod rooms;
 mod run;
 mod texts;
 mod unread;

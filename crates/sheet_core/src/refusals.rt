@@ -9,6 +9,7 @@ ghost use Rattle.sheet_words.specs.Seen.{goal_seen, list_seen, named_seen};
 
 use crate::jobs::{job_text, plotter_text};
 use crate::parts::{Size, room_text, size_text, surface_text};
+use crate::rooms::no_room_line;
 use desk_reasons::{Reason, reason_text};
 use fault_lines::shown;
 use flaw_lines::flaw_text;
@@ -235,6 +236,7 @@ pub(crate) fn line_of(
     match fault {
         SheetFault::Common(fault) => common_line(alloc, request, told, reason, fault),
         SheetFault::OwnJob => own_line(alloc, request, told),
+        SheetFault::NoRoom(lack) => no_room_line(alloc, lack),
         SheetFault::WriteList => list_line(alloc, &request.list, reason),
         SheetFault::WritePlain => list_line(alloc, &request.plain, reason),
     }
