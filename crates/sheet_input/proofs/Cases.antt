@@ -1,5 +1,5 @@
 -- Cases that agree in what plans go by have the same plans, and lack the same.
-use Rattle.std.proofs.Common.{◌≡◌, ℕ, ◌-◌, ◌&&◌, not, Bool, false, if◌then◌else◌, List, find, length, refl, sym, ap, ◌∙◌}
+use Rattle.std.proofs.Common.{◌≡◌, ◌-◌, ◌&&◌, not, false, if◌then◌else◌, find, length, sym, ◌∙◌}
 use Rattle.job_file.specs.ShownCuts.{cuts_in}
 use Rattle.job_file.specs.declared.job.Paper.TheVariants.{A0}
 use Rattle.sheet_plan.specs.Numbers.{measure_of}

@@ -1,12 +1,11 @@
 -- A drawing on the sheet of its layout, also where that chose its paper.
-use Rattle.std.proofs.Common.{◌≡◌, ◌⊎◌, inl, inr, ℕ, Bool, true, false, List, find, length, Option, Some, Ok, Err, refl, sym, ap, subst, ◌∙◌, true≢false}
+use Rattle.std.proofs.Common.{◌≡◌, inl, inr, ℕ, Bool, true, false, List, find, length, Option, Some, refl, sym, ap, subst, ◌∙◌, true≢false}
 use Rattle.std.specs.Prelude.{pos}
 use Rattle.std.specs.List.{AllZip}
 use Rattle.cut_marks.specs.AskedSides.{sides_for, sides_from}
 use Rattle.drawing.specs.Drawing.{HasPlaces, IsDrawing, drawn_in}
 use Rattle.drawing.specs.declared.drawn.Drawing.{Drawing}
 use Rattle.geometry.specs.Parts.{Part}
-use Rattle.job_file.specs.Documents.{JobValues}
 use Rattle.job_file.specs.Seen.{job_seen}
 use Rattle.job_file.specs.ShownCuts.{cuts_in}
 use Rattle.job_file.specs.declared.job.Job.{Job}
@@ -22,8 +21,6 @@ use Rattle.sheet_layout.specs.declared.layout.Layout.{Layout}
 use Rattle.sheet_layout.specs.declared.layout.Wish.{Wish}
 use Rattle.sheet_layout.specs.declared.sides.Sides.{Sides}
 use Rattle.sheet_plan.specs.Extents.{AreExtents}
-use Rattle.sheet_plan.specs.JobSheets.{Drawn}
-use Rattle.sheet_plan.specs.declared.sheet.Sheet.{Sheet}
 use Rattle.solid_mesh.specs.Solids.{solid_part}
 use Rattle.solid_mesh.specs.declared.solid.Solid.{Solid}
 use Rattle.sheet_input.specs.Laid.{IsLaidDrawing}

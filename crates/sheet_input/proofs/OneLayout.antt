@@ -1,5 +1,5 @@
 -- A job's views of a part have one layout, or lack one room.
-use Rattle.std.proofs.Common.{◌≡◌, ◌↔◌, ℕ, Bool, true, false, IsTrue, ℤ, List, [], ◌∷◌, map, get_or, drop, length, find, Option, Some, None, option_map, Result, Ok, Err, refl, sym, ap, subst, ◌∙◌, unwrap_or, arith}
+use Rattle.std.proofs.Common.{◌≡◌, ◌↔◌, Bool, true, false, IsTrue, ℤ, List, [], ◌∷◌, map, get_or, drop, find, Option, Some, None, option_map, Ok, Err, refl, sym, ap, subst, ◌∙◌, arith}
 use Rattle.std.specs.Prelude.{◌≤◌, ◌<◌, ◌+◌, ◌^◌, ◌≤ℤ◌, unsigned_abs}
 use Rattle.std.specs.List.{AllZip}
 use Rattle.std.specs.Option.{ForSome}
@@ -8,19 +8,15 @@ use denote.Struct.Props.{props}
 use mathlib.Core.HLevel.{is_prop→PathP}
 use Rattle.cut_marks.specs.AskedSides.{sides_for, sides_from}
 use Rattle.geometry.specs.Parts.{Part}
-use Rattle.geometry.specs.Traces.{GoesThrough}
 use Rattle.job_file.specs.Documents.{JobValues}
 use Rattle.job_file.specs.Names.{direction_of}
 use Rattle.job_file.specs.Scales.{is_scale}
 use Rattle.job_file.specs.Seen.{direction_seen, job_seen, scale_seen, shown, view_seen}
-use Rattle.job_file.specs.ShownCuts.{cuts_in}
 use Rattle.job_file.specs.ViewValues.{Shown, ViewValues, behind, whole}
 use Rattle.job_file.specs.Views.{plain_direction}
 use Rattle.job_file.specs.declared.job.Job.{Job}
-use Rattle.job_file.specs.declared.job.Paper.{Paper}
 use Rattle.job_file.specs.declared.job.Scale.{Scale}
 use Rattle.job_file.specs.declared.view.JobView.{JobView}
-use Rattle.job_file.specs.declared.view.Principal.{Principal}
 use Rattle.lattice.specs.Cuts.{Plane, plane_of}
 use Rattle.lattice.specs.Points.{across_of, of_dir, point_of, upward_of}
 use Rattle.lattice.specs.Triple.{Triple}

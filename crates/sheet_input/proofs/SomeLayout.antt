@@ -1,5 +1,5 @@
 -- A job's views of a part have a layout, or they lack room.
-use Rattle.std.proofs.Common.{◌≡◌, ◌⊎◌, inl, inr, ◌↔◌, ℕ, ◌<◌, ◌<ℤ◌, Bool, true, false, IsTrue, List, [], ◌∷◌, find, Option, Some, None, Result, Ok, Err, refl, sym, ap, ◌∙◌, true≢false}
+use Rattle.std.proofs.Common.{◌≡◌, inl, inr, ◌↔◌, Bool, true, false, IsTrue, List, [], ◌∷◌, find, Some, None, Ok, Err, refl, sym, ap, ◌∙◌, true≢false}
 use Rattle.std.specs.Prelude.{Contains, pos, ◌*ℤ◌}
 use Rattle.std.specs.List.{AllZip, Any}
 use Rattle.answers_exist.proofs.Decided.{Decided, decided_any, decided_both, decided_by, decided_less, by_option}
@@ -18,15 +18,12 @@ use Rattle.lattice.specs.declared.pieces.ViewSpec.TheVariants.{Plain, Section}
 use Rattle.lattice.specs.declared.points.Corner.{Corner}
 use Rattle.part_input.proofs.SomeSteps.{Any as Whatever, AreValues, HasAnswerSuch, IsProper, some_plan}
 use Rattle.part_input.specs.Sheets.{PlansSheet}
-use Rattle.part_input.specs.declared.fault.Fault.{Fault}
 use Rattle.part_input.specs.declared.fault.Fault.TheVariants.{DoesNotFit}
 use Rattle.sheet_layout.specs.Layouts.{Case, IsCaseOf, IsThrough, LacksRoom, fits, paper_of, plans_for}
 use Rattle.sheet_layout.specs.declared.layout.Wish.{Wish}
 use Rattle.sheet_plan.specs.Extents.{AreExtents}
-use Rattle.sheet_plan.specs.JobSheets.{Drawn}
 use Rattle.sheet_plan.specs.declared.bounds.Extent.{Extent}
 use Rattle.sheet_input.specs.Sheets.{LaysSheet, job_on}
-use Rattle.sheet_input.specs.declared.fault.SheetFault.{SheetFault}
 use Rattle.sheet_input.specs.declared.fault.SheetFault.TheVariants.{NoRoom as Lacking}
 use Rattle.sheet_input.proofs.Cases.{lack_of}
 
@@ -47,8 +44,8 @@ module _ (corners : List Corner) where
       let beyond = λ (k : Corner). IsBeyond c (point_of k) in
       decided_by (λ (g : GoesThrough c corners). (g.before, g.beyond), λ (b, y). record { before = b; beyond = y })
       (decided_both
-        (decided_has before (λ k. decided_less (plane_height c *ℤ (point_of k).w) (pos 2 *ℤ height_of (toward_of c) (point_of k))))
-        (decided_has beyond (λ k. decided_less (pos 2 *ℤ height_of (toward_of c) (point_of k)) (plane_height c *ℤ (point_of k).w))))
+      (decided_has before (λ k. decided_less (plane_height c *ℤ (point_of k).w) (pos 2 *ℤ height_of (toward_of c) (point_of k))))
+      (decided_has beyond (λ k. decided_less (pos 2 *ℤ height_of (toward_of c) (point_of k)) (plane_height c *ℤ (point_of k).w))))
 
   flag_of : {P : Type 0} → Decided P → (t : Bool) × (IsTrue t ↔ P)
   flag_of (inl p) = (true, (λ _. p, λ _. refl))

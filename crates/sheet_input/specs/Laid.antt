@@ -1,5 +1,5 @@
 -- What a drawing is laid out by.
-use Rattle.std.specs.Prelude.{◌≡◌, Bool, List}
+use Rattle.std.specs.Prelude.{◌≡◌, Bool}
 use Rattle.cut_marks.specs.AskedSides.{sides_for}
 use Rattle.drawing.specs.Drawing.{IsDrawing}
 use Rattle.drawing.specs.declared.drawn.Drawing.{Drawing}

@@ -1,5 +1,5 @@
 -- The sheet that a job's views of a part are laid out on, and why there may be none.
-use Rattle.std.specs.Prelude.{◌≡◌, Bool, true, false, if◌then◌else◌, find, List, Option, Some, Result, Ok, Err}
+use Rattle.std.specs.Prelude.{◌≡◌, true, false, if◌then◌else◌, find, List, Some, Result, Ok, Err}
 use Rattle.cut_marks.specs.AskedSides.{sides_for}
 use Rattle.geometry.specs.Parts.{Part}
 use Rattle.job_file.specs.Documents.{JobValues}

@@ -16,7 +16,6 @@ use Rattle.drawing.specs.Drawing.{drawn_in}
 use Rattle.job_file.specs.Documents.{JobValues}
 use Rattle.job_file.specs.Seen.{job_seen}
 use Rattle.job_file.specs.declared.job.Job.{Job as MadeJob}
-use Rattle.job_file.specs.declared.job.Paper.{Paper}
 use Rattle.lattice.specs.declared.points.Corner.{Corner}
 use Rattle.sheet_layout.specs.Keeps.{HasPlaceForEach, KeepsApart, StandsInFrame}
 use Rattle.sheet_layout.specs.Layouts.{HasNoRoom, IsLaidOut}
