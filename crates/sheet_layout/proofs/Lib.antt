@@ -1,0 +1,5 @@
+pub mod Answered
+pub mod Kept
+pub mod PlaneSides
+pub mod Scales
+pub mod Standings

@@ -103,7 +103,7 @@ or_else None b = b
 -- the first of these views at which the cut stands so; the first of them has this number
 abbrev pub first_anchor : Bool → Bool → List JobView → Plane → ℕ → List JobView → Option Anchor
 first_anchor third taken all c view [] = None
-first_anchor third taken all c view (v ∷ vs) = or_else (anchor_in third taken all c view v) (first_anchor third taken all c (suc view) vs)
+first_anchor third taken all c view (v ∷ vs) = or_else (anchor_in third taken all c view v) (first_anchor third taken all c (view + 1) vs)
 
 -- beside which view the cut stands: the first in the job's order whose side is free, or else the first whose side is taken
 abbrev pub anchor_of : Bool → List JobView → Plane → Option Anchor

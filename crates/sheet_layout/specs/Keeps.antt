@@ -9,7 +9,13 @@ use Rattle.sheet_plan.specs.Boxes.{Box, TakesBox}
 use Rattle.sheet_plan.specs.Sheets.{IsPlaceOf}
 use Rattle.sheet_plan.specs.declared.sheet.Sheet.{Sheet}
 use Rattle.sheet_plan.specs.declared.sheet.Spread.{Spread}
+use Rattle.sheet_layout.specs.Blocks.{in_column, in_row}
 use Rattle.sheet_layout.specs.Seats.{level_side, side_or_least}
+use Rattle.sheet_layout.specs.declared.cells.Beside.{Beside}
+use Rattle.sheet_layout.specs.declared.cells.Cell.{Cell}
+use Rattle.sheet_layout.specs.declared.cells.Side.{Side}
+use Rattle.sheet_layout.specs.declared.cells.Side.TheVariants.{Left, Right, Top, Bottom}
+use Rattle.sheet_layout.specs.declared.seats.Seat.{Seat}
 use Rattle.sheet_layout.specs.declared.layout.Layout.{Layout}
 use Rattle.sheet_layout.specs.declared.sides.Sides.{Sides}
 
@@ -50,6 +56,31 @@ pub record IsInFrame (sheet : Sheet) (box : Box) : Type 0 where
 abbrev pub StandsInFrame : List Corner → List Sides → Layout → Type 0
 StandsInFrame corners sides layout = (view : ℕ) (room : Box) → TakesRoom layout corners sides view room → IsInFrame layout.sheet room
 
+-- ---- in line
+-- two views of one block: if neither is in its column alone their origins have one y, and if neither is in its row alone one x
+pub record AreInLine (s t : Seat) (a b : Spread) : Type 0 where
+  pub level : in_column s.cell.line ≡ false → in_column t.cell.line ≡ false → a.y0 ≡ b.y0
+  pub upright : in_row s.cell.line ≡ false → in_row t.cell.line ≡ false → a.x0 ≡ b.x0
+
+abbrev pub KeepsInLine : List Seat → Layout → Type 0
+KeepsInLine seats layout =
+    (i j : ℕ) (s t : Seat) (a b : Spread) → i ≢ j → slice_get seats i ≡ Some s → slice_get seats j ≡ Some t → s.cell.block ≡ t.cell.block
+    → IsPlaceOf layout.sheet i a → IsPlaceOf layout.sheet j b → AreInLine s t a b
+
+-- the second is on that side of the first
+abbrev pub IsOnSide : Side → Box → Box → Type 0
+IsOnSide Left a b = b.right ≤ℤ a.left
+IsOnSide Right a b = a.right ≤ℤ b.left
+IsOnSide Top a b = b.bottom ≤ℤ a.top
+IsOnSide Bottom a b = a.bottom ≤ℤ b.top
+
+-- a view that stands beside another is on that side of it
+abbrev pub KeepsSides : List Corner → List Sides → List Seat → Layout → Type 0
+KeepsSides corners sides seats layout =
+    (i : ℕ) (s : Seat) (at : Beside) (a b : Box) → slice_get seats i ≡ Some s → s.cell.beside ≡ Some at → TakesRoom layout corners sides at.view a → TakesRoom layout corners sides i b
+    → IsOnSide at.side a b
+
+-- ---- places
 -- each view of the job has its place, along its direction
 pub record HasPlaceForEach (views : List JobView) (layout : Layout) : Type 0 where
   pub count : length layout.sheet.places.items ≡ length views

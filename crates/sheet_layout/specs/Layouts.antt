@@ -29,7 +29,7 @@ use Rattle.sheet_layout.specs.declared.layout.LayoutError.TheVariants.{NoRoom as
 use Rattle.sheet_layout.specs.declared.layout.NoRoom.{NoRoom}
 use Rattle.sheet_layout.specs.declared.layout.Wish.{Wish}
 use Rattle.sheet_layout.specs.declared.plans.Plan.{Plan}
-use Rattle.sheet_layout.specs.declared.rects.Rect.{Rect}
+use Rattle.sheet_layout.specs.declared.rooms.Room.{Room}
 use Rattle.sheet_layout.specs.declared.rects.Standing.{Standing}
 use Rattle.sheet_layout.specs.declared.seats.Seat.{Seat}
 use Rattle.sheet_layout.specs.declared.sides.Sides.{Sides}
@@ -42,10 +42,13 @@ pub record Case : Type 0 where
   pub sides : List Sides
   pub extents : List Extent
 
+abbrev pub case_of : Job → List Bool → List Sides → List Extent → Case
+case_of job through sides extents = record { job = job; through = through; sides = sides; extents = extents }
+
 abbrev pub seats_on : Case → Plan → List Seat
 seats_on c p = seats_from c.job.third p.shrunk (measure_of p.scale c.job.decimals) c.job.views.items p.kept 0 0 c.job.views.items c.through c.sides c.extents
 
-abbrev pub room_on : Case → Plan → Rect
+abbrev pub room_on : Case → Plan → Room
 room_on c p = room_of p.paper c.job.portrait p.beside
 
 -- where sides are shrunk no box is moved for being in line with another
@@ -53,7 +56,7 @@ abbrev pub tries_on : Plan → ℕ
 tries_on p = if p.shrunk then 0 else 12
 
 abbrev pub rows_on : Case → Plan → Rows
-rows_on c p = rows_of (tries_on p) ((room_on c p).right - (room_on c p).left) (seats_on c p)
+rows_on c p = rows_of p.corner (tries_on p) ((room_on c p).right - (room_on c p).left) (seats_on c p)
 
 abbrev pub standings_on : Case → Plan → List Standing
 standings_on c p = standings_in (room_on c p) (seats_on c p) (rows_on c p) (seats_on c p)
@@ -83,14 +86,25 @@ abbrev pub IsThrough : List Corner → ViewSpec → Bool → Type 0
 IsThrough corners (Plain d) through = through ≡ false
 IsThrough corners (Section c) through = IsTrue through ↔ GoesThrough (plane_of c) corners
 
+abbrev pub AreThrough : List Corner → List JobView → List Bool → Type 0
+AreThrough corners views through = AllZip (λ v t. IsThrough corners v.spec t) views through
+
 -- what is laid out of a job and a part with these corners
 pub record IsCaseOf (job : Job) (corners : List Corner) (sides : List Sides) (c : Case) : Type 0 where
   pub job_is : c.job ≡ job
-  pub through : AllZip (λ (v : JobView) (t : Bool). IsThrough corners v.spec t) job.views.items c.through
+  pub through : AreThrough corners job.views.items c.through
   pub sides_are : c.sides ≡ sides
   pub reach : AreExtents corners job.views.items c.extents
 
--- the layout is that of the first plan that has room
+-- the layout is that of the first plan that has room, of a case
+pub record IsLaidBy (c : Case) (w : Wish) (layout : Layout) : Type 0 where
+  pub plan : Plan
+  pub first : find (fits c) (plans_for w c.job) ≡ Some plan
+  pub sheet : IsSheetBy c plan layout.sheet
+  pub paper : layout.paper ≡ plan.paper
+  pub shrunk : layout.shrunk ≡ plan.shrunk
+
+-- and of a job and a part
 pub record IsLaidOut (job : Job) (corners : List Corner) (sides : List Sides) (w : Wish) (layout : Layout) : Type 0 where
   pub laid : Case
   pub of_job : IsCaseOf job corners sides laid
@@ -122,6 +136,7 @@ last_plan w job = record {
   scale = last_scale w.any_paper job.scale;
   shrunk = not w.any_paper && (w.older && is_stated job.scale);
   kept = 0;
+  corner = false;
   beside = false;
 }
 
@@ -152,6 +167,10 @@ pub record LacksRoom (c : Case) (w : Wish) (n : NoRoom) : Type 0 where
   pub down : n.more_down ≡ (rows_on c (last_plan w c.job)).bottom - ((room_on c (last_plan w c.job)).bottom - (room_on c (last_plan w c.job)).top)
   pub smaller : n.smaller ≡ scale_of (find (fits c) (falling (last_plan w c.job).paper (length (cuts_in c.job.views.items)) (scales_after (last_plan w c.job).scale all_scales)))
   pub larger : n.larger ≡ paper_of (find (fits c) (on_each (larger_than (last_plan w c.job).paper) (last_plan w c.job).scale (length (cuts_in c.job.views.items))))
+
+abbrev pub IsNotLaidBy : Case → Wish → LayoutError → Type 0
+IsNotLaidBy c w (NoRoomFor n) = LacksRoom c w n
+IsNotLaidBy c w (Memory e) = Unit {0}
 
 pub record HasNoRoom (job : Job) (corners : List Corner) (sides : List Sides) (w : Wish) (n : NoRoom) : Type 0 where
   pub tried : Case

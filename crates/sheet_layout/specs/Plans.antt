@@ -24,31 +24,34 @@ abbrev pub papers : List Paper
 papers = A4 ∷ A3 ∷ A2 ∷ A1 ∷ A0 ∷ []
 
 -- ---- plans
--- above the title block, or beside it
-abbrev pub both_rooms : Paper → Scale → Bool → ℕ → List Plan
-both_rooms paper scale shrunk kept =
-    record { paper = paper; scale = scale; shrunk = shrunk; kept = kept; beside = false }
-    ∷ record { paper = paper; scale = scale; shrunk = shrunk; kept = kept; beside = true } ∷ []
+-- with other views below the named ones, or in the corner beside their column: each above the title block, or beside it
+abbrev pub plan_in : Paper → Scale → Bool → ℕ → (corner beside : Bool) → Plan
+plan_in paper scale shrunk kept corner beside = record { paper = paper; scale = scale; shrunk = shrunk; kept = kept; corner = corner; beside = beside }
+
+abbrev pub all_rooms : Paper → Scale → Bool → ℕ → List Plan
+all_rooms paper scale shrunk kept =
+    plan_in paper scale shrunk kept false false ∷ plan_in paper scale shrunk kept false true
+    ∷ plan_in paper scale shrunk kept true false ∷ plan_in paper scale shrunk kept true true ∷ []
 
 -- with fewer than so many cuts in projection: the last ones stand in rows of their own, as few of them as possible
 abbrev pub with_fewer : Paper → Scale → Bool → ℕ → List Plan
 with_fewer paper scale shrunk zero = []
-with_fewer paper scale shrunk (suc kept) = both_rooms paper scale shrunk kept ++ with_fewer paper scale shrunk kept
+with_fewer paper scale shrunk (suc kept) = all_rooms paper scale shrunk kept ++ with_fewer paper scale shrunk kept
 
 -- at one scale
 abbrev pub stated : Paper → Scale → Bool → ℕ → List Plan
-stated paper scale shrunk cuts = both_rooms paper scale shrunk cuts ++ with_fewer paper scale shrunk cuts
+stated paper scale shrunk cuts = all_rooms paper scale shrunk cuts ++ with_fewer paper scale shrunk cuts
 
 -- with all cuts in projection at the first of these scales
 abbrev pub whole_at : Paper → ℕ → List Scale → List Plan
 whole_at paper cuts [] = []
-whole_at paper cuts (scale ∷ scales) = both_rooms paper scale false cuts
+whole_at paper cuts (scale ∷ scales) = all_rooms paper scale false cuts
 
 -- At each scale with all cuts in projection; then so at the next smaller scale; then at this one with fewer in projection.
 abbrev pub falling : Paper → ℕ → List Scale → List Plan
 falling paper cuts [] = []
 falling paper cuts (scale ∷ scales) =
-    both_rooms paper scale false cuts ++ (whole_at paper cuts scales ++ (with_fewer paper scale false cuts ++ falling paper cuts scales))
+    all_rooms paper scale false cuts ++ (whole_at paper cuts scales ++ (with_fewer paper scale false cuts ++ falling paper cuts scales))
 
 abbrev pub on_each : List Paper → Scale → ℕ → List Plan
 on_each papers scale cuts = flat_map (λ paper. stated paper scale false cuts) papers

@@ -2,7 +2,7 @@
 use Rattle.std.specs.Prelude.{ℕ, ◌-◌, Bool, true, false, if◌then◌else◌}
 use Rattle.job_file.specs.declared.job.Paper.{Paper}
 use Rattle.job_file.specs.declared.job.Paper.TheVariants.{A0, A1, A2, A3, A4}
-use Rattle.sheet_layout.specs.declared.rects.Rect.{Rect}
+use Rattle.sheet_layout.specs.declared.rooms.Room.{Room}
 
 abbrev pub longer_side : Paper → ℕ
 longer_side A0 = 118900
@@ -26,7 +26,7 @@ abbrev pub height_of : Paper → Bool → ℕ
 height_of paper portrait = if portrait then longer_side paper else shorter_side paper
 
 -- within the frame, 10 mm from the edges; the block in its lower right corner is 180 mm wide and 22 mm high
-abbrev pub room_of : Paper → Bool → Bool → Rect
+abbrev pub room_of : Paper → Bool → Bool → Room
 room_of paper portrait beside = record {
   left = 1000;
   right = if beside then width_of paper portrait - 19000 else width_of paper portrait - 1000;

@@ -59,4 +59,4 @@ seats_from third shrunk m all kept number cuts (v ∷ vs) (t ∷ ts) [] extents 
 seats_from third shrunk m all kept number cuts (v ∷ vs) (t ∷ ts) (s ∷ ss) [] = []
 seats_from third shrunk m all kept number cuts (v ∷ vs) (t ∷ ts) (s ∷ ss) (e ∷ es) =
     seat_of shrunk m (cell_of third all (if t then nat_lt cuts kept else false) number v.named v.spec) s e
-    ∷ seats_from third shrunk m all kept (suc number) (cuts + length (cuts_of v.spec)) vs ts ss es
+    ∷ seats_from third shrunk m all kept (number + 1) (cuts + length (cuts_of v.spec)) vs ts ss es

@@ -9,6 +9,7 @@ use Rattle.sheet_layout.specs.declared.cells.Cell.{Cell}
 use Rattle.sheet_layout.specs.declared.cells.Side.{Side}
 use Rattle.sheet_layout.specs.declared.cells.Side.TheVariants.{Left, Right, Top, Bottom}
 use Rattle.sheet_layout.specs.declared.rects.Rect.{Rect}
+use Rattle.sheet_layout.specs.declared.rooms.Room.{Room}
 use Rattle.sheet_layout.specs.declared.rects.Standing.{Standing}
 use Rattle.sheet_layout.specs.declared.rows.Spot.{Spot}
 use Rattle.sheet_layout.specs.declared.seats.Seat.{Seat}
@@ -19,16 +20,16 @@ abbrev pub half_left : ℕ → ℕ → ℕ
 half_left room need = (room - need) / 2
 
 -- where a view's box begins on the sheet, from the left and from above: the rows are in the middle of the room
-abbrev pub standing_of : Rect → List Seat → Rows → Seat → Standing
+abbrev pub standing_of : Room → List Seat → Rows → Seat → Standing
 standing_of room seats r s =
     let spot = spot_of r.spots s.cell.block in
     record {
-      x = room.left + half_left (room.right - room.left) r.width + spot.x + seat_x seats s;
-      y = room.top + half_left (room.bottom - room.top) r.bottom + spot.y + seat_y seats s;
+      x = room.left + half_left (room.right - room.left) r.width + (spot.x + seat_x seats s);
+      y = room.top + half_left (room.bottom - room.top) r.bottom + (spot.y + seat_y seats s);
       seat = s;
     }
 
-abbrev pub standings_in : Rect → List Seat → Rows → List Seat → List Standing
+abbrev pub standings_in : Room → List Seat → Rows → List Seat → List Standing
 standings_in room seats r [] = []
 standings_in room seats r (s ∷ ss) = standing_of room seats r s ∷ standings_in room seats r ss
 
@@ -42,7 +43,7 @@ rect_of t = record {
 }
 
 -- ---- what is asked of them
-abbrev pub is_inside : Rect → Standing → Bool
+abbrev pub is_inside : Room → Standing → Bool
 is_inside room t = nat_le room.left (rect_of t).left && (nat_le (rect_of t).right room.right && (nat_le room.top (rect_of t).top && nat_le (rect_of t).bottom room.bottom))
 
 abbrev pub are_apart : Standing → Standing → Bool
@@ -89,10 +90,10 @@ stands_beside all u = is_beside all u.seat.cell.beside u
 
 -- the rows have room; each box with its sides is in it, no two of them overlap, views of one row or column are in line, and each cut in
 -- projection is on its side
-abbrev pub has_room : Rect → Rows → Bool
+abbrev pub has_room : Room → Rows → Bool
 has_room room r = nat_le r.width (room.right - room.left) && nat_le r.bottom (room.bottom - room.top)
 
-abbrev pub stand_well : Rect → List Standing → Bool
+abbrev pub stand_well : Room → List Standing → Bool
 stand_well room all = list_all (is_inside room) all && (all_pairs_well all && list_all (stands_beside all) all)
 
 -- ---- origins
