@@ -1,5 +1,5 @@
 // How much room each view of a job asks for around its box.
-ghost use Rattle.std.specs.Prelude.{◌≡◌, ◌<◌, ◌≤◌, ◌^◌, unsigned_abs, length, IfOk};
+ghost use Rattle.std.specs.Prelude.{◌≡◌, ◌<◌, ◌≤◌, length, IfOk};
 ghost use Rattle.lattice.specs.Cuts.{plane_of};
 ghost use Rattle.cut_marks.specs.AskedSides.{asked_width, letter_at, plain_heading, sides_for, sides_in, sides_of, wide_in};
 

@@ -88,9 +88,7 @@ fn view_marks(
     match spec {
         ViewSpec::Plain(_) => plain_marks(alloc, solid, sheet, view, cuts),
         ViewSpec::Section(cut) => Ok(ViewMarks {
-            heading: Some(heading_of(
-                solid, sheet, sides, shrunk, view, number, cut,
-            )),
+            heading: Some(heading_of(solid, sheet, sides, shrunk, view, number, cut)),
             marks: Vec::new(alloc),
             left_out: Vec::new(alloc),
         }),

@@ -1,5 +1,5 @@
 -- What stands on the page of a drawing is of its views.
-use Rattle.std.proofs.Common.{◌≡◌, ℕ, ◌<◌, List, [], ◌∷◌, ◌++◌, Bool, Option, None, Some, map, length}
+use Rattle.std.proofs.Common.{ℕ, ◌<◌, List, [], ◌∷◌, ◌++◌, Bool, Option, None, Some, map}
 use Rattle.std.specs.Prelude.{ℤ, pos, negsuc}
 use Rattle.std.specs.List.{All, flat_map}
 use Rattle.std.proofs.lemmas.List.Elements.{All-nil, All-cons, All-head, All-tail, All-append, All-filter, All-map, All-weaker}
@@ -11,8 +11,6 @@ use Rattle.cut_marks.specs.declared.views.ViewMarks.{ViewMarks}
 use Rattle.dec_text.specs.declared.number.Length.{Length}
 use Rattle.cut_marks.specs.Items.{rule_to, head_at, letter_item, beside_items, arrow_items, end_items, items_of_mark, heading_item, heading_items, items_of_view, items_of_marks}
 use Rattle.sheet_page.specs.Corners.{IsInCorner}
-use Rattle.sheet_plan.specs.declared.sheet.Sheet.{Sheet}
-use Rattle.solid_mesh.specs.Solids.{solid_part}
 use Rattle.drawing.specs.declared.drawn.Drawing.{Drawing}
 use Rattle.sheet_page.specs.Pages.{IsInView}
 use Rattle.sheet_page.specs.declared.page.Item.{Item}

@@ -1,4 +1,4 @@
-use Rattle.std.proofs.Common.{◌≡◌, ◌<◌, ◌++◌, List, length, ◌∙◌}
+use Rattle.std.proofs.Common.{◌<◌, ◌++◌, List, length, ◌∙◌}
 use Rattle.std.specs.Prelude.{not}
 use Rattle.std.proofs.lemmas.List.Elements.{All-append, All-filter, All-same}
 use Rattle.sheet_plan.specs.LineKinds.{is_same_mark}
