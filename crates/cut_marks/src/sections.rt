@@ -1,4 +1,4 @@
-// Whether the plane of a cut goes through a solid.
+// Whether a solid has room along an axis.
 ghost use Rattle.std.specs.Prelude.{◌≡◌, ◌≢◌, ◌≤◌, ◌<◌, ◌^◌, ◌↔◌, ◌<ℤ◌, ◌≤ℤ◌, unsigned_abs, IsTrue, Contains};
 ghost use Rattle.lattice.specs.declared.points.Corner.{Corner};
 ghost use Rattle.lattice.specs.Cuts.{plane_of, level_of, unit_of};
@@ -9,32 +9,9 @@ ghost use Rattle.solid_mesh.specs.Solids.{solid_part};
 ghost use Rattle.geometry.specs.Traces.{GoesThrough};
 ghost use Rattle.cut_marks.specs.Traces.{IsSpread};
 
-use lattice::{Axis, Cut, Vector};
+use lattice::{Axis, Vector};
 use sheet_plan::reach_along;
 use solid_mesh::Solid;
-
-/// The height of the cut's place, as its viewer sees it.
-fn level(cut: &Cut) -> i64
-    ensures value { result ≡ level_of (plane_of cut.now) }
-    ensures size { unsigned_abs result ≤ 2 ^ 20 }
-{
-    if cut.from_high() { cut.at() } else { -cut.at() }
-}
-
-/// The plane is right below its level: there are corners on both of its sides.
-fn is_amid(lowest: i64, level: i64, topmost: i64) -> bool
-    ensures { IsTrue result ↔ ((lowest <ℤ level) × (level ≤ℤ topmost)) }
-{
-    lowest < level && level <= topmost
-}
-
-/// The plane of the cut goes through the solid: corners are on both sides of it. Goes once over them.
-pub(crate) fn goes_through(solid: &Solid, cut: &Cut) -> bool
-    ensures { IsTrue result ↔ GoesThrough (plane_of cut.now) (solid_part solid.now).corners }
-{
-    let height = reach_along(solid, &cut.dir().vector());
-    is_amid(height.least, level(cut), height.greatest)
-}
 
 /// One unit along an axis.
 fn unit(axis: Axis) -> Vector

@@ -13,11 +13,12 @@ ghost use Rattle.cut_marks.specs.Letters.{IsLetterOf};
 ghost use Rattle.cut_marks.specs.Traces.{foot_of, way_of, looks, is_upright, is_forward, IsTraceOn, AreTraces};
 
 use crate::letters::letter_of;
-use crate::sections::{goes_through, is_spread};
+use crate::sections::is_spread;
 use crate::shown::shown_at;
 use crate::ways::{Trace, Way};
 use exact_frac::OutOfMemory;
 use lattice::{Axis, Corner, Cut, Dir};
+use sheet_layout::goes_through;
 use sheet_plan::Sheet;
 use solid_mesh::Solid;
 use std::alloc::Global;

@@ -1,6 +1,6 @@
 -- What a layout keeps: its boxes with their sides are apart and in the frame, and each view has its place.
-use Rattle.std.proofs.Common.{◌≡◌, ◌≢◌, ◌⊎◌, inl, inr, ℕ, ◌+◌, ◌-◌, ◌<◌, ◌≤◌, List, length, slice_get, Some, Option, Bool, true, false, IsTrue, refl, sym, subst, ap, ◌∙◌, arith}
-use Rattle.std.specs.Prelude.{ℤ, pos, ◌+ℤ◌, ◌-ℤ◌, ◌≤ℤ◌, unsigned_abs, nat_le, int_lt, not, ◌==◌, ◌&&◌, ◌||◌, find, T}
+use Rattle.std.proofs.Common.{◌≡◌, ◌≢◌, ◌⊎◌, inl, inr, ℕ, ◌+◌, ◌-◌, ◌<◌, ◌≤◌, List, length, slice_get, Some, Option, Bool, true, false, refl, sym, subst, ap, ◌∙◌, arith}
+use Rattle.std.specs.Prelude.{ℤ, pos, ◌+ℤ◌, ◌-ℤ◌, ◌≤ℤ◌, unsigned_abs, nat_le, int_lt, not, ◌==◌, ◌&&◌, ◌||◌, T}
 use Rattle.std.proofs.lemmas.Bool.{and_parts, or_cases, leb-true, eqb-true, eq-eqb, cases_lt}
 use Rattle.std.proofs.lemmas.Int.{ints, by_lt_z}
 use Rattle.std.proofs.lemmas.Slice.Zip.{AllZip-long}
@@ -17,7 +17,7 @@ use Rattle.sheet_plan.proofs.Listed.{zip_at}
 use Rattle.sheet_plan.proofs.Ordered.{length_ordered}
 use Rattle.sheet_plan.proofs.Scales.{IsBounded, scale_bounds}
 use Rattle.sheet_plan.proofs.Taken.{one_box}
-use Rattle.sheet_plan.specs.Boxes.{Box, box_at, TakesBox}
+use Rattle.sheet_plan.specs.Boxes.{Box, box_at}
 use Rattle.sheet_plan.specs.Extents.{AreExtents, IsExtent}
 use Rattle.sheet_plan.specs.Layout.{across_at, upward_at}
 use Rattle.sheet_plan.specs.Numbers.{Measure, measure_of, square_of}
@@ -27,9 +27,9 @@ use Rattle.sheet_plan.specs.declared.sheet.Spread.{Spread}
 use Rattle.sheet_layout.specs.Anchors.{is_equal}
 use Rattle.sheet_layout.specs.Blocks.{in_column, in_row}
 use Rattle.sheet_layout.specs.Keeps.{AreApart, AreInLine, HasPlaceForEach, IsInFrame, IsOnSide, KeepsApart, KeepsInLine, KeepsSides, StandsInFrame, TakesRoom, with_sides}
-use Rattle.sheet_layout.specs.Layouts.{Case, IsCaseOf, IsLaidOut, IsOriginOf, IsSheetBy, IsThrough, fits, plans_for, room_on, rows_on, seats_on, standings_on}
-use Rattle.sheet_layout.specs.Rooms.{height_of, longer_side, room_of, shorter_side, width_of}
-use Rattle.sheet_layout.specs.Seats.{height_at, level_side, seat_of, side_or_least, width_at}
+use Rattle.sheet_layout.specs.Layouts.{Case, IsLaidOut, IsOriginOf, IsSheetBy, IsThrough, fits, plans_for, room_on, rows_on, seats_on, standings_on}
+use Rattle.sheet_layout.specs.Rooms.{height_of, room_of, width_of}
+use Rattle.sheet_layout.specs.Seats.{level_side, seat_of, side_or_least, width_at}
 use Rattle.sheet_layout.specs.Trials.{all_pairs_well, are_apart, are_in_line, are_level, are_upright, has_room, is_beside, is_inside, is_on_side, is_side_of, rect_of, share_block, stand_well, stands_beside}
 use Rattle.std.specs.List.{list_all}
 use Rattle.sheet_layout.specs.declared.cells.Beside.{Beside}
@@ -39,12 +39,11 @@ use Rattle.sheet_layout.specs.declared.cells.Side.TheVariants.{Left, Right, Top,
 use Rattle.sheet_layout.specs.declared.layout.Layout.{Layout}
 use Rattle.sheet_layout.specs.declared.layout.Wish.{Wish}
 use Rattle.sheet_layout.specs.declared.plans.Plan.{Plan}
-use Rattle.sheet_layout.specs.declared.rects.Rect.{Rect}
 use Rattle.sheet_layout.specs.declared.rects.Standing.{Standing}
 use Rattle.sheet_layout.specs.declared.rooms.Room.{Room}
 use Rattle.sheet_layout.specs.declared.seats.Seat.{Seat}
 use Rattle.sheet_layout.specs.declared.sides.Sides.{Sides}
-use Rattle.sheet_layout.proofs.Standings.{IsSeatAt, IsStandingAt, find_true, list_all_get, pairs_get, seat_at, seats_long, standing_at, standings_long, zip_left}
+use Rattle.sheet_layout.proofs.Standings.{IsSeatAt, find_true, list_all_get, pairs_get, seat_at, seats_long, standing_at, standings_long, zip_left}
 
 -- ---- numbers
 begins : (x0 x f a : ℤ) → x0 ≡ x -ℤ f → a ≡ f → x0 +ℤ a ≡ x
@@ -318,11 +317,11 @@ module _ (c : Case) (p : Plan) (corners : List Corner) (layout : Layout) (sheet 
       let extent : IsExtent (of_dir place.d) corners e = subst (λ (d : Triple). IsExtent d corners e) along of_view in
       let one = one_box (measure_of layout.sheet.scale layout.sheet.decimals) place corners k.taken.extent e k.taken.reaches extent in
       let scaled : box_at (measure_of layout.sheet.scale layout.sheet.decimals) place e ≡ box_at m place e =
-          ap (λ (z : Scale). box_at (measure_of z layout.sheet.decimals) place e) sheet.scale ∙ ap (λ (n : ℕ). box_at (measure_of p.scale n) place e) sheet.decimals in
+      ap (λ (z : Scale). box_at (measure_of z layout.sheet.decimals) place e) sheet.scale ∙ ap (λ (n : ℕ). box_at (measure_of p.scale n) place e) sheet.decimals in
       let box : k.box ≡ box_at m place e = k.taken.is ∙ one ∙ scaled in
       let asked : k.asked ≡ s.asked = one_of k.asked s.asked k.asked (slice_get c.sides i) k.listed s.of_sides in
       let is : room ≡ with_sides p.shrunk s.asked (box_at m place e) =
-          k.is ∙ ap (λ (b : Bool). with_sides b k.asked k.box) shrunk ∙ ap (λ (a : Sides). with_sides p.shrunk a k.box) asked ∙ ap (with_sides p.shrunk s.asked) box in
+      k.is ∙ ap (λ (b : Bool). with_sides b k.asked k.box) shrunk ∙ ap (λ (a : Sides). with_sides p.shrunk a k.box) asked ∙ ap (with_sides p.shrunk s.asked) box in
       let within = within_of (room_on c p) v.standing (list_all_get (is_inside (room_on c p)) all i v.standing inside v.at) in
       record {
         place = place;
@@ -431,7 +430,7 @@ module _ (c : Case) (p : Plan) (corners : List Corner) (layout : Layout) (sheet 
     has_places = record {
       count = AllZip-long IsOriginOf all layout.sheet.places.items sheet.places ∙ standings_long (room_on c p) (seats_on c p) (rows_on c p) (seats_on c p)
           ∙ seats_long c.job.third p.shrunk m c.job.views.items p.kept 0 0 c.job.views.items c.through c.sides c.extents through sides
-              (AllZip-long (λ (v : JobView) (e : Extent). IsExtent (direction_seen v.spec) corners e) c.job.views.items c.extents reach);
+          (AllZip-long (λ (v : JobView) (e : Extent). IsExtent (direction_seen v.spec) corners e) c.job.views.items c.extents reach);
       direction = along;
     }
       where

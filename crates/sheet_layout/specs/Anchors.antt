@@ -1,8 +1,5 @@
 -- Beside which view a cut stands, and at which of its sides.
-use Rattle.std.specs.Prelude.{ℕ, suc, ◌+◌, ◌-◌, ◌&&◌, ◌||◌, not, Bool, true, false, if◌then◌else◌, ℤ, pos, int_lt, List, [], ◌∷◌, Option, Some, None}
-use Rattle.std.specs.List.{list_any}
-use Rattle.std.specs.Option.{is_some}
-use Rattle.lattice.specs.declared.cuts.Cut.{Cut}
+use Rattle.std.specs.Prelude.{ℕ, ◌+◌, ◌-◌, ◌&&◌, ◌||◌, not, Bool, true, false, if◌then◌else◌, ℤ, pos, int_lt, List, [], ◌∷◌, Option, Some, None}
 use Rattle.lattice.specs.declared.pieces.ViewSpec.{ViewSpec}
 use Rattle.lattice.specs.declared.pieces.ViewSpec.TheVariants.{Plain, Section}
 use Rattle.lattice.specs.declared.points.Axis.{Axis}
@@ -15,7 +12,6 @@ use Rattle.job_file.specs.declared.view.JobView.{JobView}
 use Rattle.job_file.specs.declared.view.Principal.{Principal}
 use Rattle.sheet_layout.specs.Cells.{middle, named_cell, are_next}
 use Rattle.sheet_layout.specs.declared.anchors.Anchor.{Anchor}
-use Rattle.sheet_layout.specs.declared.cells.Beside.{Beside}
 use Rattle.sheet_layout.specs.declared.cells.Cell.{Cell}
 use Rattle.sheet_layout.specs.declared.cells.Line.{Line}
 use Rattle.sheet_layout.specs.declared.cells.Line.TheVariants.{Center, Row, Column}

@@ -1,7 +1,6 @@
 -- Where the views of a block stand in it. A block is a row and a column of views that cross; what is in both is its middle.
 use Rattle.std.specs.Prelude.{ℕ, ◌+◌, max, ◌==◌, ◌&&◌, nat_lt, Bool, true, false, if◌then◌else◌, List, [], ◌∷◌}
 use Rattle.sheet_layout.specs.Cells.{middle}
-use Rattle.sheet_layout.specs.declared.cells.Cell.{Cell}
 use Rattle.sheet_layout.specs.declared.cells.Line.{Line}
 use Rattle.sheet_layout.specs.declared.cells.Line.TheVariants.{Center, Row, Column}
 use Rattle.sheet_layout.specs.declared.seats.Seat.{Seat}

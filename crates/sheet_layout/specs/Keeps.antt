@@ -1,6 +1,6 @@
 -- What a layout keeps: boxes with their sides are apart, within the frame and clear of the title block; views of one row or column are in line;
 -- and a cut in projection is on the side of its direction.
-use Rattle.std.specs.Prelude.{◌≡◌, ◌≢◌, ◌⊎◌, ℕ, Bool, true, false, ℤ, pos, ◌+ℤ◌, ◌-ℤ◌, ◌≤ℤ◌, unsigned_abs, List, length, Some, slice_get}
+use Rattle.std.specs.Prelude.{◌≡◌, ◌≢◌, ◌⊎◌, ℕ, Bool, false, pos, ◌+ℤ◌, ◌-ℤ◌, ◌≤ℤ◌, unsigned_abs, List, length, Some, slice_get}
 use Rattle.lattice.specs.declared.points.Corner.{Corner}
 use Rattle.lattice.specs.Points.{of_dir}
 use Rattle.job_file.specs.Seen.{direction_seen}
@@ -12,7 +12,6 @@ use Rattle.sheet_plan.specs.declared.sheet.Spread.{Spread}
 use Rattle.sheet_layout.specs.Blocks.{in_column, in_row}
 use Rattle.sheet_layout.specs.Seats.{level_side, side_or_least}
 use Rattle.sheet_layout.specs.declared.cells.Beside.{Beside}
-use Rattle.sheet_layout.specs.declared.cells.Cell.{Cell}
 use Rattle.sheet_layout.specs.declared.cells.Side.{Side}
 use Rattle.sheet_layout.specs.declared.cells.Side.TheVariants.{Left, Right, Top, Bottom}
 use Rattle.sheet_layout.specs.declared.seats.Seat.{Seat}

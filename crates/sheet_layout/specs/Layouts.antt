@@ -1,5 +1,5 @@
 -- The layout of a job's views: the first plan that has room for them.
-use Rattle.std.specs.Prelude.{◌≡◌, ◌↔◌, ℕ, ◌-◌, ◌&&◌, ◌==◌, not, Bool, true, false, IsTrue, if◌then◌else◌, refl, ℤ, pos, List, [], ◌∷◌, find, Option, Some, None, length}
+use Rattle.std.specs.Prelude.{◌≡◌, ◌↔◌, ℕ, ◌-◌, ◌&&◌, ◌==◌, not, Bool, true, false, IsTrue, if◌then◌else◌, refl, pos, List, [], ◌∷◌, find, Option, Some, None, length}
 use Rattle.std.specs.List.{AllZip}
 use Rattle.lattice.specs.declared.pieces.ViewSpec.{ViewSpec}
 use Rattle.lattice.specs.declared.pieces.ViewSpec.TheVariants.{Plain, Section}

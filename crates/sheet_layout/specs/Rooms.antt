@@ -1,5 +1,5 @@
 -- The rooms that a sheet has for its views: above its title block, and beside it.
-use Rattle.std.specs.Prelude.{ℕ, ◌-◌, Bool, true, false, if◌then◌else◌}
+use Rattle.std.specs.Prelude.{ℕ, ◌-◌, Bool, if◌then◌else◌}
 use Rattle.job_file.specs.declared.job.Paper.{Paper}
 use Rattle.job_file.specs.declared.job.Paper.TheVariants.{A0, A1, A2, A3, A4}
 use Rattle.sheet_layout.specs.declared.rooms.Room.{Room}

@@ -6,7 +6,6 @@ use Rattle.lattice.specs.Triple.{Triple, up_axis}
 use Rattle.sheet_layout.specs.Anchors.{is_same}
 use Rattle.sheet_layout.specs.Blocks.{across_middle, block_width, block_height, column_before, down_middle, in_block, left_of, row_before, seat_x, seat_y, top_of}
 use Rattle.sheet_layout.specs.Cells.{middle}
-use Rattle.sheet_layout.specs.declared.cells.Cell.{Cell}
 use Rattle.sheet_layout.specs.declared.cells.Line.{Line}
 use Rattle.sheet_layout.specs.declared.cells.Line.TheVariants.{Center, Row, Column}
 use Rattle.sheet_layout.specs.declared.rows.Spot.{Spot}

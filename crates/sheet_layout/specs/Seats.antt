@@ -1,5 +1,5 @@
 -- How much room each view takes at a scale: its box, and what it needs on the sides of that.
-use Rattle.std.specs.Prelude.{ℕ, suc, ◌+◌, ◌-◌, ◌/◌, max, nat_lt, Bool, true, false, if◌then◌else◌, ℤ, ◌-ℤ◌, unsigned_abs, List, [], ◌∷◌}
+use Rattle.std.specs.Prelude.{ℕ, ◌+◌, ◌-◌, ◌/◌, max, nat_lt, Bool, true, false, if◌then◌else◌, ◌-ℤ◌, unsigned_abs, List, [], ◌∷◌}
 use Rattle.lattice.specs.Points.{of_dir}
 use Rattle.lattice.specs.ShownCuts.{cuts_of}
 use Rattle.std.specs.Prelude.{length}

@@ -1,17 +1,15 @@
 -- Whether a layout has room on a sheet, and where its views stand there.
-use Rattle.std.specs.Prelude.{◌≡◌, ℕ, zero, suc, ◌+◌, ◌-◌, ◌/◌, ◌==◌, ◌&&◌, ◌||◌, not, nat_le, Bool, true, false, if◌then◌else◌, ℤ, pos, ◌+ℤ◌, ◌-ℤ◌, List, [], ◌∷◌, Option, Some, None, slice_get}
+use Rattle.std.specs.Prelude.{ℕ, ◌+◌, ◌-◌, ◌/◌, ◌==◌, ◌&&◌, ◌||◌, not, nat_le, Bool, true, false, ℤ, pos, ◌+ℤ◌, ◌-ℤ◌, List, [], ◌∷◌, Option, Some, None, slice_get}
 use Rattle.std.specs.List.{list_all}
 use Rattle.sheet_layout.specs.Anchors.{is_equal}
 use Rattle.sheet_layout.specs.Blocks.{in_row, in_column, seat_x, seat_y}
 use Rattle.sheet_layout.specs.Rows.{Rows, spot_of}
 use Rattle.sheet_layout.specs.declared.cells.Beside.{Beside}
-use Rattle.sheet_layout.specs.declared.cells.Cell.{Cell}
 use Rattle.sheet_layout.specs.declared.cells.Side.{Side}
 use Rattle.sheet_layout.specs.declared.cells.Side.TheVariants.{Left, Right, Top, Bottom}
 use Rattle.sheet_layout.specs.declared.rects.Rect.{Rect}
 use Rattle.sheet_layout.specs.declared.rooms.Room.{Room}
 use Rattle.sheet_layout.specs.declared.rects.Standing.{Standing}
-use Rattle.sheet_layout.specs.declared.rows.Spot.{Spot}
 use Rattle.sheet_layout.specs.declared.seats.Seat.{Seat}
 
 -- ---- rectangles

@@ -64,7 +64,10 @@ fn row_part(block: u32, rank: u32, s: &Seat) -> u64
     ensures value { result ≡ row_part block rank s.now }
     ensures size { result ≤ 2 ^ 47 }
 {
-    part_if(stands_before(block, rank, s) && in_row(s.cell.line), outer_width(s))
+    part_if(
+        stands_before(block, rank, s) && in_row(s.cell.line),
+        outer_width(s),
+    )
 }
 
 /// The same of its column.
@@ -73,7 +76,10 @@ fn column_part(block: u32, rank: u32, s: &Seat) -> u64
     ensures value { result ≡ column_part block rank s.now }
     ensures size { result ≤ 2 ^ 47 }
 {
-    part_if(stands_before(block, rank, s) && in_column(s.cell.line), outer_height(s))
+    part_if(
+        stands_before(block, rank, s) && in_column(s.cell.line),
+        outer_height(s),
+    )
 }
 
 /// What the views of a block's row take that have a lower rank.

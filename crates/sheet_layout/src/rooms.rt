@@ -47,7 +47,11 @@ pub(crate) fn width_of(paper: Paper, portrait: bool) -> u64
     ensures least { 21000 ≤ result }
     ensures most { result ≤ 118900 }
 {
-    if portrait { shorter_side(paper) } else { longer_side(paper) }
+    if portrait {
+        shorter_side(paper)
+    } else {
+        longer_side(paper)
+    }
 }
 
 /// And how high.
@@ -56,7 +60,11 @@ pub(crate) fn height_of(paper: Paper, portrait: bool) -> u64
     ensures least { 21000 ≤ result }
     ensures most { result ≤ 118900 }
 {
-    if portrait { longer_side(paper) } else { shorter_side(paper) }
+    if portrait {
+        longer_side(paper)
+    } else {
+        shorter_side(paper)
+    }
 }
 
 /// The room above the title block, or beside it.

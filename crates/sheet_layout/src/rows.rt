@@ -8,7 +8,8 @@ ghost use Rattle.sheet_layout.specs.inner.Sizes.{IsSmall, IsLow, rows_seen};
 
 use crate::anchors::share_up;
 use crate::blocks::{
-    across_middle, block_height, block_width, column_before, down_middle, in_block, left_of, row_before, seat_x, seat_y, top_of,
+    across_middle, block_height, block_width, column_before, down_middle, in_block, left_of,
+    row_before, seat_x, seat_y, top_of,
 };
 use crate::cells::{Line, MIDDLE};
 use crate::seats::Seat;

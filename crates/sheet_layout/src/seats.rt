@@ -88,7 +88,10 @@ fn width_at(ruler: &Ruler, e: &Extent) -> u64
     ensures value { result ≡ width_at (measure_of ruler.now.scale ruler.now.decimals) e.now }
     ensures size { result ≤ 2 ^ 46 }
 {
-    distance(across_at(ruler, &e.d, e.u_max), across_at(ruler, &e.d, e.u_min))
+    distance(
+        across_at(ruler, &e.d, e.u_max),
+        across_at(ruler, &e.d, e.u_min),
+    )
 }
 
 /// And how high.
@@ -96,7 +99,10 @@ fn height_at(ruler: &Ruler, e: &Extent) -> u64
     ensures value { result ≡ height_at (measure_of ruler.now.scale ruler.now.decimals) e.now }
     ensures size { result ≤ 2 ^ 46 }
 {
-    distance(upward_at(ruler, &e.d, e.v_max), upward_at(ruler, &e.d, e.v_min))
+    distance(
+        upward_at(ruler, &e.d, e.v_max),
+        upward_at(ruler, &e.d, e.v_min),
+    )
 }
 
 /// The view in its cell, with these sides.
@@ -174,7 +180,19 @@ fn add_seats(
     let cell = cell_of(job.third, &job.views, beside, number, v);
     push_seat(seats, seat_of(shrunk, ruler, cell, s, e))?;
     let cuts = cuts + v.spec.cuts() as u32;
-    add_seats(seats, job, ruler, shrunk, kept, number + 1, cuts, vs, ts, ss, es)
+    add_seats(
+        seats,
+        job,
+        ruler,
+        shrunk,
+        kept,
+        number + 1,
+        cuts,
+        vs,
+        ts,
+        ss,
+        es,
+    )
 }
 
 /// All views in their cells.
