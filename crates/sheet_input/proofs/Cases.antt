@@ -31,7 +31,7 @@ module _ (c d : Case) (a : AreAlike c d) where
   room_same = λ i p. room_of p.paper (a.portrait i) p.beside
 
   rows_same : rows_on c ≡ rows_on d
-  rows_same = λ i p. rows_of (tries_on p) ((room_same i p).right - (room_same i p).left) (seats_same i p)
+  rows_same = λ i p. rows_of p.corner (tries_on p) ((room_same i p).right - (room_same i p).left) (seats_same i p)
 
   pub standings_same : standings_on c ≡ standings_on d
   standings_same = λ i p. standings_in (room_same i p) (seats_same i p) (rows_same i p) (seats_same i p)
@@ -53,6 +53,7 @@ module _ (c d : Case) (a : AreAlike c d) where
       scale = last_scale w.any_paper (scale i);
       shrunk = not w.any_paper && (w.older && is_stated (scale i));
       kept = 0;
+      corner = false;
       beside = false;
     }
 
