@@ -52,7 +52,7 @@ def main():
     lines = open(sys.argv[3]).read().split("\n")
     decimals = int(lines[1].split()[1])
     titles = [v.get("title", "") for v in job["view"]] if job.get("version", 1) == 3 else []
-    inches = job.get("version", 1) == 3 and job.get("unit", "mm") == "inch"
+    inches = job.get("unit", "mm") == "inch"
     shown = {}
     for size, text in re.findall(r'<text x="-?\d+" y="-?\d+" font-size="(\d+)"[^>]*>([^<]*)</text>', svg):
         text = html.unescape(text)

@@ -1,9 +1,10 @@
 #!/usr/bin/env python3
 """Finds where the views of a sheet stand by the definition in the docs, without the crates that are proved to do so, to compare them.
 
-    layouts.py PART [JOB [SVG]]         prints scale, origins and page as the list of `sheet` has them, and the plan; draws the boxes to SVG
+    layouts.py PART [JOB [SVG]]         prints scale, origins and page as the list of `sheet` has them, and the plan, or the line of a refusal;
+                                        draws the boxes to SVG
     layouts.py --try SEED N [FOLDER]    lays N random jobs out, checks each layout and counts the plans; draws the boxes to FOLDER
-    layouts.py --sheet SHEET SEED N     compares scale, origins and page of N random jobs with those of the program SHEET
+    layouts.py --sheet SHEET SEED N     compares scale, origins and page of N random jobs, or the line, with those of the program SHEET
 
 PART is an OFF of a sound part with a face on each line; JOB is a right job of any version. With `decimals = "fit"` the part is taken to be
 accepted at the first number of decimals that is in range. Lengths on the sheet are whole hundredths of a millimetre. Each random job has a
@@ -48,6 +49,7 @@ Box = collections.namedtuple("Box", "left top right bottom")
 Block = collections.namedtuple("Block", "width height places corner")  # of a box's upper left corner, by the number of the view
 Plan = collections.namedtuple("Plan", "kind paper scale kept shrunk")
 Layout = collections.namedtuple("Layout", "plan room page boxes sizes cells")
+Lack = collections.namedtuple("Lack", "plan across down smaller larger")  # how much more the plan needs; a scale and a paper, or None
 
 
 # ---- parts and jobs
@@ -147,6 +149,11 @@ def has_section(case, cut):
     return any(min(xs) < plane < max(xs) for xs in ([2 * case.corners[i][cut.axis] for i in face] for face in case.faces))
 
 
+def cuts_before(job, number):
+    """How many views before this one show a cut."""
+    return sum(v.axis is not None for v in job.views[:number])
+
+
 # ---- sizes
 def sheet_length(scale, decimals, axis, value):
     """A product with an axis as a length on the sheet, rounded to the nearest, halves up."""
@@ -163,7 +170,7 @@ def extent(case, axis, scale):
 def heading_width(case, number):
     """How wide a heading without a title and its room are."""
     job, cut = case.job, case.job.views[number]
-    letter = LETTERS[sum(v.axis is not None for v in job.views[:number])]
+    letter = LETTERS[cuts_before(job, number)]
     text = "%s-%s (%s = %s)" % (letter, letter, "xyz"[cut.axis], headings.place(cut.at, job.decimals, job.inches))
     return HEADING_ROOM - (-headings.width(text) * HEADING_LETTERS // 1000)
 
@@ -235,7 +242,7 @@ def cells(case, kept):
     for number, view in enumerate(case.job.views):
         if view.name:
             found.append(named_cell(case.job, view.name))
-        elif view.axis is not None and sum(v.axis is not None for v in case.job.views[:number]) < kept:
+        elif view.axis is not None and cuts_before(case.job, number) < kept:
             found.append(cell_of_cut(case, number))
         else:
             found.append(Cell(number, "middle", MIDDLE))
@@ -331,25 +338,34 @@ def rooms(page):
     }
 
 
+def stated(job, paper, scale, kind=None, shrunk=False):
+    """Plans on one paper at one scale, with fewer and fewer cuts beside other views."""
+    count = cuts_before(job, len(job.views))
+    for kept in range(count, -1, -1):
+        yield Plan(kind or ("whole" if kept == count else "fewer"), paper, scale, kept, shrunk)
+
+
+def falling(job, scales):
+    """Plans at each scale; before cuts leave their views the next smaller scale is tried with all of them."""
+    for scale, smaller in itertools.zip_longest(scales, scales[1:]):
+        whole, *fewer = stated(job, job.paper, scale)
+        yield whole
+        if smaller:
+            yield whole._replace(kind="smaller" if fewer else "whole", scale=smaller)
+        yield from fewer
+
+
 def plans(job):
     """All plans of a job, in order."""
-    count = sum(v.axis is not None for v in job.views)
-    fewer = range(count - 1, -1, -1)
     if job.paper == "fit":
         for paper in PAPERS:
-            yield from (Plan("paper", paper, job.scale or (1, 1), kept, False) for kept in range(count, -1, -1))
+            yield from stated(job, paper, job.scale or (1, 1), "paper")
     elif job.scale:
-        yield Plan("whole", job.paper, job.scale, count, False)
-        yield from (Plan("fewer", job.paper, job.scale, kept, False) for kept in fewer)
+        yield from stated(job, job.paper, job.scale)
         if job.version < 3:
-            yield from (Plan("shrunk", job.paper, job.scale, kept, True) for kept in range(count, -1, -1))
+            yield from stated(job, job.paper, job.scale, "shrunk", True)
     else:
-        scales = SCALES if job.version == 3 else SCALES[SCALES.index((1, 1)):]
-        for scale, smaller in itertools.zip_longest(scales, scales[1:]):
-            yield Plan("whole", job.paper, scale, count, False)
-            if smaller:
-                yield Plan("smaller" if count else "whole", job.paper, smaller, count, False)
-            yield from (Plan("fewer", job.paper, scale, kept, False) for kept in fewer)
+        yield from falling(job, SCALES if job.version == 3 else SCALES[SCALES.index((1, 1)):])
 
 
 def tried(case, plan, room, sizes, found, corner):
@@ -364,16 +380,35 @@ def tried(case, plan, room, sizes, found, corner):
     return [Box(x, y, x + size.width, y + size.height) for (x, y), size in zip(places, sizes)]
 
 
-def layout(case):
-    """The layout of the first plan that has room, or None."""
-    for plan in plans(case.job):
-        sizes = [size_of(case, number, plan.scale, plan.shrunk) for number in range(len(case.job.views))]
-        found, page = cells(case, plan.kept), page_of(case.job, plan.paper)
+def sizes_of(case, plan):
+    return [size_of(case, number, plan.scale, plan.shrunk) for number in range(len(case.job.views))]
+
+
+def first(case, some):
+    """The layout of the first of some plans that has room, or None."""
+    for plan in some:
+        sizes, found, page = sizes_of(case, plan), cells(case, plan.kept), page_of(case.job, plan.paper)
         for corner, (name, room) in itertools.product((False, True), rooms(page).items()):
             boxes = tried(case, plan, room, sizes, found, corner)
             if boxes:
                 return Layout(plan, name + (", in the corner" if corner else ""), page, boxes, sizes, found)
     return None
+
+
+def layout(case):
+    return first(case, plans(case.job))
+
+
+def lack(case):
+    """What the last plan lacks above the title block, and the first smaller scale and the first larger paper that would do."""
+    *_, plan = plans(case.job)
+    left, top, right, bottom = rooms(page_of(case.job, plan.paper))["above"]
+    rows = rows_of(case.job.views, cells(case, plan.kept), sizes_of(case, plan), right - left, plan.shrunk, False)
+    job = case.job._replace(paper=plan.paper)
+    smaller = first(case, falling(job, SCALES[SCALES.index(plan.scale) + 1:]))
+    larger = first(case, itertools.chain(*(stated(job, paper, plan.scale) for paper in PAPERS[PAPERS.index(plan.paper) + 1:])))
+    across, down = rows.greatest - (right - left), rows.lowest - (bottom - top)
+    return Lack(plan, max(0, across), max(0, down), smaller and smaller.plan.scale, larger and larger.plan.paper)
 
 
 def origins(laid):
@@ -446,7 +481,7 @@ def shown(job, number):
     """What a view shows, as the list says it."""
     view = job.views[number]
     if view.axis is not None:
-        letter = LETTERS[sum(v.axis is not None for v in job.views[:number])]
+        letter = LETTERS[cuts_before(job, number)]
         return "cut %s %d %s %s" % ("xyz"[view.axis], view.at, "high" if view.high else "low", letter)
     return view.name or "toward %d %d %d" % view.direction
 
@@ -456,6 +491,19 @@ def head(case, laid):
     lines = ["scale %d:%d" % laid.plan.scale]
     lines += ["view %d %s %d %d" % (i, shown(case.job, i), *at) for i, at in enumerate(origins(laid))]
     return lines + ["page %d %d" % laid.page]
+
+
+def more(length, way):
+    return ["%s mm more %s" % (re.sub(r"\.?0*$", "", "%d.%02d" % divmod(length, 100)), way)] if length else []
+
+
+def refusal(found):
+    """The line of `sheet` for views that don't fit."""
+    needs = more(found.across, "across") + more(found.down, "down")
+    advice = (["a scale of %d:%d" % found.smaller] if found.smaller else []) + (["a sheet of " + found.larger] if found.larger else [])
+    line = "sheet: the views don't fit on %s at %d:%d" % (found.plan.paper, *found.plan.scale)
+    line += ": %s %s needed" % (" and ".join(needs), "are" if len(needs) > 1 else "is") if needs else ""
+    return line + ("; %s would do" % " or ".join(advice) if advice else "")
 
 
 def told(laid):
@@ -484,7 +532,7 @@ def one(names):
     case = read_case(pathlib.Path(names[0]).read_text(), pathlib.Path(names[1]).read_text() if len(names) > 1 else "")
     laid = layout(case)
     if laid is None:
-        print("refused")
+        print(refusal(lack(case)))
         return True
     print("\n".join(head(case, laid) + [told(laid)] + flaws(case, laid)))
     if len(names) > 2:
@@ -517,14 +565,15 @@ def try_out(seed, count, folder=None):
 
 
 def answer(sheet, folder, part, job):
-    """The status of the program, the head of the list that it writes, and its line if it refuses."""
+    """The status of the program, and the head of the list that it writes, or its lines if it refuses."""
     names = [pathlib.Path(folder, name) for name in ("part.off", "job.toml", "sheet.svg", "sheet.list")]
     names[0].write_text(part)
     names[1].write_text(job)
     words = [sheet, names[0], "--job", names[1], "--out", names[2], "--list", names[3]]
     ran = subprocess.run(words, capture_output=True, check=False, text=True)
-    lines = [] if ran.returncode else [line for line in names[3].read_text().split("\n") if re.match("scale |view |page ", line)]
-    return ran.returncode, lines, ran.stderr
+    if ran.returncode:
+        return ran.returncode, ran.stderr.splitlines()
+    return 0, [line for line in names[3].read_text().split("\n") if re.match("scale |view |page ", line)]
 
 
 def compare(sheet, seed, count):
@@ -533,11 +582,11 @@ def compare(sheet, seed, count):
     with tempfile.TemporaryDirectory() as folder:
         for number, part, job, case in random_cases(seed, count):
             laid = layout(case)
-            wanted = (0, head(case, laid)) if laid else (6, [])
-            status, lines, line = answer(sheet, folder, part, job)
+            wanted = (0, head(case, laid)) if laid else (6, [refusal(lack(case))])
+            status, lines = answer(sheet, folder, part, job)
             if (status, lines) != wanted:
                 wrong += 1
-                print("\n".join(["%d: %s" % (number, told(laid) if laid else "refused"), *wanted[1], "but status %d" % status, *lines, line]))
+                print("\n".join(["%d: %s" % (number, told(laid) if laid else "refused"), *wanted[1], "but status %d" % status, *lines]))
     print("%d of %s differ" % (wrong, count))
     return wrong > 0
 
