@@ -298,8 +298,8 @@ class Rows:
         return next((x for x in begins if x + block.places[middle][0] not in others), begins[-1])
 
     def downward(self, block, middle):
-        """The top of its middle view isn't in line with one of the row that has another up axis."""
-        others = {y for i, (_, y) in self.places.items() if self.rows[i] == self.row and not share_row(self.views[i], self.views[middle])}
+        """The top of its middle view isn't in line with one of the row, or of the named views, that has another up axis."""
+        others = {y for i, (_, y) in self.places.items() if self.rows[i] in (0, self.row) and not share_row(self.views[i], self.views[middle])}
         begins = [self.begin + STEP * k for k in range(self.steps + 1)]
         return next((y for y in begins if y + block.places[middle][1] not in others), begins[-1])
 

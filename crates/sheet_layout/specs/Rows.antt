@@ -13,12 +13,13 @@ use Rattle.sheet_layout.specs.declared.rows.Stood.{Stood}
 use Rattle.sheet_layout.specs.declared.seats.Seat.{Seat}
 
 -- ---- boxes in line that don't belong together
--- A view that stands already has its left side at x, and is in another row; or its top at y, and is in the same row but doesn't share V.
+-- A view that stands already has its left side at x, and is in another row; or its top at y, and is in the same row or in the block of the
+-- named views, which is row 0, but doesn't share V.
 abbrev pub is_left_at : ℕ → ℕ → Stood → Bool
 is_left_at row x t = not (t.row == row) && (t.left == x)
 
 abbrev pub is_top_at : ℕ → Triple → ℕ → Stood → Bool
-is_top_at row up y t = if t.row == row then not (is_same (up_axis (of_dir t.d)) up) && (t.top == y) else false
+is_top_at row up y t = if (t.row == row) || (t.row == 0) then not (is_same (up_axis (of_dir t.d)) up) && (t.top == y) else false
 
 -- From x in steps of 3 mm, so many at most, to where no such view has its left side; `offset` is how far a box's left side is in its block.
 abbrev pub clear_left : List Stood → (row offset tries x : ℕ) → ℕ

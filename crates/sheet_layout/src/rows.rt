@@ -56,11 +56,11 @@ fn is_left_at(row: u32, x: u64, t: &Stood) -> bool
     !(t.row == row) && t.left == x
 }
 
-/// A view stands in this row with its top there, and doesn't share V.
+/// A view stands in this row or in the block of the named views with its top there, and doesn't share V.
 fn is_top_at(row: u32, up: &Dir, y: u64, t: &Stood) -> bool
     ensures { result ≡ is_top_at row (up_axis (of_dir up.now)) y t.now }
 {
-    if t.row == row {
+    if t.row == row || t.row == 0 {
         !share_up(&t.d, up) && t.top == y
     } else {
         false
