@@ -22,6 +22,7 @@ import tempfile
 import tomllib
 from fractions import Fraction
 
+import cut_lines
 import headings
 import layout_jobs
 from layout_jobs import GREATEST, MILLIMETRES, PAPERS, SCALES
@@ -44,7 +45,8 @@ View = collections.namedtuple("View", "direction name axis at high")
 Job = collections.namedtuple("Job", "version decimals inches third paper upright scale views")
 Case = collections.namedtuple("Case", "job corners faces")
 Cell = collections.namedtuple("Cell", "block line rank")  # the line is "row", "column" or "middle"
-Size = collections.namedtuple("Size", "left top width height side")  # left and top from the origin; side is that on the left and the right
+# left and top from the origin; side is that on the left and the right, and rise that above and below
+Size = collections.namedtuple("Size", "left top width height side rise")
 Box = collections.namedtuple("Box", "left top right bottom")
 Block = collections.namedtuple("Block", "width height places corner")  # of a box's upper left corner, by the number of the view
 Plan = collections.namedtuple("Plan", "kind paper scale kept shrunk")
@@ -175,11 +177,28 @@ def heading_width(case, number):
     return HEADING_ROOM - (-headings.width(text) * HEADING_LETTERS // 1000)
 
 
+def way_of(view, cut):
+    """The way in which a cut's viewer looks, in a plain view along another axis; else None."""
+    if view.axis is not None or axis_of(view) in (None, cut.axis):
+        return None
+    across, upward = dot(cut.direction, right_axis(view.direction)), dot(cut.direction, up_axis(view.direction))
+    return ("right" if across < 0 else "left") if across else ("down" if upward > 0 else "up")
+
+
+def sides_of(case, number, width, shrunk):
+    """The sides on the left and the right, and those above and below: for marks in a plain view, for the heading of a cut view."""
+    view = case.job.views[number]
+    if shrunk:
+        return SIDE, SIDE
+    if view.axis is not None:
+        return max(SIDE, -(-(heading_width(case, number) - width) // 2)), SIDE
+    return cut_lines.asked_sides([way_of(view, cut) for cut in case.job.views if cut.axis is not None])
+
+
 def size_of(case, number, scale, shrunk):
     view = case.job.views[number]
     (left, right), (bottom, top) = extent(case, right_axis(view.direction), scale), extent(case, up_axis(view.direction), scale)
-    lacking = 0 if shrunk or view.axis is None else heading_width(case, number) - (right - left)
-    return Size(left, top, right - left, top - bottom, max(SIDE, -(-lacking // 2)))
+    return Size(left, top, right - left, top - bottom, *sides_of(case, number, right - left, shrunk))
 
 
 # ---- cells
@@ -266,9 +285,9 @@ def block_of(numbers, found, sizes):
     rows = [i for i in numbers if found[i].line != "column"]
     columns = [i for i in numbers if found[i].line != "row"]
     across = [(found[i].rank, i, sizes[i].side, sizes[i].width, sizes[i].side) for i in rows if found[i].line == "row"]
-    downward = [(found[i].rank, i, SIDE, sizes[i].height, SIDE) for i in columns if found[i].line == "column"]
+    downward = [(found[i].rank, i, sizes[i].rise, sizes[i].height, sizes[i].rise) for i in columns if found[i].line == "column"]
     lefts, left, right, width = line_places(across, [(sizes[i].side, sizes[i].width, sizes[i].side) for i in columns])
-    tops, top, bottom, height = line_places(downward, [(SIDE, sizes[i].height, SIDE) for i in rows])
+    tops, top, bottom, height = line_places(downward, [(sizes[i].rise, sizes[i].height, sizes[i].rise) for i in rows])
     return Block(width, height, {i: (lefts.get(i, left), tops.get(i, top)) for i in numbers}, (right, bottom))
 
 
@@ -400,13 +419,13 @@ def layout(case):
 
 
 def lack(case):
-    """What the last plan lacks above the title block, and the first smaller scale and the first larger paper that would do."""
+    """What the last plan lacks above the title block, and the first smaller scale and the first larger paper that the job could say."""
     *_, plan = plans(case.job)
     left, top, right, bottom = rooms(page_of(case.job, plan.paper))["above"]
     rows = rows_of(case.job.views, cells(case, plan.kept), sizes_of(case, plan), right - left, plan.shrunk, False)
-    job = case.job._replace(paper=plan.paper)
-    smaller = first(case, falling(job, SCALES[SCALES.index(plan.scale) + 1:]))
-    larger = first(case, itertools.chain(*(stated(job, paper, plan.scale) for paper in PAPERS[PAPERS.index(plan.paper) + 1:])))
+    job = case.job
+    smaller = first(case, itertools.chain(*(plans(job._replace(scale=scale)) for scale in SCALES[SCALES.index(plan.scale) + 1:])))
+    larger = first(case, itertools.chain(*(plans(job._replace(paper=paper)) for paper in PAPERS[PAPERS.index(plan.paper) + 1:])))
     across, down = rows.greatest - (right - left), rows.lowest - (bottom - top)
     return Lack(plan, max(0, across), max(0, down), smaller and smaller.plan.scale, larger and larger.plan.paper)
 
@@ -417,7 +436,7 @@ def origins(laid):
 
 # ---- what a layout must be, looked for in the layout alone
 def with_sides(box, size):
-    return Box(box.left - size.side, box.top - SIDE, box.right + size.side, box.bottom + SIDE)
+    return Box(box.left - size.side, box.top - size.rise, box.right + size.side, box.bottom + size.rise)
 
 
 def overlap(a, b):
@@ -511,6 +530,21 @@ def told(laid):
     return "%s %d:%d %s room %s kept %d" % (plan.paper, *plan.scale, plan.kind, laid.room, plan.kept)
 
 
+def marks_of(case, laid, number):
+    """The marks of a plain view, and the letters that are left out: the plane goes through the part, and isn't seen as a point."""
+    view, (x0, y0), box = case.job.views[number], origins(laid)[number], laid.boxes[number]
+    traces = []
+    for letter, cut in zip(LETTERS, (cut for cut in case.job.views if cut.axis is not None)):
+        way = way_of(view, cut)
+        if way is None or not goes_through(case, cut) or len({c[3 - cut.axis - axis_of(view)] for c in case.corners}) == 1:
+            continue
+        foot = [cut.at if i == cut.axis else 0 for i in range(3)]
+        along = right_axis(view.direction) if cut_lines.is_upright(way) else up_axis(view.direction)
+        length = sheet_length(laid.plan.scale, case.job.decimals, along, dot(along, foot))
+        traces.append(cut_lines.Trace(letter, way, x0 + length if cut_lines.is_upright(way) else y0 - length))
+    return cut_lines.marks_in(cut_lines.Box(*box), with_sides(box, laid.sizes[number]), traces)
+
+
 def picture(case, laid):
     """The boxes as SVG, with their sides and what they show."""
     width, height = laid.page
@@ -523,7 +557,8 @@ def picture(case, laid):
         wide, ground = with_sides(box, size), "#def" if case.job.views[i].axis is None else "#fdd"
         lines.append(rect % (*wide[:2], wide.right - wide.left, wide.bottom - wide.top, "none", "silver", 20))
         lines.append(rect % (*box[:2], box.right - box.left, box.bottom - box.top, ground, "black", 50))
-        lines.append('<text x="%d" y="%d" font-size="400">%d %s</text>' % (box.left, box.top - 100, i, shown(case.job, i)))
+        lines.append('<text x="%d" y="%d" font-size="300">%d %s</text>' % (box.left + 50, box.top + 300, i, shown(case.job, i)))
+        lines += [part for mark in marks_of(case, laid, i)[0] for part in cut_lines.drawn(mark)]
     return "\n".join(lines + ["</svg>\n"])
 
 

@@ -1,8 +1,8 @@
--- What tells the cuts of a job is in reach of the views' boxes and within their sides, and far within the range of numbers.
-use Rattle.std.proofs.Common.{◌≡◌, ◌⊎◌, inl, inr, ◌+◌, ◌-◌, ◌*◌, ◌<◌, ◌≤◌, ◌/◌, ◌^◌, min, ℕ, Bool, List, [], ◌∷◌, ◌++◌, Option, Some, All, IfSome, length, slice_get, unsigned_abs, refl, sym, subst, ◌∙◌, length-append, arith}
+-- What tells the cuts of a job is within the sides of the views; and headings are far within the range of numbers.
+use Rattle.std.proofs.Common.{◌≡◌, ◌⊎◌, inl, inr, ◌+◌, ◌-◌, ◌*◌, ◌<◌, ◌≤◌, ◌/◌, ◌^◌, min, ℕ, Bool, List, [], ◌∷◌, Option, Some, IfSome, length, slice_get, unsigned_abs, refl, sym, subst, ◌∙◌, length-append, arith}
 use Rattle.std.specs.Prelude.{ℤ, pos, ◌+ℤ◌, ◌-ℤ◌, ◌*ℤ◌, ◌<ℤ◌, ◌≤ℤ◌}
 use Rattle.std.proofs.lemmas.Int.{ints}
-use Rattle.std.proofs.lemmas.List.Elements.{All-nil, All-push, All-pop, All-same, All-map, All-weaker}
+use Rattle.std.proofs.lemmas.List.Elements.{All-nil, All-same}
 use Rattle.integers.specs.Floors.{floor_of}
 use Rattle.integers.proofs.Floors.{floor_of-is}
 use Rattle.integers.proofs.Lists.{slice_get_push}
@@ -12,55 +12,26 @@ use Rattle.lattice.specs.declared.pieces.ViewSpec.{ViewSpec}
 use Rattle.lattice.specs.declared.pieces.ViewSpec.TheVariants.{Plain, Section}
 use Rattle.geometry.specs.Parts.{Part}
 use Rattle.sheet_plan.specs.declared.sheet.Sheet.{Sheet}
-use Rattle.sheet_plan.specs.Boxes.{TakesBox, box_of}
-use Rattle.cut_marks.specs.Figures.{marks_in, mark_of, heading_over}
+use Rattle.sheet_plan.specs.Boxes.{box_of}
+use Rattle.cut_marks.specs.Areas.{area_of}
+use Rattle.cut_marks.specs.Figures.{marks_in, heading_over}
 use Rattle.cut_marks.specs.HeadingRooms.{room_over, box_width}
-use Rattle.cut_marks.specs.Lanes.{AreLaned}
-use Rattle.cut_marks.specs.Lanes.AreLaned.{none as none_laned, told, untold}
 use Rattle.lattice.specs.Cuts.{Plane, plane_of}
 use Rattle.job_file.specs.ShownCuts.{cuts_in}
 use Rattle.cut_marks.specs.Marks.{IsHeaded, ArePlainMarks, IsCutView, IsMarked, AreMarked}
 use Rattle.cut_marks.specs.Marks.AreMarked.{none as none_marked, more as more_marked}
-use Rattle.cut_marks.specs.Ranges.{IsPlaceInRange, IsEndInRange, IsMarkInRange, IsHeadingInRange}
-use Rattle.cut_marks.specs.Reach.{IsInReach, IsPointInReach, IsLetterInReach, IsEndInReach, IsMarkInReach, IsHeadingWithin, IsViewInReach, AreInReach, IsCrossed}
-use Rattle.cut_marks.specs.Traces.{AreTraces}
-use Rattle.cut_marks.specs.Traces.AreTraces.{none as no_traces, seen, unseen}
+use Rattle.cut_marks.specs.Ranges.{IsHeadingInRange}
+use Rattle.cut_marks.specs.Reach.{IsMarkPlaced, IsHeadingWithin, IsViewInReach, AreInReach}
 use Rattle.sheet_layout.specs.Keeps.{with_sides}
 use Rattle.sheet_layout.specs.Seats.{level_side, side_or_least}
 use Rattle.sheet_layout.specs.declared.sides.Sides.{Sides}
 use Rattle.sheet_plan.specs.declared.boxes.ViewBox.{ViewBox}
 use Rattle.cut_marks.specs.declared.figures.Heading.{Heading}
-use Rattle.cut_marks.specs.declared.figures.CutMark.{CutMark}
-use Rattle.cut_marks.specs.declared.figures.MarkEnd.{MarkEnd}
-use Rattle.cut_marks.specs.declared.figures.SheetPoint.{SheetPoint}
 use Rattle.cut_marks.specs.declared.views.ViewMarks.{ViewMarks}
-use Rattle.cut_marks.specs.declared.ways.Laned.{Laned}
-use Rattle.cut_marks.specs.declared.ways.Trace.{Trace}
-use Rattle.cut_marks.proofs.Crossed.{crossed, box_across, box_down}
-use Rattle.cut_marks.proofs.Placed.{placed_of}
-use Rattle.cut_marks.proofs.Reach.{mark_in_reach}
-use Rattle.cut_marks.proofs.WithSides.{level_least, listed_below, side_least}
-
--- ---- the marks of a plain view
-module _ (sheet : Sheet) (s : Part) (view : ℕ) (b : ViewBox) (is_box : TakesBox sheet s.corners view (box_of b)) where
-  all_crossed : (cuts : List Cut) (traces : List Trace) → AreTraces sheet s view cuts traces → All (IsCrossed b) traces
-  all_crossed _ _ no_traces = All-nil (IsCrossed b)
-  all_crossed _ _ (seen cuts c traces t are n) = All-push (IsCrossed b) traces t (all_crossed cuts traces are) (crossed sheet s view (length cuts) c t b is_box n)
-  all_crossed _ _ (unseen cuts c traces are n) = all_crossed cuts traces are
-
-  all_laned : (traces : List Trace) (laned : List Laned) (left_out : List ℕ) → AreLaned b traces laned left_out → All (IsCrossed b) traces → All (λ e. IsCrossed b e.trace) laned
-  all_laned _ _ _ none_laned h = All-nil (λ e. IsCrossed b e.trace)
-  all_laned _ _ _ (told traces laned left_out t now are first) h =
-      let (rest, last) = All-pop (IsCrossed b) (traces ++ t ∷ []) traces (Some t) refl h in
-      placed_of (IsCrossed b) b laned t now (all_laned traces laned left_out are rest) last first
-  all_laned _ _ _ (untold traces laned left_out t are first) h =
-      let (rest, last) = All-pop (IsCrossed b) (traces ++ t ∷ []) traces (Some t) refl h in
-      all_laned traces laned left_out are rest
-
-  pub marks_in_reach : (cuts : List Cut) (traces : List Trace) (laned : List Laned) (left_out : List ℕ) → AreTraces sheet s view cuts traces → AreLaned b traces laned left_out → All (IsMarkInReach b) (marks_in b laned)
-  marks_in_reach cuts traces laned left_out are are_laned =
-      All-map (IsMarkInReach b) (mark_of b) laned
-      (All-weaker (λ e. IsCrossed b e.trace) (λ e. IsMarkInReach b (mark_of b e)) (mark_in_reach b) laned (all_laned traces laned left_out are_laned (all_crossed cuts traces are)))
+use Rattle.cut_marks.proofs.Apart.{all_placed}
+use Rattle.cut_marks.proofs.BoxOrder.{box_across, box_down}
+use Rattle.cut_marks.proofs.Placed.{told_well}
+use Rattle.cut_marks.proofs.WithSides.{level_least, side_least}
 
 -- ---- a heading
 module _ (shrunk : Bool) (s : Sides) (b : ViewBox) (across : b.left ≤ℤ b.right) (down : b.top ≤ℤ b.bottom) where
@@ -103,42 +74,7 @@ module _ (sheet : Sheet) (sides : List Sides) (shrunk : Bool) (s : Part) where
       subst (IsHeadingWithin (with_sides shrunk is.asked (box_of is.box))) (sym is.over)
       (over_middle shrunk is.asked is.box (box_across sheet s.corners view is.box is.is_box) (box_down sheet s.corners view is.box is.is_box) h.letter (plane_of c) h.has_section)
 
--- ---- what is in reach is in range
-point_in_range : (b : ViewBox) (p : SheetPoint) (x x_end y y_end : ℤ) → x ≤ℤ p.x → p.x ≤ℤ x_end → y ≤ℤ p.y → p.y ≤ℤ y_end → IsInReach b x x_end y y_end → IsPlaceInRange p
-point_in_range b p x x_end y y_end l r t u h = record {
-  x = within b.left b.right p.x x x_end b.left_in_range b.right_in_range h.left h.right l r;
-  y = within b.top b.bottom p.y y y_end b.top_in_range b.bottom_in_range h.top h.bottom t u;
-}
-  where
-    within : (a b n low high : ℤ) → unsigned_abs a < 2 ^ 61 → unsigned_abs b < 2 ^ 61 → (a -ℤ pos 700) ≤ℤ low → high ≤ℤ (b +ℤ pos 700) → low ≤ℤ n → n ≤ℤ high → unsigned_abs n < 2 ^ 62
-    within a b n low high f g h i j k = omega (arith, ints)
-
-end_in_range : (b : ViewBox) (e : MarkEnd) → IsEndInReach b e → IsEndInRange e
-end_in_range b e h = record {
-  tail = at e.tail h.tail;
-  tip = at e.tip h.tip;
-  letter = around e.letter h.letter;
-  beside = around e.beside h.beside;
-}
-  where
-    same : (n : ℤ) → n ≤ℤ n
-    same n = omega (arith, ints)
-
-    less : (n : ℤ) (k : ℕ) → (n -ℤ pos k) ≤ℤ n
-    less n k = omega (arith, ints)
-
-    more_than : (n : ℤ) (k : ℕ) → n ≤ℤ (n +ℤ pos k)
-    more_than n k = omega (arith, ints)
-
-    at : (p : SheetPoint) → IsPointInReach b p → IsPlaceInRange p
-    at p k = point_in_range b p p.x p.x p.y p.y (same p.x) (same p.x) (same p.y) (same p.y) k
-
-    around : (p : SheetPoint) → IsLetterInReach b p → IsPlaceInRange p
-    around p k = point_in_range b p (p.x -ℤ pos 150) (p.x +ℤ pos 150) (p.y -ℤ pos 275) (p.y +ℤ pos 25) (less p.x 150) (more_than p.x 150) (less p.y 275) (more_than p.y 25) k
-
-mark_in_range : (b : ViewBox) (m : CutMark) → IsMarkInReach b m → IsMarkInRange m
-mark_in_range b m h = record { first = end_in_range b m.first h.first; second = end_in_range b m.second h.second }
-
+-- ---- what is over a view's box is in range
 over_in_range : (b : ViewBox) (room letter : ℕ) (c : Plane) (has : Bool) → unsigned_abs c.at ≤ 2 ^ 20 → IsHeadingInRange (heading_over b room letter c has)
 over_in_range b room letter c has small =
     let f = floor_of-is (b.left +ℤ b.right) (pos 2) (omega (arith, ints)) in
@@ -154,10 +90,6 @@ over_in_range b room letter c has small =
     higher : (t : ℤ) → unsigned_abs t < 2 ^ 61 → unsigned_abs (t -ℤ pos 200) < 2 ^ 62
     higher t h = omega (arith, ints)
 
--- ---- so all marks of a plain view and the heading of a cut view are in range
-pub all_in_range : (b : ViewBox) (marks : List CutMark) → All (IsMarkInReach b) marks → All IsMarkInRange marks
-all_in_range b marks h = All-weaker (IsMarkInReach b) IsMarkInRange (mark_in_range b) marks h
-
 pub headed_in_range : (sheet : Sheet) (sides : List Sides) (shrunk : Bool) (s : Part) (view number : ℕ) (c : Cut) (h : Heading) → IsHeaded sheet sides shrunk s view number c h → IsHeadingInRange h
 headed_in_range sheet sides shrunk s view number c h is =
     subst IsHeadingInRange (sym is.over) (over_in_range is.box (room_over shrunk is.asked is.box) h.letter (plane_of c) h.has_section c.in_range)
@@ -168,16 +100,18 @@ module _ (sheet : Sheet) (sides : List Sides) (shrunk : Bool) (s : Part) (cuts :
   as_many _ _ none_marked = refl
   as_many _ _ (more_marked views v all m are is) = omega (arith, length-append all (m ∷ []), length-append views (v ∷ []), as_many views all are)
 
-  of_plain : (view : ℕ) (m : ViewMarks) → view < length sides → ArePlainMarks sheet s cuts view m → IsViewInReach sheet s.corners sides shrunk view m
-  of_plain view m within h =
-      let (asked, listed) = listed_below sides view within in
+  of_plain : (view : ℕ) (m : ViewMarks) → ArePlainMarks sheet sides shrunk s cuts view m → IsViewInReach sheet s.corners sides shrunk view m
+  of_plain view m h =
+      let own = box_of h.box in
+      let room = with_sides shrunk h.asked own in
       record {
         box = h.box;
         is_box = h.is_box;
-        asked = asked;
-        listed = listed;
-        heading = subst (λ (o : Option Heading). IfSome o (IsHeadingWithin (with_sides shrunk asked (box_of h.box)))) (sym h.unheaded) tt;
-        marks = All-same (IsMarkInReach h.box) m.marks.items (marks_in h.box h.laned) h.marks (marks_in_reach sheet s view h.box h.is_box cuts h.traces h.laned m.left_out.items h.are_traces h.are_laned);
+        asked = h.asked;
+        listed = h.listed;
+        heading = subst (λ (o : Option Heading). IfSome o (IsHeadingWithin (with_sides shrunk h.asked (box_of h.box)))) (sym h.unheaded) tt;
+        marks = All-same (IsMarkPlaced own room) m.marks.items (marks_in h.box h.laned) h.marks
+            (all_placed own room (marks_in h.box h.laned) (told_well h.box (area_of room) h.traces h.laned m.left_out.items h.are_laned));
       }
 
   of_cut : (view number : ℕ) (c : Cut) (m : ViewMarks) → IsCutView sheet sides shrunk s view number c m → IsViewInReach sheet s.corners sides shrunk view m
@@ -187,22 +121,19 @@ module _ (sheet : Sheet) (sides : List Sides) (shrunk : Bool) (s : Part) (cuts :
     asked = h.is.asked;
     listed = h.is.listed;
     heading = subst (λ (o : Option Heading). IfSome o (IsHeadingWithin (with_sides shrunk h.is.asked (box_of h.is.box)))) (sym h.headed) (heading_within sheet sides shrunk s view number c h.heading h.is);
-    marks = All-same (IsMarkInReach h.is.box) m.marks.items [] h.no_marks (All-nil (IsMarkInReach h.is.box));
+    marks = All-same (IsMarkPlaced (box_of h.is.box) (with_sides shrunk h.is.asked (box_of h.is.box))) m.marks.items [] h.no_marks (All-nil (IsMarkPlaced (box_of h.is.box) (with_sides shrunk h.is.asked (box_of h.is.box))));
   }
 
-  of_view : (view number : ℕ) (spec : ViewSpec) (m : ViewMarks) → view < length sides → IsMarked sheet sides shrunk s cuts view number spec m → IsViewInReach sheet s.corners sides shrunk view m
-  of_view view number (Plain d) m within h = of_plain view m within h
-  of_view view number (Section c) m within h = of_cut view number c m h
+  of_view : (view number : ℕ) (spec : ViewSpec) (m : ViewMarks) → IsMarked sheet sides shrunk s cuts view number spec m → IsViewInReach sheet s.corners sides shrunk view m
+  of_view view number (Plain d) m h = of_plain view m h
+  of_view view number (Section c) m h = of_cut view number c m h
 
-  pub marked_in_reach : (views : List JobView) (all : List ViewMarks) → length views ≤ length sides → AreMarked sheet sides shrunk s cuts views all → AreInReach sheet s.corners sides shrunk all
-  marked_in_reach _ _ enough none_marked view m at = absurd (cc)
-  marked_in_reach _ _ enough (more_marked views v all n are is) view m at = go (slice_get_push all n view m at) (λ e. marked_in_reach views all (omega (arith, enough, longer)) are view m e)
+  pub marked_in_reach : (views : List JobView) (all : List ViewMarks) → AreMarked sheet sides shrunk s cuts views all → AreInReach sheet s.corners sides shrunk all
+  marked_in_reach _ _ none_marked view m at = absurd (cc)
+  marked_in_reach _ _ (more_marked views v all n are is) view m at = go (slice_get_push all n view m at) (λ e. marked_in_reach views all are view m e)
     where
-      longer : length (views ++ v ∷ []) ≡ length views + 1
-      longer = length-append views (v ∷ [])
-
       go : (slice_get all view ≡ Some m) ⊎ ((view ≡ length all) × (n ≡ m)) → (slice_get all view ≡ Some m → IsViewInReach sheet s.corners sides shrunk view m) → IsViewInReach sheet s.corners sides shrunk view m
       go (inl e) before = before e
       go (inr (e, same)) before =
           subst (λ (k : ℕ). IsViewInReach sheet s.corners sides shrunk k m) (sym (e ∙ as_many views all are))
-          (subst (IsViewInReach sheet s.corners sides shrunk (length views)) same (of_view (length views) (length (cuts_in views)) v.spec n (omega (arith, enough, longer)) is))
+          (subst (IsViewInReach sheet s.corners sides shrunk (length views)) same (of_view (length views) (length (cuts_in views)) v.spec n is))

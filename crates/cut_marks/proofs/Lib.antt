@@ -1,14 +1,12 @@
 pub mod Apart
 pub mod AroundPlaces
 pub mod Counted
-pub mod Crossed
-pub mod InBox
+pub mod BoxOrder
+pub mod InRange
 pub mod InReach
 pub mod Placed
-pub mod Reach
 pub mod Sides
 pub mod Sizes
-pub mod Upright
 pub mod Written
 pub mod Parts
 pub mod HeadingLabels

@@ -1,16 +1,14 @@
--- What is in reach of a view's box, or a heading within its sides, is within the box with its sides; and no two such boxes overlap.
-use Rattle.std.proofs.Common.{◌≡◌, inl, inr, ℕ, zero, suc, ◌*◌, ◌/◌, ◌<◌, ◌≤◌, max, Bool, true, false, List, [], ◌∷◌, Some, length, slice_get, refl, arith}
-use Rattle.std.specs.Prelude.{ℤ, pos, ◌+ℤ◌, ◌-ℤ◌, ◌<ℤ◌, ◌≤ℤ◌, unsigned_abs}
+-- A heading's label is within its view's box with its sides; and no two such boxes overlap.
+use Rattle.std.proofs.Common.{◌≡◌, inl, inr, ℕ, ◌*◌, ◌/◌, ◌≤◌, max, Bool, true, false, arith}
+use Rattle.std.specs.Prelude.{ℤ, pos, ◌+ℤ◌, ◌-ℤ◌, ◌<ℤ◌, ◌≤ℤ◌}
 use Rattle.std.proofs.lemmas.Int.{ints}
-use Rattle.sheet_layout.specs.Keeps.{AreApart, with_sides}
+use Rattle.sheet_layout.specs.Keeps.{AreApart}
 use Rattle.sheet_layout.specs.Seats.{half_lacking, level_side, side_or_least}
-use Rattle.sheet_layout.specs.declared.sides.Sides.{Sides}
-use Rattle.sheet_plan.specs.Boxes.{Box, box_of}
-use Rattle.sheet_plan.specs.declared.boxes.ViewBox.{ViewBox}
+use Rattle.sheet_plan.specs.Boxes.{Box}
 use Rattle.text_fit.specs.Widths.{text_width}
 use Rattle.sheet_page.specs.declared.page.Label.{Label}
 use Rattle.cut_marks.specs.Items.{IsLabelInRoom}
-use Rattle.cut_marks.specs.Reach.{AreClear, IsHeadingWithin, IsInReach, IsInside, room_start, room_end}
+use Rattle.cut_marks.specs.Reach.{AreClear, IsHeadingWithin, IsInside, room_start, room_end}
 use Rattle.cut_marks.specs.declared.figures.Heading.{Heading}
 
 -- ---- no side is narrower than 7.5 mm
@@ -21,31 +19,7 @@ side_least false asked = omega arith
 pub level_least : (shrunk : Bool) (asked whole width : ℕ) → 750 ≤ level_side shrunk asked whole width
 level_least shrunk asked whole width = side_least shrunk (max asked (half_lacking whole width))
 
--- each of the first so many views asks for some
-pub listed_below : (sides : List Sides) (view : ℕ) → view < length sides → (asked : Sides) × (slice_get sides view ≡ Some asked)
-listed_below [] view h = absurd (omega (arith, h))
-listed_below (s ∷ ss) zero h = (s, refl)
-listed_below (s ∷ ss) (suc view) h = listed_below ss view (omega (arith, h))
-
--- ---- what is in reach is within the sides
-pub inside_sides : (shrunk : Bool) (s : Sides) (b : ViewBox) (l r t u : ℤ) → IsInReach b l r t u → IsInside (with_sides shrunk s (box_of b)) l r t u
-inside_sides shrunk s b l r t u h = record {
-  left = before b.left l (level_side shrunk s.left s.width width) (level_least shrunk s.left s.width width) h.left;
-  right = behind b.right r (level_side shrunk s.right s.width width) (level_least shrunk s.right s.width width) h.right;
-  top = before b.top t (side_or_least shrunk s.top) (side_least shrunk s.top) h.top;
-  bottom = behind b.bottom u (side_or_least shrunk s.bottom) (side_least shrunk s.bottom) h.bottom;
-}
-  where
-    width : ℕ
-    width = unsigned_abs (b.right -ℤ b.left)
-
-    before : (a n : ℤ) (side : ℕ) → 750 ≤ side → (a -ℤ pos 700) ≤ℤ n → (a -ℤ pos side) <ℤ n
-    before a n side wide h = omega (arith, ints)
-
-    behind : (a n : ℤ) (side : ℕ) → 750 ≤ side → n ≤ℤ (a +ℤ pos 700) → n <ℤ (a +ℤ pos side)
-    behind a n side wide h = omega (arith, ints)
-
--- ---- and so is the label of a heading
+-- ---- the label of a heading is within them
 pub label_inside : (around : Box) (h : Heading) (l : Label) → IsHeadingWithin around h → IsLabelInRoom h l → IsInside around l.x (l.x +ℤ pos (text_width l.text * l.size / 1000)) (l.y -ℤ pos l.size) (l.y +ℤ pos 150)
 label_inside around h l within room = record {
   left = starts around.left (room_start h) l.x within.left room.left;

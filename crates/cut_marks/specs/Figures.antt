@@ -9,7 +9,7 @@ use Rattle.cut_marks.specs.declared.figures.CutMark.{CutMark}
 use Rattle.cut_marks.specs.declared.figures.MarkEnd.{MarkEnd}
 use Rattle.cut_marks.specs.declared.figures.SheetPoint.{SheetPoint}
 use Rattle.cut_marks.specs.declared.ways.Lane.{Lane}
-use Rattle.cut_marks.specs.declared.ways.Lane.TheVariants.{Inner, Outer}
+use Rattle.cut_marks.specs.declared.ways.Lane.TheVariants.{Inner, Middle, Outer}
 use Rattle.cut_marks.specs.declared.ways.Laned.{Laned}
 
 -- so far forward, or back
@@ -19,40 +19,49 @@ ahead forward at by = if forward then at +ℤ by else at -ℤ by
 abbrev pub place_at : ℤ → ℤ → SheetPoint
 place_at x y = record { x = x; y = y }
 
--- at a trace that runs upright: an arrow of 3 mm in the viewing direction, its letter 2 mm on the trace's other side, and another
--- 3 mm farther; their middles are as high as the arrow, and their base lines 1.25 mm below that
-abbrev pub upright_end : Bool → (at along : ℤ) → MarkEnd
-upright_end forward at along = record {
-  tail = place_at at along;
-  tip = place_at (ahead forward at (pos 300)) along;
-  letter = place_at (ahead (not forward) at (pos 200)) (along +ℤ pos 125);
-  beside = place_at (ahead (not forward) at (pos 500)) (along +ℤ pos 125);
+-- the base line of a letter beneath an arrow that goes to the left or to the right at this height, or of one above it
+abbrev pub base_at : Bool → ℤ → ℤ
+base_at beneath y = if beneath then y +ℤ pos 450 else y -ℤ pos 90
+
+-- At a trace that runs upright: the strong end begins and ends so far outside this side of the view's box, and the arrow of 6.6 mm goes to its
+-- end in the viewing direction. The letter is beside the tail, toward the view, and another one on the arrow's other side.
+abbrev pub upright_end : Bool → (at : ℤ) → Bool → (side begins ends : ℤ) → MarkEnd
+upright_end forward at beyond side begins ends = record {
+  start = place_at at (ahead beyond side begins);
+  tip = place_at at (ahead beyond side ends);
+  tail = place_at (ahead (not forward) at (pos 660)) (ahead beyond side ends);
+  letter = place_at (ahead (not forward) at (pos 480)) (base_at (not beyond) (ahead beyond side ends));
+  beside = place_at (ahead (not forward) at (pos 480)) (base_at beyond (ahead beyond side ends));
 }
 
--- letters that begin 0.5 mm beyond the tip of an arrow of 3 mm take 2.75 mm above their base line and 0.25 mm beneath
-abbrev pub base_beyond : Bool → ℤ → ℤ
-base_beyond forward at = if forward then at +ℤ pos 625 else at -ℤ pos 375
+-- the base line of a letter beside the tail of an arrow that goes down, or up, to this height
+abbrev pub base_beside : Bool → ℤ → ℤ
+base_beside forward at = if forward then at -ℤ pos 300 else at +ℤ pos 660
 
--- at a trace that runs level: such an arrow, its letter beyond the tip, and another beside that, in the other lane
-abbrev pub level_end : Bool → (at along other : ℤ) → MarkEnd
-level_end forward at along other = record {
-  tail = place_at along at;
-  tip = place_at along (ahead forward at (pos 300));
-  letter = place_at along (base_beyond forward at);
-  beside = place_at other (base_beyond forward at);
+-- the same at a trace that runs level
+abbrev pub level_end : Bool → (at : ℤ) → Bool → (side begins ends : ℤ) → MarkEnd
+level_end forward at beyond side begins ends = record {
+  start = place_at (ahead beyond side begins) at;
+  tip = place_at (ahead beyond side ends) at;
+  tail = place_at (ahead beyond side ends) (ahead (not forward) at (pos 660));
+  letter = place_at (ahead (not beyond) (ahead beyond side ends) (pos 290)) (base_beside forward at);
+  beside = place_at (ahead beyond (ahead beyond side ends) (pos 290)) (base_beside forward at);
 }
 
-abbrev pub end_on : Bool → Bool → (at along other : ℤ) → MarkEnd
-end_on upright forward at along other = if upright then upright_end forward at along else level_end forward at along other
+abbrev pub end_on : Bool → Bool → (at : ℤ) → Bool → (side begins ends : ℤ) → MarkEnd
+end_on upright forward at beyond side begins ends =
+    if upright then upright_end forward at beyond side begins ends else level_end forward at beyond side begins ends
 
-abbrev pub other_of : Lane → Lane
-other_of Inner = Outer
-other_of Outer = Inner
+-- strong ends are 8 mm long and begin 1 mm outside the view's box, in the next lanes 7.2 mm and 13.4 mm
+abbrev pub begin_of : Lane → ℤ
+begin_of Inner = pos 100
+begin_of Middle = pos 720
+begin_of Outer = pos 1340
 
--- the arrows are 2 mm outside the view's box, in the outer lane 5.3 mm
 abbrev pub out_of : Lane → ℤ
-out_of Inner = pos 200
-out_of Outer = pos 530
+out_of Inner = pos 900
+out_of Middle = pos 1520
+out_of Outer = pos 2140
 
 -- from where to where a trace crosses the box
 abbrev pub near_side : Bool → ViewBox → ℤ
@@ -61,10 +70,9 @@ near_side upright b = if upright then b.top else b.left
 abbrev pub far_side : Bool → ViewBox → ℤ
 far_side upright b = if upright then b.bottom else b.right
 
--- an end of a trace's mark, so far outside one side of the box
+-- an end of a trace's mark, outside one side of the box
 abbrev pub end_of : Laned → Bool → ℤ → MarkEnd
-end_of e beyond side =
-    end_on (is_upright e.trace.way) (is_forward e.trace.way) e.trace.at (ahead beyond side (out_of e.lane)) (ahead beyond side (out_of (other_of e.lane)))
+end_of e beyond side = end_on (is_upright e.trace.way) (is_forward e.trace.way) e.trace.at beyond side (begin_of e.lane) (out_of e.lane)
 
 -- the mark of a trace in the view with this box
 abbrev pub mark_of : ViewBox → Laned → CutMark

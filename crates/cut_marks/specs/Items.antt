@@ -19,6 +19,7 @@ use Rattle.sheet_page.specs.declared.page.Label.{Label}
 use Rattle.sheet_page.specs.declared.page.Pen.{Pen}
 use Rattle.sheet_page.specs.declared.page.Pen.TheVariants as pen
 use Rattle.sheet_page.specs.Labels.{fitted_in, set_width}
+use Rattle.stroke_paths.specs.declared.path.Point.{Point}
 use Rattle.cut_marks.specs.HeadingTexts.{bare_text, fits_least, front_text, heading_text}
 use Rattle.cut_marks.specs.MarkLetters.{half_of, width_of}
 use Rattle.cut_marks.specs.Reach.{room_start, room_end}
@@ -68,12 +69,13 @@ IsInRoom h (item.Circle circle) = ⊥
 IsInRoom h (item.Label label) = IsLabelInRoom h label
 IsInRoom h (item.Path path) = ⊥
 IsInRoom h (item.Fill fill) = ⊥
+IsInRoom h (item.ArrowHead arrow) = ⊥
 
--- behind the tip of an arrow that comes from the tail, as far as its head is long: 1 mm
+-- behind the tip of an arrow that comes from the tail, as far as its head is long: 3 mm
 abbrev pub behind : ℤ → ℤ → ℤ
-behind tip tail = if int_lt tail tip then tip -ℤ pos 100 else tip +ℤ pos 100
+behind tip tail = if int_lt tail tip then tip -ℤ pos 300 else tip +ℤ pos 300
 
--- where a line of an arrow's head ends, so far beside the arrow, which goes up or down, or to the left or to the right
+-- a point of the base of an arrow's head, so far beside the arrow, which goes up or down, or to the left or to the right
 abbrev pub is_upright : MarkEnd → Bool
 is_upright e = int_eq e.tail.x e.tip.x
 
@@ -86,26 +88,32 @@ level_head e side = record { x = behind e.tip.x e.tail.x; y = e.tip.y +ℤ side 
 abbrev pub head_at : MarkEnd → ℤ → SheetPoint
 head_at e side = if is_upright e then upright_head e side else level_head e side
 
--- an arrow from the tail to the tip
+-- the head of an arrow, 3 mm long and 1.1 mm wide
+abbrev pub point_of : SheetPoint → Point
+point_of p = record { x = p.x; y = p.y }
+
+abbrev pub head_item : MarkEnd → Item
+head_item e = item.ArrowHead (record { tip = point_of e.tip; left = point_of (head_at e (negsuc 54)); right = point_of (head_at e (pos 55)) })
+
+-- a strong end, and an arrow there from the tail to the tip
 abbrev pub arrow_items : MarkEnd → List Item
-arrow_items e =
-    rule_to pen.Strong e.tail e.tip ∷ rule_to pen.Strong e.tip (head_at e (negsuc 39)) ∷ rule_to pen.Strong e.tip (head_at e (pos 40)) ∷ []
+arrow_items e = rule_to pen.Visible e.start e.tip ∷ rule_to pen.Visible e.tail (head_at e (pos 0)) ∷ head_item e ∷ []
 
 -- a letter of a mark
 abbrev pub letter_item : ℕ → SheetPoint → Item
-letter_item letter p = text_at p (width_of letter) 350 (encode_utf8 letter)
+letter_item letter p = text_at p (width_of letter) 500 (encode_utf8 letter)
 
 abbrev pub beside_items : Option ℕ → SheetPoint → List Item
 beside_items None p = []
 beside_items (Some letter) p = letter_item letter p ∷ []
 
--- an end of a mark: its arrow, its letter, and the one that stands beside it
+-- an end of a mark: what is strong of it, its letter, and the one that stands beside it
 abbrev pub end_items : CutMark → MarkEnd → List Item
 end_items m e = arrow_items e ++ letter_item m.letter e.letter ∷ beside_items m.beside e.beside
 
 -- a mark: the chain line from end to end, and its two ends
 abbrev pub items_of_mark : CutMark → List Item
-items_of_mark m = rule_to pen.Chain m.first.tail m.second.tail ∷ (end_items m m.first ++ end_items m m.second)
+items_of_mark m = rule_to pen.Chain m.first.tip m.second.tip ∷ (end_items m m.first ++ end_items m m.second)
 
 -- a view with this title
 abbrev pub items_of_view : ℕ → Length → ViewMarks → List ℕ → List Item

@@ -10,8 +10,9 @@ pub record IsPlaceInRange (p : SheetPoint) : Type 0 where
   pub y : unsigned_abs p.y < 2 ^ 62
 
 pub record IsEndInRange (e : MarkEnd) : Type 0 where
-  pub tail : IsPlaceInRange e.tail
+  pub start : IsPlaceInRange e.start
   pub tip : IsPlaceInRange e.tip
+  pub tail : IsPlaceInRange e.tail
   pub letter : IsPlaceInRange e.letter
   pub beside : IsPlaceInRange e.beside
 

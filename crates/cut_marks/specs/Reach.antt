@@ -1,47 +1,49 @@
--- How far marks and headings reach outside the box of their view, and that they stay within its sides.
-use Rattle.std.specs.Prelude.{◌≡◌, ◌⊎◌, ℕ, ◌/◌, Bool, ℤ, pos, ◌+ℤ◌, ◌-ℤ◌, ◌<ℤ◌, ◌≤ℤ◌, if◌then◌else◌, List, All, Some, IfSome, slice_get}
+-- That marks and headings stay within the sides of their view, and that marks touch neither it nor one another.
+use Rattle.std.specs.Prelude.{◌≡◌, ◌⊎◌, ℕ, ◌/◌, Bool, ℤ, pos, ◌+ℤ◌, ◌-ℤ◌, ◌<ℤ◌, ◌≤ℤ◌, List, All, AllPairs, Some, IfSome, slice_get}
 use Rattle.lattice.specs.declared.points.Corner.{Corner}
 use Rattle.sheet_plan.specs.declared.sheet.Sheet.{Sheet}
 use Rattle.sheet_plan.specs.Boxes.{Box, TakesBox, box_of}
 use Rattle.sheet_layout.specs.Keeps.{with_sides}
 use Rattle.sheet_layout.specs.declared.sides.Sides.{Sides}
-use Rattle.cut_marks.specs.Traces.{is_upright}
+use Rattle.cut_marks.specs.Areas.{area_of, areas_of}
+use Rattle.cut_marks.specs.declared.areas.Area.{Area}
 use Rattle.sheet_plan.specs.declared.boxes.ViewBox.{ViewBox}
 use Rattle.cut_marks.specs.declared.figures.Heading.{Heading}
 use Rattle.cut_marks.specs.declared.figures.CutMark.{CutMark}
-use Rattle.cut_marks.specs.declared.figures.MarkEnd.{MarkEnd}
-use Rattle.cut_marks.specs.declared.figures.SheetPoint.{SheetPoint}
 use Rattle.cut_marks.specs.declared.views.ViewMarks.{ViewMarks}
-use Rattle.cut_marks.specs.declared.ways.Trace.{Trace}
 
--- 7 mm
-abbrev pub reach : ℤ
-reach = pos 700
+-- what goes across from x to x_end and downward from y to y_end ends within a box
+pub record IsInside (around : Box) (x x_end y y_end : ℤ) : Type 0 where
+  pub left : around.left <ℤ x
+  pub right : x_end <ℤ around.right
+  pub top : around.top <ℤ y
+  pub bottom : y_end <ℤ around.bottom
 
--- what goes across from x to x_end and downward from y to y_end is within the box, widened by the reach
-pub record IsInReach (b : ViewBox) (x x_end y y_end : ℤ) : Type 0 where
-  pub left : (b.left -ℤ reach) ≤ℤ x
-  pub right : x_end ≤ℤ (b.right +ℤ reach)
-  pub top : (b.top -ℤ reach) ≤ℤ y
-  pub bottom : y_end ≤ℤ (b.bottom +ℤ reach)
+-- of two figures one ends before the other begins, across or downward
+abbrev pub AreClear : (x x_end y y_end : ℤ) → (other_x other_x_end other_y other_y_end : ℤ) → Type 0
+AreClear x x_end y y_end other_x other_x_end other_y other_y_end = (x_end <ℤ other_x) ⊎ (other_x_end <ℤ x) ⊎ (y_end <ℤ other_y) ⊎ (other_y_end <ℤ y)
 
-abbrev pub IsPointInReach : ViewBox → SheetPoint → Type 0
-IsPointInReach b p = IsInReach b p.x p.x p.y p.y
+-- ---- marks
+abbrev pub IsWithin : Box → Area → Type 0
+IsWithin room a = IsInside room a.left a.right a.top a.bottom
 
--- a letter takes 1.5 mm on both sides of the middle of its base line, 2.75 mm above it and 0.25 mm beneath
-abbrev pub IsLetterInReach : ViewBox → SheetPoint → Type 0
-IsLetterInReach b p = IsInReach b (p.x -ℤ pos 150) (p.x +ℤ pos 150) (p.y -ℤ pos 275) (p.y +ℤ pos 25)
+abbrev pub IsClearOf : Area → Area → Type 0
+IsClearOf a c = AreClear a.left a.right a.top a.bottom c.left c.right c.top c.bottom
 
-pub record IsEndInReach (b : ViewBox) (e : MarkEnd) : Type 0 where
-  pub tail : IsPointInReach b e.tail
-  pub tip : IsPointInReach b e.tip
-  pub letter : IsLetterInReach b e.letter
-  pub beside : IsLetterInReach b e.beside
+-- all that a mark takes at its ends is within the box with its sides and clear of the box itself, which only the chain line crosses
+pub record IsMarkPlaced (own room : Box) (m : CutMark) : Type 0 where
+  pub within : All (IsWithin room) (areas_of m)
+  pub off_view : All (λ a. IsClearOf a (area_of own)) (areas_of m)
 
-pub record IsMarkInReach (b : ViewBox) (m : CutMark) : Type 0 where
-  pub first : IsEndInReach b m.first
-  pub second : IsEndInReach b m.second
+-- the strong ends, the arrows and the letters of each mark are clear of the other's
+abbrev pub AreApart : CutMark → CutMark → Type 0
+AreApart m n = All (λ a. All (IsClearOf a) (areas_of n)) (areas_of m)
 
+-- in no view two marks touch
+abbrev pub NoneTouch : List ViewMarks → Type 0
+NoneTouch all = All (λ view. AllPairs AreApart view.marks.items) all
+
+-- ---- headings
 -- where the room of a heading begins, whose middle is that of the heading's base line
 abbrev pub room_start : Heading → ℤ
 room_start h = h.x -ℤ pos (h.room / 2)
@@ -56,33 +58,15 @@ pub record IsHeadingWithin (around : Box) (h : Heading) : Type 0 where
   pub top : around.top <ℤ (h.y -ℤ pos 500)
   pub bottom : (h.y +ℤ pos 150) <ℤ around.bottom
 
--- the marks of the view with this number are in reach of its box, and its heading is within the box with its sides
+-- the marks of the view with this number are placed well, and its heading is within the box with its sides
 pub record IsViewInReach (sheet : Sheet) (corners : List Corner) (sides : List Sides) (shrunk : Bool) (view : ℕ) (m : ViewMarks) : Type 0 where
   pub box : ViewBox
   pub is_box : TakesBox sheet corners view (box_of box)
   pub asked : Sides
   pub listed : slice_get sides view ≡ Some asked
   pub heading : IfSome m.heading (IsHeadingWithin (with_sides shrunk asked (box_of box)))
-  pub marks : All (IsMarkInReach box) m.marks.items
+  pub marks : All (IsMarkPlaced (box_of box) (with_sides shrunk asked (box_of box))) m.marks.items
 
 -- and so in each view
 abbrev pub AreInReach : Sheet → List Corner → List Sides → Bool → List ViewMarks → Type 0
 AreInReach sheet corners sides shrunk all = (view : ℕ) (m : ViewMarks) → slice_get all view ≡ Some m → IsViewInReach sheet corners sides shrunk view m
-
--- what goes across from x to x_end and downward from y to y_end ends within a box
-pub record IsInside (around : Box) (x x_end y y_end : ℤ) : Type 0 where
-  pub left : around.left <ℤ x
-  pub right : x_end <ℤ around.right
-  pub top : around.top <ℤ y
-  pub bottom : y_end <ℤ around.bottom
-
--- the trace crosses the box
-pub record IsCrossed (b : ViewBox) (t : Trace) : Type 0 where
-  pub across : b.left ≤ℤ b.right
-  pub down : b.top ≤ℤ b.bottom
-  pub least : (if is_upright t.way then b.left else b.top) ≤ℤ t.at
-  pub most : t.at ≤ℤ (if is_upright t.way then b.right else b.bottom)
-
--- of two figures one ends before the other begins, across or downward
-abbrev pub AreClear : (x x_end y y_end : ℤ) → (other_x other_x_end other_y other_y_end : ℤ) → Type 0
-AreClear x x_end y y_end other_x other_x_end other_y other_y_end = (x_end <ℤ other_x) ⊎ (other_x_end <ℤ x) ⊎ (y_end <ℤ other_y) ⊎ (other_y_end <ℤ y)

@@ -4,7 +4,7 @@ ghost use Rattle.lattice.specs.Cuts.{plane_of};
 ghost use Rattle.solid_mesh.specs.Solids.{solid_part};
 ghost use Rattle.cut_marks.specs.Letters.{IsLetterOf};
 ghost use Rattle.cut_marks.specs.Traces.{is_upright, is_forward};
-ghost use Rattle.cut_marks.specs.Figures.{ahead, place_at, upright_end, base_beyond, level_end, end_on, other_of, out_of, near_side, far_side, end_of, mark_of, marks_in, heading_over};
+ghost use Rattle.cut_marks.specs.Figures.{ahead, place_at, base_at, upright_end, base_beside, level_end, end_on, begin_of, out_of, near_side, far_side, end_of, mark_of, marks_in, heading_over};
 
 use crate::traces::{is_forward, is_upright};
 use crate::ways::{Lane, Laned};
@@ -20,19 +20,19 @@ pub struct SheetPoint {
     pub y: i64,
 }
 
-/// One end of a mark: an arrow in the viewing direction, from `tail` to `tip`, with its letter and a place for another one. Where the
-/// trace runs upright the letter is on the other side of the tail and the second one behind it; where it runs level the letter is
-/// beyond the tip, so that letters stand with their own arrows, and the second one beside it. Letters are 3.5 mm high; their places
+/// One end of a mark: the strong end of its line, from `start` to `tip`, an arrow in the viewing direction, from `tail` to `tip`, its
+/// letter beside the tail, toward the view, and a place for another one on the arrow's other side. Letters are 5 mm high; their places
 /// are in the middle of their base lines.
 #[derive(Clone, Copy, Debug)]
 pub struct MarkEnd {
-    pub tail: SheetPoint,
+    pub start: SheetPoint,
     pub tip: SheetPoint,
+    pub tail: SheetPoint,
     pub letter: SheetPoint,
     pub beside: SheetPoint,
 }
 
-/// The mark of a cut in a view that sees its plane edge-on: a chain line across the view's whole box, from the tail of the first end to
+/// The mark of a cut in a view that sees its plane edge-on: a chain line across the view's whole box, from the tip of the first end to
 /// that of the second one, and the two ends. Where another cut has its trace on this line, and its viewer looks in the same way, both
 /// letters may stand at it. Letters are ASCII codes.
 #[derive(Clone, Copy, Debug)]
@@ -60,11 +60,20 @@ pub struct Heading {
 /// So far ahead, or back.
 fn ahead(forward: bool, at: i64, by: i64) -> i64
     requires here { unsigned_abs at < 2 ^ 62 }
-    requires near { unsigned_abs by ≤ 1000 }
-    ensures value { result ≡ ahead forward at by }
-    ensures size { unsigned_abs at < 2 ^ 61 → unsigned_abs result < 2 ^ 62 }
+    requires near { unsigned_abs by ≤ 3000 }
+    ensures { result ≡ ahead forward at by }
 {
     if forward { at + by } else { at - by }
+}
+
+/// So far beyond a side of a box, or before it.
+fn outside(beyond: bool, side: i64, by: i64) -> i64
+    requires here { unsigned_abs side < 2 ^ 61 }
+    requires near { unsigned_abs by ≤ 3000 }
+    ensures value { result ≡ ahead beyond side by }
+    ensures size { unsigned_abs result < 2 ^ 62 }
+{
+    if beyond { side + by } else { side - by }
 }
 
 fn place_at(x: i64, y: i64) -> SheetPoint
@@ -73,73 +82,104 @@ fn place_at(x: i64, y: i64) -> SheetPoint
     SheetPoint { x, y }
 }
 
-/// The end of a mark whose trace runs upright at this x: its arrow has this y.
-fn upright_end(forward: bool, at: i64, along: i64) -> MarkEnd
-    requires at { unsigned_abs at < 2 ^ 61 }
-    requires along { unsigned_abs along < 2 ^ 62 }
-    ensures { result ≡ upright_end forward at along }
+/// The base line of a letter beneath an arrow at this height, or above it.
+fn base_at(beneath: bool, y: i64) -> i64
+    requires { unsigned_abs y < 2 ^ 62 }
+    ensures { result ≡ base_at beneath y }
 {
-    let base = ahead(true, along, 125);
+    if beneath { y + 450 } else { y - 90 }
+}
+
+/// The end of a mark whose trace runs upright at this x, above the box or beneath it.
+fn upright_end(forward: bool, at: i64, beyond: bool, side: i64, begins: i64, ends: i64) -> MarkEnd
+    requires at { unsigned_abs at < 2 ^ 61 }
+    requires side { unsigned_abs side < 2 ^ 61 }
+    requires begins { unsigned_abs begins ≤ 3000 }
+    requires ends { unsigned_abs ends ≤ 3000 }
+    ensures { result ≡ upright_end forward at beyond side begins ends }
+{
+    let y = outside(beyond, side, ends);
+    let x = ahead(!forward, at, 480);
     MarkEnd {
-        tail: place_at(at, along),
-        tip: place_at(ahead(forward, at, 300), along),
-        letter: place_at(ahead(!forward, at, 200), base),
-        beside: place_at(ahead(!forward, at, 500), base),
+        start: place_at(at, outside(beyond, side, begins)),
+        tip: place_at(at, y),
+        tail: place_at(ahead(!forward, at, 660), y),
+        letter: place_at(x, base_at(!beyond, y)),
+        beside: place_at(x, base_at(beyond, y)),
     }
 }
 
-/// The base line of letters beyond the tip of an arrow that goes down, or up, from this y.
-fn base_beyond(forward: bool, at: i64) -> i64
+/// The base line of a letter beside the tail of an arrow that goes down, or up, to this height.
+fn base_beside(forward: bool, at: i64) -> i64
     requires { unsigned_abs at < 2 ^ 61 }
-    ensures { result ≡ base_beyond forward at }
+    ensures { result ≡ base_beside forward at }
 {
-    if forward { at + 625 } else { at - 375 }
+    if forward { at - 300 } else { at + 660 }
 }
 
-/// The end of a mark whose trace runs level at this y: its arrow has the one x, and a second letter the other.
-fn level_end(forward: bool, at: i64, along: i64, other: i64) -> MarkEnd
-    requires { unsigned_abs at < 2 ^ 61 }
-    ensures { result ≡ level_end forward at along other }
+/// The end of a mark whose trace runs level at this y, to the left or to the right of the box.
+fn level_end(forward: bool, at: i64, beyond: bool, side: i64, begins: i64, ends: i64) -> MarkEnd
+    requires at { unsigned_abs at < 2 ^ 61 }
+    requires side { unsigned_abs side < 2 ^ 61 }
+    requires begins { unsigned_abs begins ≤ 3000 }
+    requires ends { unsigned_abs ends ≤ 3000 }
+    ensures { result ≡ level_end forward at beyond side begins ends }
 {
-    let base = base_beyond(forward, at);
+    let x = outside(beyond, side, ends);
+    let base = base_beside(forward, at);
     MarkEnd {
-        tail: place_at(along, at),
-        tip: place_at(along, ahead(forward, at, 300)),
-        letter: place_at(along, base),
-        beside: place_at(other, base),
+        start: place_at(outside(beyond, side, begins), at),
+        tip: place_at(x, at),
+        tail: place_at(x, ahead(!forward, at, 660)),
+        letter: place_at(ahead(!beyond, x, 290), base),
+        beside: place_at(ahead(beyond, x, 290), base),
     }
 }
 
-/// The end of a mark whose trace is at this place, so far along it; the other lane is farther along it, or less far.
-fn end_on(upright: bool, forward: bool, at: i64, along: i64, other: i64) -> MarkEnd
+/// The end of a mark whose trace is at this place, so far outside this side of the box.
+fn end_on(
+    upright: bool,
+    forward: bool,
+    at: i64,
+    beyond: bool,
+    side: i64,
+    begins: i64,
+    ends: i64,
+) -> MarkEnd
     requires at { unsigned_abs at < 2 ^ 61 }
-    requires along { unsigned_abs along < 2 ^ 62 }
-    ensures { result ≡ end_on upright forward at along other }
+    requires side { unsigned_abs side < 2 ^ 61 }
+    requires begins { unsigned_abs begins ≤ 3000 }
+    requires ends { unsigned_abs ends ≤ 3000 }
+    ensures { result ≡ end_on upright forward at beyond side begins ends }
 {
     if upright {
-        upright_end(forward, at, along)
+        upright_end(forward, at, beyond, side, begins, ends)
     } else {
-        level_end(forward, at, along, other)
+        level_end(forward, at, beyond, side, begins, ends)
     }
 }
 
-fn other_of(lane: Lane) -> Lane
-    ensures { result ≡ other_of lane }
+/// How far outside the view's box the strong ends of a mark begin.
+fn begin_of(lane: Lane) -> i64
+    ensures value { result ≡ begin_of lane }
+    ensures size { unsigned_abs result ≤ 3000 }
 {
     match lane {
-        Lane::Inner => Lane::Outer,
-        Lane::Outer => Lane::Inner,
+        Lane::Inner => 100,
+        Lane::Middle => 720,
+        Lane::Outer => 1340,
     }
 }
 
-/// How far outside the view's box the arrows of a mark are.
+/// How far outside it they end, and its arrows are.
 fn out_of(lane: Lane) -> i64
     ensures value { result ≡ out_of lane }
-    ensures size { unsigned_abs result ≤ 1000 }
+    ensures size { unsigned_abs result ≤ 3000 }
 {
     match lane {
-        Lane::Inner => 200,
-        Lane::Outer => 530,
+        Lane::Inner => 900,
+        Lane::Middle => 1520,
+        Lane::Outer => 2140,
     }
 }
 
@@ -165,14 +205,14 @@ fn end_of(entry: &Laned, beyond: bool, side: i64) -> MarkEnd
     ensures { result ≡ end_of entry.now beyond side }
 {
     let trace = &entry.trace;
-    let along = ahead(beyond, side, out_of(entry.lane));
-    let other = ahead(beyond, side, out_of(other_of(entry.lane)));
     end_on(
         is_upright(trace.way),
         is_forward(trace.way),
         trace.at,
-        along,
-        other,
+        beyond,
+        side,
+        begin_of(entry.lane),
+        out_of(entry.lane),
     )
 }
 

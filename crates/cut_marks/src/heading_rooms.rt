@@ -1,6 +1,6 @@
 // How wide a heading may be.
 ghost use Rattle.std.specs.Prelude.{◌≡◌, ◌<◌, ◌≤◌, ◌^◌};
-ghost use Rattle.sheet_layout.specs.Seats.{level_side};
+ghost use Rattle.sheet_layout.specs.Seats.{level_side, side_or_least};
 ghost use Rattle.cut_marks.specs.HeadingRooms.{narrow_side, room_over, box_width};
 
 use sheet_layout::Sides;
@@ -9,8 +9,19 @@ use sheet_plan::ViewBox;
 /// The least side of a view.
 const LEAST_SIDE: u64 = 750;
 
+/// What a view has on a side, if it asks for so much there.
+pub(crate) fn side_or_least(shrunk: bool, asked: u32) -> u64
+    ensures value { result ≡ side_or_least shrunk asked }
+    ensures size { result < 2 ^ 32 }
+{
+    if shrunk {
+        return LEAST_SIDE;
+    }
+    LEAST_SIDE.max(u64::from(asked))
+}
+
 /// What a view whose box is so wide has to its left, or to its right, if it asks for so much there, and in all for the width `whole`.
-fn level_side(shrunk: bool, asked: u32, whole: u32, width: u64) -> u64
+pub(crate) fn level_side(shrunk: bool, asked: u32, whole: u32, width: u64) -> u64
     ensures value { result ≡ level_side shrunk asked whole width }
     ensures least { 750 ≤ result }
     ensures size { result < 2 ^ 32 }
@@ -33,7 +44,7 @@ fn narrow_side(shrunk: bool, sides: &Sides, width: u64) -> u64
 }
 
 /// How wide a box is.
-fn box_width(b: &ViewBox) -> u64
+pub(crate) fn box_width(b: &ViewBox) -> u64
     ensures value { result ≡ box_width b.now }
     ensures size { result < 2 ^ 62 }
 {

@@ -3,7 +3,7 @@ ghost use Rattle.std.specs.Prelude.{◌≡◌, ◌≤◌, ◌<◌, ◌^◌, ◌+
 ghost use Rattle.std.specs.List.{flat_map};
 ghost use Rattle.cut_marks.specs.MarkLetters.{half_of, width_of};
 ghost use Rattle.cut_marks.specs.Ranges.{IsPlaceInRange, IsEndInRange, IsMarkInRange};
-ghost use Rattle.cut_marks.specs.Items.{rule_to, text_at, heading_items, behind, is_upright, upright_head, level_head, head_at, arrow_items, letter_item, beside_items, end_items, items_of_mark, items_of_view, items_of_marks, title_at, IsHeadedWell, AreHeadedWell};
+ghost use Rattle.cut_marks.specs.Items.{rule_to, text_at, heading_items, behind, is_upright, upright_head, level_head, head_at, point_of, head_item, arrow_items, letter_item, beside_items, end_items, items_of_mark, items_of_view, items_of_marks, title_at, IsHeadedWell, AreHeadedWell};
 
 use crate::figures::{CutMark, MarkEnd, SheetPoint};
 use crate::headings::add_heading;
@@ -12,12 +12,21 @@ use crate::views::ViewMarks;
 use dec_text::Name;
 use exact_frac::OutOfMemory;
 use length_text::LengthForm;
-use sheet_page::{Item, Label, Pen, Rule};
+use sheet_page::{ArrowHead, Item, Label, Pen, Rule};
 use std::alloc::Global;
 use stroke_paths::Point;
 
 /// The size of the letters of marks.
-const MARK_SIZE: u32 = 350;
+const MARK_SIZE: u32 = 500;
+
+fn point_of(place: &SheetPoint) -> Point
+    ensures { result ≡ point_of place.now }
+{
+    Point {
+        x: place.x,
+        y: place.y,
+    }
+}
 
 /// A straight line from one place to another.
 fn rule_to(pen: Pen, from: &SheetPoint, to: &SheetPoint) -> Item
@@ -25,11 +34,8 @@ fn rule_to(pen: Pen, from: &SheetPoint, to: &SheetPoint) -> Item
 {
     Item::Rule(Rule {
         pen,
-        from: Point {
-            x: from.x,
-            y: from.y,
-        },
-        to: Point { x: to.x, y: to.y },
+        from: point_of(from),
+        to: point_of(to),
     })
 }
 
@@ -69,13 +75,13 @@ fn behind(tip: i64, tail: i64) -> i64
     requires { unsigned_abs tip < 2 ^ 62 }
     ensures { result ≡ behind tip tail }
 {
-    if tail < tip { tip - 100 } else { tip + 100 }
+    if tail < tip { tip - 300 } else { tip + 300 }
 }
 
 /// Beside the tip of an arrow.
 fn beside(tip: i64, side: i64) -> i64
     requires here { unsigned_abs tip < 2 ^ 62 }
-    requires near { unsigned_abs side ≤ 40 }
+    requires near { unsigned_abs side ≤ 60 }
     ensures { result ≡ tip +ℤ side }
 {
     tip + side
@@ -88,10 +94,10 @@ fn is_upright(end: &MarkEnd) -> bool
     end.tail.x == end.tip.x
 }
 
-/// Where a line of its head ends, so far beside the arrow.
+/// A point of the base of its head, so far beside the arrow.
 fn upright_head(end: &MarkEnd, side: i64) -> SheetPoint
     requires here { IsEndInRange end.now }
-    requires near { unsigned_abs side ≤ 40 }
+    requires near { unsigned_abs side ≤ 60 }
     ensures { result ≡ upright_head end.now side }
 {
     SheetPoint {
@@ -103,7 +109,7 @@ fn upright_head(end: &MarkEnd, side: i64) -> SheetPoint
 /// The same of an arrow that goes to the left or to the right.
 fn level_head(end: &MarkEnd, side: i64) -> SheetPoint
     requires here { IsEndInRange end.now }
-    requires near { unsigned_abs side ≤ 40 }
+    requires near { unsigned_abs side ≤ 60 }
     ensures { result ≡ level_head end.now side }
 {
     SheetPoint {
@@ -112,10 +118,10 @@ fn level_head(end: &MarkEnd, side: i64) -> SheetPoint
     }
 }
 
-/// Where a line of an arrow's head ends, so far beside the arrow.
+/// A point of the base of an arrow's head, so far beside the arrow.
 fn head_at(end: &MarkEnd, side: i64) -> SheetPoint
     requires here { IsEndInRange end.now }
-    requires near { unsigned_abs side ≤ 40 }
+    requires near { unsigned_abs side ≤ 60 }
     ensures { result ≡ head_at end.now side }
 {
     if is_upright(end) {
@@ -125,14 +131,26 @@ fn head_at(end: &MarkEnd, side: i64) -> SheetPoint
     }
 }
 
-/// Adds an arrow.
+/// The head of an arrow.
+fn head_item(end: &MarkEnd) -> Item
+    requires { IsEndInRange end.now }
+    ensures { result ≡ head_item end.now }
+{
+    Item::ArrowHead(ArrowHead {
+        tip: point_of(&end.tip),
+        left: point_of(&head_at(end, -55)),
+        right: point_of(&head_at(end, 55)),
+    })
+}
+
+/// Adds a strong end and its arrow.
 fn add_arrow(items: &mut Vec<Item>, end: &MarkEnd) -> Result<(), OutOfMemory>
     requires { IsEndInRange end.now }
     ensures { OnOk result (items.new.items ≡ items.old.items ++ arrow_items end.now) }
 {
-    items.push(rule_to(Pen::Strong, &end.tail, &end.tip))?;
-    items.push(rule_to(Pen::Strong, &end.tip, &head_at(end, -40)))?;
-    items.push(rule_to(Pen::Strong, &end.tip, &head_at(end, 40)))?;
+    items.push(rule_to(Pen::Visible, &end.start, &end.tip))?;
+    items.push(rule_to(Pen::Visible, &end.tail, &head_at(end, 0)))?;
+    items.push(head_item(end))?;
     Ok(())
 }
 
@@ -188,7 +206,7 @@ fn add_mark(alloc: Global, items: &mut Vec<Item>, mark: &CutMark) -> Result<(), 
     requires { IsMarkInRange mark.now }
     ensures { OnOk result (items.new.items ≡ items.old.items ++ items_of_mark mark.now) }
 {
-    items.push(rule_to(Pen::Chain, &mark.first.tail, &mark.second.tail))?;
+    items.push(rule_to(Pen::Chain, &mark.first.tip, &mark.second.tip))?;
     add_end(alloc, items, mark, &mark.first)?;
     add_end(alloc, items, mark, &mark.second)?;
     Ok(())

@@ -4,10 +4,10 @@ ghost use Rattle.job_file.specs.declared.view.JobView.{JobView};
 ghost use Rattle.solid_mesh.specs.Solids.{solid_part};
 ghost use Rattle.lattice.specs.ShownCuts.{cuts_of};
 ghost use Rattle.job_file.specs.ShownCuts.{cuts_in};
-ghost use Rattle.cut_marks.specs.Areas.{NoneTouch};
 ghost use Rattle.cut_marks.specs.Marks.{IsHeaded, ArePlainMarks, IsMarked, AreMarked};
-ghost use Rattle.cut_marks.specs.Reach.{AreInReach};
+ghost use Rattle.cut_marks.specs.Reach.{AreInReach, NoneTouch};
 
+use crate::areas::room_area;
 use crate::figures::{Heading, heading_over, marks_in};
 use crate::heading_rooms::room_over;
 use crate::lanes::{Told, laned};
@@ -28,16 +28,20 @@ fn plain_marks(
     alloc: Global,
     solid: &Solid,
     sheet: &Sheet,
+    sides: &[Sides],
+    shrunk: bool,
     view: u32,
     cuts: &[Cut],
 ) -> Result<ViewMarks, OutOfMemory>
     requires placed { view < length sheet.now.places.items }
+    requires asked { view < length sides.now }
     requires few { length cuts.now ≤ 12 }
-    ensures { IfOk result (ArePlainMarks sheet.now (solid_part solid.now) cuts.now view) }
+    ensures { IfOk result (ArePlainMarks sheet.now sides.now shrunk (solid_part solid.now) cuts.now view) }
 {
     let b = ViewBox::of(solid, sheet, view);
+    let room = room_area(shrunk, &sides[view as usize], &b);
     let traces = traces_in(alloc, solid, sheet, view, cuts)?;
-    let Told { laned, left_out } = laned(alloc, &b, &traces)?;
+    let Told { laned, left_out } = laned(alloc, &b, &room, &traces)?;
     let marks = marks_in(alloc, &b, &laned)?;
     Ok(ViewMarks {
         heading: None,
@@ -86,7 +90,7 @@ fn view_marks(
     ensures { IfOk result (IsMarked sheet.now sides.now shrunk (solid_part solid.now) cuts.now view number spec.now) }
 {
     match spec {
-        ViewSpec::Plain(_) => plain_marks(alloc, solid, sheet, view, cuts),
+        ViewSpec::Plain(_) => plain_marks(alloc, solid, sheet, sides, shrunk, view, cuts),
         ViewSpec::Section(cut) => Ok(ViewMarks {
             heading: Some(heading_of(solid, sheet, sides, shrunk, view, number, cut)),
             marks: Vec::new(alloc),

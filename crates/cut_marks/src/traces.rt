@@ -82,7 +82,7 @@ fn way_of(across: i128, upward: i128) -> Way
 }
 
 /// The way in which the cut's viewer looks, as the view along `d` shows it.
-fn looks(d: &Dir, cut: &Cut) -> Way
+pub(crate) fn looks(d: &Dir, cut: &Cut) -> Way
     ensures { result ≡ looks (of_dir d.now) (plane_of cut.now) }
 {
     let toward = cut.dir().vector();

@@ -20,10 +20,11 @@ pub(crate) struct Trace {
     ghost in_range: { unsigned_abs at < 2 ^ 61 },
 }
 
-/// Where the arrows of a mark stand: near the view, or farther out.
+/// Where the ends of a mark stand: near the view, or farther out.
 #[derive(Clone, Copy)]
 pub(crate) enum Lane {
     Inner,
+    Middle,
     Outer,
 }
 

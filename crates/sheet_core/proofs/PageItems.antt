@@ -1,6 +1,6 @@
 -- What stands on the page of a drawing is of its views.
 use Rattle.std.proofs.Common.{ℕ, ◌<◌, List, [], ◌∷◌, ◌++◌, Bool, Option, None, Some, map}
-use Rattle.std.specs.Prelude.{ℤ, pos, negsuc}
+use Rattle.std.specs.Prelude.{ℤ, pos}
 use Rattle.std.specs.List.{All, flat_map}
 use Rattle.std.proofs.lemmas.List.Elements.{All-nil, All-cons, All-head, All-tail, All-append, All-filter, All-map, All-weaker}
 use Rattle.cut_marks.specs.declared.figures.Heading.{Heading}
@@ -9,7 +9,7 @@ use Rattle.cut_marks.specs.declared.figures.MarkEnd.{MarkEnd}
 use Rattle.cut_marks.specs.declared.figures.SheetPoint.{SheetPoint}
 use Rattle.cut_marks.specs.declared.views.ViewMarks.{ViewMarks}
 use Rattle.dec_text.specs.declared.number.Length.{Length}
-use Rattle.cut_marks.specs.Items.{rule_to, head_at, letter_item, beside_items, arrow_items, end_items, items_of_mark, heading_item, heading_items, items_of_view, items_of_marks}
+use Rattle.cut_marks.specs.Items.{rule_to, head_at, head_item, letter_item, beside_items, arrow_items, end_items, items_of_mark, heading_item, heading_items, items_of_view, items_of_marks}
 use Rattle.sheet_page.specs.Corners.{IsInCorner}
 use Rattle.drawing.specs.declared.drawn.Drawing.{Drawing}
 use Rattle.sheet_page.specs.Pages.{IsInView}
@@ -41,6 +41,7 @@ module _ (n : ℕ) where
   block_item width height (item.Label label) h = tt
   block_item width height (item.Path path) h = absurd h
   block_item width height (item.Fill fill) h = absurd h
+  block_item width height (item.ArrowHead arrow) h = absurd h
 
   pub of_block : (width height : ℤ) (items : List Item) → All (IsInCorner width height) items → All (IsInView n) items
   of_block width height items h = All-weaker (IsInCorner width height) (IsInView n) (block_item width height) items h
@@ -53,11 +54,11 @@ module _ (n : ℕ) where
   of_end : (m : CutMark) (e : MarkEnd) → All (IsInView n) (end_items m e)
   of_end m e =
       All-append (IsInView n) (arrow_items e) (letter_item m.letter e.letter ∷ beside_items m.beside e.beside)
-      (three (rule_to pen.Strong e.tail e.tip) (rule_to pen.Strong e.tip (head_at e (negsuc 39))) (rule_to pen.Strong e.tip (head_at e (pos 40))) tt tt tt)
+      (three (rule_to pen.Visible e.start e.tip) (rule_to pen.Visible e.tail (head_at e (pos 0))) (head_item e) tt tt tt)
       (All-cons (IsInView n) (letter_item m.letter e.letter) (beside_items m.beside e.beside) tt (of_beside m.beside e.beside))
 
   of_mark : (m : CutMark) → All (IsInView n) (items_of_mark m)
-  of_mark m = All-cons (IsInView n) (rule_to pen.Chain m.first.tail m.second.tail) (end_items m m.first ++ end_items m m.second) tt (All-append (IsInView n) (end_items m m.first) (end_items m m.second) (of_end m m.first) (of_end m m.second))
+  of_mark m = All-cons (IsInView n) (rule_to pen.Chain m.first.tip m.second.tip) (end_items m m.first ++ end_items m m.second) tt (All-append (IsInView n) (end_items m m.first) (end_items m m.second) (of_end m m.first) (of_end m m.second))
 
   module _ (decimals : ℕ) (unit : Length) where
     of_heading : (h : Option Heading) (title : List ℕ) → All (IsInView n) (heading_items decimals unit h title)

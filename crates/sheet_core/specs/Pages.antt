@@ -3,10 +3,9 @@
 use Rattle.std.specs.Prelude.{◌≡◌, ℕ, Bool, true, not, ◌||◌, pos, ℤ, ◌-ℤ◌, List, ◌∷◌, ◌++◌, length, map, slice_get, unwrap_or}
 use Rattle.std.specs.List.{All, filter, flat_map}
 use Rattle.cut_marks.specs.AskedSides.{sides_for}
-use Rattle.cut_marks.specs.Areas.{NoneTouch}
 use Rattle.job_file.specs.ShownCuts.{cuts_in}
 use Rattle.cut_marks.specs.Marks.{AreMarked}
-use Rattle.cut_marks.specs.Reach.{AreInReach}
+use Rattle.cut_marks.specs.Reach.{AreInReach, NoneTouch}
 use Rattle.cut_marks.specs.declared.views.ViewMarks.{ViewMarks}
 use Rattle.cut_marks.specs.Items.{items_of_marks, AreHeadedWell}
 use Rattle.sheet_plan.specs.Boxes.{Box}
@@ -74,9 +73,9 @@ pub record IsPicture (sheet : Sheet) (strokes : List Stroke) (sections : List Se
 
 -- The page shows the drawing of the part with this name, whose sheet is that of a layout: the frame and the title block, what is filled of
 -- its sections, the paths of its strokes that are drawn, in their order, with hatch lines as close as the sections need, and the marks and the
--- headings of its cuts. The views with their sides, which are shrunk or not, keep apart, in the frame and clear of the block. Each mark ends
--- within 7 mm of its view, and each heading within its view's sides; no two marks of a view touch, and no heading has the place of its cut in
--- part.
+-- headings of its cuts. The views with their sides, which are shrunk or not, keep apart, in the frame and clear of the block. Each mark
+-- and each heading ends within its view's sides; no two marks of a view touch, and nor does one its view, but by its chain line; and no heading
+-- has the place of its cut in part.
 pub record IsPageWith (look : SheetLook) (part : List ℕ) (d : Drawing) (shrunk : Bool) (page : Page) (strokes : List Stroke) (marks : List ViewMarks) : Type 0 where
   pub layout : Layout
   pub sheet : d.sheet ≡ layout.sheet

@@ -16,7 +16,7 @@ use drawing::{Drawing, strokes_of};
 use exact_frac::OutOfMemory;
 use length_text::LengthForm;
 use section_look::{SectionLook, looks_of};
-use sheet_input::SheetLook;
+use sheet_input::{SheetInput, SheetLook};
 use sheet_page::{Frame, Item, Page, title_block};
 use sheet_plan::{Mark, Sheet, Stroke};
 use std::alloc::Global;
@@ -121,17 +121,12 @@ pub(crate) struct Shown {
 }
 
 /// The same as `page_of`, with what it was made of.
-pub(crate) fn show(
-    alloc: Global,
-    look: &SheetLook,
-    part: &str,
-    drawing: &Drawing,
-    shrunk: bool,
-) -> Result<Shown, OutOfMemory>
-    requires { IsLaidDrawing drawing.now shrunk }
-    ensures shows { IfOk result (λ shown. IsPageWith look.now part.now drawing.now shrunk shown.page shown.strokes.items shown.marks.items) }
+pub(crate) fn show(alloc: Global, part: &str, input: &SheetInput) -> Result<Shown, OutOfMemory>
+    requires { IsLaidDrawing input.now.drawing input.now.wish input.now.shrunk }
+    ensures shows { IfOk result (λ shown. IsPageWith input.now.look part.now input.now.drawing input.now.shrunk shown.page shown.strokes.items shown.marks.items) }
     ensures in_views { IfOk result (λ shown. All (IsInView shown.page.views) shown.page.items.items) }
 {
+    let drawing = &input.drawing;
     let sheet = &drawing.sheet;
     let strokes = strokes_of(alloc, sheet, &drawing.views)?;
     let sections = looks_of(alloc, &drawing.solid, sheet, &drawing.job.views)?;
@@ -143,10 +138,10 @@ pub(crate) fn show(
         &drawing.solid,
         sheet,
         &sides,
-        shrunk,
+        input.shrunk,
         &drawing.job.views,
     )?;
-    let items = items_of(alloc, look, part, drawing, sections, paths, &marks)?;
+    let items = items_of(alloc, &input.look, part, drawing, sections, paths, &marks)?;
     let page = Page {
         width: drawing.sheet.width,
         height: drawing.sheet.height,
@@ -167,17 +162,11 @@ pub(crate) fn show(
 ///
 /// The time goes with the number of strokes, and for each view and cut a few passes are made over the corners. That of a section is told
 /// at `looks_of`.
-pub fn page_of(
-    alloc: Global,
-    look: &SheetLook,
-    part: &str,
-    drawing: &Drawing,
-    shrunk: bool,
-) -> Result<Page, OutOfMemory>
-    requires { IsLaidDrawing drawing.now shrunk }
-    ensures page { IfOk result (IsPageOf look.now part.now drawing.now shrunk) }
+pub fn page_of(alloc: Global, part: &str, input: &SheetInput) -> Result<Page, OutOfMemory>
+    requires { IsLaidDrawing input.now.drawing input.now.wish input.now.shrunk }
+    ensures page { IfOk result (IsPageOf input.now.look part.now input.now.drawing input.now.shrunk) }
     ensures in_views { IfOk result (λ page. All (IsInView page.views) page.items.items) }
 {
-    let shown = show(alloc, look, part, drawing, shrunk)?;
+    let shown = show(alloc, part, input)?;
     Ok(shown.page)
 }

@@ -26,7 +26,7 @@ use std::alloc::Global;
 /// Draws what was asked for, writes its sheet, its list and its plain job where they go, and tells of them.
 fn draw_sheet<D: Reasons>(alloc: Global, request: SheetRequest, desk: &mut D) -> SheetOutcome
     ensures run { IsRun (sheet_run D.reason (Some (of_sheet (named_seen request)))) result.status result.fault result.made (D.state desk.old) (D.state desk.new) }
-    ensures shows { IfSome result.made (λ made. IsLaidDrawing made.drawing made.shrunk) }
+    ensures shows { IfSome result.made (λ made. IsLaidDrawing made.drawing made.wish made.shrunk) }
     ensures written { IfSome result.made (Writes (named_seen request) result.fault (D.state desk.old) (D.state desk.new)) }
     ensures unsaid { IfNone result.made ((D.state desk.new).said ≡ (D.state desk.old).said) }
     ensures quiet { IfNone result.fault (IsQuiet (summary_way (named_seen request)) (D.state desk.old).warn_faults (D.state desk.new).warn_faults) }
@@ -64,7 +64,7 @@ pub fn sheet<D: Reasons>(alloc: Global, words: &[String], desk: &mut D) -> Sheet
     ensures run { IsRun (sheet_run D.reason (asked_by (texts words.now))) result.status result.fault result.made (D.state desk.old) (D.state desk.new) }
 
     // Its drawing shows the part by the job, on the sheet of its layout.
-    ensures shows { IfSome result.made (λ made. IsLaidDrawing made.drawing made.shrunk) }
+    ensures shows { IfSome result.made (λ made. IsLaidDrawing made.drawing made.wish made.shrunk) }
 
     // The texts of one page that shows it are put where the words say, one after the other: the sheet, its list, the plain job, and the
     // summary.

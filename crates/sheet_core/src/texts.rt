@@ -54,7 +54,7 @@ fn listed(
     input: &SheetInput,
     shown: &Shown,
 ) -> Result<Vec<u8>, OutOfMemory>
-    requires { IsLaidDrawing input.now.drawing input.now.shrunk }
+    requires { IsLaidDrawing input.now.drawing input.now.wish input.now.shrunk }
     ensures { IfOk result (λ text. text.items ≡
         listed (named_seen request.now).list (list_text input.now.drawing.job input.now.drawing.sheet (drawn_strokes input.now.look.hidden.items shown.now.strokes.items) shown.now.strokes.items)) }
 {
@@ -84,15 +84,11 @@ pub(crate) fn texts_of(
     request: &SheetRequest,
     input: &SheetInput,
 ) -> Result<Texts, OutOfMemory>
-    requires { IsLaidDrawing input.now.drawing input.now.shrunk }
+    requires { IsLaidDrawing input.now.drawing input.now.wish input.now.shrunk }
     ensures { IfOk result (AreTextsOf (named_seen request.now) input.now) }
 {
-    let SheetInput {
-        drawing,
-        look,
-        shrunk,
-    } = input;
-    let shown = show(alloc, look, request.part.as_str(), drawing, *shrunk)?;
+    let SheetInput { drawing, look, .. } = input;
+    let shown = show(alloc, request.part.as_str(), input)?;
     let page = page_text(alloc, &request.out, &shown.page)?;
     let list = listed(alloc, request, input, &shown)?;
     let plain = plained(alloc, request, &drawing.job)?;

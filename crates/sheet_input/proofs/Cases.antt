@@ -4,7 +4,7 @@ use Rattle.job_file.specs.ShownCuts.{cuts_in}
 use Rattle.job_file.specs.declared.job.Paper.TheVariants.{A0}
 use Rattle.sheet_plan.specs.Numbers.{measure_of}
 use Rattle.sheet_layout.specs.Layouts.{Case, LacksRoom, fits, is_stated, larger_than, last_plan, last_scale, paper_of, plans_for, room_on, rows_on, scale_of, scales_after, seats_on, standings_on, tries_on}
-use Rattle.sheet_layout.specs.Plans.{all_scales, falling, on_each, plans_of}
+use Rattle.sheet_layout.specs.Plans.{all_scales, at_scales, on_papers, plans_of}
 use Rattle.sheet_layout.specs.Rooms.{room_of}
 use Rattle.sheet_layout.specs.Rows.{rows_of}
 use Rattle.sheet_layout.specs.Seats.{seats_from}
@@ -24,7 +24,7 @@ pub record AreAlike (c d : Case) : Type 0 where
 
 module _ (c d : Case) (a : AreAlike c d) where
   -- ---- one plan
-  seats_same : seats_on c ≡ seats_on d
+  pub seats_same : seats_on c ≡ seats_on d
   seats_same = λ i p. seats_from (a.third i) p.shrunk (measure_of p.scale (a.decimals i)) (a.views i) p.kept 0 0 (a.views i) (a.through i) (a.sides i) (a.extents i)
 
   room_same : room_on c ≡ room_on d
@@ -62,8 +62,8 @@ module _ (c d : Case) (a : AreAlike c d) where
     lack_same n m x y =
         let across = x.across ∙ (λ i. (rows_same i (last_same i)).width - ((room_same i (last_same i)).right - (room_same i (last_same i)).left)) ∙ sym y.across in
         let down = x.down ∙ (λ i. (rows_same i (last_same i)).bottom - ((room_same i (last_same i)).bottom - (room_same i (last_same i)).top)) ∙ sym y.down in
-        let smaller = x.smaller ∙ (λ i. scale_of (find (fits_same i) (falling ((last_same i).paper) (length (cuts_in (a.views i))) (scales_after ((last_same i).scale) all_scales)))) ∙ sym y.smaller in
-        let larger = x.larger ∙ (λ i. paper_of (find (fits_same i) (on_each (larger_than ((last_same i).paper)) ((last_same i).scale) (length (cuts_in (a.views i)))))) ∙ sym y.larger in
+        let smaller = x.smaller ∙ (λ i. scale_of (find (fits_same i) (at_scales w.any_paper w.older (paper i) (scales_after ((last_same i).scale) all_scales) (length (cuts_in (a.views i)))))) ∙ sym y.smaller in
+        let larger = x.larger ∙ (λ i. paper_of (find (fits_same i) (on_papers w.older (larger_than ((last_same i).paper)) (scale i) (length (cuts_in (a.views i)))))) ∙ sym y.larger in
         let on = x.paper ∙ (λ i. (last_same i).paper) ∙ sym y.paper in
         let at = x.scale ∙ (λ i. (last_same i).scale) ∙ sym y.scale in
         λ i. record { paper = on i; scale = at i; more_across = across i; more_down = down i; smaller = smaller i; larger = larger i }
@@ -75,6 +75,6 @@ lack_of w c = record {
   scale = (last_plan w c.job).scale;
   more_across = (rows_on c (last_plan w c.job)).width - ((room_on c (last_plan w c.job)).right - (room_on c (last_plan w c.job)).left);
   more_down = (rows_on c (last_plan w c.job)).bottom - ((room_on c (last_plan w c.job)).bottom - (room_on c (last_plan w c.job)).top);
-  smaller = scale_of (find (fits c) (falling (last_plan w c.job).paper (length (cuts_in c.job.views.items)) (scales_after (last_plan w c.job).scale all_scales)));
-  larger = paper_of (find (fits c) (on_each (larger_than (last_plan w c.job).paper) (last_plan w c.job).scale (length (cuts_in c.job.views.items))));
+  smaller = scale_of (find (fits c) (at_scales w.any_paper w.older c.job.paper (scales_after (last_plan w c.job).scale all_scales) (length (cuts_in c.job.views.items))));
+  larger = paper_of (find (fits c) (on_papers w.older (larger_than (last_plan w c.job).paper) c.job.scale (length (cuts_in c.job.views.items))));
 }

@@ -13,8 +13,8 @@ use Rattle.job_file.specs.declared.job.Paper.{Paper}
 use Rattle.job_file.specs.declared.job.Scale.{Scale}
 use Rattle.job_file.specs.declared.view.JobView.{JobView}
 use Rattle.lattice.specs.declared.points.Corner.{Corner}
-use Rattle.sheet_layout.specs.Keeps.{HasPlaceForEach, KeepsApart, StandsInFrame}
-use Rattle.sheet_layout.specs.Layouts.{Case, IsCaseOf, IsLaidOut, IsOriginOf, IsSheetBy, IsThrough, fits, paper_of, plans_for}
+use Rattle.sheet_layout.specs.Keeps.{HasPlaceForEach, KeepsApart, KeepsInLine, KeepsSides, StandsInFrame}
+use Rattle.sheet_layout.specs.Layouts.{Case, IsCaseOf, IsLaidOut, IsOriginOf, IsSheetBy, IsThrough, fits, paper_of, plans_for, seats_on}
 use Rattle.sheet_layout.specs.Plans.{plans_of}
 use Rattle.sheet_layout.specs.Rooms.{height_of, width_of}
 use Rattle.sheet_layout.specs.declared.layout.Layout.{Layout}
@@ -30,18 +30,23 @@ use Rattle.sheet_input.specs.Faults.{sheet_faults}
 use Rattle.sheet_input.specs.Sheets.{HasLayout, LaysSheet, job_on}
 use Rattle.sheet_input.specs.declared.fault.SheetFault.{SheetFault}
 use Rattle.sheet_input.specs.declared.fault.SheetFault.TheVariants.{Common, NoRoom}
-use Rattle.sheet_input.specs.inner.Taking.{IsDrawnFor, IsLaidFor, IsSameButPaper, IsUnlaid}
-use Rattle.sheet_input.proofs.Cases.{AreAlike, fits_same, standings_same}
+use Rattle.sheet_input.specs.inner.Taking.{IsDrawnFor, IsLaidFor, IsOnOwnPaper, IsSameButPaper, IsUnlaid}
+use Rattle.sheet_input.proofs.Cases.{AreAlike, fits_same, seats_same, standings_same}
 
 -- ---- by the sides that the job asks for
-module _ (job : Job) (corners : List Corner) (w : Wish) (sides : List Sides) (asked : sides ≡ sides_for job) where
-  pub laid_for : (layout : Layout) → IsLaidOut job corners sides w layout → KeepsApart corners sides layout → StandsInFrame corners sides layout → HasPlaceForEach job.views.items layout → IsLaidFor job corners w layout
-  laid_for layout laid apart in_frame places = record {
-    laid = subst (λ (s : List Sides). IsLaidOut job corners s w layout) asked laid;
-    apart = subst (λ (s : List Sides). KeepsApart corners s layout) asked apart;
-    in_frame = subst (λ (s : List Sides). StandsInFrame corners s layout) asked in_frame;
-    places = places;
-  }
+-- what is known of a layout by these sides, whichever case and plan it is laid out by
+pub record IsLaidWith (job : Job) (corners : List Corner) (w : Wish) (layout : Layout) (sides : List Sides) : Type 0 where
+  pub laid : IsLaidOut job corners sides w layout
+  pub apart : KeepsApart corners sides layout
+  pub in_frame : StandsInFrame corners sides layout
+  pub in_line : (l : IsLaidOut job corners sides w layout) → KeepsInLine (seats_on l.laid l.plan) layout
+  pub beside : (l : IsLaidOut job corners sides w layout) → KeepsSides corners sides (seats_on l.laid l.plan) layout
+  pub places : HasPlaceForEach job.views.items layout
+
+pub laid_for : (job : Job) (corners : List Corner) (w : Wish) (sides : List Sides) → sides ≡ sides_for job → (layout : Layout) → IsLaidWith job corners w layout sides → IsLaidFor job corners w layout
+laid_for job corners w sides asked layout with_sides =
+    let h = subst (IsLaidWith job corners w layout) asked with_sides in
+    record { laid = h.laid; apart = h.apart; in_frame = h.in_frame; in_line = h.in_line h.laid; beside = h.beside h.laid; places = h.places }
 
 -- ---- on another paper
 any_plans : (any older : Bool) (p q : Paper) (scale : Option Scale) (cuts : ℕ) → any ≡ true → plans_of any older p scale cuts ≡ plans_of any older q scale cuts
@@ -50,7 +55,7 @@ any_plans false older p q scale cuts is = absurd (true≢false (sym is))
 
 module _ (job made : Job) (same : IsSameButPaper job made) (corners : List Corner) where
   sides : sides_for job ≡ sides_for made
-  sides = sym (λ i. sides_from (same.decimals i) (same.unit i) 0 (same.views i))
+  sides = sym (λ i. sides_from (same.decimals i) (same.unit i) (cuts_in (same.views i)) 0 (same.views i))
 
   module _ (w : Wish) (any : w.any_paper ≡ true) (layout : Layout) (l : IsLaidOut job corners (sides_for job) w layout) where
     abbrev case : Case
@@ -92,7 +97,7 @@ module _ (job made : Job) (same : IsSameButPaper job made) (corners : List Corne
       places = subst (λ all. AllZip IsOriginOf (all l.plan) layout.sheet.places.items) (standings_same l.laid case alike) l.sheet.places;
     }
 
-    laid_on : IsLaidOut made corners (sides_for made) w layout
+    abbrev laid_on : IsLaidOut made corners (sides_for made) w layout
     laid_on = record { laid = case; of_job = of_made; plan = l.plan; first = first; sheet = sheet_by; paper = l.paper; shrunk = l.shrunk }
 
   on_other : (w : Wish) → w.any_paper ≡ true → (layout : Layout) → IsLaidFor job corners w layout → IsLaidFor made corners w layout
@@ -100,32 +105,41 @@ module _ (job made : Job) (same : IsSameButPaper job made) (corners : List Corne
     laid = laid_on w any layout is.laid;
     apart = subst (λ (asked : List Sides). KeepsApart corners asked layout) sides is.apart;
     in_frame = subst (λ (asked : List Sides). StandsInFrame corners asked layout) sides is.in_frame;
+    in_line = subst (λ seats. KeepsInLine (seats is.laid.plan) layout) (seats_same is.laid.laid (case w any layout is.laid) (alike w any layout is.laid)) is.in_line;
+    beside = subst (λ (asked : List Sides). KeepsSides corners asked (seats_on (case w any layout is.laid) is.laid.plan) layout) sides
+        (subst (λ seats. KeepsSides corners (sides_for job) (seats is.laid.plan) layout) (seats_same is.laid.laid (case w any layout is.laid) (alike w any layout is.laid)) is.beside);
     places = subst (λ (vs : List JobView). HasPlaceForEach vs layout) (sym same.views) is.places;
   }
 
 -- the job that is drawn is laid out so
-pub drawn_for : (job made : Job) (corners : List Corner) (w : Wish) (layout : Layout) → IsDrawnFor w job made → IsLaidFor job corners w layout → IsLaidFor made corners w layout
-drawn_for job made corners w layout (inl same) is = subst (λ (j : Job). IsLaidFor j corners w layout) (sym same) is
-drawn_for job made corners w layout (inr (any, same)) is = on_other job made same corners w any layout is
+pub drawn_for : (job made : Job) (corners : List Corner) (w : Wish) (layout : Layout) → IsDrawnFor w layout.paper job made → IsLaidFor job corners w layout → IsLaidFor made corners w layout
+drawn_for job made corners w layout (inl (none, same)) is = subst (λ (j : Job). IsLaidFor j corners w layout) (sym same) is
+drawn_for job made corners w layout (inr (any, paper, same)) is = on_other job made same corners w any layout is
+
+pub on_its_paper : (job made : Job) (w : Wish) (layout : Layout) → IsDrawnFor w layout.paper job made → IsOnOwnPaper job w layout → layout.paper ≡ made.paper
+on_its_paper job made w layout (inl (none, same)) own = own none ∙ ap (λ (j : Job). j.paper) (sym same)
+on_its_paper job made w layout (inr (any, paper, same)) own = sym paper
 
 -- ---- the drawing
 pub has_places : (job : Job) (corners : List Corner) (w : Wish) (layout : Layout) → IsLaidFor job corners w layout → HasPlaces job.views.items layout.sheet
 has_places job corners w layout is = record { count = is.places.count; direction = is.places.direction }
 
 pub laid_drawing : (d : Drawing) (solid : Solid) (job : Job) (w : Wish) (layout : Layout) → (d.solid ≡ solid) × (d.job ≡ job) × (d.sheet ≡ layout.sheet) → IsLaidFor job (solid_part solid).corners w layout
-    → IsDrawing d → IsLaidDrawing d layout.shrunk
-laid_drawing d solid job w layout (same_solid, same_job, same_sheet) laid shows =
+    → layout.paper ≡ job.paper → IsDrawing d → IsLaidDrawing d w layout.shrunk
+laid_drawing d solid job w layout (same_solid, same_job, same_sheet) laid paper shows =
     let is : IsLaidFor d.job (solid_part d.solid).corners w layout =
     subst (λ (s : Solid). IsLaidFor d.job (solid_part s).corners w layout) (sym same_solid) (subst (λ (j : Job). IsLaidFor j (solid_part solid).corners w layout) (sym same_job) laid) in
     record {
       shows = shows;
-      wish = w;
       layout = layout;
       sheet = same_sheet;
+      paper = paper ∙ ap (λ (j : Job). j.paper) (sym same_job);
       shrunk_is = refl;
       laid = is.laid;
       apart = is.apart;
       in_frame = is.in_frame;
+      in_line = is.in_line;
+      beside = is.beside;
       places = is.places;
     }
 

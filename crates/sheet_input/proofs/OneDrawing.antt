@@ -139,9 +139,9 @@ fits_by_single title values size text =
 draws_text_single : (named : Named) (values : AnyValues) (text : PartText) → IsSingle (DrawsText named values text)
 draws_text_single named values text =
     single_then (FitsBy (title_of named.said.title values named.part) values (sample_size named.part) text)
-    (λ settled. LaysSheet (wish_of values) settled.job settled.part and_then λ drawn r. r ≡ Ok (record { drawn = drawn; look = look_of named values }))
+    (λ settled. LaysSheet (wish_of values) settled.job settled.part and_then λ drawn r. r ≡ Ok (record { drawn = drawn; look = look_of named values; wish = wish_of values }))
     (fits_by_single (title_of named.said.title values named.part) values (sample_size named.part) text)
-    (λ settled. single_then (LaysSheet (wish_of values) settled.job settled.part) (λ drawn r. r ≡ Ok (record { drawn = drawn; look = look_of named values }))
+    (λ settled. single_then (LaysSheet (wish_of values) settled.job settled.part) (λ drawn r. r ≡ Ok (record { drawn = drawn; look = look_of named values; wish = wish_of values }))
     (lays_single (wish_of values) settled.job settled.part) (λ drawn r s p q. p ∙ sym q))
 
 draws_by_single : (files : Files) (named : Named) (values : AnyValues) → IsSingle (DrawsBy files named values)

@@ -11,6 +11,7 @@ use Rattle.geometry.specs.Parts.{Part}
 use Rattle.job_file.specs.Documents.{JobValues}
 use Rattle.job_file.specs.Names.{direction_of}
 use Rattle.job_file.specs.Scales.{is_scale}
+use Rattle.job_file.specs.ShownCuts.{cuts_in}
 use Rattle.job_file.specs.Seen.{direction_seen, job_seen, scale_seen, shown, view_seen}
 use Rattle.job_file.specs.ViewValues.{Shown, ViewValues, behind, whole}
 use Rattle.job_file.specs.Views.{plain_direction}
@@ -184,7 +185,7 @@ module _ (corners : List Corner) (job other : Job) (same : job_seen job ≡ job_
   views = same_views job.views.items other.views.items (ap (λ (v : JobValues). v.views) same)
 
   sides : sides_for job ≡ sides_for other
-  sides = λ i. sides_from ((same i).decimals) ((same i).unit) 0 (views i)
+  sides = λ i. sides_from ((same i).decimals) ((same i).unit) (cuts_in (views i)) 0 (views i)
 
   through : c.through ≡ d.through
   through =

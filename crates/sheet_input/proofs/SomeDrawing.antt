@@ -217,10 +217,10 @@ module _ (alloc : Global) where
     some_drawn_text values are text =
         let title = title_of named.said.title values named.part in
         some_and_then IsSettled Any (FitsBy title values (sample_size named.part) text)
-        (λ settled. LaysSheet (wish_of values) settled.job settled.part and_then λ drawn r. r ≡ Ok (record { drawn = drawn; look = look_of named values }))
+        (λ settled. LaysSheet (wish_of values) settled.job settled.part and_then λ drawn r. r ≡ Ok (record { drawn = drawn; look = look_of named values; wish = wish_of values }))
         (some_fit_by title (title_proper named.said.title values named.part said are) values are text (sample_size named.part))
-        (λ settled is. some_and_then Any Any (LaysSheet (wish_of values) settled.job settled.part) (λ drawn r. r ≡ Ok (record { drawn = drawn; look = look_of named values }))
-        (some_layout (wish_of values) settled.job is.0 settled.part is.1) (λ drawn _. (Ok (record { drawn = drawn; look = look_of named values }), (refl, tt))))
+        (λ settled is. some_and_then Any Any (LaysSheet (wish_of values) settled.job settled.part) (λ drawn r. r ≡ Ok (record { drawn = drawn; look = look_of named values; wish = wish_of values }))
+        (some_layout (wish_of values) settled.job is.0 settled.part is.1) (λ drawn _. (Ok (record { drawn = drawn; look = look_of named values; wish = wish_of values }), (refl, tt))))
 
     some_drawn_by : (values : AnyValues) → IsRead values → HasAnswerSuch Any (DrawsBy files named values)
     some_drawn_by values are =

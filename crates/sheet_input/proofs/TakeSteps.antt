@@ -52,12 +52,13 @@ module _ (named : Named) (values : AnyValues) (text : PartText) where
   -- what fits is drawn
   pub drawing_given : (title : List ℕ) → title ≡ title_of named.said.title values named.part → (size : Option (List ℕ)) → size ≡ sample_size named.part
       → (settled : Settled) → FitsBy title values size text (Ok settled) → (w : Wish) → w ≡ wish_of values
-      → (drawn : Drawn) → LaysSheet w settled.job settled.part (Ok drawn) → (look : Look) → look ≡ look_of named values → DrawsText named values text (Ok (record { drawn = drawn; look = look }))
+      → (drawn : Drawn) → LaysSheet w settled.job settled.part (Ok drawn) → (look : Look) → look ≡ look_of named values
+      → DrawsText named values text (Ok (record { drawn = drawn; look = look; wish = w }))
   drawing_given title same size is settled fits w asked drawn plans look looks =
       let by_title = subst (λ (t : List ℕ). FitsBy t values size text (Ok settled)) same fits in
       let by_size = subst (λ (s : Option (List ℕ)). FitsBy (title_of named.said.title values named.part) values s text (Ok settled)) is by_title in
       let laid = subst (λ (v : Wish). LaysSheet v settled.job settled.part (Ok drawn)) asked plans in
-      (settled, by_size, (drawn, laid, ap (λ (l : Look). Ok (record { drawn = drawn; look = l })) looks))
+      (settled, by_size, (drawn, laid, λ i. Ok (record { drawn = drawn; look = looks i; wish = asked i })))
 
   pub drawn_of_text : {X : Type 0} (view : X → DrawnSheet) → size_in text ≡ sample_size named.part → (r : Result X Refusal) → GivesSheet view (DrawsText named values text) r → IfOk r (λ x. IsDrawnOf named values (view x))
   drawn_of_text view same (Ok x) draws = record { text = text; size = same; draws = draws }

@@ -86,6 +86,7 @@ module _ (named : Named) (values : AnyValues) (usual : named.job ≡ None → (f
         paper = plans.paper;
         job = same;
         look = ap (λ (m : DrawnSheet). m.look) sheet;
+        wish = ap (λ (m : DrawnSheet). m.wish) sheet;
         usual = usual_by named.job values usual;
         part = part_by_words named values is.text made is.draws (sample_size named.part) is.size;
       }

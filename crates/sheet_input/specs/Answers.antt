@@ -68,8 +68,8 @@ IsUsualIfNone None values = (usual : JobValues) × ReadsJob [] (Ok usual) × (va
 IsUsualIfNone (Some name) values = Unit {0}
 
 -- What is drawn goes by one job and by the words: at some number of decimals the job is that job's, with the words' title or its own, and
--- on some paper where any will do; and the sheet looks as this job and the words say. Where no job is named it is the usual one, and a
--- sample is that of its size.
+-- on some paper where any will do; its layout is asked for what this job says; and the sheet looks as this job and the words say. Where no job
+-- is named it is the usual one, and a sample is that of its size.
 pub record IsOfNames (named : Named) (made : DrawnSheet) : Type 0 where
   pub values : AnyValues
   pub decimals : ℕ
@@ -78,5 +78,6 @@ pub record IsOfNames (named : Named) (made : DrawnSheet) : Type 0 where
   pub paper : Paper
   pub job : made.drawn.job ≡ job_on (wish_of values) paper settled
   pub look : made.look ≡ look_of named values
+  pub wish : made.wish ≡ wish_of values
   pub usual : IsUsualIfNone named.job values
   pub part : IsPartOf (sample_size named.part) made.drawn.part

@@ -19,4 +19,4 @@ abbrev pub look_seen : SheetLook → Look
 look_seen look = record { block = block_seen look.block; hidden = look.hidden.items; titles = look.titles.items; fitted = look.fitted; in_units = look.in_units }
 
 abbrev pub input_seen : SheetInput → DrawnSheet
-input_seen input = record { drawn = drawn_in input.drawing; look = look_seen input.look }
+input_seen input = record { drawn = drawn_in input.drawing; look = look_seen input.look; wish = input.wish }

@@ -4,7 +4,7 @@ ghost use Rattle.job_file.specs.Seen.{job_seen};
 ghost use Rattle.solid_mesh.specs.Solids.{solid_part};
 ghost use Rattle.sheet_input.specs.Seen.{any_seen};
 ghost use Rattle.sheet_input.specs.Sheets.{job_on, on_paper, wish_of};
-ghost use Rattle.sheet_input.specs.inner.Taking.{IsDrawnFor, IsLaidFor, IsSameButPaper, IsUnlaid};
+ghost use Rattle.sheet_input.specs.inner.Taking.{IsDrawnFor, IsLaidFor, IsOnOwnPaper, IsSameButPaper, IsUnlaid};
 
 use crate::fault::SheetFault;
 use crate::refusal::{Refusal, Told, plain, short};
@@ -39,6 +39,7 @@ pub(crate) fn laid_out(
     wish: Wish,
 ) -> Result<Layout, Refusal>
     ensures laid { IfOk result (IsLaidFor job.now (solid_part solid.now).corners wish) }
+    ensures on_paper { IfOk result (IsOnOwnPaper job.now wish) }
     ensures refused { IfErr result (λ r. IsUnlaid job.now (solid_part solid.now).corners wish r.fault) }
     ensures told { IfErr result (λ r. r.told ≡ Told.Nothing) }
 {
@@ -56,6 +57,7 @@ pub(crate) fn laid_out(
 /// The job on another paper.
 fn on_paper(job: Job, paper: Paper) -> Job
     ensures value { job_seen result ≡ on_paper paper (job_seen job) }
+    ensures paper { result.paper ≡ paper }
     ensures same { IsSameButPaper job result }
 {
     Job {
@@ -75,7 +77,7 @@ fn on_paper(job: Job, paper: Paper) -> Job
 /// The job that is drawn: where any paper will do, it has that of its sheet.
 pub(crate) fn job_for(job: Job, wish: Wish, paper: Paper) -> Job
     ensures value { job_seen result ≡ job_on wish paper (job_seen job) }
-    ensures same { IsDrawnFor wish job result }
+    ensures same { IsDrawnFor wish paper job result }
 {
     if wish.any_paper {
         on_paper(job, paper)

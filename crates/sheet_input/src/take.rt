@@ -38,11 +38,12 @@ use sheet_layout::{Layout, Wish};
 use sheet_words::SheetRequest;
 use std::alloc::Global;
 
-/// A drawing, how its sheet looks, and whether the views' sides are shrunk there.
+/// A drawing, how its sheet looks, what was asked of its layout, and whether the views' sides are shrunk there.
 #[derive(Drop)]
 pub struct SheetInput {
     pub drawing: Drawing,
     pub look: SheetLook,
+    pub wish: Wish,
     pub shrunk: bool,
 }
 
@@ -58,7 +59,7 @@ fn drawn(alloc: Global, settled: Settled, wish: Wish) -> Result<LaidDrawing, Ref
     ensures answer { GivesSheet laid_in (LaysSheet wish (job_seen settled.job) (solid_part settled.solid)) result }
     ensures of_sheet { IfErr result (λ r. IsOfSheetIn r.fault) }
     ensures told { IfErr result (λ r. r.told ≡ Told.Nothing) }
-    ensures shows { IfOk result (λ made. IsLaidDrawing made.drawing made.shrunk) }
+    ensures shows { IfOk result (λ made. IsLaidDrawing made.drawing wish made.shrunk) }
 {
     let Settled { job, solid } = settled;
     let Layout {
@@ -93,7 +94,7 @@ fn draw_text(
     ensures answer { GivesSheet input_seen (DrawsText (named_seen request.now) (any_seen job) (text_seen text.now)) result }
     ensures of_draw { IfErr result (λ r. IsOfDraw (text_seen text.now) r.fault) }
     ensures told { IfErr result (λ r. IsToldIn title job (sample_size (named_seen request.now).part) (text_seen text.now) r.fault r.told) }
-    ensures shows { IfOk result (λ input. IsLaidDrawing input.drawing input.shrunk) }
+    ensures shows { IfOk result (λ input. IsLaidDrawing input.drawing input.wish input.shrunk) }
 {
     let look = match look_of(alloc, request, &job) {
         Ok(look) => look,
@@ -109,6 +110,7 @@ fn draw_text(
         Ok(made) => Ok(SheetInput {
             drawing: made.drawing,
             look,
+            wish,
             shrunk: made.shrunk,
         }),
         Err(refusal) => Err(refusal),
@@ -128,7 +130,7 @@ fn draw_by<D: Desk>(
         GivesSheet input_seen (DrawsBy files (named_seen request.now) (any_seen job)) result }
     ensures of_part { IfErr result (λ r. IsOfDrawn (named_seen request.now).part r.fault) }
     ensures told { IfErr result (λ r. IsToldBy (D.state desk.old) (named_seen request.now) job r.fault r.told) }
-    ensures shows { IfOk result (λ input. IsLaidDrawing input.drawing input.shrunk) }
+    ensures shows { IfOk result (λ input. IsLaidDrawing input.drawing input.wish input.shrunk) }
     ensures of_text { IfOk result (λ input. IsDrawnOf (named_seen request.now) (any_seen job) (input_seen input)) }
     ensures settled { IfErr result (λ r. IsSettledIfRead (named_seen request.now) (any_seen job) r.fault) }
     ensures reads { CountsReadsOf sheet_faults (result_err (fault_in result)) (D.state desk.old).read_faults (D.state desk.new).read_faults }
@@ -164,7 +166,7 @@ pub fn take_sheet<D: Desk>(
         GivesSheet input_seen (DrawsSheet files (named_seen request.now)) result }
 
     // On every desk the drawing shows the part as the job asks, and the words alone say this of it.
-    ensures shows { IfOk result (λ input. IsLaidDrawing input.drawing input.shrunk) }
+    ensures shows { IfOk result (λ input. IsLaidDrawing input.drawing input.wish input.shrunk) }
     ensures by_words { IfOk result (λ input. IsOfNames (named_seen request.now) (input_seen input)) }
 
     // Each fault is one of the files that are named, and what is told beside it is so.

@@ -1,5 +1,5 @@
 -- A layout of a case is one of its job and part, and keeps what is asked.
-use Rattle.std.proofs.Common.{◌≡◌, List, Some, Option, Result, Ok, Err, length, find, sym, subst, ap, ◌∙◌}
+use Rattle.std.proofs.Common.{◌≡◌, false, List, Some, Option, Result, Ok, Err, length, find, sym, subst, ap, ◌∙◌}
 use Rattle.std.specs.Prelude.{IfOk, IfErr, IfSome, option_map}
 use Rattle.std.specs.List.{AllZip}
 use Rattle.lattice.specs.declared.points.Corner.{Corner}
@@ -15,6 +15,7 @@ use Rattle.sheet_layout.specs.declared.sides.Sides.{Sides}
 use Rattle.sheet_layout.specs.declared.trials.Found.{Found}
 use Rattle.sheet_layout.specs.inner.Sizes.{plan_found}
 use Rattle.sheet_layout.proofs.Kept.{laid_apart, laid_in_frame, laid_in_line, laid_on_sides, laid_places}
+use Rattle.sheet_layout.proofs.Papers.{found_on}
 
 -- ---- what was found
 pub found_first : (c : Case) (plans : List Plan) (f : Option Found) (found : Found) → f ≡ Some found → option_map plan_found f ≡ find (fits c) plans → find (fits c) plans ≡ Some found.plan
@@ -56,6 +57,10 @@ module _ (job : Job) (corners : List Corner) (sides : List Sides) (w : Wish) (c 
   pub places : length sides ≡ length job.views.items → (r : Result Layout LayoutError) → IfOk r (IsLaidBy c w) → IfOk r (HasPlaceForEach job.views.items)
   places as_many (Ok layout) h = laid_places job corners sides w layout (laid_of layout h) as_many
   places as_many (Err e) h = h
+
+  pub on_paper : w.any_paper ≡ false → (r : Result Layout LayoutError) → IfOk r (IsLaidBy c w) → IfOk r (λ layout. layout.paper ≡ job.paper)
+  on_paper none (Ok layout) h = found_on c w layout none h ∙ ap (λ (j : Job). j.paper) of_job.job_is
+  on_paper none (Err e) h = h
 
 -- whichever case and plan it is
 pub in_line : (job : Job) (corners : List Corner) (sides : List Sides) (w : Wish) (c : Case) (r : Result Layout LayoutError) → IfOk r (IsLaidBy c w)

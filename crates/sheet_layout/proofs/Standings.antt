@@ -18,7 +18,7 @@ use Rattle.sheet_layout.specs.declared.seats.Seat.{Seat}
 use Rattle.sheet_layout.specs.declared.sides.Sides.{Sides}
 
 -- ---- lists
-one_of : {A : Type 0} (x y : A) → Some x ≡ Some y → y ≡ x
+pub one_of : {A : Type 0} (x y : A) → Some x ≡ Some y → y ≡ x
 one_of x y e = cc
 
 pub find_true : {A : Type 0} (f : A → Bool) (xs : List A) (x : A) → find f xs ≡ Some x → f x ≡ true

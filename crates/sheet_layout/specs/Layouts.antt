@@ -18,7 +18,7 @@ use Rattle.sheet_plan.specs.Numbers.{measure_of}
 use Rattle.sheet_plan.specs.declared.bounds.Extent.{Extent}
 use Rattle.sheet_plan.specs.declared.sheet.Sheet.{Sheet}
 use Rattle.sheet_plan.specs.declared.sheet.Spread.{Spread}
-use Rattle.sheet_layout.specs.Plans.{all_scales, falling, on_each, one_to_one, plans_of}
+use Rattle.sheet_layout.specs.Plans.{all_scales, at_scales, on_papers, one_to_one, plans_of}
 use Rattle.sheet_layout.specs.Rooms.{height_of, room_of, width_of}
 use Rattle.sheet_layout.specs.Rows.{Rows, rows_of}
 use Rattle.sheet_layout.specs.Seats.{seats_from}
@@ -157,7 +157,7 @@ larger_than A2 = A1 ∷ A0 ∷ []
 larger_than A1 = A0 ∷ []
 larger_than A0 = []
 
--- No plan has room; that much the last one needs more; and of the smaller scales on its paper, and of the larger papers at its scale, the first at
+-- No plan has room; that much the last one needs more; and of the smaller scales that the job could say, and of the larger papers, the first with
 -- which a plan has room.
 pub record LacksRoom (c : Case) (w : Wish) (n : NoRoom) : Type 0 where
   pub none : find (fits c) (plans_for w c.job) ≡ None
@@ -165,8 +165,8 @@ pub record LacksRoom (c : Case) (w : Wish) (n : NoRoom) : Type 0 where
   pub scale : n.scale ≡ (last_plan w c.job).scale
   pub across : n.more_across ≡ (rows_on c (last_plan w c.job)).width - ((room_on c (last_plan w c.job)).right - (room_on c (last_plan w c.job)).left)
   pub down : n.more_down ≡ (rows_on c (last_plan w c.job)).bottom - ((room_on c (last_plan w c.job)).bottom - (room_on c (last_plan w c.job)).top)
-  pub smaller : n.smaller ≡ scale_of (find (fits c) (falling (last_plan w c.job).paper (length (cuts_in c.job.views.items)) (scales_after (last_plan w c.job).scale all_scales)))
-  pub larger : n.larger ≡ paper_of (find (fits c) (on_each (larger_than (last_plan w c.job).paper) (last_plan w c.job).scale (length (cuts_in c.job.views.items))))
+  pub smaller : n.smaller ≡ scale_of (find (fits c) (at_scales w.any_paper w.older c.job.paper (scales_after (last_plan w c.job).scale all_scales) (length (cuts_in c.job.views.items))))
+  pub larger : n.larger ≡ paper_of (find (fits c) (on_papers w.older (larger_than (last_plan w c.job).paper) c.job.scale (length (cuts_in c.job.views.items))))
 
 abbrev pub IsNotLaidBy : Case → Wish → LayoutError → Type 0
 IsNotLaidBy c w (NoRoomFor n) = LacksRoom c w n

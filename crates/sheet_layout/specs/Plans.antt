@@ -72,3 +72,12 @@ plans_on false paper None cuts = falling paper cuts all_scales
 
 abbrev pub plans_of : Bool → Bool → Paper → Option Scale → ℕ → List Plan
 plans_of any_paper older paper scale cuts = if any_paper then on_each papers (scale_or_one scale) cuts else plans_on older paper scale cuts
+
+-- ---- what the job could say instead
+-- one of these scales
+abbrev pub at_scales : Bool → Bool → Paper → List Scale → ℕ → List Plan
+at_scales any_paper older paper scales cuts = flat_map (λ scale. plans_of any_paper older paper (Some scale) cuts) scales
+
+-- one of these papers
+abbrev pub on_papers : Bool → List Paper → Option Scale → ℕ → List Plan
+on_papers older papers scale cuts = flat_map (λ paper. plans_on older paper scale cuts) papers

@@ -1,15 +1,15 @@
 // The layout of a job's views, or why there is none.
-ghost use Rattle.std.specs.Prelude.{◌≡◌, ◌≤◌, pos, length, IfOk, IfErr, find, None};
+ghost use Rattle.std.specs.Prelude.{◌≡◌, ◌≤◌, pos, length, false, IfOk, IfErr, find, None};
 ghost use Rattle.job_file.specs.ShownCuts.{cuts_in};
 ghost use Rattle.solid_mesh.specs.Solids.{solid_part};
 ghost use Rattle.sheet_layout.specs.Keeps.{HasPlaceForEach, KeepsApart, KeepsInLine, KeepsSides, StandsInFrame};
 ghost use Rattle.sheet_layout.specs.Layouts.{IsLaidBy, IsLaidOut, IsNotLaidBy, IsNotLaidOut, LacksRoom, fits, larger_than, last_plan, last_scale, paper_of, plans_for, scale_of, scales_after, seats_on};
-ghost use Rattle.sheet_layout.specs.Plans.{all_scales, falling, on_each};
+ghost use Rattle.sheet_layout.specs.Plans.{all_scales, at_scales, on_papers};
 ghost use Rattle.sheet_layout.specs.Rooms.{height_of, width_of};
 ghost use Rattle.sheet_layout.specs.inner.Sizes.{case_seen};
 
 use crate::extents::extents_of;
-use crate::plans::{Plan, add_each, add_falling, all_scales, plans_of};
+use crate::plans::{Plan, add_at_scales, add_on_papers, all_scales, plans_of};
 use crate::rooms::{height_of, width_of};
 use crate::sides::Sides;
 use crate::through::through_of;
@@ -37,7 +37,7 @@ pub struct Layout {
 }
 
 /// What is missing: the last plan that was tried, how much more it needs above the title block, in hundredths of a millimetre, and the
-/// next smaller scale and the next larger paper that would do, if there is one.
+/// next smaller scale and the next larger paper with which the job would have room, if there is one.
 #[derive(Clone, Copy, Debug)]
 pub struct NoRoom {
     pub paper: Paper,
@@ -149,35 +149,44 @@ fn last_plan(wish: Wish, job: &Job) -> Plan
     }
 }
 
-/// The next smaller scale at which there is room on the plan's paper.
+/// The next smaller scale that the job could say.
 fn smaller_for(
     alloc: Global,
     case: &Case,
-    plan: &Plan,
+    wish: Wish,
+    scale: Scale,
     cuts: u32,
 ) -> Result<Option<Scale>, OutOfMemory>
-    ensures { IfOk result (λ s. s ≡ scale_of (find (fits (case_seen case.now)) (falling plan.now.paper cuts (scales_after plan.now.scale all_scales)))) }
+    ensures { IfOk result (λ s. s ≡ scale_of (find (fits (case_seen case.now)) (at_scales wish.any_paper wish.older case.now.job.now.paper (scales_after scale all_scales) cuts))) }
 {
     let all = all_scales();
     let mut plans = Vec::new(alloc);
-    add_falling(&mut plans, plan.paper, cuts, scales_after(plan.scale, &all))?;
+    add_at_scales(
+        &mut plans,
+        wish.any_paper,
+        wish.older,
+        case.job.paper,
+        scales_after(scale, &all),
+        cuts,
+    )?;
     match first_plan(alloc, case, &plans)? {
         Some(found) => Ok(Some(found.plan.scale)),
         None => Ok(None),
     }
 }
 
-/// The next larger paper on which there is room at the plan's scale.
+/// The next larger paper that the job could say.
 fn larger_for(
     alloc: Global,
     case: &Case,
-    plan: &Plan,
+    older: bool,
+    paper: Paper,
     cuts: u32,
 ) -> Result<Option<Paper>, OutOfMemory>
-    ensures { IfOk result (λ p. p ≡ paper_of (find (fits (case_seen case.now)) (on_each (larger_than plan.now.paper) plan.now.scale cuts))) }
+    ensures { IfOk result (λ p. p ≡ paper_of (find (fits (case_seen case.now)) (on_papers older (larger_than paper) case.now.job.now.scale cuts))) }
 {
     let mut plans = Vec::new(alloc);
-    add_each(&mut plans, larger_than(plan.paper), plan.scale, cuts)?;
+    add_on_papers(&mut plans, older, larger_than(paper), case.job.scale, cuts)?;
     match first_plan(alloc, case, &plans)? {
         Some(found) => Ok(Some(found.plan.paper)),
         None => Ok(None),
@@ -197,8 +206,8 @@ fn lacking(alloc: Global, case: &Case, wish: Wish, cuts: u32) -> Result<NoRoom, 
         scale: plan.scale,
         more_across: more.across,
         more_down: more.down,
-        smaller: smaller_for(alloc, case, &plan, cuts)?,
-        larger: larger_for(alloc, case, &plan, cuts)?,
+        smaller: smaller_for(alloc, case, wish, plan.scale, cuts)?,
+        larger: larger_for(alloc, case, wish.older, plan.paper, cuts)?,
     })
 }
 
@@ -230,7 +239,8 @@ fn laid_out(alloc: Global, case: &Case, wish: Wish) -> Result<Layout, LayoutErro
 /// whose plane a plain view sees edge-on, and with which it shares an axis of the sheet, stands beside it, on the side of its direction. All other
 /// views fill rows below the named ones, or the corner below their row and to the right of their column. Boxes with their sides are apart, within the frame and clear of the title block.
 ///
-/// Goes twice over the corners for each view. Up to 800 plans are tried, each in a time that goes with the cube of the number of views.
+/// Goes twice over the corners for each view. Up to 800 plans are tried, and up to 3,000 more for what would do if none has room. Each takes a
+/// time that goes with the cube of the number of views.
 pub fn lay_out(
     alloc: Global,
     solid: &Solid,
@@ -242,6 +252,9 @@ pub fn lay_out(
     ensures laid { IfOk result (IsLaidOut job.now (solid_part solid.now).corners sides.now wish) }
     ensures refused { IfErr result (IsNotLaidOut job.now (solid_part solid.now).corners sides.now wish) }
     ensures places { IfOk result (HasPlaceForEach job.now.views.items) }
+
+    // Where no other paper may be chosen, it is the job's.
+    ensures on_paper { wish.any_paper ≡ false → IfOk result (λ layout. layout.paper ≡ job.now.paper) }
     ensures apart { IfOk result (KeepsApart (solid_part solid.now).corners sides.now) }
     ensures in_frame { IfOk result (StandsInFrame (solid_part solid.now).corners sides.now) }
 

@@ -1,6 +1,6 @@
 // The plans that are tried for a sheet, one after the other.
 ghost use Rattle.std.specs.Prelude.{◌≡◌, ◌≤◌, ◌++◌, ◌∷◌, [], true, false, IfOk, OnOk};
-ghost use Rattle.sheet_layout.specs.Plans.{all_rooms, all_scales, falling, from_one, on_each, papers, plan_in, plans_of, plans_on, scale_or_one, stated, whole_at, with_fewer};
+ghost use Rattle.sheet_layout.specs.Plans.{all_rooms, all_scales, at_scales, falling, from_one, on_each, on_papers, papers, plan_in, plans_of, plans_on, scale_or_one, stated, whole_at, with_fewer};
 
 use exact_frac::OutOfMemory;
 use job_file::{Paper, Scale};
@@ -109,7 +109,7 @@ fn add_whole(
 }
 
 /// Adds those at each of these scales.
-pub(crate) fn add_falling(
+fn add_falling(
     plans: &mut Vec<Plan>,
     paper: Paper,
     cuts: u32,
@@ -129,7 +129,7 @@ pub(crate) fn add_falling(
 }
 
 /// Adds those on each of these papers.
-pub(crate) fn add_each(
+fn add_each(
     plans: &mut Vec<Plan>,
     papers: &[Paper],
     scale: Scale,
@@ -219,6 +219,63 @@ fn add_on(
     }
 }
 
+/// Adds the plans that are tried for a job.
+fn add_plans(
+    plans: &mut Vec<Plan>,
+    any_paper: bool,
+    older: bool,
+    paper: Paper,
+    scale: Option<Scale>,
+    cuts: u32,
+) -> Result<(), OutOfMemory>
+    ensures { OnOk result (plans.new.items ≡ plans.old.items ++ plans_of any_paper older paper scale cuts) }
+{
+    if any_paper {
+        add_each(plans, &papers(), scale_or_one(scale), cuts)
+    } else {
+        add_on(plans, older, paper, scale, cuts)
+    }
+}
+
+/// Adds those for a job that says one of these scales.
+pub(crate) fn add_at_scales(
+    plans: &mut Vec<Plan>,
+    any_paper: bool,
+    older: bool,
+    paper: Paper,
+    scales: &[Scale],
+    cuts: u32,
+) -> Result<(), OutOfMemory>
+    ensures { OnOk result (plans.new.items ≡ plans.old.items ++ at_scales any_paper older paper scales.now cuts) }
+{
+    match scales {
+        [] => Ok(()),
+        [scale, rest @ ..] => {
+            add_plans(plans, any_paper, older, paper, Some(*scale), cuts)?;
+            add_at_scales(plans, any_paper, older, paper, rest, cuts)
+        }
+    }
+}
+
+/// Adds those for a job that says one of these papers.
+pub(crate) fn add_on_papers(
+    plans: &mut Vec<Plan>,
+    older: bool,
+    papers: &[Paper],
+    scale: Option<Scale>,
+    cuts: u32,
+) -> Result<(), OutOfMemory>
+    ensures { OnOk result (plans.new.items ≡ plans.old.items ++ on_papers older papers.now scale cuts) }
+{
+    match papers {
+        [] => Ok(()),
+        [paper, rest @ ..] => {
+            add_on(plans, older, *paper, scale, cuts)?;
+            add_on_papers(plans, older, rest, scale, cuts)
+        }
+    }
+}
+
 /// The plans that are tried, one after the other. Their number is below 800.
 pub(crate) fn plans_of(
     alloc: Global,
@@ -231,10 +288,6 @@ pub(crate) fn plans_of(
     ensures { IfOk result (λ plans. plans.items ≡ plans_of any_paper older paper scale cuts) }
 {
     let mut plans = Vec::new(alloc);
-    if any_paper {
-        add_each(&mut plans, &papers(), scale_or_one(scale), cuts)?;
-    } else {
-        add_on(&mut plans, older, paper, scale, cuts)?;
-    }
+    add_plans(&mut plans, any_paper, older, paper, scale, cuts)?;
     Ok(plans)
 }

@@ -78,6 +78,7 @@ in_corner w h c is (item.Label l) inside = record {
 }
 in_corner w h c is (item.Path path) inside = absurd inside
 in_corner w h c is (item.Fill fill) inside = absurd inside
+in_corner w h c is (item.ArrowHead arrow) inside = absurd inside
 
 labels_in : (w h : ℤ) (cells : List Said) → AreInCells (corner_of w h) cells → All (IsInCorner w h) (flat_map (cell_items (corner_of w h)) cells)
 labels_in w h [] are = All-nil (IsInCorner w h)
@@ -95,6 +96,7 @@ one_keeps corner cells e at (item.Circle circle) inside = tt
 one_keeps corner cells e at (item.Label l) inside = (e, at, inside)
 one_keeps corner cells e at (item.Path path) inside = tt
 one_keeps corner cells e at (item.Fill fill) inside = tt
+one_keeps corner cells e at (item.ArrowHead arrow) inside = tt
 
 -- of some cells what the last ones say
 labels_keep : (corner : Point) (cells last : List Said) → ((e : Said) → Contains last e → Contains cells e) → AreInCells corner last
@@ -156,6 +158,7 @@ module _ (width height : ℤ) where
   right_of place (item.Label label) before h = past _ _ _ before h.left
   right_of place (item.Path path) before h = absurd h
   right_of place (item.Fill fill) before h = absurd h
+  right_of place (item.ArrowHead arrow) before h = absurd h
 
   below : (level : ℤ) (one : Item) → level ≤ℤ (height -ℤ pos 3200) → IsInCorner width height one → IsBelow level one
   below level (item.Frame frame) before h = absurd h
@@ -164,6 +167,7 @@ module _ (width height : ℤ) where
   below level (item.Label label) before h = past _ _ _ before h.top
   below level (item.Path path) before h = absurd h
   below level (item.Fill fill) before h = absurd h
+  below level (item.ArrowHead arrow) before h = absurd h
 
   one_clear : (box : Box) (one : Item) → EndsBefore width height box → IsInCorner width height one → IsClearOf box one
   one_clear box one (inl before) h = inl (right_of box.right one before h)

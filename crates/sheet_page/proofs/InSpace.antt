@@ -39,6 +39,7 @@ in_cell corner c s is (item.Label l) inside = record {
 }
 in_cell corner c s is (item.Path path) inside = absurd inside
 in_cell corner c s is (item.Fill fill) inside = absurd inside
+in_cell corner c s is (item.ArrowHead arrow) inside = absurd inside
 
 -- so is what a cell says
 pub all_in_cell : (corner : Point) (c : Cell) (caption text : List ℕ) → IsCell c → All (IsInSpace corner c.caption) (text_in corner c.caption caption) → All (IsInSpace corner c.text) (text_in corner c.text text)

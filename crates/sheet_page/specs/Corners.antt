@@ -28,7 +28,7 @@ pub record IsLabelWithin (x x_end y y_end : ℤ) (l : Label) : Type 0 where
   pub top : y ≤ℤ (l.y -ℤ pos l.size)
   pub bottom : pos l.size ≤ℤ (pos 4 *ℤ (y_end -ℤ l.y))
 
--- all that an item takes is in the corner; a block has no frame, no path and no area
+-- all that an item takes is in the corner; a block has no frame, no path, no area and no arrow
 abbrev pub IsInCorner : ℤ → ℤ → Item → Type 0
 IsInCorner width height (item.Frame frame) = ⊥
 IsInCorner width height (item.Rule rule) = IsPointInCorner width height rule.from × IsPointInCorner width height rule.to
@@ -36,6 +36,7 @@ IsInCorner width height (item.Circle c) = IsWithinCorner width height (c.x -ℤ 
 IsInCorner width height (item.Label label) = IsLabelWithin (width -ℤ pos 19000) (width -ℤ pos 1000) (height -ℤ pos 3200) (height -ℤ pos 1000) label
 IsInCorner width height (item.Path path) = ⊥
 IsInCorner width height (item.Fill fill) = ⊥
+IsInCorner width height (item.ArrowHead arrow) = ⊥
 
 -- a text is in a cell of the block with this upper left corner
 abbrev pub IsLabelInCell : Point → Cell → Label → Type 0
@@ -49,6 +50,7 @@ IsInCell corner c (item.Circle circle) = ⊥
 IsInCell corner c (item.Label label) = IsLabelInCell corner c label
 IsInCell corner c (item.Path path) = ⊥
 IsInCell corner c (item.Fill fill) = ⊥
+IsInCell corner c (item.ArrowHead arrow) = ⊥
 
 -- if an item is a text, it is in one of these cells
 abbrev pub KeepsToCells : Point → List Said → Item → Type 0
@@ -58,6 +60,7 @@ KeepsToCells corner cells (item.Circle circle) = Unit {0}
 KeepsToCells corner cells (item.Label label) = (e : Said) × Contains cells e × IsLabelInCell corner e.cell label
 KeepsToCells corner cells (item.Path path) = Unit {0}
 KeepsToCells corner cells (item.Fill fill) = Unit {0}
+KeepsToCells corner cells (item.ArrowHead arrow) = Unit {0}
 
 -- a rectangle ends to the left of the corner or above it
 abbrev pub EndsBefore : ℤ → ℤ → Box → Type 0
@@ -71,6 +74,7 @@ IsRightOf place (item.Circle c) = place ≤ℤ (c.x -ℤ pos c.radius)
 IsRightOf place (item.Label label) = place ≤ℤ label.x
 IsRightOf place (item.Path path) = ⊥
 IsRightOf place (item.Fill fill) = ⊥
+IsRightOf place (item.ArrowHead arrow) = ⊥
 
 abbrev pub IsBelow : ℤ → Item → Type 0
 IsBelow level (item.Frame frame) = ⊥
@@ -79,6 +83,7 @@ IsBelow level (item.Circle c) = level ≤ℤ (c.y -ℤ pos c.radius)
 IsBelow level (item.Label label) = level ≤ℤ (label.y -ℤ pos label.size)
 IsBelow level (item.Path path) = ⊥
 IsBelow level (item.Fill fill) = ⊥
+IsBelow level (item.ArrowHead arrow) = ⊥
 
 -- it is clear of a rectangle
 abbrev pub IsClearOf : Box → Item → Type 0

@@ -15,6 +15,7 @@ use Rattle.sheet_page.specs.Looks.{thin_look, strong_look, mark_look}
 use Rattle.sheet_page.specs.PdfWords.{words_of}
 use Rattle.sheet_page.specs.Pens.{pens_of}
 use Rattle.sheet_page.specs.declared.dashes.Dashes.{Dashes}
+use Rattle.sheet_page.specs.declared.page.ArrowHead.{ArrowHead}
 use Rattle.sheet_page.specs.declared.page.Circle.{Circle}
 use Rattle.sheet_page.specs.declared.page.Fill.{Fill}
 use Rattle.sheet_page.specs.declared.page.Frame.{Frame}
@@ -97,10 +98,15 @@ loop_lines points = route points.items ++ codes "h\n"
 abbrev pub fill_lines : Fill → List ℕ
 fill_lines fill = flat_map loop_lines fill.loops.items ++ codes "f*\n"
 
+-- the head of an arrow: black, from its tip round its base
+abbrev pub arrow_head_lines : ArrowHead → List ℕ
+arrow_head_lines h = (route (h.tip ∷ h.left ∷ h.right ∷ []) ++ codes "h\n") ++ codes "f*\n"
+
 -- the pen of a rule, where a chain line begins so far into its pattern
 abbrev pub rule_pen : Pens → Pen → ℕ → List ℕ
 rule_pen pens rule.Thin n = plain_pen thin_look (codes "\n")
 rule_pen pens rule.Strong n = plain_pen strong_look (codes "\n")
+rule_pen pens rule.Visible n = plain_pen (mark_look pens Solid) (codes "\n")
 rule_pen pens rule.Chain n = chain_pen pens n
 
 -- a straight line
@@ -147,6 +153,7 @@ item_lines pens (item.Circle circle) = circle_lines circle
 item_lines pens (item.Label label) = label_line label
 item_lines pens (item.Path path) = path_lines pens path
 item_lines pens (item.Fill fill) = fill_lines fill
+item_lines pens (item.ArrowHead arrow) = arrow_head_lines arrow
 
 -- hundredths of a millimetre from the upper left corner, black, with round joins
 abbrev pub beginning : ℤ → List ℕ

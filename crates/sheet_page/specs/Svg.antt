@@ -8,6 +8,7 @@ use Rattle.sheet_page.specs.Dashes.{own_dashes, with_decimals}
 use Rattle.sheet_page.specs.Looks.{thin_look, strong_look, mark_look, rule_class}
 use Rattle.sheet_page.specs.Pens.{pens_of}
 use Rattle.sheet_page.specs.declared.dashes.Dashes.{Dashes}
+use Rattle.sheet_page.specs.declared.page.ArrowHead.{ArrowHead}
 use Rattle.sheet_page.specs.declared.page.Circle.{Circle}
 use Rattle.sheet_page.specs.declared.page.Fill.{Fill}
 use Rattle.sheet_page.specs.declared.page.Frame.{Frame}
@@ -77,6 +78,7 @@ dash_offset n = codes " stroke-dashoffset=\"" ⊕ with_tenth n ⊕ codes "\""
 abbrev pub pen_offset : Pen → ℕ → List ℕ
 pen_offset pen.Thin n = []
 pen_offset pen.Strong n = []
+pen_offset pen.Visible n = []
 pen_offset pen.Chain n = dash_offset n
 
 abbrev pub rule_offset : Pens → Rule → List ℕ
@@ -110,6 +112,23 @@ text_length (Some width) = codes " textLength=\"" ⊕ decimal width ⊕ codes "\
 abbrev pub label_line : Label → List ℕ
 label_line l = text_start l ++ text_length l.width ++ codes ">" ++ flat_map escaped l.text ++ codes "</text>\n"
 
+-- to a point, by this letter
+abbrev pub to_point : List ℕ → Point → List ℕ
+to_point letter p = letter ⊕ signed_decimal p.x ⊕ codes " " ⊕ signed_decimal p.y
+
+-- back to the first point, where the path is closed
+abbrev pub back : Bool → List ℕ
+back closed = if closed then codes "Z" else []
+
+-- from the first point to the others, and on a closed path back to it
+abbrev pub route : Bool → List Point → List ℕ
+route closed [] = []
+route closed (p ∷ rest) = to_point (codes "M") p ++ flat_map (to_point (codes "L")) rest ++ back closed
+
+-- the head of an arrow: black, from its tip round its base
+abbrev pub arrow_head_line : ArrowHead → List ℕ
+arrow_head_line h = codes "<path class=\"section\" d=\"" ++ route true (h.tip ∷ h.left ∷ h.right ∷ []) ++ codes "\"/>\n"
+
 -- whatever is no path and no area: these stand in the groups of their views
 abbrev pub standing : Pens → Item → List ℕ
 standing pens (variant.Frame frame) = frame_line frame
@@ -118,6 +137,7 @@ standing pens (variant.Circle circle) = circle_line circle
 standing pens (variant.Label label) = label_line label
 standing pens (variant.Path path) = []
 standing pens (variant.Fill fill) = []
+standing pens (variant.ArrowHead arrow) = arrow_head_line arrow
 
 -- dashes, in hundredths of a millimetre; of a path that is drawn whole, nothing
 abbrev pub dash_array : Option Dashes → List ℕ
@@ -134,19 +154,6 @@ own_offset pens Hatch points = []
 -- a path begins with its class
 unfoldable pub path_start : Mark → List ℕ
 path_start mark = codes "<path class=\"" ⊕ (look_of mark).class ⊕ codes "\""
-
--- to a point, by this letter
-abbrev pub to_point : List ℕ → Point → List ℕ
-to_point letter p = letter ⊕ signed_decimal p.x ⊕ codes " " ⊕ signed_decimal p.y
-
--- back to the first point, where the path is closed
-abbrev pub back : Bool → List ℕ
-back closed = if closed then codes "Z" else []
-
--- from the first point to the others, and on a closed path back to it
-abbrev pub route : Bool → List Point → List ℕ
-route closed [] = []
-route closed (p ∷ rest) = to_point (codes "M") p ++ flat_map (to_point (codes "L")) rest ++ back closed
 
 -- a path: its class, its dashes or its place in them, and its points
 abbrev pub path_line : Pens → Path → List ℕ
@@ -167,6 +174,7 @@ drawn_in pens view (variant.Frame frame) = []
 drawn_in pens view (variant.Rule rule) = []
 drawn_in pens view (variant.Circle circle) = []
 drawn_in pens view (variant.Label label) = []
+drawn_in pens view (variant.ArrowHead arrow) = []
 drawn_in pens view (variant.Path path) = if path.view == view then path_line pens path else []
 drawn_in pens view (variant.Fill fill) = if fill.view == view then fill_line fill else []
 

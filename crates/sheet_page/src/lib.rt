@@ -26,7 +26,7 @@ mod symbol;
 pub use block::title_block;
 pub use block_names::part_name;
 pub use dashes::{Dashes, dashes_of};
-pub use page::{Circle, Fill, Frame, Item, Label, Page, Pen, Rule};
+pub use page::{ArrowHead, Circle, Fill, Frame, Item, Label, Page, Pen, Rule};
 pub use pdf_text::pdf;
 pub use pens::{Pens, pens_of};
 pub use svg_text::svg;

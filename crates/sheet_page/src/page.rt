@@ -31,6 +31,8 @@ pub enum Pen {
     Thin,
     /// A line of 0.35 mm.
     Strong,
+    /// A line as visible ones are.
+    Visible,
     /// A chain line of 0.25 mm.
     Chain,
 }
@@ -59,6 +61,14 @@ pub struct Fill {
     pub loops: Vec<Vec<Point>>,
 }
 
+/// A black triangle, as the head of an arrow: its tip, and the two ends of its base.
+#[derive(Clone, Copy, Debug)]
+pub struct ArrowHead {
+    pub tip: Point,
+    pub left: Point,
+    pub right: Point,
+}
+
 /// What stands on a page.
 #[derive(Debug, Drop)]
 pub enum Item {
@@ -74,6 +84,8 @@ pub enum Item {
     Path(Path),
     /// A black area of one of the page's views, as a thin section.
     Fill(Fill),
+    /// The head of an arrow.
+    ArrowHead(ArrowHead),
 }
 
 /// A page: its name, the number of views that it shows, and what stands on it, in the order in which it is drawn. A PDF tells its

@@ -4,11 +4,11 @@ ghost use Rattle.std.specs.Fmt.{decimal};
 ghost use Rattle.std.specs.List.{flat_map};
 ghost use Rattle.sheet_page.specs.Chains.{phase_between, phase_of};
 ghost use Rattle.sheet_page.specs.Dashes.{length_of, fitted};
-ghost use Rattle.sheet_page.specs.PdfContent.{points, frame_line, before_words, label_line, dashed_pen, chain_pen, pen, rule_pen, rule_lines, circle_start, lower_right, lower_left, upper_left, upper_right, arc_lead, arcs, circle_lines, point_line, lines_to, route, stroke, path_lines, loop_lines, fill_lines, item_lines, beginning, content_of};
+ghost use Rattle.sheet_page.specs.PdfContent.{points, frame_line, before_words, label_line, dashed_pen, chain_pen, pen, rule_pen, rule_lines, circle_start, lower_right, lower_left, upper_left, upper_right, arc_lead, arcs, circle_lines, point_line, lines_to, route, stroke, path_lines, loop_lines, fill_lines, arrow_head_lines, item_lines, beginning, content_of};
 
 use crate::chains::{pattern, phase_between, phase_of, with_tenth};
 use crate::dashes::{Dashes, dashes_of, with_decimals};
-use crate::page::{Circle, Fill, Frame, Item, Label, Page, Pen, Rule};
+use crate::page::{ArrowHead, Circle, Fill, Frame, Item, Label, Page, Pen, Rule};
 use crate::pdf_words::add_words;
 use crate::pens::{Pens, pens_of};
 use exact_frac::OutOfMemory;
@@ -59,6 +59,7 @@ fn add_item(alloc: Global, text: &mut Vec<u8>, pens: Pens, item: &Item) -> Resul
         Item::Label(label) => add_label(alloc, text, label)?,
         Item::Path(path) => add_path(alloc, text, pens, path)?,
         Item::Fill(fill) => add_fill(alloc, text, fill)?,
+        Item::ArrowHead(head) => add_arrow_head(alloc, text, head)?,
     }
     Ok(())
 }
@@ -68,6 +69,15 @@ fn add_fill(alloc: Global, text: &mut Vec<u8>, fill: &Fill) -> Result<(), OutOfM
     ensures { OnOk result (text.new.items ≡ text.old.items ++ fill_lines fill.now) }
 {
     add_loops(alloc, text, fill.loops.as_slice())?;
+    text.extend_from_slice("f*\n".as_bytes())?;
+    Ok(())
+}
+
+/// Adds the lines of an arrow's head.
+fn add_arrow_head(alloc: Global, text: &mut Vec<u8>, head: &ArrowHead) -> Result<(), OutOfMemory>
+    ensures { OnOk result (text.new.items ≡ text.old.items ++ arrow_head_lines head.now) }
+{
+    add_loop(alloc, text, &[head.tip, head.left, head.right])?;
     text.extend_from_slice("f*\n".as_bytes())?;
     Ok(())
 }
@@ -108,6 +118,7 @@ fn rule_pen(alloc: Global, pens: Pens, rule: &Rule) -> Result<String, AllocError
     match rule.pen {
         Pen::Thin => String::from_str(alloc, "25 w 0 J [] 0 d\n"),
         Pen::Strong => String::from_str(alloc, "35 w 1 J [] 0 d\n"),
+        Pen::Visible => visible_pen(alloc, pens.wide()),
         Pen::Chain => chain_pen(alloc, pens, phase_between(pens, &rule.from, &rule.to)),
     }
 }

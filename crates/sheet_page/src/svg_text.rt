@@ -6,11 +6,11 @@ ghost use Rattle.sheet_page.specs.Dashes.{own_dashes};
 ghost use Rattle.sheet_page.specs.Pages.{IsInView};
 ghost use Rattle.sheet_page.specs.Looks.{rule_class};
 ghost use Rattle.sheet_page.specs.Pens.{pens_of};
-ghost use Rattle.sheet_page.specs.Svg.{classes, paper, ground, head, frame_line, dash_offset, rule_offset, rule_start, rule_line, circle_line, text_start, text_length, label_line, standing, dash_array, own_offset, to_point, route, path_line, loop_route, fill_line, drawn_in, group, group_start, path_start, svg_of};
+ghost use Rattle.sheet_page.specs.Svg.{classes, paper, ground, head, frame_line, dash_offset, rule_offset, rule_start, rule_line, circle_line, text_start, text_length, label_line, arrow_head_line, standing, dash_array, own_offset, to_point, route, path_line, loop_route, fill_line, drawn_in, group, group_start, path_start, svg_of};
 
 use crate::chains::{pattern, phase_between, phase_of, with_tenth};
 use crate::dashes::{Dashes, dashes_of, with_decimals};
-use crate::page::{Circle, Fill, Frame, Item, Label, Page, Pen, Rule};
+use crate::page::{ArrowHead, Circle, Fill, Frame, Item, Label, Page, Pen, Rule};
 use crate::pens::{Pens, pens_of};
 use exact_frac::OutOfMemory;
 use sheet_plan::Mark;
@@ -107,6 +107,7 @@ fn add_standing(
                 text.extend_from_slice(circle_line(alloc, circle)?.as_bytes())?;
             }
             Item::Label(label) => add_label(alloc, text, label)?,
+            Item::ArrowHead(head) => add_arrow_head(alloc, text, head)?,
             Item::Path(_) | Item::Fill(_) => {}
         }
     }
@@ -131,6 +132,7 @@ fn pen_class(pen: Pen) -> &'static str
     match pen {
         Pen::Thin => "thin",
         Pen::Strong => "strong",
+        Pen::Visible => Mark::Solid.class(),
         Pen::Chain => Mark::Chain.class(),
     }
 }
@@ -148,7 +150,7 @@ fn rule_offset(alloc: Global, pens: Pens, rule: &Rule) -> Result<String, AllocEr
     ensures { IfOk result (λ text. string_bytes text ≡ rule_offset pens rule.now) }
 {
     match rule.pen {
-        Pen::Thin | Pen::Strong => Ok(String::new(alloc)),
+        Pen::Thin | Pen::Strong | Pen::Visible => Ok(String::new(alloc)),
         Pen::Chain => dash_offset(alloc, phase_between(pens, &rule.from, &rule.to)),
     }
 }
@@ -213,6 +215,16 @@ fn text_length(alloc: Global, width: Option<u32>) -> Result<String, AllocError>
     }
 }
 
+/// Adds the line of an arrow's head.
+fn add_arrow_head(alloc: Global, text: &mut Vec<u8>, head: &ArrowHead) -> Result<(), OutOfMemory>
+    ensures { OnOk result (text.new.items ≡ text.old.items ++ arrow_head_line head.now) }
+{
+    text.extend_from_slice("<path class=\"section\" d=\"".as_bytes())?;
+    add_route(alloc, text, true, &[head.tip, head.left, head.right])?;
+    text.extend_from_slice("\"/>\n".as_bytes())?;
+    Ok(())
+}
+
 /// Adds the group of a view.
 fn add_group(
     alloc: Global,
@@ -259,7 +271,7 @@ fn add_drawn(
                 add_fill(alloc, text, fill)?;
             }
         }
-        Item::Frame(_) | Item::Rule(_) | Item::Circle(_) | Item::Label(_) => {}
+        Item::Frame(_) | Item::Rule(_) | Item::Circle(_) | Item::Label(_) | Item::ArrowHead(_) => {}
     }
     Ok(())
 }

@@ -16,9 +16,10 @@ use Rattle.drawing.specs.Drawing.{drawn_in}
 use Rattle.job_file.specs.Documents.{JobValues}
 use Rattle.job_file.specs.Seen.{job_seen}
 use Rattle.job_file.specs.declared.job.Job.{Job as MadeJob}
+use Rattle.job_file.specs.declared.job.Paper.{Paper}
 use Rattle.lattice.specs.declared.points.Corner.{Corner}
-use Rattle.sheet_layout.specs.Keeps.{HasPlaceForEach, KeepsApart, StandsInFrame}
-use Rattle.sheet_layout.specs.Layouts.{HasNoRoom, IsLaidOut}
+use Rattle.sheet_layout.specs.Keeps.{HasPlaceForEach, KeepsApart, KeepsInLine, KeepsSides, StandsInFrame}
+use Rattle.sheet_layout.specs.Layouts.{HasNoRoom, IsLaidOut, seats_on}
 use Rattle.sheet_layout.specs.declared.layout.Layout.{Layout}
 use Rattle.sheet_layout.specs.declared.layout.Wish.{Wish}
 use Rattle.sheet_plan.specs.JobSheets.{Drawn}
@@ -208,7 +209,13 @@ pub record IsLaidFor (job : MadeJob) (corners : List Corner) (w : Wish) (layout 
   pub laid : IsLaidOut job corners (sides_for job) w layout
   pub apart : KeepsApart corners (sides_for job) layout
   pub in_frame : StandsInFrame corners (sides_for job) layout
+  pub in_line : KeepsInLine (seats_on laid.laid laid.plan) layout
+  pub beside : KeepsSides corners (sides_for job) (seats_on laid.laid laid.plan) layout
   pub places : HasPlaceForEach job.views.items layout
+
+-- where no other paper may be chosen, they are on the job's
+abbrev pub IsOnOwnPaper : MadeJob → Wish → Layout → Type 0
+IsOnOwnPaper job w layout = w.any_paper ≡ false → layout.paper ≡ job.paper
 
 -- no plan has room for them
 abbrev pub IsUnlaid : MadeJob → List Corner → Wish → SheetFault → Type 0
@@ -225,9 +232,9 @@ pub record IsSameButPaper (job made : MadeJob) : Type 0 where
   pub portrait : made.portrait ≡ job.portrait
   pub views : made.views.items ≡ job.views.items
 
--- it is the job itself, or the job on another paper where any will do
-abbrev pub IsDrawnFor : Wish → MadeJob → MadeJob → Type 0
-IsDrawnFor w job made = (made ≡ job) ⊎ ((w.any_paper ≡ true) × IsSameButPaper job made)
+-- it is the job itself, or the job on the paper that was chosen where any will do
+abbrev pub IsDrawnFor : Wish → Paper → MadeJob → MadeJob → Type 0
+IsDrawnFor w paper job made = ((w.any_paper ≡ false) × (made ≡ job)) ⊎ ((w.any_paper ≡ true) × (made.paper ≡ paper) × IsSameButPaper job made)
 
 abbrev pub laid_in : LaidDrawing → Drawn
 laid_in made = drawn_in made.drawing

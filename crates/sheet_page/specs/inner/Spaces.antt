@@ -27,6 +27,7 @@ IsInSpace corner s (item.Circle circle) = ⊥
 IsInSpace corner s (item.Label label) = IsLabelInSpace corner s label
 IsInSpace corner s (item.Path path) = ⊥
 IsInSpace corner s (item.Fill fill) = ⊥
+IsInSpace corner s (item.ArrowHead arrow) = ⊥
 
 -- a cell is one of the block, and what it says is in it
 pub record SaysInside (corner : Point) (e : Said) : Type 0 where

@@ -57,7 +57,7 @@ pub returns-clause-marked : goal.returns-clause-marked
 returns-clause-marked c = all_marked c
 
 pub returns-clause-in_reach : goal.returns-clause-in_reach
-returns-clause-in_reach c = marked_in_reach c.args.sheet.now c.args.sides.now c.args.shrunk (solid_part c.args.solid.now) (cuts_in c.args.views.now) c.args.views.now c.loop-view.marks.items c.requires.asked (all_marked c)
+returns-clause-in_reach c = marked_in_reach c.args.sheet.now c.args.sides.now c.args.shrunk (solid_part c.args.solid.now) (cuts_in c.args.views.now) c.args.views.now c.loop-view.marks.items (all_marked c)
 
 pub returns-clause-none_touch : goal.returns-clause-none_touch
 returns-clause-none_touch c = marked_apart c.args.sheet.now c.args.sides.now c.args.shrunk (solid_part c.args.solid.now) (cuts_in c.args.views.now) c.args.views.now c.loop-view.marks.items (all_marked c)

@@ -6,5 +6,5 @@ use Rattle.cut_marks.proofs.lanes.laned.Goals as goal
 
 pub loop-trace-init : goal.loop-trace-init
 loop-trace-init c =
-    subst (λ (letters : List ℕ). AreLaned c.args.b.now [] c.new.result.items letters) (sym c.new-2.ensures.items)
-    (subst (λ (xs : List Laned). AreLaned c.args.b.now [] xs []) (sym c.new.ensures.items) none)
+    subst (λ (letters : List ℕ). AreLaned c.args.b.now c.args.room.now [] c.new.result.items letters) (sym c.new-2.ensures.items)
+    (subst (λ (xs : List Laned). AreLaned c.args.b.now c.args.room.now [] xs []) (sym c.new.ensures.items) none)

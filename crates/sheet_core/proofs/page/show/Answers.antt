@@ -31,37 +31,37 @@ use Rattle.sheet_core.proofs.page.show.Goals as goal
 
 pub strokes_of-requires-clause-placed : goal.strokes_of-requires-clause-placed
 strokes_of-requires-clause-placed c =
-    let d = c.args.drawing.now in
+    let d = c.args.input.now.drawing in
     let views = ap (λ (views : List ViewDrawing). length views) c.deref.ensures.value in
     omega (arith, placed d c.requires.shows, views)
 
 pub strokes_of-requires-clause-few : goal.strokes_of-requires-clause-few
 strokes_of-requires-clause-few c =
     let views = ap (λ (views : List ViewDrawing). length views) c.deref.ensures.value in
-    omega (arith, few c.args.drawing.now c.requires.shows, views)
+    omega (arith, few c.args.input.now.drawing c.requires.shows, views)
 
 pub looks_of-requires-clause-placed : goal.looks_of-requires-clause-placed
 looks_of-requires-clause-placed c =
-    let d = c.args.drawing.now in
+    let d = c.args.input.now.drawing in
     let views = ap (λ (views : List JobView). length views) c.deref-2.ensures.value in
     omega (arith, c.requires.shows.placed.count, views)
 
 pub looks_of-requires-clause-few : goal.looks_of-requires-clause-few
 looks_of-requires-clause-few c =
     let views = ap (λ (views : List JobView). length views) c.deref-2.ensures.value in
-    omega (arith, views, c.args.drawing.now.job.few_views)
+    omega (arith, views, c.args.input.now.drawing.job.few_views)
 
 pub picture_of-requires-clause-placed : goal.picture_of-requires-clause-placed
 picture_of-requires-clause-placed c =
-    subst (λ (xs : List SectionLook). All (λ (x : SectionLook). x.view < length c.args.drawing.now.sheet.places.items) xs) (sym c.deref-4.ensures.value) c.in_ok-sections.ensures.in_range
+    subst (λ (xs : List SectionLook). All (λ (x : SectionLook). x.view < length c.args.input.now.drawing.sheet.places.items) xs) (sym c.deref-4.ensures.value) c.in_ok-sections.ensures.in_range
 
 pub picture_of-requires-clause-in_range : goal.picture_of-requires-clause-in_range
 picture_of-requires-clause-in_range c =
-    subst (λ (xs : List Stroke). All (λ (x : Stroke). x.view < length c.args.drawing.now.sheet.places.items) xs) (sym c.deref-3.ensures.value) c.in_ok-strokes.ensures.in_range
+    subst (λ (xs : List Stroke). All (λ (x : Stroke). x.view < length c.args.input.now.drawing.sheet.places.items) xs) (sym c.deref-3.ensures.value) c.in_ok-strokes.ensures.in_range
 
 pub marks-requires-clause-placed : goal.marks-requires-clause-placed
 marks-requires-clause-placed c =
-    let d = c.args.drawing.now in
+    let d = c.args.input.now.drawing in
     let views = ap (λ (views : List JobView). length views) c.deref-7.ensures.value in
     omega (arith, c.requires.shows.placed.count, views)
 
@@ -74,11 +74,11 @@ marks-requires-clause-asked c =
 pub marks-requires-clause-few : goal.marks-requires-clause-few
 marks-requires-clause-few c =
     let views = ap (λ (views : List JobView). length views) c.deref-7.ensures.value in
-    omega (arith, views, c.args.drawing.now.job.few_views)
+    omega (arith, views, c.args.input.now.drawing.job.few_views)
 
 pub returns-clause-shows : goal.returns-clause-shows
 returns-clause-shows c =
-    let d = c.args.drawing.now in
+    let d = c.args.input.now.drawing in
     let sheet = d.sheet in
     let laid = c.requires in
     let asked : c.deref-6.result.now ≡ sides_for d.job = c.deref-6.ensures.value ∙ c.in_ok-sides.ensures.sides in
@@ -95,7 +95,7 @@ returns-clause-shows c =
       shrunk_is = laid.shrunk_is;
       apart = laid.apart;
       in_frame = laid.in_frame;
-      clear = λ view room takes. clear_of_views d.sheet.width d.sheet.height room (block_of d.sheet d.job c.args.part.now c.args.look.now.block)
+      clear = λ view room takes. clear_of_views d.sheet.width d.sheet.height room (block_of d.sheet d.job c.args.part.now c.args.input.now.look.block)
           (subst (λ (s : Sheet). EndsBefore s.width s.height room) (sym laid.sheet) (laid.in_frame view room takes).clear) c.in_ok-items.ensures.in_corner;
       are_strokes = are_strokes;
       sections = c.in_ok-sections.sections.items;
@@ -105,31 +105,31 @@ returns-clause-shows c =
           (subst (λ (looks : List SectionLook). IsPicture sheet c.deref-3.result.now looks c.in_ok-picture.picture.items) c.deref-4.ensures.value c.in_ok-picture.ensures.picture);
       paths = c.in_ok-paths.paths.items;
       are_paths = subst (λ (ss : List Stroke). ArePaths ss c.in_ok-paths.paths.items) c.deref-5.ensures.value c.in_ok-paths.ensures;
-      are_marks = subst (λ (sides : List Sides). AreMarked sheet sides c.args.shrunk (solid_part d.solid) (cuts_in d.job.views.items) d.job.views.items marks) asked
-          (subst (λ (views : List JobView). AreMarked sheet c.deref-6.result.now c.args.shrunk (solid_part d.solid) (cuts_in views) views marks) c.deref-7.ensures.value c.in_ok-marks.ensures.marked);
-      in_reach = subst (λ (sides : List Sides). AreInReach sheet (solid_part d.solid).corners sides c.args.shrunk marks) asked c.in_ok-marks.ensures.in_reach;
+      are_marks = subst (λ (sides : List Sides). AreMarked sheet sides c.args.input.now.shrunk (solid_part d.solid) (cuts_in d.job.views.items) d.job.views.items marks) asked
+          (subst (λ (views : List JobView). AreMarked sheet c.deref-6.result.now c.args.input.now.shrunk (solid_part d.solid) (cuts_in views) views marks) c.deref-7.ensures.value c.in_ok-marks.ensures.marked);
+      in_reach = subst (λ (sides : List Sides). AreInReach sheet (solid_part d.solid).corners sides c.args.input.now.shrunk marks) asked c.in_ok-marks.ensures.in_reach;
       none_touch = c.in_ok-marks.ensures.none_touch;
-      headed = subst (λ (ms : List ViewMarks). AreHeadedWell d.job.decimals d.job.unit ms c.args.look.now.titles.items) c.deref-8.ensures.value c.in_ok-items.ensures.headed;
+      headed = subst (λ (ms : List ViewMarks). AreHeadedWell d.job.decimals d.job.unit ms c.args.input.now.look.titles.items) c.deref-8.ensures.value c.in_ok-items.ensures.headed;
       width = simp to_z-of_z;
       height = simp to_z-of_z;
       title = c.in_ok-new.ensures.same ∙ c.as_str.ensures.same;
       views = omega (arith, c.len.ensures, d.sheet.places.ok.0);
-      items = c.in_ok-items.ensures.items ∙ ap (λ (ms : List ViewMarks). items_of c.args.look.now c.args.part.now d c.in_ok-sections.sections.items c.in_ok-paths.paths.items ms) c.deref-8.ensures.value;
+      items = c.in_ok-items.ensures.items ∙ ap (λ (ms : List ViewMarks). items_of c.args.input.now.look c.args.part.now d c.in_ok-sections.sections.items c.in_ok-paths.paths.items ms) c.deref-8.ensures.value;
     }
 
 pub returns-clause-in_views : goal.returns-clause-in_views
 returns-clause-in_views c =
-    let d = c.args.drawing.now in
-    let many = length c.args.drawing.now.sheet.places.items in
-    let block = block_of d.sheet d.job c.args.part.now c.args.look.now.block in
+    let d = c.args.input.now.drawing in
+    let many = length c.args.input.now.drawing.sheet.places.items in
+    let block = block_of d.sheet d.job c.args.part.now c.args.input.now.look.block in
     let sections = c.in_ok-sections.sections.items in
     let paths = c.in_ok-paths.paths.items in
-    let titles = c.args.look.now.titles.items in
+    let titles = c.args.input.now.look.titles.items in
     let strokes : All (λ (s : Stroke). s.view < many) c.deref-5.result.now = subst (λ (xs : List Stroke). All (λ (s : Stroke). s.view < many) xs) (sym c.deref-5.ensures.value) c.in_ok-picture.ensures.in_range in
     let within = views_within c.deref-5.result.now many paths strokes c.in_ok-paths.ensures in
     let all : All (IsInView many) c.in_ok-items.items.items =
     subst (λ (items : List Item). All (IsInView many) items) (sym c.in_ok-items.ensures.items)
-    (in_views many c.args.look.now.hidden.items d block (items_of_marks d.job.decimals d.job.unit c.deref-8.result.now titles) sections paths (of_block many d.sheet.width d.sheet.height block c.in_ok-items.ensures.in_corner)
+    (in_views many c.args.input.now.look.hidden.items d block (items_of_marks d.job.decimals d.job.unit c.deref-8.result.now titles) sections paths (of_block many d.sheet.width d.sheet.height block c.in_ok-items.ensures.in_corner)
     (of_marks many d.job.decimals d.job.unit c.deref-8.result.now titles) c.in_ok-sections.ensures.in_range within) in
     let same : many ≡ c.len.result = omega (arith, c.len.ensures, d.sheet.places.ok.0) in
     subst (λ (n : ℕ). All (IsInView n) c.in_ok-items.items.items) same all

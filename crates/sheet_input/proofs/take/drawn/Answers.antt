@@ -1,5 +1,5 @@
 use Rattle.solid_mesh.specs.Solids.{solid_part}
-use Rattle.sheet_input.proofs.LaidOut.{drawn_for, has_places, laid_drawing, layout_given, refused_sheet}
+use Rattle.sheet_input.proofs.LaidOut.{drawn_for, has_places, laid_drawing, layout_given, on_its_paper, refused_sheet}
 use Rattle.sheet_input.proofs.take.drawn.Goals as goal
 
 pub drawing_on-requires : goal.drawing_on-requires
@@ -21,4 +21,5 @@ returns-in-Ok-drawing_on-clause-shows c =
     let corners = (solid_part c.args.settled.solid).corners in
     let layout = c.in-Ok.layout in
     let laid = drawn_for c.args.settled.job c.job_for-job.result corners c.args.wish layout c.job_for-job.ensures.same c.in-Ok.ensures.laid in
-    laid_drawing c.in-Ok-drawing_on.made.drawing c.args.settled.solid c.job_for-job.result c.args.wish layout c.in-Ok-drawing_on.ensures.of laid c.in-Ok-drawing_on.ensures.shows
+    let paper = on_its_paper c.args.settled.job c.job_for-job.result c.args.wish layout c.job_for-job.ensures.same c.in-Ok.ensures.on_paper in
+    laid_drawing c.in-Ok-drawing_on.made.drawing c.args.settled.solid c.job_for-job.result c.args.wish layout c.in-Ok-drawing_on.ensures.of laid paper c.in-Ok-drawing_on.ensures.shows

@@ -1,0 +1,4 @@
+pub mod Near
+pub mod Scales
+pub mod Sides
+pub mod inner
