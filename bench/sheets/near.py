@@ -101,7 +101,7 @@ def nearness(own, sides):
         return "apart", total
     for scale in SCALES:
         greater, smaller = ratio(own, scale)
-        if smaller < greater and has_room(own, scale, sides) and not near_at(own, scale, sides, grid)[0]:
+        if smaller < greater and has_room(own, scale, sides) and near_at(own, scale, sides, grid)[1] == 0:
             return "lines within 0.5 mm of one another: a scale of %d:%d shows them apart" % scale, total
     return "lines within 0.5 mm of one another: pieces detail shows them apart", total
 

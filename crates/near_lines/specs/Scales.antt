@@ -1,5 +1,5 @@
 -- Whether the lines of a view are near one another, and which scale shows them apart.
-use Rattle.std.specs.Prelude.{ℕ, ◌+◌, ◌-◌, ◌*◌, ◌/◌, min, max, nat_le, nat_lt, if◌then◌else◌, Bool, true, false, not, ◌&&◌, refl, List, [], ◌∷◌, Option, Some, None, fold}
+use Rattle.std.specs.Prelude.{ℕ, ◌+◌, ◌-◌, ◌*◌, ◌/◌, min, max, nat_le, nat_lt, ◌==◌, if◌then◌else◌, Bool, true, false, ◌&&◌, refl, List, [], ◌∷◌, Option, Some, None, fold}
 use Rattle.std.specs.List.{find}
 use Rattle.job_file.specs.declared.job.Scale.{Scale}
 use Rattle.near_lines.specs.Near.{near_total}
@@ -27,6 +27,10 @@ length_at own s = min 100000 (100000 * smaller_of own s / greater_of own s)
 abbrev pub are_near_at : Scale → List Side → Scale → Bool
 are_near_at own all s = nat_lt (length_at own s) (near_total (distance_at own s) all)
 
+-- at this scale no part of a line is so near to another line
+abbrev pub are_apart_at : Scale → List Side → Scale → Bool
+are_apart_at own all s = near_total (distance_at own s) all == 0
+
 -- ---- the room that a view takes
 abbrev pub no_extent : Extent
 no_extent = record { left = 118900; right = 0; top = 118900; bottom = 0 }
@@ -50,9 +54,9 @@ rising =
     ∷ record { num = 1; den = 1; listed = refl } ∷ record { num = 2; den = 1; listed = refl } ∷ record { num = 5; den = 1; listed = refl }
     ∷ record { num = 10; den = 1; listed = refl } ∷ record { num = 20; den = 1; listed = refl } ∷ record { num = 50; den = 1; listed = refl } ∷ []
 
--- a greater scale, at which the view has room and its lines aren't near one another
+-- a greater scale, at which the view has room and no line is near another
 abbrev pub shows_apart : Scale → List Side → Scale → Bool
-shows_apart own all s = nat_lt (smaller_of own s) (greater_of own s) && (has_room_at own (extent_of all) s && not (are_near_at own all s))
+shows_apart own all s = nat_lt (smaller_of own s) (greater_of own s) && (has_room_at own (extent_of all) s && are_apart_at own all s)
 
 abbrev pub apart_at : Option Scale → Nearness
 apart_at None = Close

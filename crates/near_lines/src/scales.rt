@@ -1,7 +1,7 @@
 // Whether lines are near one another on a sheet, and at which scale they aren't.
 ghost use Rattle.std.specs.Prelude.{◌≡◌, ◌≤◌, All, IfOk};
 ghost use Rattle.std.specs.List.{find};
-ghost use Rattle.near_lines.specs.Scales.{are_near_at, apart_at, distance_at, greater_of, has_room_at, length_at, nearness_of, rising, shows_apart, smaller_of};
+ghost use Rattle.near_lines.specs.Scales.{are_apart_at, are_near_at, apart_at, distance_at, greater_of, has_room_at, length_at, nearness_of, rising, shows_apart, smaller_of};
 ghost use Rattle.near_lines.specs.Sides.{IsSmall};
 ghost use Rattle.near_lines.specs.inner.Chunks.{sides_of};
 
@@ -18,9 +18,9 @@ use std::alloc::Global;
 pub enum Nearness {
     /// No more than 10 mm of them run within 0.5 mm of one another.
     Apart,
-    /// More do, but not at this scale, the least greater one at which the view has room and at most 10 mm do.
+    /// More do, but none at this scale, the least greater one at which the view has room and none do.
     ApartAt(Scale),
-    /// More do, and at no greater scale at which the view has room do at most 10 mm.
+    /// More do, and some at each greater scale at which the view has room.
     Close,
 }
 
@@ -99,7 +99,16 @@ fn rising() -> [Scale; 12]
     ]
 }
 
-/// A scale is greater, the view has room at it, and its lines aren't near one another.
+/// No line is near another at a scale.
+fn are_apart_at(own: &Scale, chunks: &[Chunk], all: &[Side], s: &Scale) -> bool
+    requires small { All IsSmall all.now }
+    requires chunks { sides_of chunks.now ≡ all.now }
+    ensures { result ≡ are_apart_at own.now all.now s.now }
+{
+    near_total(distance_at(own, s), chunks, all) == 0
+}
+
+/// A scale is greater, the view has room at it, and no line is near another there.
 fn shows_apart(own: &Scale, chunks: &[Chunk], all: &[Side], s: &Scale) -> bool
     requires small { All IsSmall all.now }
     requires chunks { sides_of chunks.now ≡ all.now }
@@ -108,7 +117,7 @@ fn shows_apart(own: &Scale, chunks: &[Chunk], all: &[Side], s: &Scale) -> bool
     if smaller_of(own, s) >= greater_of(own, s) {
         return false;
     }
-    has_room_at(own, extent_of(all), s) && !are_near_at(own, chunks, all, s)
+    has_room_at(own, extent_of(all), s) && are_apart_at(own, chunks, all, s)
 }
 
 /// The first of these scales that shows the lines apart.

@@ -1,3 +1,4 @@
 pub mod Ends
 pub mod CutLines
+pub mod NearLines
 pub mod Summary

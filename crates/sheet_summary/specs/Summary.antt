@@ -17,6 +17,7 @@ use Rattle.sheet_plan.specs.LineKinds.{is_same_mark}
 use Rattle.sheet_plan.specs.declared.sheet.Mark.{Mark}
 use Rattle.sheet_plan.specs.declared.sheet.Mark.TheVariants.{Solid, Dashed, Hatch}
 use Rattle.sheet_summary.specs.CutLines.{cut_lines}
+use Rattle.sheet_summary.specs.NearLines.{near_lines}
 use Rattle.sheet_summary.specs.Ends.{least_along, greatest_along}
 use Rattle.length_text.specs.Lengths.{mm_text}
 use Rattle.solid_mesh.specs.Solids.{solid_part}
@@ -58,8 +59,8 @@ abbrev pub first_line : Drawing → Bool → Page → List ℕ
 first_line d fitted page =
     sheet_text d.job.paper d.sheet.scale (length d.sheet.places.items) ⊕ paths_text page.items.items ⊕ fitted_text fitted d.job.decimals ⊕ size_text (solid_part d.solid) d.job.decimals ⊕ codes "\n"
 
--- What is said of a drawing, its page, and what tells its cuts: the first line, one for each cut, and one for each cut that isn't told as
--- usual. The number of decimals may have been left to the program, and the job may say the places of its cuts in units.
+-- What is said of a drawing, its page, and what tells its cuts: the first line, one for each cut, one for each cut that isn't told as usual,
+-- and one for each view whose visible lines are near one another. The number of decimals may have been left to the program, and the job may say the places of its cuts in units.
 abbrev pub summary_of : Drawing → Bool → Bool → Page → List ViewMarks → List ℕ
 summary_of d fitted in_units page marks =
-    first_line d fitted page ⊕ cut_lines (solid_part d.solid) d.job.decimals in_units d.job.views.items marks ⊕ notes_of marks
+    first_line d fitted page ⊕ cut_lines (solid_part d.solid) d.job.decimals in_units d.job.views.items marks ⊕ notes_of marks ⊕ near_lines d.sheet.scale page.items.items (length d.job.views.items)

@@ -5,6 +5,7 @@ ghost use Rattle.sheet_summary.specs.Summary.{first_line, fitted_text, is_path_o
 
 use crate::cuts::cut_lines;
 use crate::ends::ends_along;
+use crate::near::near_lines;
 use cut_marks::{ViewMarks, notes};
 use drawing::Drawing;
 use exact_frac::OutOfMemory;
@@ -117,7 +118,8 @@ fn first_line(
 }
 
 /// What is said of a drawing, its page, and what tells its cuts. `fitted` says that the number of decimals was left to the program, and
-/// `in_units` that the job says the places of its cuts in units. It goes over the corners three times, and once for each cut.
+/// `in_units` that the job says the places of its cuts in units. It goes over the corners three times, and once for each cut,
+/// and over what stands on the page for each view.
 pub fn summary_of(
     alloc: Global,
     drawing: &Drawing,
@@ -131,5 +133,7 @@ pub fn summary_of(
     let mut text = first_line(alloc, drawing, fitted, page)?;
     text.push_str(&cut_lines(alloc, drawing, in_units, marks)?)?;
     text.push_str(&notes(alloc, marks)?)?;
+    let views = drawing.job.views.len() as u32;
+    text.push_str(&near_lines(alloc, &drawing.sheet.scale, &page.items, views)?)?;
     Ok(text)
 }
