@@ -11,6 +11,8 @@ from math import isqrt
 VISIBLE = 35  # a path within so many hundredths of a millimetre of a visible path is covered
 HIDDEN = 25  # and within so many of a longer hidden path
 TRIED = 8  # at most so many other paths are tried for a path
+STROKES = 1000  # a path of more strokes is drawn
+NEAR = 64  # a stroke for which more strokes of the other path count isn't covered by that path
 LARGEST = 1 << 17  # no sheet is wider or higher, in hundredths of a millimetre
 COSINE = (969_846, 1_000_000)  # the squared cosine of 10 degrees
 
@@ -79,7 +81,7 @@ def boxes_near(p, q, far):
 
 def is_stroke_covered(s, box, other, far):
     near = [t for t, b in zip(other.strokes, other.boxes) if boxes_near(box, b, far) and parts_little(s, t)]
-    if not near:
+    if not near or len(near) > NEAR:
         return False
     places = places_of(s, near)
     reached = [[is_within(s, place, t, far) for place in places] for t in near]
@@ -93,17 +95,17 @@ def covers(other, path):
 
 
 def order(path):
-    """Visible paths go before hidden ones, and these by their length; then the drawing's order."""
+    """Visible paths go first, in the drawing's order, and then hidden ones, the longest first; of equal ones that which the drawing has first."""
     return (0, 0, path.number) if path.kind == "visible" else (1, -path.length, path.number)
 
 
 def tried(path, before):
     """Of the paths before it those that come near its first point, at most so many."""
-    s = (path.points[0], path.points[1])
+    s = path.strokes[0]
     found = []
     for other in before:
         far = VISIBLE if other.kind == "visible" else HIDDEN
-        box = path.points[0] * 2
+        box = s[0] * 2
         if any(boxes_near(box, b, far) and is_within(s, (0, 1), t, far) for t, b in zip(other.strokes, other.boxes)):
             found.append(other)
     return found[:TRIED], len(found)
@@ -113,7 +115,7 @@ def left_out(paths):
     """{number of a path: the path that covers it}, of the paths of one view."""
     drawn, gone, most = [], {}, 0
     for path in sorted((p for p in paths if p.kind in ("visible", "hidden") and p.fits), key=order):
-        if path.kind == "hidden":
+        if path.kind == "hidden" and 0 < len(path.strokes) <= STROKES:
             others, n = tried(path, drawn)
             most = max(most, n)
             cover = next((o for o in others if covers(o, path)), None)

@@ -1,14 +1,14 @@
 -- Of lines in their order each is drawn, or lies within one that is drawn.
 use Rattle.std.proofs.Common.{◌≡◌, inl, inr, ℕ, ◌-◌, Bool, true, false, List, [], ◌∷◌, ◌++◌, refl, arith}
-use Rattle.std.specs.Prelude.{pos, ◌≤ℤ◌, ◌==◌, ◌||◌, cond}
+use Rattle.std.specs.Prelude.{pos, ◌≤ℤ◌, ◌==◌, ◌||◌, ◌&&◌, not, nat_lt, length, cond}
 use Rattle.std.proofs.lemmas.Int.{ints}
 use Rattle.covered_paths.specs.Covering.{covers}
 use Rattle.covered_paths.specs.Drawn.{EachLine, IsSeen, LiesWithin, SomeLine, comes_near, drawn_after, far_of, is_covered_among, is_left_out, starts_near}
-use Rattle.covered_paths.specs.declared.drawn.Line.{Line}
+use Rattle.covered_paths.specs.declared.line.Line.{Line}
 use Rattle.covered_paths.proofs.LegPoints.{each_covered}
-use Rattle.covered_paths.proofs.Tests.{both_left, both_right, either}
+use Rattle.covered_paths.proofs.Truths.{both_left, both_right, either}
 
-same_view : (a b : ℕ) → (a == b) ≡ true → a ≡ b
+pub same_view : (a b : ℕ) → (a == b) ≡ true → a ≡ b
 same_view a b e = grind arith
 
 not_negative : (b : Bool) → pos 0 ≤ℤ cond b (pos 25) (pos 35)
@@ -60,7 +60,9 @@ among n l (m ∷ ms) hidden h = by (n == 0) (comes_near l m) refl refl (among (n
 
 out : (drawn : List Line) (l : Line) → is_left_out drawn l ≡ true → SomeLine (LiesWithin l) drawn
 unfolding is_left_out
-out drawn l h = among 8 l drawn (both_left l.hidden (is_covered_among 8 l drawn) h) (both_right l.hidden (is_covered_among 8 l drawn) h)
+out drawn l h =
+    let few = not (nat_lt 1000 (length l.legs.items)) in
+    among 8 l drawn (both_left l.hidden (few && is_covered_among 8 l drawn) h) (both_right few (is_covered_among 8 l drawn) (both_right l.hidden (few && is_covered_among 8 l drawn) h))
 
 -- ---- each line
 pub each_seen : (drawn ls : List Line) → EachLine (IsSeen (drawn_after drawn ls)) ls

@@ -6,7 +6,7 @@ use Rattle.std.proofs.lemmas.Int.{ints, by_lt_z}
 use Rattle.integers.proofs.Comparisons.{at_most_of_less, gap_of_at_most}
 use Rattle.integers.proofs.Ring.{var, con, ◌⊕◌, ◌⊖◌, ◌⊗◌, ring, by_one, mul_comm}
 use Rattle.integers.proofs.Signs.{mul_nonneg, mul_nonpos, zero_of_mul}
-use Rattle.covered_paths.specs.Covering.{covers, is_covered, is_covered_by, is_covered_from, is_reached, may_cover, whole_place}
+use Rattle.covered_paths.specs.Covering.{are_few, covers, is_covered, is_covered_by, is_covered_from, is_reached, may_cover, whole_place}
 use Rattle.covered_paths.specs.Points.{EachLeg, EachPointNear, IsPointNear, SomeLeg}
 use Rattle.covered_paths.specs.Splits.{ArePlaces, places}
 use Rattle.covered_paths.specs.Within.{is_within}
@@ -15,7 +15,7 @@ use Rattle.covered_paths.specs.declared.legs.Place.{Place}
 use Rattle.covered_paths.proofs.NearPoints.{mixed}
 use Rattle.covered_paths.proofs.PlacePoints.{place_near}
 use Rattle.covered_paths.proofs.PlaceSizes.{are_places}
-use Rattle.covered_paths.proofs.Tests.{both_left, both_right, each_leg, some_leg, unfiltered}
+use Rattle.covered_paths.proofs.Truths.{both_left, both_right, each_leg, some_leg, unfiltered}
 
 -- ---- a place between two places
 -- (j / w) is between n / m and k / l, with u = k w - j l, v = j m - n w and d = k m - n l
@@ -113,7 +113,7 @@ module _ (far : ℤ) (hf : pos 0 ≤ℤ far) (s : Leg) (i j : ℤ) (hi : pos 0 �
 pub each_point : (far : ℤ) → pos 0 ≤ℤ far → (others : List Leg) (s : Leg) → is_covered far others s ≡ true → EachPointNear far others s
 each_point far hf others s h i j hi hj hw =
     unfiltered (IsPointNear far ((i *ℤ s.x1) +ℤ (j *ℤ s.x2)) ((i *ℤ s.y1) +ℤ (j *ℤ s.y2)) (i +ℤ j)) (may_cover far s) others
-    (point_near far hf s i j hi hj hw (filter (may_cover far s) others) h)
+    (point_near far hf s i j hi hj hw (filter (may_cover far s) others) (both_right (are_few (filter (may_cover far s) others)) (is_covered_by far s (filter (may_cover far s) others)) h))
 
 -- of each leg that is covered
 pub each_covered : (far : ℤ) → pos 0 ≤ℤ far → (others legs : List Leg) → covers far others legs ≡ true → EachLeg (EachPointNear far others) legs

@@ -1,8 +1,12 @@
 pub mod DrawnLines
+pub mod DrawnPaths
 pub mod LegPoints
 pub mod NearPoints
+pub mod OnSheet
+pub mod Outside
 pub mod PlacePoints
 pub mod PlaceSizes
 pub mod Products
 pub mod Short
-pub mod Tests
+pub mod Sketches
+pub mod Truths

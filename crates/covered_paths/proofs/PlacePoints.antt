@@ -11,7 +11,7 @@ use Rattle.covered_paths.specs.Within.{across, ahead, aside, down, gap_across, g
 use Rattle.covered_paths.specs.declared.legs.Leg.{Leg}
 use Rattle.covered_paths.specs.declared.legs.Place.{Place}
 use Rattle.covered_paths.proofs.Short.{IsShort, short_same}
-use Rattle.covered_paths.proofs.Tests.{at_most_is, both_left, both_right, either, less_is}
+use Rattle.covered_paths.proofs.Truths.{at_most_is, both_left, both_right, either, less_is}
 
 -- how far to the right and down a place is, times its whole
 abbrev pub place_x : Leg → Place → ℤ

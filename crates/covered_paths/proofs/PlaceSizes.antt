@@ -9,7 +9,7 @@ use Rattle.covered_paths.specs.Splits.{ArePlaces, first_splits, insert, insert_a
 use Rattle.covered_paths.specs.Within.{IsPlace, across, down}
 use Rattle.covered_paths.specs.declared.legs.Leg.{Leg}
 use Rattle.covered_paths.specs.declared.legs.Place.{Place}
-use Rattle.covered_paths.proofs.Tests.{both_left, both_right, less_is}
+use Rattle.covered_paths.proofs.Truths.{both_left, both_right, less_is}
 
 no_larger : (n m : ℤ) → pos 0 <ℤ n → n <ℤ m → unsigned_abs m ≤ 2 ^ 37 → unsigned_abs n ≤ 2 ^ 37
 no_larger n m h k s = omega (arith, ints)

@@ -1,5 +1,5 @@
 -- Which legs lie within a distance of others.
-use Rattle.std.specs.Prelude.{Bool, ◌&&◌, ◌||◌, not, cond, ℤ, pos, ◌+ℤ◌, ◌*ℤ◌, List, [], ◌∷◌}
+use Rattle.std.specs.Prelude.{Bool, ◌&&◌, ◌||◌, not, cond, nat_lt, ℤ, pos, ◌+ℤ◌, ◌*ℤ◌, List, [], ◌∷◌, length}
 use Rattle.std.specs.List.{filter, list_all, list_any}
 use Rattle.std.specs.Int.Signed.{lt_z}
 use Rattle.covered_paths.specs.Numbers.{at_most}
@@ -75,9 +75,15 @@ is_covered_from far s near p (q ∷ qs) = list_any (is_reached far s p q) near &
 abbrev pub is_covered_by : ℤ → Leg → List Leg → Bool
 is_covered_by far s near = is_covered_from far s near (record { part = pos 0; whole = pos 1 }) (places s near)
 
--- a leg lies within the distance of other legs
+-- a leg lies within the distance of other legs, of which no more than 64 count for it
+abbrev pub are_few : List Leg → Bool
+are_few near = not (nat_lt 64 (length near))
+
+abbrev pub is_covered_by_few : ℤ → Leg → List Leg → Bool
+is_covered_by_few far s near = are_few near && is_covered_by far s near
+
 abbrev pub is_covered : ℤ → List Leg → Leg → Bool
-is_covered far others s = is_covered_by far s (filter (may_cover far s) others)
+is_covered far others s = is_covered_by_few far s (filter (may_cover far s) others)
 
 -- each leg of a path does so
 abbrev pub covers : ℤ → List Leg → List Leg → Bool

@@ -1,6 +1,9 @@
 pub mod Covering
 pub mod Drawn
 pub mod Numbers
+pub mod Places
 pub mod Points
+pub mod Sheets
 pub mod Splits
 pub mod Within
+pub mod inner

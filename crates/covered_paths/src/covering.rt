@@ -1,7 +1,7 @@
 // Which legs lie within a distance of others.
 ghost use Rattle.std.specs.Prelude.{◌≡◌, ◌≤◌, ◌^◌, true, pos, ◌≤ℤ◌, IfOk, unsigned_abs};
 ghost use Rattle.std.specs.List.{filter, list_any};
-ghost use Rattle.covered_paths.specs.Covering.{along, covers, is_apart, is_below, is_covered, is_covered_by, is_covered_from, is_end_to_end, is_far_off, is_in_line, is_narrow, is_narrow_ahead, is_narrow_beside, is_one, is_reached, is_side_by_side, lower, may_cover, upper};
+ghost use Rattle.covered_paths.specs.Covering.{along, covers, is_apart, is_below, is_covered, is_covered_by, is_covered_by_few, is_covered_from, is_end_to_end, is_far_off, is_in_line, is_narrow, is_narrow_ahead, is_narrow_beside, is_one, is_reached, is_side_by_side, lower, may_cover, upper};
 ghost use Rattle.covered_paths.specs.Points.{EachLeg, EachPointNear};
 ghost use Rattle.covered_paths.specs.Splits.{ArePlaces};
 ghost use Rattle.covered_paths.specs.Within.{IsPlace};
@@ -15,7 +15,7 @@ use std::alloc::Global;
 
 /// The smaller of two numbers.
 #[tactic(auto, unfolding(crate::specs::Covering::lower))]
-fn lower(a: i64, b: i64) -> i64
+pub(crate) fn lower(a: i64, b: i64) -> i64
     ensures { result ≡ lower a b }
 {
     if is_less(b, a) {
@@ -79,7 +79,7 @@ fn is_far_off(far: i64, leg: &Leg, other: &Leg) -> bool
 
 /// Two points are one.
 #[tactic(auto, unfolding(crate::specs::Covering::is_one))]
-fn is_one(x: i64, y: i64, u: i64, v: i64) -> bool
+pub(crate) fn is_one(x: i64, y: i64, u: i64, v: i64) -> bool
     ensures { result ≡ is_one x y u v }
 {
     if is_less(u, x) {
@@ -259,13 +259,24 @@ fn is_covered_by(alloc: Global, far: i64, leg: &Leg, near: &[Leg]) -> Result<boo
     Ok(is_covered_from(far, leg, near, &Place { part: 0, whole: 1 }, &places))
 }
 
+/// A leg lies within the distance of these legs, which count for it and are no more than 64.
+fn is_covered_by_few(alloc: Global, far: i64, leg: &Leg, near: &[Leg]) -> Result<bool, OutOfMemory>
+    requires { unsigned_abs far ≤ 2 ^ 6 }
+    ensures { IfOk result (λ covered. covered ≡ is_covered_by_few far leg.now near.now) }
+{
+    if near.len() > 64 {
+        return Ok(false);
+    }
+    is_covered_by(alloc, far, leg, near)
+}
+
 /// A leg lies within the distance of the legs of another path.
 fn is_covered(alloc: Global, far: i64, others: &[Leg], leg: &Leg) -> Result<bool, OutOfMemory>
     requires { unsigned_abs far ≤ 2 ^ 6 }
     ensures { IfOk result (λ covered. covered ≡ is_covered far others.now leg.now) }
 {
     let near = near_legs(alloc, far, leg, others)?;
-    is_covered_by(alloc, far, leg, &near)
+    is_covered_by_few(alloc, far, leg, &near)
 }
 
 /// Each leg of a path lies within the distance of the legs of another path.
@@ -284,8 +295,13 @@ fn are_covered(alloc: Global, far: i64, others: &[Leg], legs: &[Leg]) -> Result<
 /// Each leg of a path lies within the distance, of at most 64 hundredths of a millimetre, of the legs of another path. Then each of its
 /// points is within the distance of a point of that path.
 ///
-/// Each leg is compared with each of the other path. With those that are near it, n of them, it takes a time of n².
-pub fn covers(alloc: Global, far: i64, others: &[Leg], legs: &[Leg]) -> Result<bool, OutOfMemory>
+/// Each leg is compared with each of the other path. With those that are near it, at most 64, it takes a time of their number squared.
+pub(crate) fn covers(
+    alloc: Global,
+    far: i64,
+    others: &[Leg],
+    legs: &[Leg],
+) -> Result<bool, OutOfMemory>
     requires small { unsigned_abs far ≤ 2 ^ 6 }
     requires not_negative { pos 0 ≤ℤ far }
     ensures exact { IfOk result (λ covered. covered ≡ covers far others.now legs.now) }

@@ -6,19 +6,12 @@ ghost use Rattle.covered_paths.specs.Drawn.{EachLine, IsSeen, comes_near, drawn_
 ghost use Rattle.covered_paths.specs.Within.{is_within};
 
 use crate::covering::covers;
+use crate::extent::{extent_around, is_missed};
 use crate::legs::{Leg, Place};
+use crate::line::Line;
 use crate::within::is_within;
 use exact_frac::OutOfMemory;
 use std::alloc::Global;
-
-/// A path of a view that may be covered, if it is hidden, or may cover others: its legs. `number` is for the caller.
-#[derive(Drop)]
-pub struct Line {
-    pub number: usize,
-    pub view: u32,
-    pub hidden: bool,
-    pub legs: Vec<Leg>,
-}
 
 /// How near a line must be to others to lie within their ink, in hundredths of a millimetre.
 fn far_of(line: &Line) -> i64
@@ -29,28 +22,51 @@ fn far_of(line: &Line) -> i64
     if line.hidden { 25 } else { 35 }
 }
 
+/// The first point of a leg is within the distance of another leg. That it is outside the other's box is soon seen.
+fn is_start_within(far: i64, leg: &Leg, other: &Leg) -> bool
+    requires small { unsigned_abs far ≤ 2 ^ 6 }
+    requires not_negative { pos 0 ≤ℤ far }
+    ensures { result ≡ is_within far leg.now (record { part = pos 0; whole = pos 1 }) other.now }
+{
+    if is_missed(far, leg.x1, leg.y1, extent_around(other)) {
+        return false;
+    }
+    is_within(far, leg, &Place { part: 0, whole: 1 }, other)
+}
+
 /// The first point of a leg is within the distance of others.
 fn is_start_near(far: i64, others: &[Leg], leg: &Leg) -> bool
-    requires { unsigned_abs far ≤ 2 ^ 6 }
+    requires small { unsigned_abs far ≤ 2 ^ 6 }
+    requires not_negative { pos 0 ≤ℤ far }
     ensures { result ≡ list_any (is_within far leg.now (record { part = pos 0; whole = pos 1 })) others.now }
 {
     for other in others {
-        if is_within(far, leg, &Place { part: 0, whole: 1 }, other) {
+        if is_start_within(far, leg, other) {
             return true;
         }
     }
     false
 }
 
+/// The first point of a leg is within the distance of a line. Most lines are passed by with a look at their boxes.
+fn is_start_near_line(leg: &Leg, other: &Line) -> bool
+    ensures { result ≡ list_any (is_within (far_of other.now) leg.now (record { part = pos 0; whole = pos 1 })) other.now.legs.items }
+{
+    let far = far_of(other);
+    if is_missed(far, leg.x1, leg.y1, other.extent) {
+        return false;
+    }
+    is_start_near(far, &other.legs, leg)
+}
+
 /// The first point of some legs is so.
 #[tactic(auto, unfolding(crate::specs::Drawn::starts_near))]
-fn starts_near(far: i64, others: &[Leg], legs: &[Leg]) -> bool
-    requires { unsigned_abs far ≤ 2 ^ 6 }
-    ensures { result ≡ starts_near far others.now legs.now }
+fn starts_near(legs: &[Leg], other: &Line) -> bool
+    ensures { result ≡ starts_near (far_of other.now) other.now.legs.items legs.now }
 {
     match legs {
         [] => false,
-        [leg, ..] => is_start_near(far, others, leg),
+        [leg, ..] => is_start_near_line(leg, other),
     }
 }
 
@@ -62,7 +78,7 @@ fn comes_near(line: &Line, other: &Line) -> bool
     if other.view != line.view {
         return false;
     }
-    starts_near(far_of(other), &other.legs, &line.legs)
+    starts_near(&line.legs, other)
 }
 
 /// A line covers another.
@@ -97,12 +113,15 @@ fn is_covered_among(
     Ok(false)
 }
 
-/// A hidden line lies within one of the first eight lines that are drawn and come near it.
+/// A hidden line of at most 1000 legs lies within one of the first eight lines that are drawn and come near it.
 #[tactic(auto, unfolding(crate::specs::Drawn::is_left_out))]
 fn is_left_out(alloc: Global, drawn: &[Line], line: &Line) -> Result<bool, OutOfMemory>
     ensures { IfOk result (λ out. out ≡ is_left_out drawn.now line.now) }
 {
     if !line.hidden {
+        return Ok(false);
+    }
+    if line.legs.len() > 1000 {
         return Ok(false);
     }
     is_covered_among(alloc, 8, line, drawn)
@@ -124,7 +143,7 @@ fn add_drawn(alloc: Global, lines: Vec<Line>) -> Result<Vec<Line>, OutOfMemory>
 /// The lines that are drawn, of lines in their order: visible ones first, and then hidden ones, the longest first. A hidden line is left
 /// out if it lies within 0.35 mm of a visible line, or within 0.25 mm of a hidden line before it, which is itself drawn. Only the first
 /// eight lines are tried that come so near to its first point.
-pub fn drawn_lines(alloc: Global, lines: Vec<Line>) -> Result<Vec<Line>, OutOfMemory>
+pub(crate) fn drawn_lines(alloc: Global, lines: Vec<Line>) -> Result<Vec<Line>, OutOfMemory>
     ensures exact { IfOk result (λ drawn. drawn.items ≡ drawn_after [] lines.items) }
     ensures seen { IfOk result (λ drawn. EachLine (IsSeen drawn.items) lines.items) }
 {

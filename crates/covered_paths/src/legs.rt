@@ -16,6 +16,20 @@ pub struct Leg {
     ghost y2_near: { unsigned_abs y2 ≤ 2 ^ 17 },
 }
 
+/// The leg from one point to another.
+pub(crate) fn leg_between(x1: i64, y1: i64, x2: i64, y2: i64) -> Leg
+    requires x1_near { unsigned_abs x1 ≤ 2 ^ 17 }
+    requires y1_near { unsigned_abs y1 ≤ 2 ^ 17 }
+    requires x2_near { unsigned_abs x2 ≤ 2 ^ 17 }
+    requires y2_near { unsigned_abs y2 ≤ 2 ^ 17 }
+    ensures x1 { result.x1 ≡ x1 }
+    ensures y1 { result.y1 ≡ y1 }
+    ensures x2 { result.x2 ≡ x2 }
+    ensures y2 { result.y2 ≡ y2 }
+{
+    Leg { x1, y1, x2, y2 }
+}
+
 /// A place on a leg: `part` of `whole` parts of the way along it.
 #[derive(Clone, Copy, Debug)]
 pub(crate) struct Place {

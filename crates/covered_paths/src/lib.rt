@@ -1,4 +1,4 @@
-//! Which hidden paths of a sheet lie within the ink of others.
+//! Which paths of a sheet are drawn, without hidden ones that lie within the ink of others.
 //!
 //! A hidden path is left out if each of its legs, the straight lines between its points, lies within a distance of the legs of one other
 //! path that is drawn. A leg is split where the nearest point of the other path may pass from one leg to the next; between two places of a
@@ -7,11 +7,15 @@
 
 mod covering;
 mod drawn;
+mod extent;
 mod legs;
+mod line;
+mod lines;
 mod numbers;
+mod sheets;
 mod splits;
+#[cfg(test)]
+mod tests;
 mod within;
 
-pub use covering::covers;
-pub use drawn::{Line, drawn_lines};
-pub use legs::Leg;
+pub use sheets::drawn_paths;

@@ -152,3 +152,12 @@ pub(crate) fn beyond(a: i64, far: i64) -> i64
 {
     a + far
 }
+
+/// `a - far`.
+pub(crate) fn before(a: i64, far: i64) -> i64
+    requires first { unsigned_abs a ≤ 2 ^ 17 }
+    requires second { unsigned_abs far ≤ 2 ^ 6 }
+    ensures { result ≡ a -ℤ far }
+{
+    a - far
+}

@@ -1,7 +1,7 @@
 use Rattle.std.proofs.Common.{List, [], sym, subst}
 use Rattle.std.proofs.lemmas.Result.{IfOk-weaker}
 use Rattle.covered_paths.specs.Drawn.{EachLine, IsSeen}
-use Rattle.covered_paths.specs.declared.drawn.Line.{Line}
+use Rattle.covered_paths.specs.declared.line.Line.{Line}
 use Rattle.covered_paths.proofs.DrawnLines.{each_seen}
 use Rattle.covered_paths.proofs.drawn.drawn_lines.Goals as goal
 

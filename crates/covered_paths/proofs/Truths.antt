@@ -14,7 +14,7 @@ not_both : (b : Bool) → b ≡ true → not b ≡ true → ⊥
 not_both true e f = cc
 not_both false e f = cc
 
-not_both_ways : (b : Bool) → b ≡ false → b ≡ true → ⊥
+pub not_both_ways : (b : Bool) → b ≡ false → b ≡ true → ⊥
 not_both_ways true e f = cc
 not_both_ways false e f = cc
 
