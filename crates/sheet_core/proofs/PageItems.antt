@@ -1,8 +1,8 @@
 -- What stands on the page of a drawing is of its views.
-use Rattle.std.proofs.Common.{ℕ, ◌<◌, List, [], ◌∷◌, ◌++◌, Bool, Option, None, Some, map}
+use Rattle.std.proofs.Common.{ℕ, ◌<◌, List, [], ◌∷◌, ◌++◌, Option, None, Some, map}
 use Rattle.std.specs.Prelude.{ℤ, pos}
 use Rattle.std.specs.List.{All, flat_map}
-use Rattle.std.proofs.lemmas.List.Elements.{All-nil, All-cons, All-head, All-tail, All-append, All-filter, All-map, All-weaker}
+use Rattle.std.proofs.lemmas.List.Elements.{All-nil, All-cons, All-head, All-tail, All-append, All-map, All-weaker}
 use Rattle.cut_marks.specs.declared.figures.Heading.{Heading}
 use Rattle.cut_marks.specs.declared.figures.CutMark.{CutMark}
 use Rattle.cut_marks.specs.declared.figures.MarkEnd.{MarkEnd}
@@ -19,7 +19,7 @@ use Rattle.sheet_page.specs.declared.page.Pen.TheVariants as pen
 use Rattle.stroke_paths.specs.declared.path.Path.{Path}
 use Rattle.section_look.specs.declared.fills.Fill.{Fill}
 use Rattle.section_look.specs.declared.looks.SectionLook.{SectionLook}
-use Rattle.sheet_core.specs.Pages.{is_shown, fills_of, frame_of, shown_paths}
+use Rattle.sheet_core.specs.Pages.{fills_of, frame_of}
 
 -- ---- views
 all_flat : {A B : Type 0} (P : B → Type 0) (f : A → List B) → ((x : A) → All P (f x)) → (xs : List A) → All P (flat_map f xs)
@@ -88,14 +88,14 @@ module _ (n : ℕ) where
   of_sections (section ∷ sections) there =
       All-append (IsInView n) (fills_of section) (flat_map fills_of sections) (of_section section (All-head (λ s. s.view < n) section sections there)) (of_sections sections (All-tail (λ s. s.view < n) section sections there))
 
-pub in_views : (n : ℕ) (hidden : List Bool) (d : Drawing) (block marks : List Item) (sections : List SectionLook) (paths : List Path) → All (IsInView n) block → All (IsInView n) marks
+pub in_views : (n : ℕ) (d : Drawing) (block marks : List Item) (sections : List SectionLook) (paths : List Path) → All (IsInView n) block → All (IsInView n) marks
     → All (λ section. section.view < n) sections → All (λ p. p.view < n) paths
-    → All (IsInView n) ((frame_of d.sheet.width d.sheet.height ∷ block) ++ flat_map fills_of sections ++ map item.Path (shown_paths hidden paths) ++ marks)
-in_views n hidden d block marks sections paths of_block of_marks placed within =
+    → All (IsInView n) ((frame_of d.sheet.width d.sheet.height ∷ block) ++ flat_map fills_of sections ++ map item.Path paths ++ marks)
+in_views n d block marks sections paths of_block of_marks placed within =
     let frame = frame_of d.sheet.width d.sheet.height ∷ block in
     let fills = flat_map fills_of sections in
-    let drawn = map item.Path (shown_paths hidden paths) in
+    let drawn = map item.Path paths in
     All-append (IsInView n) ((frame ++ fills) ++ drawn) marks
     (All-append (IsInView n) (frame ++ fills) drawn
     (All-append (IsInView n) frame fills (All-cons (IsInView n) (frame_of d.sheet.width d.sheet.height) block tt of_block) (of_sections n sections placed))
-    (All-map (IsInView n) item.Path (shown_paths hidden paths) (All-filter (λ p. is_shown hidden p.view p.mark) (λ p. p.view < n) paths within))) of_marks
+    (All-map (IsInView n) item.Path paths within)) of_marks

@@ -42,6 +42,8 @@ module _ (named : Named) (old between new : DeskState) (same : OnlyReads old bet
         page = w.page;
         strokes = w.strokes;
         marks = w.marks;
+        drawn = w.drawn;
+        covered = w.covered;
         shows = w.shows;
         texts = w.texts;
         are_texts = w.are_texts;
@@ -49,6 +51,6 @@ module _ (named : Named) (old between new : DeskState) (same : OnlyReads old bet
         said = λ told. subst (λ (t : List ℕ). InOrder sheet_faults SaysText SaysTextPart fault w.texts t new.said) said (w.said (ap (λ (s : DeskState). s.tells_said) same ∙ told));
         spared = subst (λ (f : Files). InOrder sheet_faults (λ way bytes. SparesFile way) (λ way cause bytes. SparesFile way) fault w.texts f new.files) files w.spared;
         silent = subst (λ (t : List ℕ). InOrder sheet_faults (λ way bytes. SparesWord way) (λ way cause bytes. SparesWord way) fault w.texts t new.said) said w.silent;
-        noted = λ told. subst (λ (t : List ℕ). IfNone fault (Notes (summary_way named) (summary_of m.drawing m.look.fitted m.look.in_units w.page w.marks) t new.warned)) warned_same (w.noted (warned_told told));
-        noted_whole = λ hears. subst (λ (t : List ℕ). IfNone fault (NotesWhole (summary_way named) (summary_of m.drawing m.look.fitted m.look.in_units w.page w.marks) t new.warned)) warned_same (w.noted_whole (heard_later old between new same hears));
+        noted = λ told. subst (λ (t : List ℕ). IfNone fault (Notes (summary_way named) (summary_of m.drawing m.look.fitted m.look.in_units w.page w.covered w.marks) t new.warned)) warned_same (w.noted (warned_told told));
+        noted_whole = λ hears. subst (λ (t : List ℕ). IfNone fault (NotesWhole (summary_way named) (summary_of m.drawing m.look.fitted m.look.in_units w.page w.covered w.marks) t new.warned)) warned_same (w.noted_whole (heard_later old between new same hears));
       }

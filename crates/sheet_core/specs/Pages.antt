@@ -1,6 +1,6 @@
 -- The page of a drawing: its frame, its title block, the paths of its strokes, but for hidden lines that aren't asked for, and what tells
 -- its cuts.
-use Rattle.std.specs.Prelude.{◌≡◌, ℕ, Bool, true, not, ◌||◌, pos, ℤ, ◌-ℤ◌, List, ◌∷◌, ◌++◌, length, map, slice_get, unwrap_or}
+use Rattle.std.specs.Prelude.{◌≡◌, ℕ, Bool, not, pos, ℤ, ◌-ℤ◌, List, ◌∷◌, ◌++◌, length, map}
 use Rattle.std.specs.List.{All, filter, flat_map}
 use Rattle.cut_marks.specs.AskedSides.{sides_for}
 use Rattle.job_file.specs.ShownCuts.{cuts_in}
@@ -8,10 +8,11 @@ use Rattle.cut_marks.specs.Marks.{AreMarked}
 use Rattle.cut_marks.specs.Reach.{AreInReach, NoneTouch}
 use Rattle.cut_marks.specs.declared.views.ViewMarks.{ViewMarks}
 use Rattle.cut_marks.specs.Items.{items_of_marks, AreHeadedWell}
+use Rattle.sheet_lines.specs.Lines.{AreLines}
+use Rattle.sheet_lines.specs.declared.lines.SheetLines.{SheetLines}
 use Rattle.sheet_plan.specs.Boxes.{Box}
 use Rattle.sheet_plan.specs.LineKinds.{is_same_mark}
-use Rattle.sheet_plan.specs.declared.sheet.Mark.{Mark}
-use Rattle.sheet_plan.specs.declared.sheet.Mark.TheVariants.{Dashed, Hatch}
+use Rattle.sheet_plan.specs.declared.sheet.Mark.TheVariants.{Hatch}
 use Rattle.sheet_plan.specs.declared.sheet.Sheet.{Sheet}
 use Rattle.sheet_plan.specs.declared.sheet.Stroke.{Stroke}
 use Rattle.drawing.specs.Strokes.{AreStrokes}
@@ -31,14 +32,6 @@ use Rattle.sheet_page.specs.Blocks.{block_of}
 use Rattle.sheet_page.specs.Corners.{IsClearOf}
 use Rattle.sheet_input.specs.declared.look.SheetLook.{SheetLook}
 
--- ---- hidden lines
--- a path of a mark is drawn in the view with this number: each is, but for hidden lines where the view doesn't draw them
-abbrev pub is_shown : List Bool → ℕ → Mark → Bool
-is_shown hidden view mark = not (is_same_mark mark Dashed) || unwrap_or (slice_get hidden view) true
-
-abbrev pub shown_paths : List Bool → List Path → List Path
-shown_paths hidden paths = filter (λ p. is_shown hidden p.view p.mark) paths
-
 -- ---- the page
 -- the frame of a sheet, 10 mm from its edges
 abbrev pub frame_of : ℤ → ℤ → Item
@@ -53,12 +46,8 @@ abbrev pub items_of : SheetLook → List ℕ → Drawing → List SectionLook �
 items_of look part d sections paths marks =
     (frame_of d.sheet.width d.sheet.height ∷ block_of d.sheet d.job part look.block)
     ++ flat_map fills_of sections
-    ++ map item.Path (shown_paths look.hidden.items paths)
+    ++ map item.Path paths
     ++ items_of_marks d.job.decimals d.job.unit marks look.titles.items
-
--- which strokes of a drawing are drawn
-abbrev pub drawn_strokes : List Bool → List Stroke → List Bool
-drawn_strokes hidden strokes = map (λ s. is_shown hidden s.view s.mark) strokes
 
 -- ---- the picture
 -- the strokes of a drawing but for its hatch lines
@@ -72,11 +61,11 @@ pub record IsPicture (sheet : Sheet) (strokes : List Stroke) (sections : List Se
   pub together : picture ≡ unhatched strokes ++ hatches
 
 -- The page shows the drawing of the part with this name, whose sheet is that of a layout: the frame and the title block, what is filled of
--- its sections, the paths of its strokes that are drawn, in their order, with hatch lines as close as the sections need, and the marks and the
+-- its sections, the paths of its strokes that are asked for and not covered, in their order, with hatch lines as close as the sections need, and the marks and the
 -- headings of its cuts. The views with their sides, which are shrunk or not, keep apart, in the frame and clear of the block. Each mark
 -- and each heading ends within its view's sides; no two marks of a view touch, and nor does one its view, but by its chain line; and no heading
 -- has the place of its cut in part.
-pub record IsPageWith (look : SheetLook) (part : List ℕ) (d : Drawing) (shrunk : Bool) (page : Page) (strokes : List Stroke) (marks : List ViewMarks) : Type 0 where
+pub record IsPageWith (look : SheetLook) (part : List ℕ) (d : Drawing) (shrunk : Bool) (page : Page) (strokes : List Stroke) (marks : List ViewMarks) (drawn : List Bool) (covered : ℕ) : Type 0 where
   pub layout : Layout
   pub sheet : d.sheet ≡ layout.sheet
   pub shrunk_is : layout.shrunk ≡ shrunk
@@ -90,6 +79,10 @@ pub record IsPageWith (look : SheetLook) (part : List ℕ) (d : Drawing) (shrunk
   pub is_picture : IsPicture d.sheet strokes sections picture
   pub paths : List Path
   pub are_paths : ArePaths picture paths
+  pub lines : SheetLines
+  pub are_lines : AreLines look.hidden.items strokes paths lines
+  pub drawn_is : drawn ≡ lines.strokes.items
+  pub covered_is : covered ≡ lines.covered
   pub are_marks : AreMarked d.sheet (sides_for d.job) shrunk (solid_part d.solid) (cuts_in d.job.views.items) d.job.views.items marks
   pub in_reach : AreInReach d.sheet (solid_part d.solid).corners (sides_for d.job) shrunk marks
   pub none_touch : NoneTouch marks
@@ -98,8 +91,8 @@ pub record IsPageWith (look : SheetLook) (part : List ℕ) (d : Drawing) (shrunk
   pub height : page.height ≡ d.sheet.height
   pub title : page.title ≡ d.job.title
   pub views : page.views ≡ length d.sheet.places.items
-  pub items : page.items.items ≡ items_of look part d sections paths marks
+  pub items : page.items.items ≡ items_of look part d sections lines.paths.items marks
 
--- with some such strokes and marks
+-- with some such strokes and marks, of which some are drawn, and so many covered paths
 abbrev pub IsPageOf : SheetLook → List ℕ → Drawing → Bool → Page → Type 0
-IsPageOf look part d shrunk page = (strokes : List Stroke) × (marks : List ViewMarks) × IsPageWith look part d shrunk page strokes marks
+IsPageOf look part d shrunk page = (strokes : List Stroke) × (marks : List ViewMarks) × (drawn : List Bool) × (covered : ℕ) × IsPageWith look part d shrunk page strokes marks drawn covered

@@ -1,5 +1,5 @@
 -- Where the texts of a drawing go, and what a run leaves of them.
-use Rattle.std.specs.Prelude.{◌≡◌, ℕ, true, List, [], ◌∷◌, Option, Some, None, IfNone}
+use Rattle.std.specs.Prelude.{◌≡◌, ℕ, Bool, true, List, [], ◌∷◌, Option, Some, None, IfNone}
 use Rattle.desk.specs.Files.{DeskState}
 use Rattle.cut_marks.specs.declared.views.ViewMarks.{ViewMarks}
 use Rattle.job_file.specs.Seen.{job_seen}
@@ -11,7 +11,7 @@ use Rattle.put_texts.specs.Desks.{HearsAll}
 use Rattle.put_texts.specs.Noting.{IsQuiet, Notes, NotesWhole, unless_said}
 use Rattle.put_texts.specs.Order.{Way, Text, nowhere, aloud, under, SaysAlone, HoldTexts, KeepsTexts, SaysTexts, SparesFiles, SparesSaid}
 use Rattle.sheet_input.specs.Faults.{sheet_faults}
-use Rattle.sheet_core.specs.Pages.{IsPageWith, drawn_strokes}
+use Rattle.sheet_core.specs.Pages.{IsPageWith}
 use Rattle.sheet_summary.specs.Summary.{summary_of}
 use Rattle.sheet_input.specs.declared.fault.SheetFault.{SheetFault}
 use Rattle.sheet_input.specs.declared.fault.SheetFault.TheVariants.{Common, WriteList, WritePlain}
@@ -67,15 +67,17 @@ pub record Writes (named : Named) (fault : Option SheetFault) (old new : DeskSta
   pub page : Page
   pub strokes : List Stroke
   pub marks : List ViewMarks
-  pub shows : IsPageWith made.look named.part made.drawing made.shrunk page strokes marks
+  pub drawn : List Bool
+  pub covered : ℕ
+  pub shows : IsPageWith made.look named.part made.drawing made.shrunk page strokes marks drawn covered
   pub texts : List (Text SheetFault)
-  pub are_texts : texts ≡ texts_for named (page_text named.out page) (listed named.list (list_text made.drawing.job made.drawing.sheet (drawn_strokes made.look.hidden.items strokes) strokes)) (listed named.plain (plain_job (job_seen made.drawing.job))) (summary_of made.drawing made.look.fitted made.look.in_units page marks)
+  pub are_texts : texts ≡ texts_for named (page_text named.out page) (listed named.list (list_text made.drawing.job made.drawing.sheet drawn strokes)) (listed named.plain (plain_job (job_seen made.drawing.job))) (summary_of made.drawing made.look.fitted made.look.in_units page covered marks)
   pub files : old.tells ≡ true → KeepsTexts sheet_faults fault texts old.files new.files
   pub said : old.tells_said ≡ true → SaysTexts sheet_faults fault texts old.said new.said
   pub spared : SparesFiles sheet_faults fault texts old.files new.files
   pub silent : SparesSaid sheet_faults fault texts old.said new.said
-  pub noted : old.tells_warned ≡ true → IfNone fault (Notes (summary_way named) (summary_of made.drawing made.look.fitted made.look.in_units page marks) old.warned new.warned)
-  pub noted_whole : HearsAll old new → IfNone fault (NotesWhole (summary_way named) (summary_of made.drawing made.look.fitted made.look.in_units page marks) old.warned new.warned)
+  pub noted : old.tells_warned ≡ true → IfNone fault (Notes (summary_way named) (summary_of made.drawing made.look.fitted made.look.in_units page covered marks) old.warned new.warned)
+  pub noted_whole : HearsAll old new → IfNone fault (NotesWhole (summary_way named) (summary_of made.drawing made.look.fitted made.look.in_units page covered marks) old.warned new.warned)
 
 -- and with no fault each file that is named holds its text at the end, for no two texts go to one place
 abbrev pub WritesHeld : Named → Option SheetFault → DeskState → DeskState → SheetInput → Type 0

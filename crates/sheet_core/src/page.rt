@@ -7,7 +7,7 @@ ghost use Rattle.sheet_page.specs.Blocks.{block_of};
 ghost use Rattle.sheet_page.specs.Corners.{IsInCorner};
 ghost use Rattle.sheet_page.specs.declared.page.Item.TheVariants as item;
 ghost use Rattle.sheet_input.specs.Laid.{IsLaidDrawing};
-ghost use Rattle.sheet_core.specs.Pages.{is_shown, shown_paths, drawn_strokes, frame_of, items_of, IsPageOf, IsPageWith};
+ghost use Rattle.sheet_core.specs.Pages.{frame_of, items_of, IsPageOf, IsPageWith};
 
 use crate::picture::{add_fills, picture_of};
 use cut_marks::{ViewMarks, mark_items, marks, sides_for};
@@ -17,32 +17,18 @@ use exact_frac::OutOfMemory;
 use length_text::LengthForm;
 use section_look::{SectionLook, looks_of};
 use sheet_input::{SheetInput, SheetLook};
+use sheet_lines::lines_of;
 use sheet_page::{Frame, Item, Page, title_block};
-use sheet_plan::{Mark, Sheet, Stroke};
+use sheet_plan::{Sheet, Stroke};
 use std::alloc::Global;
 use stroke_paths::{Path, paths};
 
-/// A path of this mark is drawn in the view with this number.
-fn is_shown(hidden: &[bool], view: u32, mark: Mark) -> bool
-    ensures { result ≡ is_shown hidden.now view mark }
-{
-    if mark != Mark::Dashed {
-        return true;
-    }
-    match hidden.get(view as usize) {
-        Some(drawn) => *drawn,
-        None => true,
-    }
-}
-
 /// Adds the paths that are drawn.
-fn add_paths(items: &mut Vec<Item>, hidden: &[bool], paths: Vec<Path>) -> Result<(), OutOfMemory>
-    ensures { OnOk result (items.new.items ≡ items.old.items ++ map item.Path (shown_paths hidden.now paths.items)) }
+fn add_paths(items: &mut Vec<Item>, paths: Vec<Path>) -> Result<(), OutOfMemory>
+    ensures { OnOk result (items.new.items ≡ items.old.items ++ map item.Path paths.items) }
 {
     for path in paths {
-        if is_shown(hidden, path.view, path.mark) {
-            items.push(Item::Path(path))?;
-        }
+        items.push(Item::Path(path))?;
     }
     Ok(())
 }
@@ -88,7 +74,7 @@ fn items_of(
     let block = title_block(alloc, &drawing.sheet, &drawing.job, part, &look.block)?;
     add_items(&mut items, block)?;
     add_fills(&mut items, sections)?;
-    add_paths(&mut items, &look.hidden, paths)?;
+    add_paths(&mut items, paths)?;
     let form = LengthForm {
         decimals: drawing.job.decimals,
         unit: drawing.job.unit,
@@ -97,33 +83,20 @@ fn items_of(
     Ok(items)
 }
 
-/// Which strokes of a drawing are drawn.
-pub(crate) fn drawn_strokes(
-    alloc: Global,
-    hidden: &[bool],
-    strokes: &[Stroke],
-) -> Result<Vec<bool>, OutOfMemory>
-    ensures { IfOk result (λ drawn. drawn.items ≡ drawn_strokes hidden.now strokes.now) }
-{
-    let mut drawn = Vec::new(alloc);
-    for stroke in strokes {
-        drawn.push(is_shown(hidden, stroke.view, stroke.mark))?;
-    }
-    Ok(drawn)
-}
-
-/// The page of a drawing, all strokes there, and what tells the cuts.
+/// The page of a drawing, all strokes there and which of them are drawn, how many hidden paths are covered, and what tells the cuts.
 #[derive(Drop)]
 pub(crate) struct Shown {
     pub(crate) page: Page,
     pub(crate) strokes: Vec<Stroke>,
+    pub(crate) drawn: Vec<bool>,
+    pub(crate) covered: u64,
     pub(crate) marks: Vec<ViewMarks>,
 }
 
 /// The same as `page_of`, with what it was made of.
 pub(crate) fn show(alloc: Global, part: &str, input: &SheetInput) -> Result<Shown, OutOfMemory>
     requires { IsLaidDrawing input.now.drawing input.now.wish input.now.shrunk }
-    ensures shows { IfOk result (λ shown. IsPageWith input.now.look part.now input.now.drawing input.now.shrunk shown.page shown.strokes.items shown.marks.items) }
+    ensures shows { IfOk result (λ shown. IsPageWith input.now.look part.now input.now.drawing input.now.shrunk shown.page shown.strokes.items shown.marks.items shown.drawn.items shown.covered) }
     ensures in_views { IfOk result (λ shown. All (IsInView shown.page.views) shown.page.items.items) }
 {
     let drawing = &input.drawing;
@@ -131,7 +104,8 @@ pub(crate) fn show(alloc: Global, part: &str, input: &SheetInput) -> Result<Show
     let strokes = strokes_of(alloc, sheet, &drawing.views)?;
     let sections = looks_of(alloc, &drawing.solid, sheet, &drawing.job.views)?;
     let picture = picture_of(alloc, sheet, &strokes, &sections)?;
-    let paths = paths(alloc, &picture)?;
+    let all = paths(alloc, &picture)?;
+    let lines = lines_of(alloc, &input.look.hidden, &strokes, all)?;
     let sides = sides_for(alloc, &drawing.job)?;
     let marks = marks(
         alloc,
@@ -141,7 +115,15 @@ pub(crate) fn show(alloc: Global, part: &str, input: &SheetInput) -> Result<Show
         input.shrunk,
         &drawing.job.views,
     )?;
-    let items = items_of(alloc, &input.look, part, drawing, sections, paths, &marks)?;
+    let items = items_of(
+        alloc,
+        &input.look,
+        part,
+        drawing,
+        sections,
+        lines.paths,
+        &marks,
+    )?;
     let page = Page {
         width: drawing.sheet.width,
         height: drawing.sheet.height,
@@ -152,12 +134,14 @@ pub(crate) fn show(alloc: Global, part: &str, input: &SheetInput) -> Result<Show
     Ok(Shown {
         page,
         strokes,
+        drawn: lines.strokes,
+        covered: lines.covered,
         marks,
     })
 }
 
 /// The page of a drawing of the part with this name: the sheet's frame and its title block, what is filled of its sections, the paths of
-/// its strokes, but for hidden lines where they aren't asked for, and the marks and headings of its cuts. Hatch lines are as close as the
+/// its strokes, but for hidden lines where they aren't asked for or others cover them, and the marks and headings of its cuts. Hatch lines are as close as the
 /// sections need. The sheet is that of a layout, whose sides are shrunk or not.
 ///
 /// The time goes with the number of strokes, and for each view and cut a few passes are made over the corners. That of a section is told

@@ -1,7 +1,6 @@
 // What is written of a drawing, made before anything is.
 ghost use Rattle.std.specs.Prelude.{◌≡◌, IfOk};
 ghost use Rattle.std.specs.List.{All};
-ghost use Rattle.sheet_core.specs.Pages.{drawn_strokes};
 ghost use Rattle.job_file.specs.Seen.{job_seen};
 ghost use Rattle.job_writer.specs.PlainJobs.{plain_job};
 ghost use Rattle.sheet_core.specs.Writing.{listed, page_text};
@@ -11,7 +10,7 @@ ghost use Rattle.sheet_list.specs.Lists.{list_text};
 ghost use Rattle.sheet_page.specs.Pages.{IsInView};
 ghost use Rattle.sheet_words.specs.Seen.{goal_seen, named_seen};
 
-use crate::page::{Shown, drawn_strokes, show};
+use crate::page::{Shown, show};
 use crate::refusals::{list_line, write_line};
 use exact_frac::OutOfMemory;
 use job_file::Job;
@@ -56,14 +55,19 @@ fn listed(
 ) -> Result<Vec<u8>, OutOfMemory>
     requires { IsLaidDrawing input.now.drawing input.now.wish input.now.shrunk }
     ensures { IfOk result (λ text. text.items ≡
-        listed (named_seen request.now).list (list_text input.now.drawing.job input.now.drawing.sheet (drawn_strokes input.now.look.hidden.items shown.now.strokes.items) shown.now.strokes.items)) }
+        listed (named_seen request.now).list (list_text input.now.drawing.job input.now.drawing.sheet shown.now.drawn.items shown.now.strokes.items)) }
 {
     match &request.list {
         None => Ok(Vec::new(alloc)),
         Some(_) => {
-            let drawn = drawn_strokes(alloc, &input.look.hidden, &shown.strokes)?;
             let drawing = &input.drawing;
-            list_text(alloc, &drawing.job, &drawing.sheet, &drawn, &shown.strokes)
+            list_text(
+                alloc,
+                &drawing.job,
+                &drawing.sheet,
+                &shown.drawn,
+                &shown.strokes,
+            )
         }
     }
 }
@@ -93,7 +97,16 @@ pub(crate) fn texts_of(
     let list = listed(alloc, request, input, &shown)?;
     let plain = plained(alloc, request, &drawing.job)?;
     let (fitted, in_units) = (look.fitted, look.in_units);
-    let summary = summary_of(alloc, drawing, fitted, in_units, &shown.page, &shown.marks)?;
+    let (page_shown, covered) = (&shown.page, shown.covered);
+    let summary = summary_of(
+        alloc,
+        drawing,
+        fitted,
+        in_units,
+        page_shown,
+        covered,
+        &shown.marks,
+    )?;
     let unwritten = write_line(alloc, &request.out, None)?;
     let unlisted = list_line(alloc, &request.list, None)?;
     let unplain = list_line(alloc, &request.plain, None)?;

@@ -1,5 +1,5 @@
 -- What a run says of a sheet that it has drawn.
-use Rattle.std.specs.Prelude.{ℕ, ◌-ℤ◌, Bool, false, List, length, codes, count_by, if◌then◌else◌}
+use Rattle.std.specs.Prelude.{ℕ, ◌-ℤ◌, Bool, false, List, length, codes, count_by, nat_eq, if◌then◌else◌}
 use Rattle.std.specs.Fmt.{decimal}
 use Rattle.cut_marks.specs.Notes.{notes_of}
 use Rattle.cut_marks.specs.declared.views.ViewMarks.{ViewMarks}
@@ -37,10 +37,14 @@ abbrev pub sheet_text : Paper → Scale → ℕ → List ℕ
 sheet_text paper scale views =
     codes "sheet " ⊕ paper_name paper ⊕ codes " scale " ⊕ decimal scale.num ⊕ codes ":" ⊕ decimal scale.den ⊕ codes " views " ⊕ decimal views
 
--- how many visible and hidden paths and hatch lines stand on a page
-abbrev pub paths_text : List Item → List ℕ
-paths_text items =
-    codes " visible " ⊕ decimal (paths_of Solid items) ⊕ codes " hidden " ⊕ decimal (paths_of Dashed items) ⊕ codes " hatch " ⊕ decimal (paths_of Hatch items)
+-- how many hidden paths are left out since others cover them, if any are
+abbrev pub covered_text : ℕ → List ℕ
+covered_text covered = if nat_eq covered 0 then codes "" else (codes " covered " ⊕ decimal covered)
+
+-- how many visible and hidden paths and hatch lines stand on a page, and how many are covered
+abbrev pub paths_text : List Item → ℕ → List ℕ
+paths_text items covered =
+    codes " visible " ⊕ decimal (paths_of Solid items) ⊕ codes " hidden " ⊕ decimal (paths_of Dashed items) ⊕ covered_text covered ⊕ codes " hatch " ⊕ decimal (paths_of Hatch items)
 
 -- the number of decimals, if it was left to the program
 abbrev pub fitted_text : Bool → ℕ → List ℕ
@@ -55,12 +59,12 @@ abbrev pub size_text : Part → ℕ → List ℕ
 size_text s decimals = codes " part " ⊕ length_along s decimals X ⊕ codes " by " ⊕ length_along s decimals Y ⊕ codes " by " ⊕ length_along s decimals Z ⊕ codes " mm"
 
 -- the first line
-abbrev pub first_line : Drawing → Bool → Page → List ℕ
-first_line d fitted page =
-    sheet_text d.job.paper d.sheet.scale (length d.sheet.places.items) ⊕ paths_text page.items.items ⊕ fitted_text fitted d.job.decimals ⊕ size_text (solid_part d.solid) d.job.decimals ⊕ codes "\n"
+abbrev pub first_line : Drawing → Bool → Page → ℕ → List ℕ
+first_line d fitted page covered =
+    sheet_text d.job.paper d.sheet.scale (length d.sheet.places.items) ⊕ paths_text page.items.items covered ⊕ fitted_text fitted d.job.decimals ⊕ size_text (solid_part d.solid) d.job.decimals ⊕ codes "\n"
 
 -- What is said of a drawing, its page, and what tells its cuts: the first line, one for each cut, one for each cut that isn't told as usual,
 -- and one for each view whose visible lines are near one another. The number of decimals may have been left to the program, and the job may say the places of its cuts in units.
-abbrev pub summary_of : Drawing → Bool → Bool → Page → List ViewMarks → List ℕ
-summary_of d fitted in_units page marks =
-    first_line d fitted page ⊕ cut_lines (solid_part d.solid) d.job.decimals in_units d.job.views.items marks ⊕ notes_of marks ⊕ near_lines d.sheet.scale page.items.items (length d.job.views.items)
+abbrev pub summary_of : Drawing → Bool → Bool → Page → ℕ → List ViewMarks → List ℕ
+summary_of d fitted in_units page covered marks =
+    first_line d fitted page covered ⊕ cut_lines (solid_part d.solid) d.job.decimals in_units d.job.views.items marks ⊕ notes_of marks ⊕ near_lines d.sheet.scale page.items.items (length d.job.views.items)

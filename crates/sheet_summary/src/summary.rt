@@ -1,7 +1,7 @@
 // What a run says of a sheet that it has drawn.
 ghost use Rattle.std.specs.Prelude.{◌≡◌, ◌≤◌, ◌-ℤ◌, IfOk, string_bytes};
 ghost use Rattle.solid_mesh.specs.Solids.{solid_part};
-ghost use Rattle.sheet_summary.specs.Summary.{first_line, fitted_text, is_path_of, length_along, paths_of, paths_text, sheet_text, size_text, summary_of};
+ghost use Rattle.sheet_summary.specs.Summary.{covered_text, first_line, fitted_text, is_path_of, length_along, paths_of, paths_text, sheet_text, size_text, summary_of};
 
 use crate::cuts::cut_lines;
 use crate::ends::ends_along;
@@ -53,14 +53,25 @@ fn sheet_text(
     format!(in alloc; "sheet {paper} scale {num}:{den} views {views}")
 }
 
-/// How many visible and hidden paths and hatch lines stand on a page.
-fn paths_text(alloc: Global, items: &[Item]) -> Result<String, AllocError>
-    ensures { IfOk result (λ text. string_bytes text ≡ paths_text items.now) }
+/// How many hidden paths are left out since others cover them, if any are.
+fn covered_text(alloc: Global, covered: u64) -> Result<String, AllocError>
+    ensures { IfOk result (λ text. string_bytes text ≡ covered_text covered) }
+{
+    if covered == 0 {
+        return Ok(String::new(alloc));
+    }
+    format!(in alloc; " covered {covered}")
+}
+
+/// How many visible and hidden paths and hatch lines stand on a page, and how many are covered.
+fn paths_text(alloc: Global, items: &[Item], covered: u64) -> Result<String, AllocError>
+    ensures { IfOk result (λ text. string_bytes text ≡ paths_text items.now covered) }
 {
     let visible = paths_of(Mark::Solid, items);
     let hidden = paths_of(Mark::Dashed, items);
     let hatch = paths_of(Mark::Hatch, items);
-    format!(in alloc; " visible {visible} hidden {hidden} hatch {hatch}")
+    let left_out = covered_text(alloc, covered)?;
+    format!(in alloc; " visible {visible} hidden {hidden}{left_out} hatch {hatch}")
 }
 
 /// The number of decimals, if it was left to the program.
@@ -105,19 +116,21 @@ fn first_line(
     drawing: &Drawing,
     fitted: bool,
     page: &Page,
+    covered: u64,
 ) -> Result<String, OutOfMemory>
-    ensures { IfOk result (λ text. string_bytes text ≡ first_line drawing.now fitted page.now) }
+    ensures { IfOk result (λ text. string_bytes text ≡ first_line drawing.now fitted page.now covered) }
 {
     let (solid, job, sheet) = (&drawing.solid, &drawing.job, &drawing.sheet);
     let mut text = sheet_text(alloc, job.paper, &sheet.scale, sheet.places.len())?;
-    text.push_str(&paths_text(alloc, &page.items)?)?;
+    text.push_str(&paths_text(alloc, &page.items, covered)?)?;
     text.push_str(&fitted_text(alloc, fitted, job.decimals)?)?;
     text.push_str(&size_text(alloc, solid, job.decimals)?)?;
     text.push_str("\n")?;
     Ok(text)
 }
 
-/// What is said of a drawing, its page, and what tells its cuts. `fitted` says that the number of decimals was left to the program, and
+/// What is said of a drawing, its page, and what tells its cuts. `covered` is the number of hidden paths that are left out since others
+/// cover them. `fitted` says that the number of decimals was left to the program, and
 /// `in_units` that the job says the places of its cuts in units. It goes over the corners three times, and once for each cut,
 /// and over what stands on the page for each view.
 pub fn summary_of(
@@ -126,11 +139,12 @@ pub fn summary_of(
     fitted: bool,
     in_units: bool,
     page: &Page,
+    covered: u64,
     marks: &[ViewMarks],
 ) -> Result<String, OutOfMemory>
-    ensures { IfOk result (λ text. string_bytes text ≡ summary_of drawing.now fitted in_units page.now marks.now) }
+    ensures { IfOk result (λ text. string_bytes text ≡ summary_of drawing.now fitted in_units page.now covered marks.now) }
 {
-    let mut text = first_line(alloc, drawing, fitted, page)?;
+    let mut text = first_line(alloc, drawing, fitted, page, covered)?;
     text.push_str(&cut_lines(alloc, drawing, in_units, marks)?)?;
     text.push_str(&notes(alloc, marks)?)?;
     let views = drawing.job.views.len() as u32;

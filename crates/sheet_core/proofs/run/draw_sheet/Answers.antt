@@ -11,7 +11,6 @@ use Rattle.put_texts.proofs.Runs.{ended_run, made_unwarned, put_run, refused_run
 use Rattle.sheet_input.specs.Faults.{sheet_faults, status_of}
 use Rattle.sheet_input.specs.Seen.{input_seen}
 use Rattle.sheet_input.specs.Steps.{DrawsSheet}
-use Rattle.sheet_core.specs.Pages.{drawn_strokes}
 use Rattle.sheet_core.specs.Run.{RunsSheet, sheet_run, sheet_task}
 use Rattle.sheet_core.specs.Writing.{Writes, listed, page_text, summary_way, texts_for}
 use Rattle.sheet_input.specs.declared.fault.SheetFault.{SheetFault}
@@ -138,13 +137,15 @@ returns-clause-written g c =
     let list = texts.list.items in
     let plain = texts.plain.items in
     let shown_text = page_text named.out shown.page in
-    let shown_list = listed named.list (list_text input.drawing.job input.drawing.sheet (drawn_strokes input.look.hidden.items shown.strokes.items) shown.strokes.items) in
+    let shown_list = listed named.list (list_text input.drawing.job input.drawing.sheet shown.drawn.items shown.strokes.items) in
     let Q : Option SheetFault → Option SheetInput → Type 0 = λ fault made. IfSome made (Writes named fault old new) in
     at_end Q c.ended.result.fault fault c.ended.result.made (Some input) c.ended.ensures.fault c.ended.ensures.made
     (writes_from named old between new c.in-Ok-take_sheet.ensures.changes fault input (record {
       page = shown.page;
       strokes = shown.strokes.items;
       marks = shown.marks.items;
+      drawn = shown.drawn.items;
+      covered = shown.covered;
       shows = made.shows;
       texts = texts_for named texts.page.items list plain (string_bytes texts.summary);
       are_texts = ap (λ (page : List ℕ). texts_for named page list plain (string_bytes texts.summary)) made.text

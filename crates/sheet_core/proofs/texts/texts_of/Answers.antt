@@ -10,11 +10,11 @@ returns c =
     let input = c.args.input.now in
     record {
       shown = shown;
-      shows = subst (λ (part : List ℕ). IsPageWith input.look part input.drawing input.shrunk shown.page shown.strokes.items shown.marks.items) c.as_str.ensures.same c.in_ok-shown.ensures.shows;
+      shows = subst (λ (part : List ℕ). IsPageWith input.look part input.drawing input.shrunk shown.page shown.strokes.items shown.marks.items shown.drawn.items shown.covered) c.as_str.ensures.same c.in_ok-shown.ensures.shows;
       text = c.in_ok-page.ensures;
       list = c.in_ok-list.ensures;
       plain = c.in_ok-plain.ensures;
-      summary = c.in_ok-summary.ensures ∙ ap (λ (marks : List ViewMarks). summary_of input.drawing input.look.fitted input.look.in_units shown.page marks) c.deref.ensures.value;
+      summary = c.in_ok-summary.ensures ∙ ap (λ (marks : List ViewMarks). summary_of input.drawing input.look.fitted input.look.in_units shown.page shown.covered marks) c.deref.ensures.value;
       unwritten = c.in_ok-unwritten.ensures;
       unlisted = c.in_ok-unlisted.ensures;
       unplain = c.in_ok-unplain.ensures;
