@@ -12,14 +12,15 @@ VISIBLE = 35  # a path within so many hundredths of a millimetre of a visible pa
 HIDDEN = 25  # and within so many of a longer hidden path
 TRIED = 8  # at most so many other paths are tried for a path
 STROKES = 1000  # a path of more strokes is drawn
+LINES = 20_000  # once more paths of the sheet are drawn no other is left out
 NEAR = 64  # a stroke for which more strokes of the other path count isn't covered by that path
 LARGEST = 1 << 17  # no sheet is wider or higher, in hundredths of a millimetre
 COSINE = (969_846, 1_000_000)  # the squared cosine of 10 degrees
 
 
 class Path:
-    def __init__(self, number, kind, points, closed):
-        self.number, self.kind, self.points = number, kind, points
+    def __init__(self, number, view, kind, points, closed):
+        self.number, self.view, self.kind, self.points = number, view, kind, points
         ends = points[1:] + points[:1] if closed else points[1:]
         self.strokes = [s for s in zip(points, ends) if s[0] != s[1]]
         self.length = sum(isqrt(((a[0] - b[0]) ** 2 + (a[1] - b[1]) ** 2) * 10**8) for a, b in self.strokes)
@@ -103,7 +104,7 @@ def tried(path, before):
     """Of the paths before it those that come near its first point, at most so many."""
     s = path.strokes[0]
     found = []
-    for other in before:
+    for other in (o for o in before if o.view == path.view):
         far = VISIBLE if other.kind == "visible" else HIDDEN
         box = s[0] * 2
         if any(boxes_near(box, b, far) and is_within(s, (0, 1), t, far) for t, b in zip(other.strokes, other.boxes)):
@@ -112,12 +113,12 @@ def tried(path, before):
 
 
 def left_out(paths):
-    """{number of a path: the path that covers it}, of the paths of one view."""
-    drawn, gone, most = [], {}, 0
+    """{number of a path: the path that covers it}, of the paths of a sheet; and {view: how many paths were tried for one at most}."""
+    drawn, gone, most = [], {}, {}
     for path in sorted((p for p in paths if p.kind in ("visible", "hidden") and p.fits), key=order):
-        if path.kind == "hidden" and 0 < len(path.strokes) <= STROKES:
+        if path.kind == "hidden" and 0 < len(path.strokes) <= STROKES and len(drawn) <= LINES:
             others, n = tried(path, drawn)
-            most = max(most, n)
+            most[path.view] = max(most.get(path.view, 0), n)
             cover = next((o for o in others if covers(o, path)), None)
             if cover:
                 gone[path.number] = cover
@@ -137,20 +138,20 @@ def read_svg(text):
             if kind and d and kind[1] in ("visible", "hidden"):
                 closed = d[1].endswith("Z")
                 points = [tuple(map(int, q.split())) for q in d[1].rstrip("Z")[1:].split("L")]
-                views.setdefault(view, []).append(Path(found.start(), kind[1], points, closed))
+                views.setdefault(view, []).append(Path(found.start(), view, kind[1], points, closed))
     return views
 
 
 def main():
     words = [w for w in sys.argv[1:] if w != "--list"]
     text = open(words[0], encoding="utf-8").read()
-    cut = []
-    for view, paths in sorted(read_svg(text).items()):
-        gone, most = left_out(paths)
+    cut, views = [], read_svg(text)
+    gone, most = left_out([p for paths in views.values() for p in paths])
+    for view, paths in sorted(views.items()):
         hidden = [p for p in paths if p.kind == "hidden"]
         out = [p for p in hidden if p.number in gone]
         mm = [sum(p.length for p in ps) // 10**6 for ps in (hidden, out)]
-        print("view %d: %d hidden paths, %d mm; covered %d, %d mm; at most %d tried" % (view, len(hidden), mm[0], len(out), mm[1], most))
+        print("view %d: %d hidden paths, %d mm; covered %d, %d mm; at most %d tried" % (view, len(hidden), mm[0], len(out), mm[1], most.get(view, 0)))
         for p in out if "--list" in sys.argv else ():
             print("  ", p.points[:6], "..%d" % len(p.points), "by", gone[p.number].kind, gone[p.number].points[:6])
         cut += [p.number for p in out]

@@ -62,7 +62,9 @@ out : (drawn : List Line) (l : Line) → is_left_out drawn l ≡ true → SomeLi
 unfolding is_left_out
 out drawn l h =
     let few = not (nat_lt 1000 (length l.legs.items)) in
-    among 8 l drawn (both_left l.hidden (few && is_covered_among 8 l drawn) h) (both_right few (is_covered_among 8 l drawn) (both_right l.hidden (few && is_covered_among 8 l drawn) h))
+    let room = not (nat_lt 20000 (length drawn)) in
+    let tried = room && is_covered_among 8 l drawn in
+    among 8 l drawn (both_left l.hidden (few && tried) h) (both_right room (is_covered_among 8 l drawn) (both_right few tried (both_right l.hidden (few && tried) h)))
 
 -- ---- each line
 pub each_seen : (drawn ls : List Line) → EachLine (IsSeen (drawn_after drawn ls)) ls

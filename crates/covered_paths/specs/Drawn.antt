@@ -31,9 +31,9 @@ unfoldable pub is_covered_among : ℕ → Line → List Line → Bool
 is_covered_among n l [] = false
 is_covered_among n l (m ∷ ms) = cond (n == 0) false (cond (comes_near l m) (covers (far_of m) m.legs.items l.legs.items || is_covered_among (n - 1) l ms) (is_covered_among n l ms))
 
--- a hidden line of at most 1000 legs is left out if one of the first eight of those that are drawn does so
+-- a hidden line of at most 1000 legs is left out if one of the first eight of those that are drawn does so, and these are at most 20,000
 unfoldable pub is_left_out : List Line → Line → Bool
-is_left_out drawn l = l.hidden && (not (nat_lt 1000 (length l.legs.items)) && is_covered_among 8 l drawn)
+is_left_out drawn l = l.hidden && (not (nat_lt 1000 (length l.legs.items)) && (not (nat_lt 20000 (length drawn)) && is_covered_among 8 l drawn))
 
 -- ---- which are drawn
 -- after those that are drawn so far, the next ones that aren't left out

@@ -113,7 +113,8 @@ fn is_covered_among(
     Ok(false)
 }
 
-/// A hidden line of at most 1000 legs lies within one of the first eight lines that are drawn and come near it.
+/// A hidden line of at most 1000 legs lies within one of the first eight lines that are drawn and come near it. Once 20,000 lines are drawn
+/// no other one is left out.
 #[tactic(auto, unfolding(crate::specs::Drawn::is_left_out))]
 fn is_left_out(alloc: Global, drawn: &[Line], line: &Line) -> Result<bool, OutOfMemory>
     ensures { IfOk result (λ out. out ≡ is_left_out drawn.now line.now) }
@@ -122,6 +123,9 @@ fn is_left_out(alloc: Global, drawn: &[Line], line: &Line) -> Result<bool, OutOf
         return Ok(false);
     }
     if line.legs.len() > 1000 {
+        return Ok(false);
+    }
+    if drawn.len() > 20_000 {
         return Ok(false);
     }
     is_covered_among(alloc, 8, line, drawn)

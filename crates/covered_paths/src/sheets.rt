@@ -60,7 +60,7 @@ fn drawn_of(alloc: Global, paths: &[Path], shown: &[bool]) -> Result<Vec<bool>, 
 ///
 /// Only the first eight paths are tried that come so near to its first point. A path of more than 1000 legs is drawn, and a leg that is
 /// near more than 64 legs of the other path isn't covered by it. Each hidden path looks at the boxes around all paths that are drawn so far,
-/// and at the legs in those that its first point is in or near.
+/// and at the legs in those that its first point is in or near. Once 20,000 paths are drawn, all others are drawn too.
 pub fn drawn_paths(alloc: Global, paths: &[Path], shown: &[bool]) -> Result<Vec<bool>, OutOfMemory>
     requires as_many { length shown.now ≡ length paths.now }
     ensures exact { IfOk result (λ drawn. AreDrawn paths.now shown.now drawn.items) }
