@@ -55,11 +55,11 @@ fn drawn_of(alloc: Global, paths: &[Path], shown: &[bool]) -> Result<Vec<bool>, 
     Ok(flags)
 }
 
-/// Which of a sheet's paths are drawn, of those that are shown. A hidden path isn't if it lies within 0.35 mm of a visible path of its
-/// view, or within 0.25 mm of a hidden one that is no shorter, and that path is drawn itself.
+/// Which of a sheet's paths are drawn, of those that are shown. A hidden path isn't only if each of its points is within 0.35 mm of one
+/// visible path of its view, or within 0.25 mm of one hidden path of its view before it, and that path is drawn itself.
 ///
-/// Only the first eight paths are tried that come so near to its first point. A path of more than 1000 legs is drawn, and a leg that is
-/// near more than 64 legs of the other path isn't covered by it. Each hidden path looks at the boxes around all paths that are drawn so far,
+/// Only the first eight drawn paths are tried, in the order of their places, that come so near to its first point. A hidden path of more
+/// than 1000 legs is drawn, and a leg that is near more than 64 legs of the other path isn't covered by it. Each hidden path looks at the boxes around all paths that are drawn so far,
 /// and at the legs in those that its first point is in or near. Once 20,000 paths are drawn, all others are drawn too.
 pub fn drawn_paths(alloc: Global, paths: &[Path], shown: &[bool]) -> Result<Vec<bool>, OutOfMemory>
     requires as_many { length shown.now ≡ length paths.now }

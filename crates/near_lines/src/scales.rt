@@ -140,7 +140,7 @@ fn first_apart(own: &Scale, chunks: &[Chunk], all: &[Side], scales: &[Scale]) ->
 /// What is said of the visible lines of a view, on a sheet of this scale.
 ///
 /// For each part of a side, at each scale that is tried, it looks at n / 128 boxes for n sides, and at all sides in those that are near. A
-/// part is 1 mm long or less at that scale. So the time goes with the number of parts where paths are compact, and at worst with that number
+/// part is no longer than twice the distance, which is 1 mm there, or more by the rounding up. So the time goes with the number of parts where paths are compact, and at worst with that number
 /// times n.
 pub fn nearness_of(alloc: Global, own: &Scale, all: &[Side]) -> Result<Nearness, OutOfMemory>
     requires small { All IsSmall all.now }

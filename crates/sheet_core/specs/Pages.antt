@@ -1,5 +1,5 @@
--- The page of a drawing: its frame, its title block, the paths of its strokes, but for hidden lines that aren't asked for, and what tells
--- its cuts.
+-- The page of a drawing: its frame, its title block, the paths of its strokes, but for hidden lines that aren't asked for or are covered,
+-- and what tells its cuts.
 use Rattle.std.specs.Prelude.{◌≡◌, ℕ, Bool, not, pos, ℤ, ◌-ℤ◌, List, ◌∷◌, ◌++◌, length, map}
 use Rattle.std.specs.List.{All, filter, flat_map}
 use Rattle.cut_marks.specs.AskedSides.{sides_for}
@@ -61,8 +61,8 @@ pub record IsPicture (sheet : Sheet) (strokes : List Stroke) (sections : List Se
   pub together : picture ≡ unhatched strokes ++ hatches
 
 -- The page shows the drawing of the part with this name, whose sheet is that of a layout: the frame and the title block, what is filled of
--- its sections, the paths of its strokes that are asked for and not covered, in their order, with hatch lines as close as the sections need, and the marks and the
--- headings of its cuts. The views with their sides, which are shrunk or not, keep apart, in the frame and clear of the block. Each mark
+-- its sections, the paths of its strokes that are asked for and not covered, in their order, with hatch lines as close as the sections
+-- need, and the marks and the headings of its cuts. The views with their sides, which are shrunk or not, keep apart, in the frame and clear of the block. Each mark
 -- and each heading ends within its view's sides; no two marks of a view touch, and nor does one its view, but by its chain line; and no heading
 -- has the place of its cut in part.
 pub record IsPageWith (look : SheetLook) (part : List ℕ) (d : Drawing) (shrunk : Bool) (page : Page) (strokes : List Stroke) (marks : List ViewMarks) (drawn : List Bool) (covered : ℕ) : Type 0 where

@@ -141,11 +141,11 @@ pub(crate) fn show(alloc: Global, part: &str, input: &SheetInput) -> Result<Show
 }
 
 /// The page of a drawing of the part with this name: the sheet's frame and its title block, what is filled of its sections, the paths of
-/// its strokes, but for hidden lines where they aren't asked for or others cover them, and the marks and headings of its cuts. Hatch lines are as close as the
-/// sections need. The sheet is that of a layout, whose sides are shrunk or not.
+/// its strokes, but for hidden lines where they aren't asked for or are covered, and the marks and headings of its cuts. Hatch lines are as
+/// close as the sections need. The sheet is that of a layout, whose sides are shrunk or not.
 ///
 /// The time goes with the number of strokes, and for each view and cut a few passes are made over the corners. That of a section is told
-/// at `looks_of`.
+/// at `looks_of`, and what it takes to find the covered paths at `drawn_paths`.
 pub fn page_of(alloc: Global, part: &str, input: &SheetInput) -> Result<Page, OutOfMemory>
     requires { IsLaidDrawing input.now.drawing input.now.wish input.now.shrunk }
     ensures page { IfOk result (IsPageOf input.now.look part.now input.now.drawing input.now.shrunk) }

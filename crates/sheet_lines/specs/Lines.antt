@@ -9,8 +9,9 @@ use Rattle.sheet_lines.specs.Ways.{drawn_strokes}
 use Rattle.sheet_lines.specs.declared.lines.SheetLines.{SheetLines}
 
 -- These are the lines of a sheet whose picture has these paths, if hidden lines are drawn in the views of which `hidden` says so: the paths
--- that are asked for and that no other covers; the strokes that are asked for, but for hidden ones that a covered path passes; and how many
--- paths are covered. Each point of a covered path is within the ink of a path that is drawn.
+-- that are asked for and not covered; the strokes that are asked for, but for hidden ones that a covered path passes; and how many
+-- paths are covered. Each point of a covered path is within 0.35 mm of one visible path of its view that is
+-- drawn, or within 0.25 mm of a hidden one.
 pub record AreLines (hidden : List Bool) (strokes : List Stroke) (paths : List Path) (lines : SheetLines) : Type 0 where
   pub drawn : List Bool
   pub are_drawn : AreDrawn paths (shown_in hidden paths) drawn

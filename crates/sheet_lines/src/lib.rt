@@ -1,4 +1,4 @@
-//! Which lines a sheet draws: of the paths of its strokes those that are asked for and that no other line covers, and so which strokes.
+//! Which lines a sheet draws: of the paths of its strokes those that are asked for and not covered, and so which strokes.
 #![tactic(auto)]
 
 mod kept;

@@ -11,8 +11,8 @@ use sheet_plan::Stroke;
 use std::alloc::Global;
 use stroke_paths::Path;
 
-/// The paths that a sheet draws, which of its strokes it draws, and how many hidden paths are asked for and left out, since other lines
-/// cover them.
+/// The paths that a sheet draws, which of its strokes it draws, and how many hidden paths are asked for and left out, since others cover
+/// them.
 #[derive(Drop)]
 pub struct SheetLines {
     pub paths: Vec<Path>,

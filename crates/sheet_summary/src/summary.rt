@@ -130,9 +130,9 @@ fn first_line(
 }
 
 /// What is said of a drawing, its page, and what tells its cuts. `covered` is the number of hidden paths that are left out since others
-/// cover them. `fitted` says that the number of decimals was left to the program, and
-/// `in_units` that the job says the places of its cuts in units. It goes over the corners three times, and once for each cut,
-/// and over what stands on the page for each view.
+/// cover them. `fitted` says that the number of decimals was left to the program, and `in_units` that the job says the places of its cuts
+/// in units. It goes over the corners three times, and once for each cut, and over what stands on the page for each view. What the lines of
+/// near views take is told at `near_lines::nearness_of`.
 pub fn summary_of(
     alloc: Global,
     drawing: &Drawing,
